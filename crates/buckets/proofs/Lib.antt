@@ -1,0 +1,4 @@
+pub mod SharesAlong
+pub mod Kept
+pub mod Settling
+pub mod Parts

@@ -1,0 +1,208 @@
+//! Walks along buckets in order.
+
+ghost use Rattle.std.specs.Prelude.{◌≡◌, ◌-◌, ◌≤◌, min, length, map, IfOk, vec_len, vec_capacity};
+ghost use Rattle.buckets.specs.Row.{Row, eligible_amount, with_hold, with_charge, with_charge_of_hold, with_release, with_end};
+ghost use Rattle.buckets.specs.Holding.{held_in, held_sum, IsWithin, IsLeftWithin, with_rest_released};
+ghost use Rattle.buckets.specs.Spend.{funds, place};
+ghost use Rattle.buckets.specs.Share.{along, parts_along};
+
+use crate::bucket::Bucket;
+use crate::holds::Hold;
+use std::alloc::{AllocError, Global};
+use units::Moment;
+
+/// The part of a column that an amount reaches.
+pub(crate) fn part_of(column: u64, left: u128) -> u64
+    ensures { result ≡ min column left }
+{
+    if (column as u128) < left {
+        column
+    } else {
+        left as u64
+    }
+}
+
+/// What the eligible buckets have.
+pub(crate) fn sum_of(buckets: &[Bucket], group: u32, at: Moment) -> u128
+    ensures { result ≡ funds group at buckets.now }
+{
+    let mut total = 0;
+    for bucket in buckets {
+        total += bucket.eligible_amount(group, at) as u128;
+    }
+    total
+}
+
+pub(crate) fn hold_along(buckets: &mut Vec<Bucket>, group: u32, at: Moment, amount: u128)
+    ensures { buckets.new.items ≡ along with_hold (eligible_amount group at) amount buckets.old.items }
+{
+    let mut left = amount;
+    for bucket in buckets.iter_mut() {
+        let part = part_of(bucket.eligible_amount(group, at), left);
+        bucket.hold(part);
+        left -= part as u128;
+    }
+}
+
+pub(crate) fn charge_along(buckets: &mut Vec<Bucket>, group: u32, at: Moment, amount: u128) -> u128
+    ensures rows { buckets.new.items ≡ along with_charge (eligible_amount group at) amount buckets.old.items }
+    ensures left { result ≡ amount - funds group at buckets.old.items }
+{
+    let mut left = amount;
+    for bucket in buckets.iter_mut() {
+        let part = part_of(bucket.eligible_amount(group, at), left);
+        bucket.charge(part);
+        left -= part as u128;
+    }
+    left
+}
+
+pub(crate) fn expire_all(buckets: &mut Vec<Bucket>, at: Moment)
+    ensures { buckets.new.items ≡ map (with_end at) buckets.old.items }
+{
+    for bucket in buckets.iter_mut() {
+        bucket.expire(at);
+    }
+}
+
+/// Writes the parts of an amount that the eligible buckets have, without those of 0.
+pub(crate) fn write_parts(
+    parts: &mut Vec<Hold>,
+    buckets: &[Bucket],
+    group: u32,
+    at: Moment,
+    amount: u128,
+)
+    requires empty { vec_len parts.old ≡ 0 }
+    requires room { length buckets.now ≤ vec_capacity parts.old }
+    ensures { parts.new.items ≡ parts_along (λ b n. n) (eligible_amount group at) amount buckets.now }
+{
+    let mut left = amount;
+    for bucket in buckets {
+        let part = part_of(bucket.eligible_amount(group, at), left);
+        if 0 < part {
+            parts.push_reserved(Hold {
+                bucket: bucket.number(),
+                amount: part,
+            });
+        }
+        left -= part as u128;
+    }
+}
+
+/// How many stand before a new bucket with this end.
+pub(crate) fn place_of(buckets: &[Bucket], until: Moment) -> usize
+    ensures place { result ≡ place until buckets.now }
+    ensures within { result ≤ length buckets.now }
+{
+    for (i, bucket) in buckets.iter().enumerate() {
+        if until < bucket.until() {
+            return i;
+        }
+    }
+    buckets.len()
+}
+
+/// What the holds have of a bucket.
+pub(crate) fn held_in(holds: &[Hold], bucket: &Bucket) -> u128
+    ensures { result ≡ held_in holds.now bucket.now }
+{
+    let number = bucket.number();
+    let mut total = 0;
+    for hold in holds {
+        if hold.bucket == number {
+            total += hold.amount as u128;
+        }
+    }
+    total
+}
+
+/// What is left of the holds after an amount is taken from them.
+pub(crate) fn rest_of(
+    alloc: Global,
+    buckets: &[Bucket],
+    holds: &[Hold],
+    amount: u128,
+) -> Result<Vec<Hold>, AllocError>
+    requires { IsWithin holds.now buckets.now }
+    ensures { IfOk result (λ rest. rest.items ≡ parts_along (λ b n. held_in holds.now b - n) (held_in holds.now) amount buckets.now) }
+{
+    let mut rest = Vec::new(alloc);
+    let mut left = amount;
+    for bucket in buckets {
+        let held = held_within(holds, bucket);
+        let part = part_of(held, left);
+        if part < held {
+            rest.push(Hold {
+                bucket: bucket.number(),
+                amount: held - part,
+            })?;
+        }
+        left -= part as u128;
+    }
+    Ok(rest)
+}
+
+/// What the holds have of a bucket, where that is no more than it has reserved.
+fn held_within(holds: &[Hold], bucket: &Bucket) -> u64
+    requires { held_in holds.now bucket.now ≤ bucket.now.reserved }
+    ensures { result ≡ held_in holds.now bucket.now }
+{
+    let _reserved = bucket.reserved();
+    held_in(holds, bucket) as u64
+}
+
+pub(crate) fn charge_holds_along(buckets: &mut Vec<Bucket>, holds: &[Hold], amount: u128) -> u128
+    requires { IsWithin holds.now buckets.old.items }
+    ensures rows { buckets.new.items ≡ along with_charge_of_hold (held_in holds.now) amount buckets.old.items }
+    ensures left { result ≡ amount - held_sum holds.now buckets.old.items }
+{
+    let mut left = amount;
+    for bucket in buckets.iter_mut() {
+        let part = part_of(held_within(holds, bucket), left);
+        bucket.charge_hold(part);
+        left -= part as u128;
+    }
+    left
+}
+
+pub(crate) fn release_all(buckets: &mut Vec<Bucket>, holds: &[Hold], at: Moment)
+    requires { IsWithin holds.now buckets.old.items }
+    ensures { buckets.new.items ≡ map (λ b. with_release at b (held_in holds.now b)) buckets.old.items }
+{
+    for bucket in buckets.iter_mut() {
+        let amount = held_within(holds, bucket);
+        bucket.release(amount, at);
+    }
+}
+
+/// The lesser of two amounts.
+fn min_of(one: u128, other: u128) -> u128
+    ensures { result ≡ min one other }
+{
+    if one < other { one } else { other }
+}
+
+/// What a part leaves of what is held of a bucket.
+fn rest_within(holds: &[Hold], bucket: &Bucket, part: u128) -> u64
+    requires rest { held_in holds.now bucket.now - part ≤ bucket.now.reserved }
+    requires within { part ≤ held_in holds.now bucket.now }
+    ensures { result ≡ held_in holds.now bucket.now - part }
+{
+    let _reserved = bucket.reserved();
+    (held_in(holds, bucket) - part) as u64
+}
+
+/// Gives up what an amount that was charged to the holds leaves of them.
+pub(crate) fn release_rest(buckets: &mut Vec<Bucket>, holds: &[Hold], at: Moment, amount: u128)
+    requires { IsLeftWithin holds.now amount buckets.old.items }
+    ensures { buckets.new.items ≡ along (with_rest_released holds.now at) (held_in holds.now) amount buckets.old.items }
+{
+    let mut left = amount;
+    for bucket in buckets.iter_mut() {
+        let part = min_of(held_in(holds, bucket), left);
+        let rest = rest_within(holds, bucket, part);
+        bucket.release(rest, at);
+        left -= part;
+    }
+}

@@ -1,0 +1,215 @@
+ghost use Rattle.std.specs.Prelude.{◌≡◌, ℕ, ◌+◌, ◌-◌, ◌≤◌, ◌<◌, IsTrue, ◌↔◌};
+ghost use Rattle.buckets.specs.Row.{is_eligible, eligible_amount, with_hold, with_charge, with_charge_of_hold, with_release, with_end, new_row, IsBalanced};
+
+use std::marker::Model;
+use units::{Moment, Money};
+
+/// Money that was credited at once, and what became of it (TS 32.296, account balance management function).
+///
+/// The credited amount is the sum of four columns, which the type keeps: what is available, what is reserved
+/// for live sessions, what was charged, and what expired at the bucket's end. All are micro-units.
+#[derive(Debug, Drop)]
+pub struct Bucket {
+    number: u32,
+    from: Moment,
+    until: Moment,
+    scope: Option<u32>,
+    credited: u64,
+    available: u64,
+    reserved: u64,
+    charged: u64,
+    expired: u64,
+}
+
+impl Model for Bucket {
+    ghost use Rattle.buckets.specs.Row.{Row, IsBalanced};
+
+    ghost Value = { Row };
+
+    ghost view = { λ b. record {
+      number = b.number;
+      from = b.from;
+      until = b.until;
+      scope = b.scope;
+      credited = b.credited;
+      available = b.available;
+      reserved = b.reserved;
+      charged = b.charged;
+      expired = b.expired;
+    } };
+
+    ghost invariant = { λ b. IsBalanced (record {
+      number = b.number;
+      from = b.from;
+      until = b.until;
+      scope = b.scope;
+      credited = b.credited;
+      available = b.available;
+      reserved = b.reserved;
+      charged = b.charged;
+      expired = b.expired;
+    }) };
+}
+
+impl Bucket {
+    /// Its number within the account.
+    pub fn number(&self) -> u32
+        ensures { result ≡ self.now.number }
+    {
+        self.number
+    }
+
+    /// The first moment at which it may be used.
+    pub fn from(&self) -> Moment
+        ensures { result ≡ self.now.from }
+    {
+        self.from
+    }
+
+    /// Its end: the first moment at which what is left of it is expired.
+    pub fn until(&self) -> Moment
+        ensures { result ≡ self.now.until }
+    {
+        self.until
+    }
+
+    /// The one rating group that it pays for, or none where it pays for all.
+    pub fn scope(&self) -> Option<u32>
+        ensures { result ≡ self.now.scope }
+    {
+        self.scope
+    }
+
+    /// The amount that it was made with, in micro-units.
+    pub fn credited(&self) -> u64
+        ensures amount { result ≡ self.now.credited }
+        ensures most { result ≤ 1_000_000_000_000_000 }
+    {
+        self.credited
+    }
+
+    /// What is neither reserved nor charged, before its end, in micro-units.
+    pub fn available(&self) -> u64
+        ensures amount { result ≡ self.now.available }
+        ensures most { result ≤ 1_000_000_000_000_000 }
+    {
+        self.available
+    }
+
+    /// What reservations of live sessions hold, in micro-units.
+    pub fn reserved(&self) -> u64
+        ensures amount { result ≡ self.now.reserved }
+        ensures most { result ≤ 1_000_000_000_000_000 }
+    {
+        self.reserved
+    }
+
+    /// What was charged, in micro-units.
+    pub fn charged(&self) -> u64
+        ensures amount { result ≡ self.now.charged }
+        ensures most { result ≤ 1_000_000_000_000_000 }
+    {
+        self.charged
+    }
+
+    /// What was neither reserved nor charged when it ended, in micro-units.
+    pub fn expired(&self) -> u64
+        ensures amount { result ≡ self.now.expired }
+        ensures most { result ≤ 1_000_000_000_000_000 }
+    {
+        self.expired
+    }
+
+    pub(crate) fn new(
+        number: u32,
+        from: Moment,
+        until: Moment,
+        scope: Option<u32>,
+        amount: Money,
+    ) -> Self
+        ensures row { result ≡ new_row number from until scope amount }
+        ensures balanced { IsBalanced result }
+    {
+        Bucket {
+            number,
+            from,
+            until,
+            scope,
+            credited: amount.micros(),
+            available: amount.micros(),
+            reserved: 0,
+            charged: 0,
+            expired: 0,
+        }
+    }
+
+    /// Whether it may be used for the rating group at the moment: between its beginning and its end, and where
+    /// its scope is none or the group.
+    pub fn is_eligible(&self, group: u32, at: Moment) -> bool
+        ensures { result ≡ is_eligible group at self.now }
+    {
+        let covered = match self.scope {
+            None => true,
+            Some(one) => one == group,
+        };
+        self.from <= at && at < self.until && covered
+    }
+
+    /// What it has available for the rating group at the moment, in micro-units: nothing where it isn't
+    /// eligible.
+    pub fn eligible_amount(&self, group: u32, at: Moment) -> u64
+        ensures amount { result ≡ eligible_amount group at self.now }
+        ensures most { result ≤ 1_000_000_000_000_000 }
+    {
+        if self.is_eligible(group, at) {
+            self.available
+        } else {
+            0
+        }
+    }
+
+    pub(crate) fn hold(&mut self, amount: u64)
+        requires { amount ≤ self.old.available }
+        ensures { self.new ≡ with_hold self.old amount }
+    {
+        self.available -= amount;
+        self.reserved += amount;
+    }
+
+    pub(crate) fn charge_hold(&mut self, amount: u64)
+        requires { amount ≤ self.old.reserved }
+        ensures { self.new ≡ with_charge_of_hold self.old amount }
+    {
+        self.reserved -= amount;
+        self.charged += amount;
+    }
+
+    pub(crate) fn charge(&mut self, amount: u64)
+        requires { amount ≤ self.old.available }
+        ensures { self.new ≡ with_charge self.old amount }
+    {
+        self.available -= amount;
+        self.charged += amount;
+    }
+
+    pub(crate) fn release(&mut self, amount: u64, at: Moment)
+        requires { amount ≤ self.old.reserved }
+        ensures { self.new ≡ with_release at self.old amount }
+    {
+        self.reserved -= amount;
+        if at < self.until {
+            self.available += amount;
+        } else {
+            self.expired += amount;
+        }
+    }
+
+    pub(crate) fn expire(&mut self, at: Moment)
+        ensures { self.new ≡ with_end at self.old }
+    {
+        if self.until <= at {
+            self.expired += self.available;
+            self.available = 0;
+        }
+    }
+}

@@ -1,0 +1,72 @@
+ghost use Rattle.std.specs.Prelude.{◌≡◌, ◌≤◌, [], IfOk};
+
+use std::alloc::{AllocError, Global};
+use std::marker::Model;
+
+/// An amount that is reserved in a bucket.
+#[derive(Clone, Copy, Debug, PartialEq, Eq)]
+pub struct Hold {
+    /// The bucket's number within the account.
+    pub bucket: u32,
+    /// Micro-units.
+    pub amount: u64,
+}
+
+/// What a reservation holds, in the order of the buckets, each hold above 0.
+#[derive(Debug, Drop)]
+pub struct Holds {
+    pub(crate) items: Vec<Hold>,
+}
+
+impl Model for Holds {
+    ghost use Rattle.std.specs.Prelude.{List};
+    ghost use Rattle.buckets.specs.declared.holds.Hold.{Hold};
+
+    ghost Value = { List Hold };
+
+    ghost view = { λ h. h.items.items };
+}
+
+impl Holds {
+    /// No holds. It takes no memory.
+    pub fn none(alloc: Global) -> Self
+        ensures { result ≡ [] }
+    {
+        Holds {
+            items: Vec::new(alloc),
+        }
+    }
+
+    /// The holds one after another.
+    pub fn as_slice(&self) -> &[Hold]
+        ensures { result.now ≡ self.now }
+    {
+        self.items.as_slice()
+    }
+}
+
+/// Memory for the holds of a reservation, seen as the number of buckets that it is enough for.
+#[derive(Debug, Drop)]
+pub struct HoldRoom {
+    pub(crate) items: Vec<Hold>,
+}
+
+impl Model for HoldRoom {
+    ghost use Rattle.std.specs.Prelude.{ℕ, vec_capacity, vec_len, ◌≡◌};
+
+    ghost Value = { ℕ };
+
+    ghost view = { λ r. vec_capacity r.items };
+
+    ghost invariant = { λ r. vec_len r.items ≡ 0 };
+}
+
+impl HoldRoom {
+    /// Memory for holds in this many buckets.
+    pub fn new(alloc: Global, buckets: usize) -> Result<Self, AllocError>
+        ensures { IfOk result (λ room. buckets ≤ room) }
+    {
+        let items = Vec::with_capacity(alloc, buckets)?;
+        Ok(HoldRoom { items })
+    }
+}

@@ -1,0 +1,12 @@
+//! The buckets of an account, and what is done to them: credit, hold, charge, release and expiry, each in the
+//! order of the buckets' ends.
+#![tactic(auto)]
+
+mod along;
+mod bucket;
+mod holds;
+mod purse;
+
+pub use crate::bucket::Bucket;
+pub use crate::holds::{Hold, HoldRoom, Holds};
+pub use crate::purse::{Charged, Purse, PurseFault};

@@ -1,0 +1,72 @@
+ghost use Rattle.std.specs.Prelude.{◌≡◌, ℕ, ◌≤◌, ◌<◌, ◌↔◌, IsSome, IfSome};
+
+use std::marker::Model;
+
+/// A moment: whole seconds since 1970.
+///
+/// Commands have the moments 0 to 4,102,444,799, and 4,102,444,800 stands for "no end". A tariff switch or
+/// the end of a validity time may lie up to 43,200 seconds later.
+#[derive(Clone, Copy, Debug, PartialEq, Eq, PartialOrd, Ord)]
+pub struct Moment {
+    seconds: u64,
+}
+
+impl Model for Moment {
+    ghost Value = { ℕ };
+
+    ghost view = { λ m. m.seconds };
+
+    ghost invariant = { λ m. m.seconds ≤ 4_102_488_000 };
+
+    ghost inverse = { λ n. record { seconds = n } };
+}
+
+impl Moment {
+    /// The moment this many seconds after the beginning of 1970; None above 4,102,488,000.
+    pub fn new(seconds: u64) -> Option<Moment>
+        ensures in_range { IsSome result ↔ (seconds ≤ 4_102_488_000) }
+        ensures value { IfSome result (λ m. m ≡ seconds) }
+    {
+        if seconds <= 4_102_488_000 {
+            Some(Moment { seconds })
+        } else {
+            None
+        }
+    }
+
+    /// The moment of a command: 0 to 4,102,444,799 seconds; None above.
+    pub fn of_command(seconds: u64) -> Option<Moment>
+        ensures in_range { IsSome result ↔ (seconds < 4_102_444_800) }
+        ensures value { IfSome result (λ m. m ≡ seconds) }
+    {
+        if seconds < 4_102_444_800 {
+            Some(Moment { seconds })
+        } else {
+            None
+        }
+    }
+
+    /// The beginning of 1970.
+    pub fn first() -> Moment
+        ensures { result ≡ 0 }
+    {
+        Moment { seconds: 0 }
+    }
+
+    /// The end of what has no end.
+    pub fn no_end() -> Moment
+        ensures { result ≡ 4_102_444_800 }
+    {
+        Moment {
+            seconds: 4_102_444_800,
+        }
+    }
+
+    /// Its seconds since 1970.
+    pub fn seconds(self) -> u64
+        ensures value { result ≡ self }
+        ensures in_range { result ≤ 4_102_488_000 }
+    {
+        self.seconds
+    }
+}

@@ -1,0 +1,90 @@
+ghost use Rattle.std.specs.Prelude.{◌≡◌, ℕ, ◌≤◌, ◌↔◌, ◌<ℤ◌, ◌⊎◌, pos, IsSome, IfSome, IfOk, IsErrOf};
+ghost use Rattle.units.specs.Amounts.{micros_of, IsExponent};
+
+use std::marker::Model;
+use thiserror::Error;
+
+/// Why digits and an exponent are no amount of money.
+#[derive(Clone, Copy, Debug, Drop, Error, PartialEq, Eq)]
+pub enum UnitFault {
+    /// The value is below 0 or above 10^15 micro-units.
+    #[error("the value is out of range")]
+    OutOfRange,
+    /// The exponent isn't one of -6 to 0.
+    #[error("the exponent is out of range")]
+    Exponent,
+}
+
+/// A sum of money in micro-units of the book's currency, however large.
+#[derive(Clone, Copy, Debug, PartialEq, Eq, PartialOrd, Ord)]
+pub struct Amount(pub u128);
+
+/// An amount of money: 0 to 10^15 micro-units of the book's currency (CC-Money, RFC 8506 section 8.22).
+#[derive(Clone, Copy, Debug, PartialEq, Eq, PartialOrd, Ord)]
+pub struct Money {
+    micros: u64,
+}
+
+impl Model for Money {
+    ghost Value = { ℕ };
+
+    ghost view = { λ m. m.micros };
+
+    ghost invariant = { λ m. m.micros ≤ 1_000_000_000_000_000 };
+
+    ghost inverse = { λ n. record { micros = n } };
+}
+
+impl Money {
+    /// The amount of this many micro-units; None above 10^15.
+    pub fn new(micros: u64) -> Option<Money>
+        ensures in_range { IsSome result ↔ (micros ≤ 1_000_000_000_000_000) }
+        ensures value { IfSome result (λ m. m ≡ micros) }
+    {
+        if micros <= 1_000_000_000_000_000 {
+            Some(Money { micros })
+        } else {
+            None
+        }
+    }
+
+    /// The amount that Value-Digits and Exponent say (Unit-Value, RFC 8506 section 8.8): the digits times
+    /// 10 to the exponent, in units of the currency. The exponent's fault is told before the value's.
+    pub fn from_digits(digits: i64, exponent: i32) -> Result<Money, UnitFault>
+        ensures value { IfOk result (λ m. pos m ≡ micros_of digits exponent) }
+        ensures exponent { IsErrOf result UnitFault.Exponent → IsExponent exponent → ⊥ }
+        ensures exponent_told { (IsExponent exponent → ⊥) → IsErrOf result UnitFault.Exponent }
+        ensures out_of_range { IsErrOf result UnitFault.OutOfRange →
+            (micros_of digits exponent <ℤ pos 0) ⊎ (pos 1_000_000_000_000_000 <ℤ micros_of digits exponent) }
+    {
+        let factor: u64 = match exponent {
+            -6 => 1,
+            -5 => 10,
+            -4 => 100,
+            -3 => 1_000,
+            -2 => 10_000,
+            -1 => 100_000,
+            0 => 1_000_000,
+            _ => return Err(UnitFault::Exponent),
+        };
+        let Ok(digits) = u64::try_from(digits) else {
+            return Err(UnitFault::OutOfRange);
+        };
+        let micros = u128::from(digits) * u128::from(factor);
+        if micros <= 1_000_000_000_000_000 {
+            Ok(Money {
+                micros: micros as u64,
+            })
+        } else {
+            Err(UnitFault::OutOfRange)
+        }
+    }
+
+    /// Its micro-units.
+    pub fn micros(self) -> u64
+        ensures value { result ≡ self }
+        ensures in_range { result ≤ 1_000_000_000_000_000 }
+    {
+        self.micros
+    }
+}
