@@ -22,7 +22,7 @@ DiffersFromAll-map : (does : Row → Row) (n : ℕ) (rows : List Row) → KeepsP
 DiffersFromAll-map does n [] k h = tt
 DiffersFromAll-map does n (b ∷ bs) k h = (λ e. h.0 (sym (k.number b) ∙ e), DiffersFromAll-map does n bs k h.1)
 
-AreDistinct-map : (does : Row → Row) (rows : List Row) → KeepsPlace does → AreDistinct rows → AreDistinct (map does rows)
+pub AreDistinct-map : (does : Row → Row) (rows : List Row) → KeepsPlace does → AreDistinct rows → AreDistinct (map does rows)
 AreDistinct-map does [] k h = tt
 AreDistinct-map does (b ∷ bs) k h = (rw (k.number b) (DiffersFromAll-map does b.number bs k h.0), AreDistinct-map does bs k h.1)
 
@@ -43,7 +43,7 @@ AreDistinct-inserted b (x ∷ xs) new h = elim (nat_lt b.until x.until) as (λ t
 
 -- ---- the four columns
 
-Each-inserted : (P : Row → Type 0) (b : Row) (rows : List Row) → P b → Each P rows → Each P (inserted b rows)
+pub Each-inserted : (P : Row → Type 0) (b : Row) (rows : List Row) → P b → Each P rows → Each P (inserted b rows)
 Each-inserted P b [] p h = (p, tt)
 Each-inserted P b (x ∷ xs) p h = elim (nat_lt b.until x.until) as (λ t. Each P (if t then b ∷ x ∷ xs else x ∷ inserted b xs)) [ true ↦ (p, h) | false ↦ (h.0, Each-inserted P b xs p h.1) ]
 
@@ -59,7 +59,7 @@ balanced_charge_of_hold b n le h = record { sum = omega arith; most = h.most }
 pub balanced_release : (t : ℕ) (b : Row) (n : ℕ) → n ≤ b.reserved → IsBalanced b → IsBalanced (with_release t b n)
 balanced_release t b n le h = elim (nat_lt t b.until) as (λ e. IsBalanced (if e then record b { reserved = b.reserved - n; available = b.available + n } else record b { reserved = b.reserved - n; expired = b.expired + n })) [ true ↦ record { sum = omega arith; most = h.most } | false ↦ record { sum = omega arith; most = h.most } ]
 
-balanced_end : (t : ℕ) (b : Row) → IsBalanced b → IsBalanced (with_end t b)
+pub balanced_end : (t : ℕ) (b : Row) → IsBalanced b → IsBalanced (with_end t b)
 balanced_end t b h = elim (nat_lt t b.until) as (λ e. IsBalanced (if e then b else record b { available = 0; expired = b.expired + b.available })) [ true ↦ h | false ↦ record { sum = omega arith; most = h.most } ]
 
 eligible_within : (e : Bool) (a m : ℕ) → min (if e then a else 0) m ≤ a

@@ -3,6 +3,9 @@ ghost use Rattle.std.specs.Prelude.{◌≡◌, ◌≤◌, [], IfOk};
 use std::alloc::{AllocError, Global};
 use std::marker::Model;
 
+use crate::along;
+use crate::bucket::Bucket;
+
 /// An amount that is reserved in a bucket.
 #[derive(Clone, Copy, Debug, PartialEq, Eq)]
 pub struct Hold {
@@ -28,6 +31,8 @@ impl Model for Holds {
 }
 
 impl Holds {
+    ghost use Rattle.buckets.specs.Holding.{held_in};
+
     /// No holds. It takes no memory.
     pub fn none(alloc: Global) -> Self
         ensures { result ≡ [] }
@@ -35,6 +40,13 @@ impl Holds {
         Holds {
             items: Vec::new(alloc),
         }
+    }
+
+    /// What they have of a bucket, in micro-units.
+    pub fn of(&self, bucket: &Bucket) -> u128
+        ensures { result ≡ held_in self.now bucket.now }
+    {
+        along::held_in(&self.items, bucket)
     }
 
     /// The holds one after another.

@@ -1,13 +1,19 @@
-// A library with one function.
+//! The names by which the charging system knows sessions, accounts, credits and vouchers: texts, each with
+//! its rule. In a contract each is the list of its bytes.
 #![tactic(auto)]
 
-ghost use Rattle.std.specs.Prelude.{◌≡◌};
-ghost use Rattle.identifiers.specs.Echo.{echo_of};
+mod account_number;
+mod redirect_address;
+mod reference;
+mod session_id;
+mod texts;
+mod voucher_code;
 
-// The `ensures` clause is the contract: what `echo` returns is `echo_of` of its argument, a definition
-// in `specs/Echo.antt`, which a caller's clause can cite too.
-pub fn echo(x: usize) -> usize
-    ensures { result ≡ echo_of x }
-{
-    x
-}
+pub use crate::account_number::AccountNumber;
+pub use crate::redirect_address::RedirectAddress;
+pub use crate::reference::Reference;
+pub use crate::session_id::SessionId;
+pub use crate::voucher_code::VoucherCode;
+
+#[cfg(test)]
+mod tests;

@@ -1,13 +1,16 @@
-// A library with one function.
+//! Accounts: a purse, counters, and sessions with their reservations; each call is the ledger's.
 #![tactic(auto)]
 
-ghost use Rattle.std.specs.Prelude.{◌≡◌};
-ghost use Rattle.reserving.specs.Echo.{echo_of};
+mod account;
+mod advance;
+mod credit;
+mod fault;
+mod flat;
+mod funds;
+mod session;
+mod sessions;
 
-// The `ensures` clause is the contract: what `echo` returns is `echo_of` of its argument, a definition
-// in `specs/Echo.antt`, which a caller's clause can cite too.
-pub fn echo(x: usize) -> usize
-    ensures { result ≡ echo_of x }
-{
-    x
-}
+pub use crate::account::Account;
+pub use crate::fault::AccountFault;
+pub use crate::flat::{FlatTariff, Period};
+pub use crate::session::{Counter, Reservation, Session, SessionGroup, SessionState};

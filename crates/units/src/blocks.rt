@@ -16,6 +16,24 @@ pub enum UnitKind {
 #[derive(Clone, Copy, Debug, PartialEq, Eq, PartialOrd, Ord)]
 pub struct Units(pub u64);
 
+/// On which side of a tariff switch units were used (Tariff-Change-Usage, RFC 8506 section 8.27).
+#[derive(Clone, Copy, Debug, PartialEq, Eq)]
+pub enum TariffChangeUsage {
+    /// 0: before the switch.
+    UnitBeforeTariffChange,
+    /// 1: after the switch.
+    UnitAfterTariffChange,
+    /// 2: they straddle the switch.
+    UnitIndeterminate,
+}
+
+/// One part of a report of used units (Used-Service-Unit, RFC 8506 section 8.19).
+#[derive(Clone, Copy, Debug, PartialEq, Eq)]
+pub struct UsedPart {
+    pub units: Units,
+    pub change: Option<TariffChangeUsage>,
+}
+
 /// A number of blocks: the steps in which units are priced.
 #[derive(Clone, Copy, Debug, PartialEq, Eq, PartialOrd, Ord)]
 pub struct Blocks(pub u64);

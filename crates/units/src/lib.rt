@@ -5,6 +5,8 @@ mod blocks;
 mod moment;
 mod money;
 
-pub use crate::blocks::{Blocks, UnitKind, Units, blocks_started, cutting};
+pub use crate::blocks::{
+    Blocks, TariffChangeUsage, UnitKind, Units, UsedPart, blocks_started, cutting,
+};
 pub use crate::moment::Moment;
 pub use crate::money::{Amount, Money, UnitFault};

@@ -1,0 +1,68 @@
+ghost use Rattle.std.specs.Prelude.{◌≡◌, IfOk, Some, None, IsTrue, if◌then◌else◌};
+ghost use Rattle.identifiers.specs.Texts.{is_session_id};
+
+use crate::texts::all_visible;
+use std::alloc::{AllocError, Global};
+use std::marker::Model;
+
+/// The name of a session: 1 to 128 bytes from 0x21 to 0x7E (Session-Id, RFC 6733 section 8.8; length and
+/// bytes: profile).
+///
+/// Contracts see the list of its bytes.
+#[derive(Clone, Debug, Drop)]
+pub struct SessionId {
+    text: String,
+}
+
+impl Model for SessionId {
+    ghost use Rattle.std.specs.Prelude.{List, ℕ, string_bytes, IsTrue};
+    ghost use Rattle.identifiers.specs.Texts.{is_session_id};
+
+    ghost Value = { List ℕ };
+
+    ghost view = { λ s. string_bytes s.text };
+
+    ghost invariant = { λ s. IsTrue (is_session_id (string_bytes s.text)) };
+}
+
+impl SessionId {
+    /// The name of a session that the text is; None where it is none.
+    pub fn new(alloc: Global, text: &str) -> Result<Option<SessionId>, AllocError>
+        ensures { IfOk result (λ o. o ≡ if is_session_id text.now then Some text.now else None) }
+    {
+        if 1 <= text.len() && text.len() <= 128 && all_visible(text) {
+            let text = String::from_str(alloc, text)?;
+            Ok(Some(SessionId { text }))
+        } else {
+            Ok(None)
+        }
+    }
+
+    /// Its text.
+    pub fn as_str(&self) -> &str
+        ensures value { result.now ≡ self.now }
+        ensures rule { IsTrue (is_session_id self.now) }
+    {
+        self.text.as_str()
+    }
+}
+
+impl PartialEq for SessionId {
+    ghost use Rattle.std.specs.Prelude.{nat_eq};
+    ghost use Rattle.std.specs.Cmp.Lexicographic.{pointwise, nat_list_eq_equiv};
+    ghost use Rattle.std.specs.Cmp.{partial_equiv_from_equiv};
+
+    ghost eq = { λ a b. pointwise nat_eq a b };
+
+    ghost laws = { partial_equiv_from_equiv nat_list_eq_equiv };
+
+    fn eq(&self, other: &SessionId) -> bool {
+        self.text == other.text
+    }
+}
+
+impl Eq for SessionId {
+    ghost use Rattle.std.specs.Cmp.Lexicographic.{nat_list_eq_equiv};
+
+    ghost laws = { nat_list_eq_equiv };
+}

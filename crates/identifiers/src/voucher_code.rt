@@ -1,0 +1,67 @@
+ghost use Rattle.std.specs.Prelude.{◌≡◌, IfOk, Some, None, IsTrue, if◌then◌else◌};
+ghost use Rattle.identifiers.specs.Texts.{is_voucher_code};
+
+use crate::texts::all_digits;
+use std::alloc::{AllocError, Global};
+use std::marker::Model;
+
+/// The code of a voucher: 12 digits (profile).
+///
+/// Contracts see the list of its bytes.
+#[derive(Clone, Debug, Drop)]
+pub struct VoucherCode {
+    text: String,
+}
+
+impl Model for VoucherCode {
+    ghost use Rattle.std.specs.Prelude.{List, ℕ, string_bytes, IsTrue};
+    ghost use Rattle.identifiers.specs.Texts.{is_voucher_code};
+
+    ghost Value = { List ℕ };
+
+    ghost view = { λ s. string_bytes s.text };
+
+    ghost invariant = { λ s. IsTrue (is_voucher_code (string_bytes s.text)) };
+}
+
+impl VoucherCode {
+    /// The code of a voucher that the text is; None where it is none.
+    pub fn new(alloc: Global, text: &str) -> Result<Option<VoucherCode>, AllocError>
+        ensures { IfOk result (λ o. o ≡ if is_voucher_code text.now then Some text.now else None) }
+    {
+        if text.len() == 12 && all_digits(text) {
+            let text = String::from_str(alloc, text)?;
+            Ok(Some(VoucherCode { text }))
+        } else {
+            Ok(None)
+        }
+    }
+
+    /// Its text.
+    pub fn as_str(&self) -> &str
+        ensures value { result.now ≡ self.now }
+        ensures rule { IsTrue (is_voucher_code self.now) }
+    {
+        self.text.as_str()
+    }
+}
+
+impl PartialEq for VoucherCode {
+    ghost use Rattle.std.specs.Prelude.{nat_eq};
+    ghost use Rattle.std.specs.Cmp.Lexicographic.{pointwise, nat_list_eq_equiv};
+    ghost use Rattle.std.specs.Cmp.{partial_equiv_from_equiv};
+
+    ghost eq = { λ a b. pointwise nat_eq a b };
+
+    ghost laws = { partial_equiv_from_equiv nat_list_eq_equiv };
+
+    fn eq(&self, other: &VoucherCode) -> bool {
+        self.text == other.text
+    }
+}
+
+impl Eq for VoucherCode {
+    ghost use Rattle.std.specs.Cmp.Lexicographic.{nat_list_eq_equiv};
+
+    ghost laws = { nat_list_eq_equiv };
+}

@@ -1,0 +1,107 @@
+-- What reservations hold of a bucket, split by reservation; and as the sum over the rows of groups.
+use Rattle.std.proofs.Common.{◌≡◌, ◌≢◌, ℕ, ◌+◌, ◌-◌, ◌<◌, ◌≤◌, Bool, true, false, List, [], ◌∷◌, ◌++◌, map, refl, sym, ap, ◌∙◌, arith, Option, Some, None, nat_eq}
+use Rattle.std.specs.Prelude.{if◌then◌else◌, ◌==◌, ◌&&◌, not, nat_lt}
+use Rattle.std.proofs.lemmas.Bool.Decides.{nat_tests}
+use Rattle.identifiers.proofs.Equality.{equal_names, names_equal}
+use Rattle.reserving.specs.Ledger.{Fact, Dated, Ledger, is_same, counts_before, hold_of, held, only}
+use Rattle.reserving.specs.Ledger.Fact.{Credit, Grant, Hold as HoldFact, End, Use, Charge, Touch, Close, Recorded}
+
+abbrev pub one_if : Bool → ℕ
+one_if b = if b then 1 else 0
+
+-- a reservation that counts for p counts for exactly one of q and r
+abbrev pub IsSplit : (List ℕ → ℕ → Bool) → (List ℕ → ℕ → Bool) → (List ℕ → ℕ → Bool) → Type 0
+IsSplit p q r = (s : List ℕ) (g : ℕ) → one_if (p s g) ≡ one_if (q s g) + one_if (r s g)
+
+split_cases : (p q r b : Bool) (a : ℕ) → one_if p ≡ one_if q + one_if r → (if p && b then a else 0) ≡ (if q && b then a else 0) + (if r && b then a else 0)
+split_cases p q r b a h = grind (arith, nat_tests)
+
+split_and : (p q r b : Bool) → one_if p ≡ one_if q + one_if r → one_if (p && b) ≡ one_if (q && b) + one_if (r && b)
+split_and p q r b h = grind (arith, nat_tests)
+
+hold_split : (p q r : List ℕ → ℕ → Bool) (n : ℕ) (f : Fact) → IsSplit p q r → hold_of p n f ≡ hold_of q n f + hold_of r n f
+hold_split p q r n (HoldFact s g b a) h = split_cases (p s g) (q s g) (r s g) (b == n) a (h s g)
+hold_split p q r n (Credit a b c d e) h = refl
+hold_split p q r n (Grant a b c d e f) h = refl
+hold_split p q r n (End a b) h = refl
+hold_split p q r n (Use a b c d e f) h = refl
+hold_split p q r n (Charge a b) h = refl
+hold_split p q r n (Touch a) h = refl
+hold_split p q r n (Close a) h = refl
+hold_split p q r n (Recorded a b) h = refl
+
+before_split : (p q r : List ℕ → ℕ → Bool) (f : Fact) → IsSplit p q r → IsSplit (counts_before f p) (counts_before f q) (counts_before f r)
+before_split p q r (End s' g') h = λ s g. split_and (p s g) (q s g) (r s g) (not (is_same s s' && g == g')) (h s g)
+before_split p q r (HoldFact s g b a) h = h
+before_split p q r (Credit a b c d e) h = h
+before_split p q r (Grant a b c d e f) h = h
+before_split p q r (Use a b c d e f) h = h
+before_split p q r (Charge a b) h = h
+before_split p q r (Touch a) h = h
+before_split p q r (Close a) h = h
+before_split p q r (Recorded a b) h = h
+
+pub held_split : (p q r : List ℕ → ℕ → Bool) (n : ℕ) (ledger : Ledger) → IsSplit p q r → held p n ledger ≡ held q n ledger + held r n ledger
+held_split p q r n [] h = refl
+held_split p q r n (d ∷ older) h =
+    let now : hold_of p n d.fact ≡ hold_of q n d.fact + hold_of r n d.fact = hold_split p q r n d.fact h in
+    let rest : held (counts_before d.fact p) n older ≡ held (counts_before d.fact q) n older + held (counts_before d.fact r) n older = held_split (counts_before d.fact p) (counts_before d.fact q) (counts_before d.fact r) n older (before_split p q r d.fact h) in
+    omega arith
+
+-- those that count for p, and of them those that count for q
+pub split_by : (p q : List ℕ → ℕ → Bool) → IsSplit p (λ s g. p s g && q s g) (λ s g. p s g && not (q s g))
+split_by p q s g = one (p s g) (q s g)
+  where
+    one : (a b : Bool) → one_if a ≡ one_if (a && b) + one_if (a && not b)
+    one true true = refl
+    one true false = refl
+    one false b = refl
+
+-- the same reservations hold the same
+pub held_same : (p q : List ℕ → ℕ → Bool) (n : ℕ) (ledger : Ledger) → ((s : List ℕ) (g : ℕ) → p s g ≡ q s g) → held p n ledger ≡ held q n ledger
+held_same p q n ledger h = let same : p ≡ q = λ i s g. h s g i in ap (λ c. held c n ledger) same
+
+-- no reservation counts
+hold_none : (p : List ℕ → ℕ → Bool) (n : ℕ) (f : Fact) → ((s : List ℕ) (g : ℕ) → p s g ≡ false) → hold_of p n f ≡ 0
+hold_none p n (HoldFact s g b a) h = rw (h s g) refl
+hold_none p n (Credit a b c d e) h = refl
+hold_none p n (Grant a b c d e f) h = refl
+hold_none p n (End a b) h = refl
+hold_none p n (Use a b c d e f) h = refl
+hold_none p n (Charge a b) h = refl
+hold_none p n (Touch a) h = refl
+hold_none p n (Close a) h = refl
+hold_none p n (Recorded a b) h = refl
+
+before_none : (p : List ℕ → ℕ → Bool) (f : Fact) → ((s : List ℕ) (g : ℕ) → p s g ≡ false) → (s : List ℕ) (g : ℕ) → counts_before f p s g ≡ false
+before_none p (End s' g') h = λ s g. rw (h s g) refl
+before_none p (HoldFact s g b a) h = h
+before_none p (Credit a b c d e) h = h
+before_none p (Grant a b c d e f) h = h
+before_none p (Use a b c d e f) h = h
+before_none p (Charge a b) h = h
+before_none p (Touch a) h = h
+before_none p (Close a) h = h
+before_none p (Recorded a b) h = h
+
+pub held_none : (p : List ℕ → ℕ → Bool) (n : ℕ) (ledger : Ledger) → ((s : List ℕ) (g : ℕ) → p s g ≡ false) → held p n ledger ≡ 0
+held_none p n [] h = refl
+held_none p n (d ∷ older) h = omega (arith, hold_none p n d.fact h, held_none (counts_before d.fact p) n older (before_none p d.fact h))
+
+-- ---- names of sessions
+
+pub same_itself : (s : List ℕ) → is_same s s ≡ true
+same_itself s = names_equal s s refl
+
+pub same_from : (a b : List ℕ) → is_same a b ≡ true → a ≡ b
+same_from a b h = equal_names a b h
+
+pub number_from : (a b : ℕ) → (a == b) ≡ true → a ≡ b
+number_from a b h = grind (arith, nat_tests)
+
+pub number_itself : (a : ℕ) → (a == a) ≡ true
+number_itself a = grind (arith, nat_tests)
+
+pub both : (a b : Bool) → (a && b) ≡ true → (a ≡ true) × (b ≡ true)
+both true b h = (refl, h)
+both false b h = (h, absurd (let no : false ≡ true = h in cc))

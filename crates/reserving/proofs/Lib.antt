@@ -1,0 +1,13 @@
+pub mod Lists
+pub mod Later
+pub mod Holds
+pub mod Positions
+pub mod Advancing
+pub mod Lapsing
+pub mod Advanced
+pub mod LaterFunds
+pub mod Touching
+pub mod Closing
+pub mod Kept
+pub mod Crediting
+pub mod Empty

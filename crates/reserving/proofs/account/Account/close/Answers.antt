@@ -1,0 +1,55 @@
+use Rattle.std.proofs.Common.{◌≡◌, map, sym, ap, ◌∙◌, subst, true}
+use Rattle.std.specs.Prelude.{not}
+use Rattle.reserving.specs.Ledger.{Ledger, is_live}
+use Rattle.reserving.specs.Rows.{AccountRows, IsAccount, IsRowsOf}
+use Rattle.reserving.specs.Requests.{closed}
+use Rattle.reserving.specs.Changes.{advanced, closed_account, is_other, lapsed_rows}
+use Rattle.reserving.proofs.Advancing.{is_live_in-is}
+use Rattle.reserving.proofs.Lapsing.{lapsable_of}
+use Rattle.reserving.proofs.Closing.{IsRowsOf-closed}
+use Rattle.reserving.proofs.Kept.{IsAccount-closed, closed-parts}
+use Rattle.reserving.proofs.account.Account.close.Goals as goal
+
+pub close_groups-requires : goal.close_groups-requires
+close_groups-requires c = lapsable_of (λ s. not (is_other c.args.session.now s)) c.self.inside.groups.items c.self.inside.purse c.self.invariant.held
+
+abbrev rows_of : (c : goal.After-close_session) → AccountRows
+rows_of c = record {
+  tariff = c.self.inside.tariff.now;
+  as_of = c.self.inside.as_of;
+  buckets = c.self.inside.purse;
+  counters = c.self.inside.counters.items;
+  sessions = c.self.inside.sessions.items;
+  groups = c.self.inside.groups.items;
+  next_bucket = c.self.inside.next_bucket;
+  next_charge = c.self.inside.next_charge;
+}
+
+-- the account after time went on
+advanced_is : (c : goal.After-close_session) → rows_of c ≡ advanced c.args.moment c.args.self.now
+advanced_is c = c.self.view_is ∙ c.advance.ensures.rows
+
+after_is : (c : goal.After-close_session) → (let a : AccountRows = record (rows_of c) { buckets = c.close_groups.new.purse; sessions = c.close_session.new.sessions.items; groups = c.close_groups.new.groups.items } in a) ≡ closed_account c.args.session.now (advanced c.args.moment c.args.self.now)
+after_is c =
+    closed-parts (rows_of c) c.args.session.now c.close_groups.new.purse c.close_session.new.sessions.items c.close_groups.new.groups.items
+    (c.close_groups.ensures.purse ∙ ap (λ t. lapsed_rows (is_other c.args.session.now) t c.self.inside.groups.items c.self.inside.purse) moment)
+    c.close_session.ensures c.close_groups.ensures.groups
+    ∙ ap (closed_account c.args.session.now) (advanced_is c)
+  where
+    moment : c.args.moment ≡ c.self.inside.as_of
+    moment = sym (ap (λ (a : AccountRows). a.as_of) (advanced_is c))
+
+account_of : (c : goal.After-close_session) → IsAccount (advanced c.args.moment c.args.self.now)
+account_of c = subst IsAccount (advanced_is c) c.self.invariant
+
+pub invariant_of-self : goal.invariant_of-self
+invariant_of-self c = subst IsAccount (sym (after_is c)) (IsAccount-closed (advanced c.args.moment c.args.self.now) c.args.session.now (account_of c))
+
+pub returns-clause-rows : goal.returns-clause-rows
+returns-clause-rows c = after_is c
+
+pub returns-clause-ledger : goal.returns-clause-ledger
+returns-clause-ledger c = λ ledger rows.
+    let later : IsRowsOf ledger (advanced c.args.moment c.args.self.now) = subst (IsRowsOf ledger) c.advance.ensures.rows (c.advance.ensures.ledger ledger rows) in
+    let live : is_live c.args.self.now.tariff.validity c.args.moment ledger c.args.session.now ≡ true = sym (is_live_in-is ledger c.args.self.now c.args.moment c.args.session.now rows c.requires.later) ∙ c.requires.live in
+    subst (IsRowsOf (closed c.args.moment c.args.session.now ledger)) (sym (after_is c)) (IsRowsOf-closed ledger (advanced c.args.moment c.args.self.now) c.args.session.now (account_of c) later live)

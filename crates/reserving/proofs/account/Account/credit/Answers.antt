@@ -1,0 +1,12 @@
+use Rattle.std.proofs.Common.{◌≡◌, sym, ap, ◌∙◌, subst}
+use Rattle.reserving.specs.Rows.{IsRowsOf}
+use Rattle.reserving.specs.Requests.{credited}
+use Rattle.reserving.specs.Changes.{advanced}
+use Rattle.reserving.proofs.Crediting.{IsRowsOf-credited}
+use Rattle.reserving.proofs.account.Account.credit.Goals as goal
+
+pub returns-clause-ledger : goal.returns-clause-ledger
+returns-clause-ledger c = λ ledger rows.
+    subst (IsRowsOf (credited c.args.moment c.args.from c.args.until c.args.scope c.args.amount ledger))
+    (ap (advanced c.args.moment) (sym c.in_ok-number.ensures.rows) ∙ sym c.advance.ensures.rows)
+    (IsRowsOf-credited ledger c.args.self.now c.args.moment c.args.from c.args.until c.args.scope c.args.amount c.in_ok-number.ensures.account rows c.requires)

@@ -1,0 +1,13 @@
+use Rattle.std.proofs.Common.{◌≡◌, ◌<◌, sym, ◌∙◌, subst, arith}
+use Rattle.reserving.specs.declared.session.SessionState.TheVariants.{NeverOpened}
+use Rattle.reserving.specs.Rows.{IsRowsOf}
+use Rattle.reserving.specs.Requests.{recorded}
+use Rattle.reserving.specs.Changes.{with_session}
+use Rattle.reserving.proofs.Touching.{IsRowsOf-denied}
+use Rattle.reserving.proofs.account.Account.deny.Goals as goal
+
+pub returns-clause-ledger : goal.returns-clause-ledger
+returns-clause-ledger c = λ ledger rows.
+    c.advance.ensures.ledger (recorded c.args.moment c.args.session.now c.args.number ledger)
+    (subst (IsRowsOf (recorded c.args.moment c.args.session.now c.args.number ledger)) (sym c.in_ok-record_new.ensures.rows)
+    (IsRowsOf-denied ledger c.args.self.now c.args.session.now c.args.number c.args.moment rows c.requires.new))

@@ -1,0 +1,54 @@
+use Rattle.std.proofs.Common.{◌≡◌, map, sym, ap, ◌∙◌, subst, arith, ◌<◌, ◌≤◌, true}
+use Rattle.reserving.specs.Ledger.{Ledger, is_live}
+use Rattle.reserving.specs.Rows.{AccountRows, IsAccount, IsRowsOf}
+use Rattle.reserving.specs.Requests.{touched}
+use Rattle.reserving.specs.Changes.{advanced, touched_account, touched_session}
+use Rattle.reserving.proofs.Advancing.{is_live_in-is}
+use Rattle.reserving.proofs.Closing.{IsRowsOf-touched}
+use Rattle.reserving.proofs.Kept.{IsAccount-touched}
+use Rattle.reserving.proofs.account.Account.touch.Goals as goal
+
+abbrev rows_of : (c : goal.After-touch_session) → AccountRows
+rows_of c = record {
+  tariff = c.self.inside.tariff.now;
+  as_of = c.self.inside.as_of;
+  buckets = c.self.inside.purse;
+  counters = c.self.inside.counters.items;
+  sessions = c.self.inside.sessions.items;
+  groups = c.self.inside.groups.items;
+  next_bucket = c.self.inside.next_bucket;
+  next_charge = c.self.inside.next_charge;
+}
+
+-- the account after time went on
+advanced_is : (c : goal.After-touch_session) → rows_of c ≡ advanced c.args.moment c.args.self.now
+advanced_is c = c.self.view_is ∙ c.advance.ensures.rows
+
+after_is : (c : goal.After-touch_session) → (let a : AccountRows = record (rows_of c) { sessions = c.touch_session.new.sessions.items } in a) ≡ touched_account c.args.session.now c.args.number (advanced c.args.moment c.args.self.now)
+after_is c =
+    (λ i. record (rows_of c) { sessions = c.touch_session.ensures i })
+    ∙ (λ i. record (rows_of c) { sessions = map (touched_session c.args.session.now c.args.number (moment i)) c.self.inside.sessions.items })
+    ∙ ap (touched_account c.args.session.now c.args.number) (advanced_is c)
+  where
+    moment : c.args.moment ≡ c.self.inside.as_of
+    moment = sym (ap (λ (a : AccountRows). a.as_of) (advanced_is c))
+
+pub invariant_of-self : goal.invariant_of-self
+invariant_of-self c =
+    let account : IsAccount (advanced c.args.moment c.args.self.now) = subst IsAccount (advanced_is c) c.self.invariant in
+    subst IsAccount (sym (after_is c)) (IsAccount-touched (advanced c.args.moment c.args.self.now) c.args.session.now c.args.number account)
+
+pub returns-clause-rows : goal.returns-clause-rows
+returns-clause-rows c = after_is c
+
+pub returns-clause-ledger : goal.returns-clause-ledger
+returns-clause-ledger c = λ ledger rows.
+    let some : 0 < c.args.self.now.tariff.validity = positive c in
+    let later : IsRowsOf ledger (advanced c.args.moment c.args.self.now) = subst (IsRowsOf ledger) c.advance.ensures.rows (c.advance.ensures.ledger ledger rows) in
+    let live : is_live c.args.self.now.tariff.validity c.args.moment ledger c.args.session.now ≡ true = sym (is_live_in-is ledger c.args.self.now c.args.moment c.args.session.now rows c.requires.later) ∙ c.requires.live in
+    subst (IsRowsOf (touched c.args.moment c.args.session.now c.args.number ledger)) (sym (after_is c)) (IsRowsOf-touched ledger (advanced c.args.moment c.args.self.now) c.args.session.now c.args.number later live some)
+  where
+    positive : (c : goal.After-touch_session) → 0 < c.args.self.now.tariff.validity
+    positive c =
+        let account : IsAccount (advanced c.args.moment c.args.self.now) = subst IsAccount (advanced_is c) c.self.invariant in
+        omega (arith, account.tariff.validity)

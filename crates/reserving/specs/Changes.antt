@@ -1,0 +1,161 @@
+-- What each call makes of an account's rows.
+use Rattle.std.specs.Prelude.{ℕ, ◌+◌, ◌*◌, ◌≤◌, Bool, true, false, not, ◌&&◌, nat_lt, if◌then◌else◌, List, [], ◌∷◌, Option, Some, None, map, sum_by, unwrap_or, option_map}
+use Rattle.units.specs.declared.blocks.UsedPart.{UsedPart}
+use Rattle.buckets.specs.declared.holds.Hold.{Hold}
+use Rattle.buckets.specs.Row.{Row, is_eligible, with_end, with_release, new_row}
+use Rattle.buckets.specs.Spend.{Each, inserted, held_rows}
+use Rattle.buckets.specs.Holding.{settled_rows, released_rows, holds_of}
+use Rattle.reserving.specs.declared.session.Session.{Session}
+use Rattle.reserving.specs.declared.session.SessionState.{SessionState}
+use Rattle.reserving.specs.declared.session.SessionState.TheVariants.{Open, Ended, NeverOpened}
+use Rattle.reserving.specs.declared.session.SessionGroup.{SessionGroup}
+use Rattle.reserving.specs.declared.session.Reservation.{Reservation}
+use Rattle.reserving.specs.declared.session.Counter.{Counter}
+use Rattle.reserving.specs.Ledger.{is_same}
+use Rattle.reserving.specs.FlatTariff.{Flat, period_at, cycle_at}
+use Rattle.reserving.specs.Keyed.{put}
+use Rattle.reserving.specs.Sessions.{is_session, session_in, is_of, group_in, is_counter, counter_in, is_open, is_live_in, held_by, holds_in}
+use Rattle.reserving.specs.Settlement.{reported, rated_blocks, rated_amount}
+use Rattle.reserving.specs.Rows.{AccountRows}
+
+-- ---- time goes on: sessions whose supervision time is over end, what they held is given up, and what is left
+-- of buckets that ended is expired
+
+abbrev pub lapse : ℕ → ℕ → Session → Session
+lapse v t r = if is_open r.state && not (nat_lt t (r.touched + 2 * v)) then record r { state = Ended } else r
+
+-- a group of a session that doesn't keep its reservations
+abbrev pub lapse_group : (List ℕ → Bool) → SessionGroup → SessionGroup
+lapse_group keeps r = if keeps r.session then r else record r { reservation = None }
+
+-- what the reservations of sessions that don't keep them hold of a bucket
+abbrev pub lapsed_in : (List ℕ → Bool) → List SessionGroup → Row → ℕ
+lapsed_in keeps groups b = held_by (λ s. not (keeps s)) groups b
+
+abbrev pub advanced : ℕ → AccountRows → AccountRows
+advanced t a = record a {
+  as_of = t;
+  buckets = map (λ b. with_end t (with_release t b (lapsed_in (is_live_in a.tariff.validity t a.sessions) a.groups b))) a.buckets;
+  sessions = map (lapse a.tariff.validity t) a.sessions;
+  groups = map (lapse_group (is_live_in a.tariff.validity t a.sessions)) a.groups;
+}
+
+-- ---- sessions
+
+abbrev pub session_put : List ℕ → ℕ → ℕ → SessionState → List Session → List Session
+session_put s number t state rows = put (is_session s) (record { id = s; last_number = number; touched = t; state = state }) rows
+
+abbrev pub with_session : List ℕ → ℕ → ℕ → SessionState → AccountRows → AccountRows
+with_session s number t state a = record a { sessions = session_put s number t state a.sessions }
+
+abbrev pub touched_session : List ℕ → ℕ → ℕ → Session → Session
+touched_session s number t r = if is_session s r then record r { last_number = number; touched = t; state = Open } else r
+
+abbrev pub touched_account : List ℕ → ℕ → AccountRows → AccountRows
+touched_account s number a = record a { sessions = map (touched_session s number a.as_of) a.sessions }
+
+-- ---- groups and counters
+
+abbrev pub new_group : List ℕ → ℕ → SessionGroup
+new_group s g = record { session = s; group = g; used = 0; reservation = None }
+
+abbrev pub group_or_new : List ℕ → ℕ → List SessionGroup → SessionGroup
+group_or_new s g rows = unwrap_or (group_in s g rows) (new_group s g)
+
+abbrev pub used_in : List ℕ → ℕ → List SessionGroup → ℕ
+used_in s g rows = (group_or_new s g rows).used
+
+abbrev pub reserved_in : List ℕ → ℕ → List SessionGroup → List Hold
+reserved_in s g rows = holds_in (group_or_new s g rows).reservation
+
+abbrev pub count_in : ℕ → ℕ → List Counter → ℕ
+count_in g c rows = unwrap_or (option_map (λ r. r.blocks) (counter_in g c rows)) 0
+
+abbrev pub with_use : List ℕ → ℕ → ℕ → List SessionGroup → List SessionGroup
+with_use s g units rows = put (is_of s g) (record { session = s; group = g; used = used_in s g rows + units; reservation = None }) rows
+
+abbrev pub with_count : ℕ → ℕ → ℕ → List Counter → List Counter
+with_count g c blocks rows = put (is_counter g c) (record { group = g; cycle = c; blocks = count_in g c rows + blocks }) rows
+
+-- ---- settlement
+
+-- the group's reservation alone ends
+abbrev pub ended_group : List ℕ → ℕ → SessionGroup → SessionGroup
+ended_group s g r = if is_of s g r then record r { reservation = None } else r
+
+abbrev pub ended_rows : List ℕ → ℕ → AccountRows → AccountRows
+ended_rows s g a = record a {
+  buckets = released_rows (reserved_in s g a.groups) a.as_of a.buckets;
+  groups = map (ended_group s g) a.groups;
+}
+
+abbrev pub settled_account : List ℕ → ℕ → ℕ → ℕ → ℕ → AccountRows → AccountRows
+settled_account s g units blocks rated a = record a {
+  buckets = settled_rows (reserved_in s g a.groups) g a.as_of rated a.buckets;
+  counters = with_count g (cycle_at a.tariff g a.as_of) blocks a.counters;
+  groups = with_use s g units a.groups;
+  next_charge = a.next_charge + 1;
+}
+
+abbrev pub settled_by_rows : List ℕ → ℕ → List UsedPart → AccountRows → AccountRows
+settled_by_rows s g [] a = ended_rows s g a
+settled_by_rows s g (p ∷ ps) a =
+    settled_account s g (reported (p ∷ ps)) (rated_blocks a.tariff (used_in s g a.groups) (p ∷ ps)) (rated_amount a.tariff (used_in s g a.groups) (p ∷ ps)) a
+
+-- ---- reservation
+
+abbrev pub with_reservation : List ℕ → ℕ → ℕ → List Hold → List SessionGroup → List SessionGroup
+with_reservation s g period holds rows =
+    put (is_of s g) (record { session = s; group = g; used = used_in s g rows; reservation = Some (record { before = record { 0 = period }; after = record { 0 = period }; holds = holds }) }) rows
+
+abbrev pub reserved_account : List ℕ → ℕ → ℕ → AccountRows → AccountRows
+reserved_account s g amount a = record a {
+  buckets = held_rows g a.as_of amount a.buckets;
+  groups = with_reservation s g (period_at a.tariff a.as_of) (holds_of g a.as_of amount a.buckets) a.groups;
+}
+
+-- ---- credit
+
+abbrev pub credited_account : ℕ → ℕ → Option ℕ → ℕ → AccountRows → AccountRows
+credited_account from until scope amount a = record a {
+  buckets = inserted (new_row a.next_bucket from until scope amount) a.buckets;
+  next_bucket = a.next_bucket + 1;
+}
+
+-- ---- the end of a session
+
+-- the other sessions keep their reservations
+abbrev pub is_other : List ℕ → List ℕ → Bool
+is_other s x = not (is_same x s)
+
+abbrev pub closed_session : List ℕ → Session → Session
+closed_session s r = if is_session s r then record r { state = Ended } else r
+
+abbrev pub closed_account : List ℕ → AccountRows → AccountRows
+closed_account s a = record a {
+  buckets = map (λ b. with_release a.as_of b (lapsed_in (is_other s) a.groups b)) a.buckets;
+  sessions = map (closed_session s) a.sessions;
+  groups = map (lapse_group (is_other s)) a.groups;
+}
+
+-- ---- the same, one reservation after another
+
+abbrev pub lapse_from : Bool → ℕ → Option Reservation → List Row → List Row
+lapse_from live t reservation rows = if live then rows else released_rows (holds_in reservation) t rows
+
+abbrev pub lapsed_rows : (List ℕ → Bool) → ℕ → List SessionGroup → List Row → List Row
+lapsed_rows keeps t [] rows = rows
+lapsed_rows keeps t (r ∷ rs) rows = lapsed_rows keeps t rs (lapse_from (keeps r.session) t r.reservation rows)
+
+-- what the remaining reservations hold is within what is reserved
+abbrev pub AreLapsable : (List ℕ → Bool) → List SessionGroup → List Row → Type 0
+AreLapsable p groups rows = Each (λ b. held_by p groups b ≤ b.reserved) rows
+
+-- ---- funds at a later moment
+
+-- what a bucket has available for a group at a later moment, with what ended sessions held of it
+abbrev pub amount_later : ℕ → ℕ → ℕ → List Session → List SessionGroup → Row → ℕ
+amount_later group v t sessions groups b = if is_eligible group t b then b.available + lapsed_in (is_live_in v t sessions) groups b else 0
+
+abbrev pub funds_later : ℕ → ℕ → ℕ → List Session → List SessionGroup → List Row → ℕ
+funds_later group v t sessions groups rows = sum_by (amount_later group v t sessions groups) rows

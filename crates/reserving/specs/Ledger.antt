@@ -1,0 +1,203 @@
+-- The ledger of an account: a list of dated facts, the newest first. It only grows, at its front, and every
+-- balance is a sum over it (TS 32.296, account balance management function).
+use Rattle.std.specs.Prelude.{◌≡◌, ℕ, ◌+◌, ◌*◌, Bool, true, false, not, ◌==◌, ◌&&◌, ◌||◌, nat_lt, nat_eq, if◌then◌else◌, List, [], ◌∷◌, Option, Some, None}
+use Rattle.std.specs.Cmp.Lexicographic.{pointwise}
+
+-- Credit: a bucket is made. Grant, Hold and End: a session gets units of a rating group, priced by the tariff
+-- period at the grant (before) and at the switch within its validity (after), from this place of the group's
+-- counter on; what is held for it of each bucket; it is over. Use and Charge: units are reported, start
+-- blocks, and are rated; what each bucket pays. Touch and Close: a request of the session is accepted; the
+-- session ends. Recorded: a request of the session is kept under its number.
+pub data Fact : Type 0 where
+  Credit : (number from until : ℕ) (scope : Option ℕ) (amount : ℕ) → Fact
+  Grant : (session : List ℕ) (group before after units counter : ℕ) → Fact
+  Hold : (session : List ℕ) (group bucket amount : ℕ) → Fact
+  End : (session : List ℕ) (group : ℕ) → Fact
+  Use : (session : List ℕ) (group units blocks rated uncollected : ℕ) → Fact
+  Charge : (bucket amount : ℕ) → Fact
+  Touch : (session : List ℕ) → Fact
+  Close : (session : List ℕ) → Fact
+  Recorded : (session : List ℕ) (number : ℕ) → Fact
+
+pub record Dated : Type 0 where
+  pub at : ℕ
+  pub fact : Fact
+
+abbrev pub Ledger : Type 0
+Ledger = List Dated
+
+-- names of sessions are compared byte by byte
+abbrev pub is_same : List ℕ → List ℕ → Bool
+is_same a b = pointwise nat_eq a b
+
+-- ---- reading a ledger: sums, and the newest fact of a kind
+
+abbrev pub total : (Dated → ℕ) → Ledger → ℕ
+total f [] = 0
+total f (d ∷ older) = f d + total f older
+
+abbrev pub or_else : {A : Type 0} → Option A → Option A → Option A
+or_else (Some x) other = Some x
+or_else None other = other
+
+abbrev pub newest : {A : Type 0} → (Dated → Option A) → Ledger → Option A
+newest f [] = None
+newest f (d ∷ older) = or_else (f d) (newest f older)
+
+abbrev pub any : (Fact → Bool) → Ledger → Bool
+any p [] = false
+any p (d ∷ older) = p d.fact || any p older
+
+-- ---- buckets
+
+abbrev pub charge_to : ℕ → Fact → ℕ
+charge_to n (Charge bucket amount) = if bucket == n then amount else 0
+charge_to n _ = 0
+
+-- all charges to a bucket
+abbrev pub charged : ℕ → Ledger → ℕ
+charged n ledger = total (λ d. charge_to n d.fact) ledger
+
+abbrev pub credits_in : Fact → ℕ
+credits_in (Credit number from until scope amount) = 1
+credits_in _ = 0
+
+-- the number of the next bucket
+abbrev pub next_bucket : Ledger → ℕ
+next_bucket ledger = total (λ d. credits_in d.fact) ledger + 1
+
+-- ---- use
+
+abbrev pub units_in : List ℕ → ℕ → Fact → ℕ
+units_in s g (Use session group units blocks rated uncollected) = if is_same session s && group == g then units else 0
+units_in s g _ = 0
+
+-- a session's use of a group so far
+abbrev pub used : List ℕ → ℕ → Ledger → ℕ
+used s g ledger = total (λ d. units_in s g d.fact) ledger
+
+abbrev pub blocks_in : ℕ → Fact → ℕ
+blocks_in g (Use session group units blocks rated uncollected) = if group == g then blocks else 0
+blocks_in g _ = 0
+
+-- the account's counter of a group in a cycle: the blocks of the uses whose moments lie in it
+abbrev pub counter : (ℕ → ℕ) → ℕ → ℕ → Ledger → ℕ
+counter cycle_at g c ledger = total (λ d. if cycle_at d.at == c then blocks_in g d.fact else 0) ledger
+
+abbrev pub uses_in : Fact → ℕ
+uses_in (Use session group units blocks rated uncollected) = 1
+uses_in _ = 0
+
+-- the number of the next charge row: each use is one
+abbrev pub next_charge : Ledger → ℕ
+next_charge ledger = total (λ d. uses_in d.fact) ledger + 1
+
+-- ---- sessions
+
+abbrev pub touch_in : List ℕ → Dated → Option ℕ
+touch_in s d = touched_by d.fact
+  where
+    touched_by : Fact → Option ℕ
+    touched_by (Touch session) = if is_same session s then Some d.at else None
+    touched_by _ = None
+
+-- the moment of a session's last touch
+abbrev pub last_touch : List ℕ → Ledger → Option ℕ
+last_touch s ledger = newest (touch_in s) ledger
+
+abbrev pub closes : List ℕ → Fact → Bool
+closes s (Close session) = is_same session s
+closes s _ = false
+
+abbrev pub is_closed : List ℕ → Ledger → Bool
+is_closed s ledger = any (closes s) ledger
+
+-- a session that was touched lives until two validity times after its last touch
+abbrev pub is_within : ℕ → ℕ → Option ℕ → Bool
+is_within v t None = false
+is_within v t (Some at) = nat_lt t (at + 2 * v)
+
+-- a live session: it has a touch, wasn't closed, and its supervision time is not over (profile, in the place
+-- of the session supervision timer Tcc of RFC 8506 section 13)
+abbrev pub is_live : ℕ → ℕ → Ledger → List ℕ → Bool
+is_live v t ledger s = is_within v t (last_touch s ledger) && not (is_closed s ledger)
+
+pub record Recording : Type 0 where
+  pub number : ℕ
+  pub at : ℕ
+
+abbrev pub recording_in : List ℕ → Dated → Option Recording
+recording_in s d = recorded_by d.fact
+  where
+    recorded_by : Fact → Option Recording
+    recorded_by (Recorded session number) = if is_same session s then Some (record { number = number; at = d.at }) else None
+    recorded_by _ = None
+
+-- a session's last accepted request
+abbrev pub last_recording : List ℕ → Ledger → Option Recording
+last_recording s ledger = newest (recording_in s) ledger
+
+-- ---- reservations
+
+-- which reservations' holds count, seen from before a fact: none that it ends
+abbrev pub counts_before : Fact → (List ℕ → ℕ → Bool) → List ℕ → ℕ → Bool
+counts_before (End session group) counts = λ s g. counts s g && not (is_same s session && g == group)
+counts_before _ counts = counts
+
+abbrev pub hold_of : (List ℕ → ℕ → Bool) → ℕ → Fact → ℕ
+hold_of counts n (Hold session group bucket amount) = if counts session group && bucket == n then amount else 0
+hold_of counts n _ = 0
+
+-- what reservations hold of a bucket: those that count, and that no later fact ended
+abbrev pub held : (List ℕ → ℕ → Bool) → ℕ → Ledger → ℕ
+held counts n [] = 0
+held counts n (d ∷ older) = hold_of counts n d.fact + held (counts_before d.fact counts) n older
+
+-- one reservation alone
+abbrev pub only : List ℕ → ℕ → List ℕ → ℕ → Bool
+only session group s g = is_same s session && g == group
+
+-- the tariff periods of a grant
+pub record Periods : Type 0 where
+  pub before : ℕ
+  pub after : ℕ
+
+abbrev pub grant_in : List ℕ → ℕ → Dated → Option (Option Periods)
+grant_in s g d = granted_by d.fact
+  where
+    granted_by : Fact → Option (Option Periods)
+    granted_by (Grant session group before after units counter) = if is_same session s && group == g then Some (Some (record { before = before; after = after })) else None
+    granted_by (End session group) = if is_same session s && group == g then Some None else None
+    granted_by _ = None
+
+abbrev pub inner : {A : Type 0} → Option (Option A) → Option A
+inner None = None
+inner (Some x) = x
+
+-- the periods of a session's grant of a group that no later fact ended
+abbrev pub open_grant : List ℕ → ℕ → Ledger → Option Periods
+open_grant s g ledger = inner (newest (grant_in s g) ledger)
+
+abbrev pub names_group : List ℕ → ℕ → Fact → Bool
+names_group s g (Grant session group before after units counter) = is_same session s && group == g
+names_group s g (Use session group units blocks rated uncollected) = is_same session s && group == g
+names_group s g _ = false
+
+-- the session has a grant or a use of the group
+abbrev pub has_group : List ℕ → ℕ → Ledger → Bool
+has_group s g ledger = any (names_group s g) ledger
+
+abbrev pub counts_group : (ℕ → ℕ) → ℕ → ℕ → Dated → Bool
+counts_group cycle_at g c d = counted_by d.fact
+  where
+    counted_by : Fact → Bool
+    counted_by (Use session group units blocks rated uncollected) = group == g && cycle_at d.at == c
+    counted_by _ = false
+
+abbrev pub any_dated : (Dated → Bool) → Ledger → Bool
+any_dated p [] = false
+any_dated p (d ∷ older) = p d || any_dated p older
+
+-- the account has a use of the group in the cycle
+abbrev pub has_counter : (ℕ → ℕ) → ℕ → ℕ → Ledger → Bool
+has_counter cycle_at g c ledger = any_dated (counts_group cycle_at g c) ledger

@@ -1,0 +1,72 @@
+-- An account's rows, and the ledger that they are the sums of.
+use Rattle.std.specs.Prelude.{◌≡◌, ℕ, ◌≤◌, List, [], ◌∷◌, Bool, true, false, Option, Some, None, option_map}
+use Rattle.buckets.specs.Row.{Row}
+use Rattle.buckets.specs.Spend.{Each, IsSound, IsBelow}
+use Rattle.reserving.specs.declared.session.Session.{Session}
+use Rattle.reserving.specs.declared.session.SessionGroup.{SessionGroup}
+use Rattle.reserving.specs.declared.session.Counter.{Counter}
+use Rattle.reserving.specs.Ledger.{Ledger, Recording, charged, held, is_same, is_closed, open_grant, last_touch, last_recording, next_bucket, next_charge}
+use Rattle.reserving.specs.FlatTariff.{Flat, IsFlat, cycle_at}
+use Rattle.reserving.specs.Balance.{buckets_at}
+use Rattle.reserving.specs.Sessions.{is_session, session_in, session_at, is_of, group_in, group_at, is_counter, counter_in, counter_at, held_by}
+
+pub record AccountRows : Type 0 where
+  pub tariff : Flat
+  pub as_of : ℕ
+  pub buckets : List Row
+  pub counters : List Counter
+  pub sessions : List Session
+  pub groups : List SessionGroup
+  pub next_bucket : ℕ
+  pub next_charge : ℕ
+
+-- ---- what each account keeps
+
+abbrev pub EachIn : {A : Type 0} → (A → Type 0) → List A → Type 0
+EachIn P [] = Unit {0}
+EachIn P (x ∷ xs) = P x × EachIn P xs
+
+-- no two rows have one key
+abbrev pub AreApart : {A : Type 0} → (A → A → Bool) → List A → Type 0
+AreApart same [] = Unit {0}
+AreApart same (x ∷ xs) = EachIn (λ y. same x y ≡ false) xs × AreApart same xs
+
+pub record IsAccount (a : AccountRows) : Type 0 where
+  pub tariff : IsFlat a.tariff
+  pub sound : IsSound a.buckets
+  pub below : IsBelow a.next_bucket a.buckets
+  pub next_bucket : a.next_bucket ≤ 4294967296
+  pub next_charge : a.next_charge ≤ 4294967296
+  pub sessions : AreApart (λ x y. is_session x.id y) a.sessions
+  pub groups : AreApart (λ x y. is_of x.session x.group y) a.groups
+  pub counters : AreApart (λ x y. is_counter x.group x.cycle y) a.counters
+  pub used : EachIn (λ r. r.used ≤ 1000000000000000000) a.groups
+  pub counted : EachIn (λ r. r.blocks ≤ 4000000000000000000) a.counters
+  -- all that is reserved of a bucket is held by a reservation
+  pub held : Each (λ b. held_by (λ s. true) a.groups b ≡ b.reserved) a.buckets
+  -- and nothing is held of a bucket that isn't there
+  pub named : (b : Row) → a.next_bucket ≤ b.number → held_by (λ s. true) a.groups b ≡ 0
+
+-- ---- the ledger's rows
+
+-- a session without a recorded request has nothing else either
+pub record IsUnknown (s : List ℕ) (ledger : Ledger) : Type 0 where
+  pub closed : is_closed s ledger ≡ false
+  pub held : (n : ℕ) → held (λ x g. is_same x s) n ledger ≡ 0
+  pub granted : (g : ℕ) → open_grant s g ledger ≡ None
+
+-- the account's rows are the ledger's at the moment as of which they stand: each row is the ledger's, and what
+-- the ledger tells has its row
+pub record IsRowsOf (ledger : Ledger) (a : AccountRows) : Type 0 where
+  pub buckets : a.buckets ≡ buckets_at a.tariff.validity a.as_of ledger
+  pub sessions : (s : List ℕ) → session_in s a.sessions ≡ session_at a.tariff.validity a.as_of ledger s
+  pub groups : (s : List ℕ) (g : ℕ) → group_in s g a.groups ≡ group_at a.tariff.validity a.as_of ledger s g
+  pub counters : (g c : ℕ) → counter_in g c a.counters ≡ counter_at (cycle_at a.tariff g) ledger g c
+  pub next_bucket : a.next_bucket ≡ next_bucket ledger
+  pub next_charge : a.next_charge ≡ next_charge ledger
+  -- a session's last touch is recorded
+  pub touched : (s : List ℕ) (x : ℕ) → last_touch s ledger ≡ Some x → option_map (λ r. r.at) (last_recording s ledger) ≡ Some x
+  pub unknown : (s : List ℕ) → last_recording s ledger ≡ None → IsUnknown s ledger
+  -- nothing is charged or held of a bucket that isn't there
+  pub fresh : (n : ℕ) → a.next_bucket ≤ n → charged n ledger ≡ 0
+  pub free : (n : ℕ) (counts : List ℕ → ℕ → Bool) → a.next_bucket ≤ n → held counts n ledger ≡ 0

@@ -1,0 +1,135 @@
+ghost use Rattle.std.specs.Prelude.{◌≡◌, [], None};
+ghost use Rattle.reserving.specs.Sessions.{is_live_in};
+ghost use Rattle.reserving.specs.Rows.{AccountRows, IsAccount, IsRowsOf};
+
+use crate::advance::is_live;
+use crate::flat::FlatTariff;
+use crate::session::{Counter, Session, SessionGroup};
+use buckets::Purse;
+use identifiers::SessionId;
+use std::alloc::Global;
+use std::marker::Model;
+use units::Moment;
+
+/// An account: its purse, its counters, and its sessions with their reservations, as of the moment of its last
+/// change. It is priced by a tariff that it borrows.
+#[derive(Drop)]
+pub struct Account<'b> {
+    pub(crate) tariff: &'b FlatTariff,
+    pub(crate) as_of: Moment,
+    pub(crate) purse: Purse,
+    pub(crate) counters: Vec<Counter>,
+    pub(crate) sessions: Vec<Session>,
+    pub(crate) groups: Vec<SessionGroup>,
+    pub(crate) next_bucket: u64,
+    pub(crate) next_charge: u64,
+    pub(crate) alloc: Global,
+}
+
+impl<'b> Model for Account<'b> {
+    ghost use Rattle.reserving.specs.Rows.{AccountRows, IsAccount};
+
+    ghost Value = { AccountRows };
+
+    ghost view = { λ a. record {
+      tariff = a.tariff.now;
+      as_of = a.as_of;
+      buckets = a.purse;
+      counters = a.counters.items;
+      sessions = a.sessions.items;
+      groups = a.groups.items;
+      next_bucket = a.next_bucket;
+      next_charge = a.next_charge;
+    } };
+
+    ghost invariant = { λ a. IsAccount (record {
+      tariff = a.tariff.now;
+      as_of = a.as_of;
+      buckets = a.purse;
+      counters = a.counters.items;
+      sessions = a.sessions.items;
+      groups = a.groups.items;
+      next_bucket = a.next_bucket;
+      next_charge = a.next_charge;
+    }) };
+}
+
+impl<'b> Account<'b> {
+    /// An account without buckets and sessions. It takes no memory.
+    pub fn new(alloc: Global, tariff: &'b FlatTariff) -> Self
+        ensures ledger { IsRowsOf [] result }
+        ensures rows { result ≡ record {
+          tariff = tariff.now;
+          as_of = 0;
+          buckets = [];
+          counters = [];
+          sessions = [];
+          groups = [];
+          next_bucket = 1;
+          next_charge = 1;
+        } }
+    {
+        let _ranges = tariff.block();
+        Account {
+            tariff,
+            as_of: Moment::first(),
+            purse: Purse::new(alloc),
+            counters: Vec::new(alloc),
+            sessions: Vec::new(alloc),
+            groups: Vec::new(alloc),
+            next_bucket: 1,
+            next_charge: 1,
+            alloc,
+        }
+    }
+
+    /// The tariff that prices it.
+    pub fn tariff(&self) -> &'b FlatTariff
+        ensures { result.now ≡ self.now.tariff }
+    {
+        self.tariff
+    }
+
+    /// Whether the session is live at the moment: opened and not closed, and its supervision time, two validity
+    /// times after its last accepted request, isn't over.
+    pub fn is_live(&self, session: &SessionId, moment: Moment) -> bool
+        ensures { result ≡ is_live_in self.now.tariff.validity moment self.now.sessions session.now }
+    {
+        is_live(&self.sessions, session, self.tariff.validity(), moment)
+    }
+
+    /// Its purse.
+    pub fn purse(&self) -> &Purse
+        ensures { result.now ≡ self.now.buckets }
+    {
+        &self.purse
+    }
+
+    /// Its sessions and recorded events.
+    pub fn sessions(&self) -> &[Session]
+        ensures { result.now ≡ self.now.sessions }
+    {
+        self.sessions.as_slice()
+    }
+
+    /// What its sessions have of rating groups.
+    pub fn groups(&self) -> &[SessionGroup]
+        ensures { result.now ≡ self.now.groups }
+    {
+        self.groups.as_slice()
+    }
+
+    /// Its counters.
+    pub fn counters(&self) -> &[Counter]
+        ensures { result.now ≡ self.now.counters }
+    {
+        self.counters.as_slice()
+    }
+
+    /// The moment of its last change.
+    pub fn as_of(&self) -> Moment
+        ensures { result ≡ self.now.as_of }
+    {
+        self.as_of
+    }
+}

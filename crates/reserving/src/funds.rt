@@ -1,0 +1,91 @@
+ghost use Rattle.std.specs.Prelude.{◌≡◌, ◌≤◌, true};
+ghost use Rattle.buckets.specs.Spend.{funds};
+ghost use Rattle.buckets.specs.Holding.{held_in};
+ghost use Rattle.reserving.specs.Ledger.{Ledger};
+ghost use Rattle.reserving.specs.Balance.{buckets_at};
+ghost use Rattle.reserving.specs.Sessions.{held_by, holds_in, is_live_in};
+ghost use Rattle.reserving.specs.Rows.{IsRowsOf};
+ghost use Rattle.reserving.specs.Changes.{advanced, lapsed_in, amount_later};
+
+use crate::account::Account;
+use crate::advance::is_live;
+use crate::session::{Session, SessionGroup};
+use buckets::Bucket;
+use units::{Amount, Moment};
+
+impl<'b> Account<'b> {
+    /// What the buckets that are eligible for the rating group at the moment have available then, in
+    /// micro-units. It takes no memory and changes nothing.
+    pub fn funds(&self, group: u32, moment: Moment) -> Amount
+        requires { self.now.as_of ≤ moment }
+        ensures rows { result.0 ≡ funds group moment (advanced moment self.now).buckets }
+        ensures ledger { (ledger : Ledger) → IsRowsOf ledger self.now →
+            result.0 ≡ funds group moment (buckets_at self.now.tariff.validity moment ledger) }
+    {
+        let validity = self.tariff.validity();
+        let mut total = 0;
+        for bucket in self.purse.buckets() {
+            total += available_later(
+                bucket,
+                group,
+                &self.groups,
+                &self.sessions,
+                validity,
+                moment,
+            );
+        }
+        Amount(total)
+    }
+}
+
+/// What an eligible bucket has available at a later moment: also what ended sessions held of it.
+fn available_later(
+    bucket: &Bucket,
+    group: u32,
+    groups: &[SessionGroup],
+    sessions: &[Session],
+    validity: u32,
+    at: Moment,
+) -> u128
+    requires { held_by (λ s. true) groups.now bucket.now ≡ bucket.now.reserved }
+    ensures value { result ≡ amount_later group validity at sessions.now groups.now bucket.now }
+    ensures most { result ≤ 2_000_000_000_000_000 }
+{
+    let _reserved = bucket.reserved();
+    if bucket.is_eligible(group, at) {
+        bucket.available() as u128 + lapsed(bucket, groups, sessions, validity, at)
+    } else {
+        0
+    }
+}
+
+/// What the reservations of sessions that have ended by the moment hold of a bucket.
+fn lapsed(
+    bucket: &Bucket,
+    groups: &[SessionGroup],
+    sessions: &[Session],
+    validity: u32,
+    at: Moment,
+) -> u128
+    requires { held_by (λ s. true) groups.now bucket.now ≤ 1_000_000_000_000_000 }
+    ensures value { result ≡ lapsed_in (is_live_in validity at sessions.now) groups.now bucket.now }
+    ensures most { result ≤ 1_000_000_000_000_000 }
+{
+    let mut total = 0;
+    for group in groups {
+        if !is_live(sessions, &group.session, validity, at) {
+            total += held_of(bucket, group);
+        }
+    }
+    total
+}
+
+/// What a group's reservation holds of a bucket.
+fn held_of(bucket: &Bucket, group: &SessionGroup) -> u128
+    ensures { result ≡ held_in (holds_in group.now.reservation) bucket.now }
+{
+    match &group.reservation {
+        None => 0,
+        Some(reservation) => reservation.holds.of(bucket),
+    }
+}
