@@ -70,14 +70,10 @@ impl Money {
         let Ok(digits) = u64::try_from(digits) else {
             return Err(UnitFault::OutOfRange);
         };
-        let micros = u128::from(digits) * u128::from(factor);
-        if micros <= 1_000_000_000_000_000 {
-            Ok(Money {
-                micros: micros as u64,
-            })
-        } else {
-            Err(UnitFault::OutOfRange)
-        }
+        let Some(micros) = digits.checked_mul(factor) else {
+            return Err(UnitFault::OutOfRange);
+        };
+        Money::new(micros).ok_or(UnitFault::OutOfRange)
     }
 
     /// Its micro-units.
