@@ -6,14 +6,14 @@ use Rattle.reserving.proofs.Lists.{no_some}
 
 pub IsRowsOf-new : (f : Flat) → IsRowsOf [] (record { tariff = f; as_of = 0; buckets = []; counters = []; sessions = []; groups = []; next_bucket = 1; next_charge = 1 })
 IsRowsOf-new f = record {
-    buckets = refl;
-    sessions = λ s. refl;
-    groups = λ s g. refl;
-    counters = λ g c. refl;
-    next_bucket = refl;
-    next_charge = refl;
-    touched = λ s x e. absurd (no_some x e);
-    unknown = λ s e. record { closed = refl; held = λ n. refl; granted = λ g. refl };
-    fresh = λ n le. refl;
-    free = λ n p le. refl
-  }
+  buckets = refl;
+  sessions = λ s. refl;
+  groups = λ s g. refl;
+  counters = λ g c. refl;
+  next_bucket = refl;
+  next_charge = refl;
+  touched = λ s x e. absurd (no_some x e);
+  unknown = λ s e. record { closed = refl; held = λ n. refl; granted = λ g. refl };
+  fresh = λ n le. refl;
+  free = λ n p le. refl;
+}

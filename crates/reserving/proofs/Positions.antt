@@ -1,12 +1,14 @@
 -- A bucket's position at a later moment: what ended sessions held is given up, and what ended is expired.
-use Rattle.std.proofs.Common.{◌≡◌, ℕ, ◌+◌, ◌-◌, ◌*◌, ◌<◌, ◌≤◌, Bool, true, false, List, [], ◌∷◌, map, refl, sym, ap, ◌∙◌, arith}
+use Rattle.std.proofs.Common.{◌≡◌, ℕ, ◌+◌, ◌-◌, ◌*◌, ◌<◌, ◌≤◌, Bool, true, false, List, [], ◌∷◌, map, refl, sym, ap, ◌∙◌, subst, arith}
 use Rattle.std.specs.Prelude.{if◌then◌else◌, ◌==◌, ◌&&◌, not, nat_lt}
 use Rattle.std.proofs.lemmas.Bool.Decides.{nat_tests}
 use Rattle.buckets.specs.declared.holds.Hold.{Hold}
 use Rattle.buckets.specs.Row.{Row, IsBalanced, with_release, with_end}
 use Rattle.buckets.specs.Share.{parts}
+use Rattle.buckets.proofs.Kept.{balanced_release, balanced_end}
 use Rattle.reserving.specs.Ledger.{Ledger, charged, is_live, held, only}
 use Rattle.reserving.specs.Balance.{credits, bucket_at, buckets_at, balance_of}
+use Rattle.reserving.specs.Laws.{ended_between, brought}
 use Rattle.reserving.specs.Sessions.{holds_at}
 use Rattle.reserving.proofs.Holds.{one_if, held_split}
 use Rattle.reserving.proofs.Later.{is_live-before}
@@ -36,10 +38,6 @@ one_split : (p q : Bool) → (q ≡ true → p ≡ true) → one_if p ≡ one_if
 one_split p true h = rw (h refl) refl
 one_split true false h = refl
 one_split false false h = refl
-
--- the reservations of sessions that ended between two moments
-abbrev pub ended_between : ℕ → ℕ → ℕ → Ledger → List ℕ → ℕ → Bool
-ended_between v t1 t2 ledger s g = is_live v t1 ledger s && not (is_live v t2 ledger s)
 
 abbrev pub end_by : Bool → Row → Row
 end_by b row = if b then row else record row { available = 0; expired = row.expired + row.available }
@@ -81,6 +79,23 @@ bucket_at-later v t1 t2 ledger c le balanced =
     let split : h1 ≡ h2 + rel = held_split (λ s g. is_live v t1 ledger s) (λ s g. is_live v t2 ledger s) (ended_between v t1 t2 ledger) n ledger (λ s g. one_split (is_live v t1 ledger s) (is_live v t2 ledger s) (is_live-before v t1 t2 ledger s le)) in
     let within : ch + (h2 + rel) ≤ c.credited = omega (arith, balanced_le (nat_lt t1 c.until) c ch h1 balanced.sum) in
     release_is (nat_lt t1 c.until) t2 c ch h2 rel h1 split (balance_later (nat_lt t1 c.until) (nat_lt t2 c.until) c ch h2 rel (until_before t1 t2 c.until le) within)
+
+-- what is brought on is balanced
+balanced_later : (v t1 t2 : ℕ) (ledger : Ledger) (c : Row) → t1 ≤ t2 → IsBalanced (bucket_at v t1 ledger c) → IsBalanced (bucket_at v t2 ledger c)
+balanced_later v t1 t2 ledger c le balanced =
+    let split : held (λ s g. is_live v t1 ledger s) c.number ledger ≡ held (λ s g. is_live v t2 ledger s) c.number ledger + held (ended_between v t1 t2 ledger) c.number ledger = held_split (λ s g. is_live v t1 ledger s) (λ s g. is_live v t2 ledger s) (ended_between v t1 t2 ledger) c.number ledger (λ s g. one_split (is_live v t1 ledger s) (is_live v t2 ledger s) (is_live-before v t1 t2 ledger s le)) in
+    subst IsBalanced (sym (bucket_at-later v t1 t2 ledger c le balanced))
+    (balanced_end t2 (with_release t2 (bucket_at v t1 ledger c) (held (ended_between v t1 t2 ledger) c.number ledger))
+    (balanced_release t2 (bucket_at v t1 ledger c) (held (ended_between v t1 t2 ledger) c.number ledger) (omega arith) balanced))
+
+pub brought_on : (v t1 t2 : ℕ) (ledger : Ledger) (c : Row) → t1 ≤ t2 → IsBalanced (bucket_at v t1 ledger c) → brought v t1 t2 ledger (bucket_at v t1 ledger c) ≡ bucket_at v t2 ledger c
+brought_on v t1 t2 ledger c le balanced = sym (bucket_at-later v t1 t2 ledger c le balanced)
+
+pub brought_alike : (v t1 t2 t3 : ℕ) (ledger : Ledger) (c : Row) → t1 ≤ t2 → t2 ≤ t3 → IsBalanced (bucket_at v t1 ledger c) → brought v t2 t3 ledger (brought v t1 t2 ledger (bucket_at v t1 ledger c)) ≡ brought v t1 t3 ledger (bucket_at v t1 ledger c)
+brought_alike v t1 t2 t3 ledger c le later balanced =
+    ap (brought v t2 t3 ledger) (brought_on v t1 t2 ledger c le balanced)
+    ∙ brought_on v t2 t3 ledger c later (balanced_later v t1 t2 ledger c le balanced)
+    ∙ sym (brought_on v t1 t3 ledger c (omega arith) balanced)
 
 -- the parts by number are those of the buckets as they were credited
 pub parts-at : (f : ℕ → ℕ) (v t : ℕ) (ledger : Ledger) (cs : List Row) → parts (λ b. f b.number) (map (bucket_at v t ledger) cs) ≡ parts (λ b. f b.number) cs

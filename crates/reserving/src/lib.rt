@@ -7,10 +7,12 @@ mod credit;
 mod fault;
 mod flat;
 mod funds;
+mod laws;
 mod session;
 mod sessions;
 
 pub use crate::account::Account;
 pub use crate::fault::AccountFault;
 pub use crate::flat::{FlatTariff, Period};
+pub use crate::laws::going_on;
 pub use crate::session::{Counter, Reservation, Session, SessionGroup, SessionState};

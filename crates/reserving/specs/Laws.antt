@@ -1,0 +1,24 @@
+-- Laws over the definitions alone.
+use Rattle.std.specs.Prelude.{◌≡◌, ℕ, ◌≤◌, ◌&&◌, Bool, not, List}
+use Rattle.buckets.specs.Row.{Row, IsBalanced, with_end, with_release}
+use Rattle.reserving.specs.Ledger.{Ledger, is_live, held}
+use Rattle.reserving.specs.Balance.{bucket_at}
+
+-- the reservations of sessions that ended between two moments
+abbrev pub ended_between : ℕ → ℕ → ℕ → Ledger → List ℕ → ℕ → Bool
+ended_between v t1 t2 ledger s g = is_live v t1 ledger s && not (is_live v t2 ledger s)
+
+-- a bucket that is brought from a moment to a later one: what sessions that ended between them held is given
+-- up, and from its end on what is left is expired
+abbrev pub brought : ℕ → ℕ → ℕ → Ledger → Row → Row
+brought v t1 t2 ledger b = with_end t2 (with_release t2 b (held (ended_between v t1 t2 ledger) b.number ledger))
+
+-- a bucket's position, brought to a later moment, is its position then
+abbrev pub IsBroughtOn : Type 0
+IsBroughtOn = (v t1 t2 : ℕ) (ledger : Ledger) (c : Row) → t1 ≤ t2 → IsBalanced (bucket_at v t1 ledger c) → brought v t1 t2 ledger (bucket_at v t1 ledger c) ≡ bucket_at v t2 ledger c
+
+-- and in two steps it is brought to where one step brings it
+abbrev pub IsBroughtAlike : Type 0
+IsBroughtAlike =
+    (v t1 t2 t3 : ℕ) (ledger : Ledger) (c : Row) → t1 ≤ t2 → t2 ≤ t3 → IsBalanced (bucket_at v t1 ledger c) →
+    brought v t2 t3 ledger (brought v t1 t2 ledger (bucket_at v t1 ledger c)) ≡ brought v t1 t3 ledger (bucket_at v t1 ledger c)

@@ -1,0 +1,8 @@
+ghost use Rattle.reserving.specs.Laws.{IsBroughtOn, IsBroughtAlike};
+
+/// Time goes on alike in one step and in two: a bucket's position, brought to a later moment, is its position
+/// then, so that two advances leave what the later one alone leaves.
+pub fn going_on()
+    ensures position { IsBroughtOn }
+    ensures steps { IsBroughtAlike }
+{}
