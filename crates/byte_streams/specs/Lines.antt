@@ -1,0 +1,20 @@
+-- A stream of bytes, line by line: each line ends with a line feed, the last perhaps without.
+use Rattle.std.specs.Prelude.{◌≡◌, ℕ, Bool, ◌==◌, List, [], ◌∷◌, ◌++◌, Option, Some, None, if◌then◌else◌}
+use Rattle.std.specs.Prelude.{Vec}
+use Rattle.std.specs.Global.{Global}
+
+-- the first line of a stream, and what follows its line feed
+abbrev pub line_of : List ℕ → List ℕ
+line_of [] = []
+line_of (b ∷ bs) = if b == 10 then [] else b ∷ line_of bs
+
+abbrev pub after_line : List ℕ → List ℕ
+after_line [] = []
+after_line (b ∷ bs) = if b == 10 then bs else after_line bs
+
+-- the line is the stream's first, and this is left; none where the stream is empty
+abbrev pub IsLineOf : List ℕ → Option (Vec ℕ Global) → Option (List ℕ) → Type 0
+IsLineOf [] (Some line) left = ⊥
+IsLineOf [] None left = left ≡ Some []
+IsLineOf (b ∷ bs) (Some line) left = (line.items ≡ line_of (b ∷ bs)) × (left ≡ Some (after_line (b ∷ bs)))
+IsLineOf (b ∷ bs) None left = ⊥

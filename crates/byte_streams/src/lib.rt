@@ -1,0 +1,100 @@
+//! Streams of bytes: a line taken from any reader, a text written whole to any writer.
+#![tactic(auto)]
+
+ghost use Rattle.std.specs.Prelude.{◌≡◌, ℕ, List, length, take, OnOk, OnErr, IfOk, IfNone, IfSome, option_to_list};
+ghost use Rattle.std.specs.Io.KnownBytes.{Appends, Consumes, IsAtEnd, Keeps};
+ghost use Rattle.byte_streams.specs.Lines.{IsLineOf};
+
+use std::alloc::Global;
+use std::io::{Read, Write};
+use thiserror::Error;
+
+/// Why a stream wasn't read or written.
+#[derive(Clone, Copy, Debug, Drop, Error, PartialEq, Eq)]
+pub enum StreamFault {
+    /// A growth was refused.
+    #[error("out of memory")]
+    Memory,
+    /// The reader answered an error.
+    #[error("the reader failed")]
+    Read,
+    /// The writer answered an error, or took nothing.
+    #[error("the writer failed")]
+    Write,
+}
+
+/// The next byte, or none at the end.
+fn next_byte<R: Read>(reader: &mut R) -> Result<Option<u8>, StreamFault>
+    ensures taken { IfOk result (λ byte. Consumes (R.remaining reader.old) (R.remaining reader.new) (option_to_list byte)) }
+    ensures end { IfOk result (λ byte. IfNone byte (IsAtEnd (R.remaining reader.new))) }
+    ensures err { OnErr result (Keeps (R.remaining reader.old) (R.remaining reader.new)) }
+{
+    let mut one = [0u8; 1];
+    match reader.read(&mut one) {
+        Ok(0) => Ok(None),
+        Ok(_) => Ok(Some(one[0])),
+        Err(_) => Err(StreamFault::Read),
+    }
+}
+
+/// The next line: the bytes before the next line feed, which is taken too, or before the end of the stream. None
+/// where the stream is at its end.
+pub fn next_line<R: Read>(alloc: Global, reader: &mut R) -> Result<Option<Vec<u8>>, StreamFault>
+    ensures { IfOk result (λ line. IfSome (R.remaining reader.old)
+        (λ stream. IsLineOf stream line (R.remaining reader.new))) }
+{
+    let mut line = Vec::new(alloc);
+    for _taken in 0..u64::MAX {
+        let Some(byte) = next_byte(reader)? else {
+            return Ok(if line.is_empty() { None } else { Some(line) });
+        };
+        if byte == b'\n' {
+            return Ok(Some(line));
+        }
+        let Ok(()) = line.push(byte) else {
+            return Err(StreamFault::Memory);
+        };
+    }
+    Err(StreamFault::Memory)
+}
+
+/// Writes all of a text. At a fault a beginning of it is written.
+pub fn write_whole<W: Write>(writer: &mut W, text: &[u8]) -> Result<(), StreamFault>
+    ensures ok { OnOk result (Appends (W.contents writer.old) (W.contents writer.new) text.now) }
+    ensures err { OnErr result ((n : ℕ) × Appends (W.contents writer.old) (W.contents writer.new) (take n text.now)) }
+{
+    let mut at = 0;
+    for _turn in 0..text.len() {
+        if at >= text.len() {
+            break;
+        }
+        match writer.write(&text[at..]) {
+            Ok(0) => return Err(StreamFault::Write),
+            Ok(n) => at += n,
+            Err(_) => return Err(StreamFault::Write),
+        }
+    }
+    Ok(())
+}
+
+#[cfg(test)]
+mod tests {
+    use super::*;
+    use std::test::Fail;
+
+    #[test]
+    fn lines_and_texts(rt: HostRuntime) -> Result<(), Fail> {
+        let alloc = rt.alloc();
+        let mut reader = b"one\n\nlast".as_slice();
+        let mut written = Vec::new(alloc);
+        for _ in 0..4 {
+            match next_line(alloc, &mut reader)? {
+                Some(line) => write_whole(&mut written, &line)?,
+                None => write_whole(&mut written, b".")?,
+            }
+            write_whole(&mut written, b"|")?;
+        }
+        assert_eq!(rt; written.as_slice(), b"one||last|.|".as_slice());
+        Ok(())
+    }
+}
