@@ -1,0 +1,13 @@
+use Rattle.std.proofs.Common.{refl}
+use Rattle.calendar.proofs.calendar.Calendar.new.Goals as goal
+
+pub invariant_of-result : goal.invariant_of-result
+invariant_of-result c =
+    let covers = rw c.deref.ensures.value at c.if-week_covered.ensures.covers in
+    record { covered = covers.0 refl; ends = c.requires.ends }
+
+pub returns-then-week_covered-clause-covered : goal.returns-then-week_covered-clause-covered
+returns-then-week_covered-clause-covered c = rw c.deref.ensures.value at c.if-week_covered.ensures.covers
+
+pub returns-else-week_covered-clause-covered : goal.returns-else-week_covered-clause-covered
+returns-else-week_covered-clause-covered c = rw c.deref.ensures.value at c.if-week_covered.ensures.covers

@@ -1,0 +1,18 @@
+//! Civil time: the zone of a tariff book, its week of tariff periods, cycles and days.
+#![tactic(auto)]
+
+mod calendar;
+mod covered;
+mod cycle;
+mod laws;
+mod week;
+mod zone;
+
+pub use crate::calendar::Calendar;
+pub use crate::cycle::Cycle;
+pub use crate::laws::{period_of_entry, shown_at_midnight};
+pub use crate::week::{Entry, Period};
+pub use crate::zone::Zone;
+
+#[cfg(test)]
+mod tests;

@@ -1,0 +1,11 @@
+pub mod Differ
+pub mod Names
+pub mod Measured
+pub mod Quantities
+pub mod Used
+pub mod Reports
+pub mod Services
+pub mod Refunds
+pub mod Codes
+pub mod Alike
+pub mod Exact

@@ -1,0 +1,27 @@
+-- Which lists of parts a report of used units can have.
+use Rattle.std.specs.Prelude.{ℕ, ◌&&◌, List, length, Bool, nat_eq, nat_le}
+use Rattle.std.specs.Option.{option_eq}
+use Rattle.std.specs.List.{list_all}
+use Rattle.units.specs.declared.blocks.UnitKind.{UnitKind}
+use Rattle.commands.specs.declared.used.TariffChangeUsage.{TariffChangeUsage}
+use Rattle.commands.specs.declared.used.TariffChangeUsage.TheVariants.{UnitBeforeTariffChange, UnitAfterTariffChange, UnitIndeterminate}
+use Rattle.commands.specs.declared.used.UsedPart.{UsedPart}
+use Rattle.commands.specs.Differ.{all_differ}
+use Rattle.commands.specs.Quantities.{most_units}
+
+-- Tariff-Change-Usage (RFC 8506 section 8.27)
+abbrev pub usage_number : TariffChangeUsage → ℕ
+usage_number UnitBeforeTariffChange = 0
+usage_number UnitAfterTariffChange = 1
+usage_number UnitIndeterminate = 2
+
+abbrev pub same_usage : TariffChangeUsage → TariffChangeUsage → Bool
+same_usage a b = nat_eq (usage_number a) (usage_number b)
+
+-- no tag stands twice, and at most one part has none
+abbrev pub tags_differ : List UsedPart → Bool
+tags_differ = all_differ (λ (p q : UsedPart). option_eq same_usage p.tag q.tag)
+
+-- 1 to 4 parts, whose tags differ, each with at most so many units
+abbrev pub is_report : UnitKind → List UsedPart → Bool
+is_report kind parts = nat_le 1 (length parts) && nat_le (length parts) 4 && list_all (λ (p : UsedPart). nat_le p.units (most_units kind)) parts && tags_differ parts

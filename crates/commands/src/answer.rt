@@ -1,0 +1,244 @@
+ghost use Rattle.std.specs.Prelude.{◌≡◌};
+ghost use Rattle.commands.specs.Codes.{failure_number, service_failure_number, refusal_name, balance_number};
+
+use crate::avp::Avp;
+use crate::quantity::Quantity;
+use crate::request::RequestKind;
+use identifiers::{RedirectAddress, SessionId};
+use std::marker::Model;
+use units::Moment;
+
+/// What happens when the granted units are used up (Final-Unit-Indication, RFC 8506 section 8.34).
+#[derive(Clone, Debug, Drop)]
+pub enum FinalUnit {
+    /// TERMINATE: the service ends.
+    Terminate,
+    /// REDIRECT: the user is sent to this URL.
+    Redirect(RedirectAddress),
+}
+
+/// Units granted to a service of a session (Granted-Service-Unit, RFC 8506 section 8.17).
+#[derive(Clone, Debug, Drop)]
+pub struct Granted {
+    pub quantity: Quantity,
+    /// Tariff-Time-Change (RFC 8506 section 8.20): when the price changes, where it does.
+    pub switch: Option<Moment>,
+    /// Validity-Time (RFC 8506 section 8.33), in seconds.
+    pub validity: u32,
+    /// Final-Unit-Indication, where fewer units are granted than wanted.
+    pub last: Option<FinalUnit>,
+}
+
+/// Why a service isn't granted units.
+#[derive(Clone, Copy, Debug, PartialEq, Eq)]
+pub enum ServiceFailure {
+    /// 4010, DIAMETER_END_USER_SERVICE_DENIED: the account is barred.
+    EndUserServiceDenied,
+    /// 4012, DIAMETER_CREDIT_LIMIT_REACHED: the account doesn't cover one unit.
+    CreditLimitReached,
+    /// 5031, DIAMETER_RATING_FAILED: the rating group is unknown.
+    RatingFailed,
+}
+
+impl ServiceFailure {
+    /// Its Result-Code (RFC 8506 section 9).
+    pub fn number(self) -> u64
+        ensures { result ≡ service_failure_number self }
+    {
+        match self {
+            ServiceFailure::EndUserServiceDenied => 4010,
+            ServiceFailure::CreditLimitReached => 4012,
+            ServiceFailure::RatingFailed => 5031,
+        }
+    }
+}
+
+/// What a service is answered; the first three are 2001, DIAMETER_SUCCESS.
+#[derive(Clone, Debug, Drop)]
+pub enum ServiceOutcome {
+    /// Nothing was asked for.
+    Settled,
+    /// Units are granted until the validity time is over.
+    Granted(Granted),
+    /// The units of an event were charged.
+    Debited(Quantity),
+    /// Units were asked for and not granted.
+    Failed(ServiceFailure),
+}
+
+/// The answer to a service of a request.
+#[derive(Clone, Debug, Drop)]
+pub struct ServiceAnswer {
+    /// Rating-Group (RFC 8506 section 8.29).
+    pub group: u32,
+    pub outcome: ServiceOutcome,
+}
+
+/// The answers to the services of a request, in its order.
+///
+/// Contracts see the list.
+#[derive(Clone, Debug, Drop)]
+pub struct ServiceAnswers {
+    list: Vec<ServiceAnswer>,
+}
+
+impl Model for ServiceAnswers {
+    ghost use Rattle.std.specs.Prelude.{List};
+    ghost use Rattle.commands.specs.declared.answer.ServiceAnswer.{ServiceAnswer};
+
+    ghost Value = { List ServiceAnswer };
+
+    ghost view = { λ s. s.list.items };
+}
+
+impl ServiceAnswers {
+    /// These answers.
+    pub fn new(list: Vec<ServiceAnswer>) -> ServiceAnswers
+        ensures { result ≡ list.items }
+    {
+        ServiceAnswers { list }
+    }
+
+    /// The answers, in the order of the request's services.
+    pub fn as_slice(&self) -> &[ServiceAnswer]
+        ensures { result.now ≡ self.now }
+    {
+        self.list.as_slice()
+    }
+}
+
+/// Whether an account can pay (Check-Balance-Result, RFC 8506 section 8.6).
+#[derive(Clone, Copy, Debug, PartialEq, Eq)]
+pub enum Balance {
+    /// ENOUGH_CREDIT
+    EnoughCredit,
+    /// NO_CREDIT
+    NoCredit,
+}
+
+impl Balance {
+    /// Its number in the text.
+    pub fn number(self) -> u64
+        ensures { result ≡ balance_number self }
+    {
+        match self {
+            Balance::EnoughCredit => 0,
+            Balance::NoCredit => 1,
+        }
+    }
+}
+
+/// What units would cost (Cost-Information, RFC 8506 section 8.7).
+#[derive(Clone, Copy, Debug, PartialEq, Eq)]
+pub struct Cost {
+    /// Micro-units of the currency.
+    pub micros: u64,
+    /// The currency's number in ISO 4217.
+    pub currency: u16,
+}
+
+/// Why a request isn't answered 2001.
+#[derive(Clone, Copy, Debug, PartialEq, Eq)]
+pub enum Failure {
+    /// 4010, 4012 or 5031: the request is accepted, and nothing is granted or charged.
+    Denied(ServiceFailure),
+    /// 5002, DIAMETER_UNKNOWN_SESSION_ID: the session isn't open.
+    UnknownSessionId,
+    /// 5004, DIAMETER_INVALID_AVP_VALUE, with the AVP that is at fault.
+    InvalidAvpValue(Avp),
+    /// 5012, DIAMETER_UNABLE_TO_COMPLY: a stored number would pass its limit.
+    UnableToComply,
+    /// 5030, DIAMETER_USER_UNKNOWN: there is no such account.
+    UserUnknown,
+}
+
+impl Failure {
+    /// Its Result-Code (RFC 8506 section 9, RFC 6733 section 7.1).
+    pub fn number(self) -> u64
+        ensures { result ≡ failure_number self }
+    {
+        match self {
+            Failure::Denied(failure) => failure.number(),
+            Failure::UnknownSessionId => 5002,
+            Failure::InvalidAvpValue(_) => 5004,
+            Failure::UnableToComply => 5012,
+            Failure::UserUnknown => 5030,
+        }
+    }
+}
+
+/// What a request is answered; all but the last are 2001, DIAMETER_SUCCESS.
+#[derive(Clone, Debug, Drop)]
+pub enum Outcome {
+    /// A session's request or a debit, with an answer for each service.
+    Services(ServiceAnswers),
+    /// Money was paid back.
+    Refunded,
+    /// Whether the account could pay.
+    Checked(Balance),
+    /// What the units would cost.
+    Priced(Cost),
+    /// Any other Result-Code.
+    Failed(Failure),
+}
+
+/// The answer to a request (CCA, RFC 8506 section 3.2).
+#[derive(Clone, Debug, Drop)]
+pub struct RequestAnswer {
+    pub session: SessionId,
+    pub kind: RequestKind,
+    /// CC-Request-Number (RFC 8506 section 8.2).
+    pub number: u32,
+    pub outcome: Outcome,
+}
+
+/// Why an operator's command is refused (profile).
+#[derive(Clone, Copy, Debug, PartialEq, Eq)]
+pub enum Refusal {
+    /// `O1`: the account exists already.
+    AccountExists,
+    /// `O2`: there is no such account.
+    AccountUnknown,
+    /// `O3`: there is no such voucher.
+    VoucherUnknown,
+    /// `O4`: the voucher is spent.
+    VoucherSpent,
+    /// `O5`: the reference was used with other content, or the voucher is there with other content.
+    ContentDiffers,
+    /// `O6`: a value is out of range.
+    OutOfRange,
+    /// `O7`: the scope is no rating group of the book.
+    ScopeUnknown,
+}
+
+impl Refusal {
+    /// Its name in the text.
+    pub fn name(self) -> &'static str
+        ensures { result.now ≡ refusal_name self }
+    {
+        match self {
+            Refusal::AccountExists => "O1",
+            Refusal::AccountUnknown => "O2",
+            Refusal::VoucherUnknown => "O3",
+            Refusal::VoucherSpent => "O4",
+            Refusal::ContentDiffers => "O5",
+            Refusal::OutOfRange => "O6",
+            Refusal::ScopeUnknown => "O7",
+        }
+    }
+}
+
+/// The answer to a command.
+#[derive(Clone, Debug, Drop)]
+pub enum Answer {
+    /// To a request.
+    Request(RequestAnswer),
+    /// To an account that was opened, barred or unbarred, and to a voucher that was added.
+    Done,
+    /// To a credit or a redemption: the number of the new bucket.
+    Bucket(u32),
+    /// To a sweep: the number of accounts.
+    Swept(u64),
+    /// To an operator's command that is refused.
+    Refused(Refusal),
+}

@@ -1,0 +1,25 @@
+//! The commands of the charging system and their answers, as plain data.
+//!
+//! Each type holds only what a text of the interface can say, so that a text is one value and a value one text.
+#![tactic(auto)]
+
+mod answer;
+mod avp;
+mod command;
+mod quantity;
+mod request;
+mod service;
+mod used;
+
+pub use crate::answer::{
+    Answer, Balance, Cost, Failure, FinalUnit, Granted, Outcome, Refusal, RequestAnswer,
+    ServiceAnswer, ServiceAnswers, ServiceFailure, ServiceOutcome,
+};
+pub use crate::avp::Avp;
+pub use crate::command::{Command, Content, Credit, same_content, same_credit};
+pub use crate::quantity::Quantity;
+pub use crate::request::{Ask, Event, EventAction, Refund, Request, RequestKind, same_request};
+pub use crate::service::{
+    InitialServices, Requested, Service, TerminationServices, UpdateServices,
+};
+pub use crate::used::{TariffChangeUsage, UsedPart, UsedParts};

@@ -1,0 +1,260 @@
+ghost use Rattle.std.specs.Prelude.{◌≡◌, ◌↔◌, IsTrue};
+ghost use Rattle.commands.specs.Codes.{kind_number, kind_of_ask, action_number};
+ghost use Rattle.commands.specs.Refunds.{is_refund};
+
+use crate::service::{InitialServices, Requested, TerminationServices, UpdateServices};
+use identifiers::{AccountNumber, SessionId};
+use std::marker::Model;
+use units::Money;
+
+/// CC-Request-Type (RFC 8506 section 8.3).
+#[derive(Clone, Copy, Debug, PartialEq, Eq)]
+pub enum RequestKind {
+    /// INITIAL_REQUEST
+    Initial,
+    /// UPDATE_REQUEST
+    Update,
+    /// TERMINATION_REQUEST
+    Termination,
+    /// EVENT_REQUEST
+    Event,
+}
+
+impl RequestKind {
+    /// Its number in the text.
+    pub fn number(self) -> u64
+        ensures { result ≡ kind_number self }
+    {
+        match self {
+            RequestKind::Initial => 1,
+            RequestKind::Update => 2,
+            RequestKind::Termination => 3,
+            RequestKind::Event => 4,
+        }
+    }
+}
+
+/// What an event asks for (Requested-Action, RFC 8506 section 8.41); a refund is `Ask::Refund`.
+#[derive(Clone, Copy, Debug, PartialEq, Eq)]
+pub enum EventAction {
+    /// DIRECT_DEBITING: the units are charged at once.
+    DirectDebiting,
+    /// CHECK_BALANCE: whether the account could pay for the units.
+    CheckBalance,
+    /// PRICE_ENQUIRY: what the units would cost.
+    PriceEnquiry,
+}
+
+impl EventAction {
+    /// Its number in the text.
+    pub fn number(self) -> u64
+        ensures { result ≡ action_number self }
+    {
+        match self {
+            EventAction::DirectDebiting => 0,
+            EventAction::CheckBalance => 2,
+            EventAction::PriceEnquiry => 3,
+        }
+    }
+}
+
+/// An event of one service (Immediate Event Charging, 3GPP TS 32.299 clause 6.3).
+#[derive(Clone, Copy, Debug)]
+pub struct Event {
+    pub action: EventAction,
+    /// Rating-Group (RFC 8506 section 8.29).
+    pub group: u32,
+    pub requested: Requested,
+}
+
+/// Money that is paid back: 1 to 10^15 micro-units of a currency, by its number from 0 to 999 (CC-Money, RFC 8506
+/// section 8.22; ISO 4217).
+///
+/// Contracts see a record of the micro-units and the currency.
+#[derive(Clone, Copy, Debug)]
+pub struct Refund {
+    money: Money,
+    currency: u16,
+}
+
+impl Model for Refund {
+    ghost use Rattle.std.specs.Prelude.{IsTrue};
+    ghost use Rattle.commands.specs.Refunds.{Refunded, is_refund};
+
+    ghost Value = { Refunded };
+
+    ghost view = { λ r. record { micros = r.money; currency = r.currency } };
+
+    ghost invariant = { λ r. IsTrue (is_refund r.money r.currency) };
+
+    ghost inverse = { λ r. record { money = r.micros; currency = r.currency } };
+}
+
+impl Refund {
+    /// The refund of this money.
+    pub fn new(money: Money, currency: u16) -> Refund
+        requires { IsTrue (is_refund money currency) }
+        ensures money { result.micros ≡ money }
+        ensures currency { result.currency ≡ currency }
+    {
+        Refund { money, currency }
+    }
+
+    /// How much is paid back.
+    pub fn money(self) -> Money
+        ensures value { result ≡ self.micros }
+        ensures in_range { IsTrue (is_refund self.micros self.currency) }
+    {
+        self.money
+    }
+
+    /// The number of its currency.
+    pub fn currency(self) -> u16
+        ensures { result ≡ self.currency }
+    {
+        self.currency
+    }
+}
+
+/// What a request asks for, by its type.
+#[derive(Clone, Debug, Drop)]
+pub enum Ask {
+    /// A session begins and asks for units.
+    Initial(InitialServices),
+    /// A session reports and asks for more.
+    Update(UpdateServices),
+    /// A session reports and ends.
+    Termination(TerminationServices),
+    /// An event of one service.
+    Event(Event),
+    /// An event that pays money back (REFUND_ACCOUNT).
+    Refund(Refund),
+}
+
+/// A request for credit control (CCR, RFC 8506 section 3.1). A repeat of it has an equal value.
+#[derive(Clone, Debug, Drop)]
+pub struct Request {
+    pub session: SessionId,
+    /// CC-Request-Number (RFC 8506 section 8.2).
+    pub number: u32,
+    /// Subscription-Id (RFC 8506 section 8.46).
+    pub account: AccountNumber,
+    pub ask: Ask,
+}
+
+impl Request {
+    /// Its CC-Request-Type.
+    pub fn kind(&self) -> RequestKind
+        ensures { result ≡ kind_of_ask self.now.ask }
+    {
+        match &self.ask {
+            Ask::Initial(_) => RequestKind::Initial,
+            Ask::Update(_) => RequestKind::Update,
+            Ask::Termination(_) => RequestKind::Termination,
+            Ask::Event(_) | Ask::Refund(_) => RequestKind::Event,
+        }
+    }
+}
+
+impl PartialEq for Event {
+    ghost use Rattle.std.specs.Cmp.{decided, partial_equiv_from_equiv};
+    ghost use Rattle.commands.specs.Alike.{same_event};
+    ghost use Rattle.commands.specs.Exact.{event_exact};
+
+    ghost eq = { same_event };
+
+    ghost laws = { partial_equiv_from_equiv (decided same_event event_exact) };
+
+    fn eq(&self, other: &Event) -> bool {
+        self.action.number() == other.action.number() && self.group == other.group && self.requested == other.requested
+    }
+}
+
+impl Eq for Event {
+    ghost use Rattle.std.specs.Cmp.{decided};
+    ghost use Rattle.commands.specs.Alike.{same_event};
+    ghost use Rattle.commands.specs.Exact.{event_exact};
+
+    ghost laws = { decided same_event event_exact };
+}
+
+impl PartialEq for Refund {
+    ghost use Rattle.std.specs.Cmp.{decided, partial_equiv_from_equiv};
+    ghost use Rattle.commands.specs.Alike.{same_refund};
+    ghost use Rattle.commands.specs.Exact.{refund_exact};
+
+    ghost eq = { same_refund };
+
+    ghost laws = { partial_equiv_from_equiv (decided same_refund refund_exact) };
+
+    fn eq(&self, other: &Refund) -> bool {
+        self.money == other.money && self.currency == other.currency
+    }
+}
+
+impl Eq for Refund {
+    ghost use Rattle.std.specs.Cmp.{decided};
+    ghost use Rattle.commands.specs.Alike.{same_refund};
+    ghost use Rattle.commands.specs.Exact.{refund_exact};
+
+    ghost laws = { decided same_refund refund_exact };
+}
+
+impl PartialEq for Ask {
+    ghost use Rattle.std.specs.Cmp.{decided, partial_equiv_from_equiv};
+    ghost use Rattle.commands.specs.Alike.{same_ask};
+    ghost use Rattle.commands.specs.Exact.{ask_exact};
+
+    ghost eq = { same_ask };
+
+    ghost laws = { partial_equiv_from_equiv (decided same_ask ask_exact) };
+
+    fn eq(&self, other: &Ask) -> bool {
+        match (self, other) {
+            (Ask::Initial(a), Ask::Initial(b)) => a == b,
+            (Ask::Update(a), Ask::Update(b)) => a == b,
+            (Ask::Termination(a), Ask::Termination(b)) => a == b,
+            (Ask::Event(a), Ask::Event(b)) => a == b,
+            (Ask::Refund(a), Ask::Refund(b)) => a == b,
+            _ => false,
+        }
+    }
+}
+
+impl Eq for Ask {
+    ghost use Rattle.std.specs.Cmp.{decided};
+    ghost use Rattle.commands.specs.Alike.{same_ask};
+    ghost use Rattle.commands.specs.Exact.{ask_exact};
+
+    ghost laws = { decided same_ask ask_exact };
+}
+
+impl PartialEq for Request {
+    ghost use Rattle.std.specs.Cmp.{decided, partial_equiv_from_equiv};
+    ghost use Rattle.commands.specs.Alike.{same_request};
+    ghost use Rattle.commands.specs.Exact.{request_exact};
+
+    ghost eq = { same_request };
+
+    ghost laws = { partial_equiv_from_equiv (decided same_request request_exact) };
+
+    fn eq(&self, other: &Request) -> bool {
+        self.number == other.number && self.session == other.session && self.account == other.account && self.ask == other.ask
+    }
+}
+
+impl Eq for Request {
+    ghost use Rattle.std.specs.Cmp.{decided};
+    ghost use Rattle.commands.specs.Alike.{same_request};
+    ghost use Rattle.commands.specs.Exact.{request_exact};
+
+    ghost laws = { decided same_request request_exact };
+}
+
+/// Whether two requests are the same: a request that comes again with the same content is a repeat.
+
+pub fn same_request(a: &Request, b: &Request) -> bool
+    ensures { IsTrue result ↔ (a.now ≡ b.now) }
+{
+    a == b
+}

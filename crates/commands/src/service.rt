@@ -1,0 +1,254 @@
+ghost use Rattle.std.specs.Prelude.{◌≡◌, IsTrue};
+ghost use Rattle.commands.specs.Services.{are_initial, are_update, are_termination};
+
+use crate::quantity::Quantity;
+use crate::used::UsedParts;
+use std::marker::Model;
+
+/// What a service asks for (Requested-Service-Unit, RFC 8506 section 8.18).
+#[derive(Clone, Copy, Debug)]
+pub enum Requested {
+    /// As much as the rating group grants at a time: an empty Requested-Service-Unit.
+    Slice,
+    /// This many units.
+    Units(Quantity),
+}
+
+/// A service of a request, by its rating group (Multiple-Services-Credit-Control, RFC 8506 section 8.16).
+#[derive(Clone, Debug, Drop)]
+pub struct Service {
+    /// Rating-Group (RFC 8506 section 8.29).
+    pub group: u32,
+    /// What it asks for, where it does.
+    pub requested: Option<Requested>,
+    /// What it reports, where it does.
+    pub used: Option<UsedParts>,
+}
+
+/// The services of an initial request, in its order: 1 to 16, each asks for units and none reports any. No rating group stands twice.
+///
+/// Contracts see the list of services.
+#[derive(Clone, Debug, Drop)]
+pub struct InitialServices {
+    list: Vec<Service>,
+}
+
+impl Model for InitialServices {
+    ghost use Rattle.std.specs.Prelude.{List, IsTrue};
+    ghost use Rattle.commands.specs.declared.service.Service.{Service};
+    ghost use Rattle.commands.specs.Services.{are_initial};
+
+    ghost Value = { List Service };
+
+    ghost view = { λ s. s.list.items };
+
+    ghost invariant = { λ s. IsTrue (are_initial s.list.items) };
+}
+
+impl InitialServices {
+    /// These services.
+    pub fn new(list: Vec<Service>) -> InitialServices
+        requires { IsTrue (are_initial list.items) }
+        ensures { result ≡ list.items }
+    {
+        InitialServices { list }
+    }
+
+    /// The services, in the order of the request.
+    pub fn as_slice(&self) -> &[Service]
+        ensures value { result.now ≡ self.now }
+        ensures rule { IsTrue (are_initial self.now) }
+    {
+        self.list.as_slice()
+    }
+}
+
+/// The services of an update, in its order: 1 to 16, each may ask for units and may report some. No rating group stands twice.
+///
+/// Contracts see the list of services.
+#[derive(Clone, Debug, Drop)]
+pub struct UpdateServices {
+    list: Vec<Service>,
+}
+
+impl Model for UpdateServices {
+    ghost use Rattle.std.specs.Prelude.{List, IsTrue};
+    ghost use Rattle.commands.specs.declared.service.Service.{Service};
+    ghost use Rattle.commands.specs.Services.{are_update};
+
+    ghost Value = { List Service };
+
+    ghost view = { λ s. s.list.items };
+
+    ghost invariant = { λ s. IsTrue (are_update s.list.items) };
+}
+
+impl UpdateServices {
+    /// These services.
+    pub fn new(list: Vec<Service>) -> UpdateServices
+        requires { IsTrue (are_update list.items) }
+        ensures { result ≡ list.items }
+    {
+        UpdateServices { list }
+    }
+
+    /// The services, in the order of the request.
+    pub fn as_slice(&self) -> &[Service]
+        ensures value { result.now ≡ self.now }
+        ensures rule { IsTrue (are_update self.now) }
+    {
+        self.list.as_slice()
+    }
+}
+
+/// The services of a termination, in its order: at most 16, none asks for units and each may report some. No rating group stands twice.
+///
+/// Contracts see the list of services.
+#[derive(Clone, Debug, Drop)]
+pub struct TerminationServices {
+    list: Vec<Service>,
+}
+
+impl Model for TerminationServices {
+    ghost use Rattle.std.specs.Prelude.{List, IsTrue};
+    ghost use Rattle.commands.specs.declared.service.Service.{Service};
+    ghost use Rattle.commands.specs.Services.{are_termination};
+
+    ghost Value = { List Service };
+
+    ghost view = { λ s. s.list.items };
+
+    ghost invariant = { λ s. IsTrue (are_termination s.list.items) };
+}
+
+impl TerminationServices {
+    /// These services.
+    pub fn new(list: Vec<Service>) -> TerminationServices
+        requires { IsTrue (are_termination list.items) }
+        ensures { result ≡ list.items }
+    {
+        TerminationServices { list }
+    }
+
+    /// The services, in the order of the request.
+    pub fn as_slice(&self) -> &[Service]
+        ensures value { result.now ≡ self.now }
+        ensures rule { IsTrue (are_termination self.now) }
+    {
+        self.list.as_slice()
+    }
+}
+
+impl PartialEq for Requested {
+    ghost use Rattle.std.specs.Cmp.{decided, partial_equiv_from_equiv};
+    ghost use Rattle.commands.specs.Alike.{same_requested};
+    ghost use Rattle.commands.specs.Exact.{requested_exact};
+
+    ghost eq = { same_requested };
+
+    ghost laws = { partial_equiv_from_equiv (decided same_requested requested_exact) };
+
+    fn eq(&self, other: &Requested) -> bool {
+        match (self, other) {
+            (Requested::Slice, Requested::Slice) => true,
+            (Requested::Units(a), Requested::Units(b)) => a == b,
+            _ => false,
+        }
+    }
+}
+
+impl Eq for Requested {
+    ghost use Rattle.std.specs.Cmp.{decided};
+    ghost use Rattle.commands.specs.Alike.{same_requested};
+    ghost use Rattle.commands.specs.Exact.{requested_exact};
+
+    ghost laws = { decided same_requested requested_exact };
+}
+
+impl PartialEq for Service {
+    ghost use Rattle.std.specs.Cmp.{decided, partial_equiv_from_equiv};
+    ghost use Rattle.commands.specs.Alike.{same_service};
+    ghost use Rattle.commands.specs.Exact.{service_exact};
+
+    ghost eq = { same_service };
+
+    ghost laws = { partial_equiv_from_equiv (decided same_service service_exact) };
+
+    fn eq(&self, other: &Service) -> bool {
+        self.group == other.group && self.requested == other.requested && self.used == other.used
+    }
+}
+
+impl Eq for Service {
+    ghost use Rattle.std.specs.Cmp.{decided};
+    ghost use Rattle.commands.specs.Alike.{same_service};
+    ghost use Rattle.commands.specs.Exact.{service_exact};
+
+    ghost laws = { decided same_service service_exact };
+}
+
+impl PartialEq for InitialServices {
+    ghost use Rattle.std.specs.Cmp.{decided, partial_equiv_from_equiv};
+    ghost use Rattle.commands.specs.Alike.{same_services};
+    ghost use Rattle.commands.specs.Exact.{services_exact};
+
+    ghost eq = { same_services };
+
+    ghost laws = { partial_equiv_from_equiv (decided same_services services_exact) };
+
+    fn eq(&self, other: &InitialServices) -> bool {
+        self.list.as_slice() == other.list.as_slice()
+    }
+}
+
+impl Eq for InitialServices {
+    ghost use Rattle.std.specs.Cmp.{decided};
+    ghost use Rattle.commands.specs.Alike.{same_services};
+    ghost use Rattle.commands.specs.Exact.{services_exact};
+
+    ghost laws = { decided same_services services_exact };
+}
+
+impl PartialEq for UpdateServices {
+    ghost use Rattle.std.specs.Cmp.{decided, partial_equiv_from_equiv};
+    ghost use Rattle.commands.specs.Alike.{same_services};
+    ghost use Rattle.commands.specs.Exact.{services_exact};
+
+    ghost eq = { same_services };
+
+    ghost laws = { partial_equiv_from_equiv (decided same_services services_exact) };
+
+    fn eq(&self, other: &UpdateServices) -> bool {
+        self.list.as_slice() == other.list.as_slice()
+    }
+}
+
+impl Eq for UpdateServices {
+    ghost use Rattle.std.specs.Cmp.{decided};
+    ghost use Rattle.commands.specs.Alike.{same_services};
+    ghost use Rattle.commands.specs.Exact.{services_exact};
+
+    ghost laws = { decided same_services services_exact };
+}
+
+impl PartialEq for TerminationServices {
+    ghost use Rattle.std.specs.Cmp.{decided, partial_equiv_from_equiv};
+    ghost use Rattle.commands.specs.Alike.{same_services};
+    ghost use Rattle.commands.specs.Exact.{services_exact};
+
+    ghost eq = { same_services };
+
+    ghost laws = { partial_equiv_from_equiv (decided same_services services_exact) };
+
+    fn eq(&self, other: &TerminationServices) -> bool {
+        self.list.as_slice() == other.list.as_slice()
+    }
+}
+
+impl Eq for TerminationServices {
+    ghost use Rattle.std.specs.Cmp.{decided};
+    ghost use Rattle.commands.specs.Alike.{same_services};
+    ghost use Rattle.commands.specs.Exact.{services_exact};
+
+    ghost laws = { decided same_services services_exact };
+}

@@ -1,0 +1,61 @@
+-- The members of an object, as they are read: a member that isn't there is missing, one of the wrong kind or value is
+-- invalid.
+use Rattle.std.specs.Prelude.{ℕ, ◌&&◌, List, Bool, Option, Some, None, Result, Ok, Err, nat_le, if◌then◌else◌, option_and_then}
+use Rattle.std.specs.Str.{is_utf8}
+use Rattle.serde_json.specs.Data.{Data, Items}
+use Rattle.serde_json.specs.Read.{read}
+use Rattle.serde_json.specs.Find.{get, as_number, as_u64, as_str, as_array, as_object}
+use Rattle.commands.specs.declared.avp.Avp.{Avp}
+use Rattle.commands.specs.Names.{name_of}
+use Rattle.json_fields.specs.declared.fault.WireFault.{WireFault}
+use Rattle.json_fields.specs.declared.fault.WireFault.TheVariants.{NotRequest, Missing, Invalid}
+use Rattle.json_fields.specs.Gives.{◌>>=◌, or_fault, where_true}
+
+-- the JSON that the bytes are
+unfoldable pub json_of : List ℕ → Option Data
+json_of bytes = if is_utf8 bytes then read bytes else None
+
+-- what is read is an object
+unfoldable pub document_at : List ℕ → Result Data WireFault
+document_at bytes = do
+  d ← or_fault NotRequest (json_of bytes)
+  m ← or_fault NotRequest (as_object d)
+  Ok d
+
+-- the member of this name, which has to be there
+unfoldable pub member_at : Avp → Data → Result Data WireFault
+member_at a d = or_fault (Missing a) (get (name_of a) d)
+
+-- a whole number of this range
+unfoldable pub number_at : Avp → ℕ → ℕ → Data → Result ℕ WireFault
+number_at a low high d = do
+  v ← member_at a d
+  n ← or_fault (Invalid a) (option_and_then as_u64 (as_number v))
+  where_true (nat_le low n && nat_le n high) (Invalid a) n
+
+abbrev pub optional_when : Avp → ℕ → ℕ → Option Data → Result (Option ℕ) WireFault
+optional_when a low high None = Ok None
+optional_when a low high (Some v) = do
+  n ← or_fault (Invalid a) (option_and_then as_u64 (as_number v))
+  where_true (nat_le low n && nat_le n high) (Invalid a) (Some n)
+
+-- a whole number of this range, where it is there
+unfoldable pub optional_at : Avp → ℕ → ℕ → Data → Result (Option ℕ) WireFault
+optional_at a low high d = optional_when a low high (get (name_of a) d)
+
+-- a text
+unfoldable pub text_at : Avp → Data → Result (List ℕ) WireFault
+text_at a d = do
+  v ← member_at a d
+  or_fault (Invalid a) (as_str v)
+
+-- an object
+unfoldable pub object_at : Avp → Data → Result Data WireFault
+object_at a d = do
+  v ← member_at a d
+  m ← or_fault (Invalid a) (as_object v)
+  Ok v
+
+-- an array
+unfoldable pub array_of : Avp → Data → Result Items WireFault
+array_of a v = or_fault (Invalid a) (as_array v)

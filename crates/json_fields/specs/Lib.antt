@@ -1,0 +1,5 @@
+pub mod Gives
+pub mod Fields
+pub mod Spelling
+pub mod Tokens
+pub mod Unit

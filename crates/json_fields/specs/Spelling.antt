@@ -1,0 +1,23 @@
+-- How values are spelled: compact JSON, with the members in the byte order of their names.
+use Rattle.std.specs.Prelude.{ℕ, negsuc, List, codes, Option, Some, None}
+use Rattle.serde_json.specs.Data.{Data, number, unsigned, negative, object, Members, no_members, member}
+
+-- a whole number
+abbrev pub whole : ℕ → Data
+whole n = number (unsigned n)
+
+-- a member, where it is there
+abbrev pub perhaps : List ℕ → Option Data → Members → Members
+perhaps k None ms = ms
+perhaps k (Some d) ms = member k d ms
+
+-- micro-units of a currency (Unit-Value with Exponent -6 and Currency-Code, RFC 8506 sections 8.8 to 8.11)
+unfoldable pub value_data : ℕ → Data
+value_data micros = object
+    (member (codes "Exponent") (number (negative (negsuc 5)))
+    (member (codes "Value-Digits") (whole micros) no_members))
+
+unfoldable pub money_data : ℕ → ℕ → Data
+money_data micros currency = object
+    (member (codes "Currency-Code") (whole currency)
+    (member (codes "Unit-Value") (value_data micros) no_members))

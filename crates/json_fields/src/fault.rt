@@ -1,0 +1,39 @@
+ghost use Rattle.std.specs.Prelude.{◌≡◌};
+ghost use Rattle.json_fields.specs.declared.fault.WireFault.TheVariants.{Memory};
+
+use commands::Avp;
+use std::alloc::{AllocError, AllocFailed};
+use thiserror::Error;
+
+/// Why a text was not read.
+#[derive(Clone, Copy, Debug, Drop, Error, PartialEq, Eq)]
+pub enum WireFault {
+    /// Not UTF-8, not JSON, nested deeper than 127, or no object.
+    #[error("no JSON object")]
+    NotRequest,
+    /// A member that has to be there isn't.
+    #[error("{} is missing", .0.name())]
+    Missing(Avp),
+    /// A member has the wrong kind or value.
+    #[error("{} is invalid", .0.name())]
+    Invalid(Avp),
+    /// Memory ran out.
+    #[error("out of memory")]
+    Memory,
+}
+
+impl From<AllocError> for WireFault {
+    ghost from_gives = { λ _ e. e ≡ Memory };
+
+    fn from(_e: AllocError) -> WireFault {
+        WireFault::Memory
+    }
+}
+
+impl<T: Drop> From<AllocFailed<T>> for WireFault {
+    ghost from_gives = { λ _ e. e ≡ Memory };
+
+    fn from(_e: AllocFailed<T>) -> WireFault {
+        WireFault::Memory
+    }
+}

@@ -1,0 +1,12 @@
+//! Members of JSON objects, read one after another with the first fault told, and written in compact form.
+#![tactic(auto)]
+
+mod fault;
+mod reading;
+mod unit;
+mod writing;
+
+pub use crate::fault::WireFault;
+pub use crate::reading::{array, document, member, number, object, optional_number, text};
+pub use crate::unit::{unit_name, unit_told, units_in};
+pub use crate::writing::{put_money, put_number, put_perhaps, put_text};

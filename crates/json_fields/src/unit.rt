@@ -1,0 +1,87 @@
+ghost use Rattle.std.specs.Prelude.{◌≡◌, ◌≤◌, ◌&&◌, nat_le, IfOk};
+ghost use Rattle.serde_json.specs.View.{view};
+ghost use Rattle.commands.specs.Quantities.{most_units};
+ghost use Rattle.json_fields.specs.Gives.{Gives};
+ghost use Rattle.json_fields.specs.Unit.{name_of_unit, has_unit, lacks_others, kind_told, units_at};
+
+use crate::fault::WireFault;
+use commands::Avp;
+use serde_json::Value;
+use units::UnitKind;
+
+/// The name of the member that counts units of this kind.
+pub fn unit_name(kind: UnitKind) -> &'static str
+    ensures { result.now ≡ name_of_unit kind }
+{
+    match kind {
+        UnitKind::Time => "CC-Time",
+        UnitKind::TotalOctets => "CC-Total-Octets",
+        UnitKind::ServiceSpecific => "CC-Service-Specific-Units",
+    }
+}
+
+fn has_unit(value: &Value, kind: UnitKind) -> bool
+    ensures { result ≡ has_unit kind (view value.now) }
+{
+    value.get(unit_name(kind)).is_some()
+}
+
+/// The kind of the first unit member that stands.
+#[tactic(auto, unfolding(crate::specs::Unit::kind_told))]
+pub fn unit_told(value: &Value) -> Option<UnitKind>
+    ensures { result ≡ kind_told (view value.now) }
+{
+    if has_unit(value, UnitKind::Time) {
+        Some(UnitKind::Time)
+    } else if has_unit(value, UnitKind::TotalOctets) {
+        Some(UnitKind::TotalOctets)
+    } else if has_unit(value, UnitKind::ServiceSpecific) {
+        Some(UnitKind::ServiceSpecific)
+    } else {
+        None
+    }
+}
+
+fn most_units(kind: UnitKind) -> u64
+    ensures { result ≡ most_units kind }
+{
+    match kind {
+        UnitKind::Time => 4_294_967_295,
+        UnitKind::TotalOctets | UnitKind::ServiceSpecific => 1_000_000_000_000_000_000,
+    }
+}
+
+fn lacks_others(value: &Value, kind: UnitKind) -> bool
+    ensures { result ≡ lacks_others kind (view value.now) }
+{
+    match kind {
+        UnitKind::Time => !has_unit(value, UnitKind::TotalOctets)
+            && !has_unit(value, UnitKind::ServiceSpecific),
+        UnitKind::TotalOctets => !has_unit(value, UnitKind::Time)
+            && !has_unit(value, UnitKind::ServiceSpecific),
+        UnitKind::ServiceSpecific => !has_unit(value, UnitKind::Time)
+            && !has_unit(value, UnitKind::TotalOctets),
+    }
+}
+
+/// The units of this kind in `value`, alone, at least `low`. Each fault is told of `told`.
+#[tactic(auto, unfolding(crate::specs::Unit::units_at))]
+pub fn units_in(value: &Value, told: Avp, low: u64, kind: UnitKind) -> Result<u64, WireFault>
+    ensures reads { Gives (λ n. n) result (units_at told low kind (view value.now)) }
+    ensures within { IfOk result (λ n. (low ≤ n) × (n ≤ most_units kind)) }
+{
+    let Some(units) = value.get(unit_name(kind)) else {
+        return Err(WireFault::Invalid(told));
+    };
+    let Some(n) = units.as_u64() else {
+        return Err(WireFault::Invalid(told));
+    };
+    if !(low <= n && n <= most_units(kind)) {
+        return Err(WireFault::Invalid(told));
+    }
+    if lacks_others(value, kind) {
+        Ok(n)
+    } else {
+        Err(WireFault::Invalid(told))
+    }
+}

@@ -1,0 +1,60 @@
+ghost use Rattle.std.specs.Prelude.{◌≡◌, ◌++◌, option_map};
+ghost use Rattle.serde_json.specs.Data.{string};
+ghost use Rattle.json_fields.specs.Spelling.{whole, value_data, money_data};
+ghost use Rattle.json_fields.specs.Tokens.{Adds, tokens_of, member_tokens, perhaps_tokens};
+
+use json::Writer;
+use std::alloc::AllocError;
+
+/// Writes a member that is a whole number.
+pub fn put_number(out: &mut Writer, name: &str, n: u64) -> Result<(), AllocError>
+    ensures { Adds result out.old out.new (member_tokens name.now (whole n)) }
+{
+    out.key(name)?;
+    out.u64(n)?;
+    Ok(())
+}
+
+/// Writes a member that is a whole number, where there is one.
+pub fn put_perhaps(out: &mut Writer, name: &str, n: Option<u64>) -> Result<(), AllocError>
+    ensures { Adds result out.old out.new (perhaps_tokens name.now (option_map whole n)) }
+{
+    match n {
+        None => Ok(()),
+        Some(n) => put_number(out, name, n),
+    }
+}
+
+/// Writes a member that is a text.
+pub fn put_text(out: &mut Writer, name: &str, text: &str) -> Result<(), AllocError>
+    ensures { Adds result out.old out.new (member_tokens name.now (string text.now)) }
+{
+    out.key(name)?;
+    out.string(text)?;
+    Ok(())
+}
+
+#[tactic(auto, unfolding(crate::specs::Spelling::value_data))]
+fn put_value(out: &mut Writer, micros: u64) -> Result<(), AllocError>
+    ensures { Adds result out.old out.new (tokens_of (value_data micros)) }
+{
+    out.begin_object()?;
+    out.key("Exponent")?;
+    out.i64(-6)?;
+    put_number(out, "Value-Digits", micros)?;
+    out.end_object()?;
+    Ok(())
+}
+
+/// Writes micro-units of a currency as a value.
+#[tactic(auto, unfolding(crate::specs::Spelling::money_data))]
+pub fn put_money(out: &mut Writer, micros: u64, currency: u16) -> Result<(), AllocError>
+    ensures { Adds result out.old out.new (tokens_of (money_data micros currency)) }
+{
+    out.begin_object()?;
+    put_number(out, "Currency-Code", currency as u64)?;
+    out.key("Unit-Value")?;
+    put_value(out, micros)?;
+    out.end_object()?;
+    Ok(())
+}

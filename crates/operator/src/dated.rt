@@ -1,0 +1,33 @@
+ghost use Rattle.std.specs.Prelude.{◌≡◌, IfSome, IfNone, ◌≢◌};
+ghost use Rattle.operator.specs.Lines.{moment_of, IsDated};
+
+use units::Moment;
+
+use crate::numbers::number;
+
+/// A line of dated requests: when its command came, and the command's text.
+#[derive(Clone, Copy, Debug)]
+pub struct DatedLine<'a> {
+    pub moment: Moment,
+    pub body: &'a str,
+}
+
+/// The moment and the body of a line: a moment of 1 to 10 digits, of a command (0 to 4,102,444,799), one space, and
+/// the rest. None for any other line.
+pub fn dated_line<'a>(line: &'a str) -> Option<DatedLine<'a>>
+    ensures { IsDated line.entry.now result }
+{
+    let (digits, body) = line.split_once(' ')?;
+    let moment = moment(digits)?;
+    Some(DatedLine { moment, body })
+}
+
+/// The moment of a command that 1 to 10 digits say.
+fn moment(digits: &str) -> Option<Moment>
+    ensures { result ≡ moment_of digits.now }
+{
+    if digits.len() > 10 {
+        return None;
+    }
+    Moment::of_command(number(digits)?)
+}

@@ -1,0 +1,13 @@
+//! Rating: what blocks cost, what a report costs, and the greatest grant that funds cover.
+#![tactic(auto)]
+
+mod grant;
+mod price;
+mod report;
+
+pub use crate::grant::{Grant, Periods, greatest_grant};
+pub use crate::price::rate;
+pub use crate::report::{Part, Rated, cutting, rate_report};
+
+#[cfg(test)]
+mod tests;

@@ -1,0 +1,71 @@
+//! The price of a report of used units.
+
+ghost use Rattle.std.specs.Prelude.{◌≡◌, ◌≤◌, ◌<◌, ◌+◌, ◌%◌, ◌^◌};
+ghost use Rattle.rating.specs.Rated.{report_blocks, rated_report, CutsAlike, FollowsOn};
+
+use crate::price::rated_amount;
+use calendar::Period;
+use tariffs::Tariff;
+use units::{Amount, Blocks, Units, blocks_started};
+
+/// A part of a report: units that are priced in one period (Used-Service-Unit, RFC 8506 section 8.19).
+#[derive(Clone, Copy, Debug, PartialEq, Eq)]
+pub struct Part {
+    /// The period that prices the blocks which the part starts.
+    pub period: Period,
+    /// The units used.
+    pub units: Units,
+}
+
+/// What a report costs.
+#[derive(Clone, Copy, Debug, PartialEq, Eq)]
+pub struct Rated {
+    /// The rated amount, in micro-units.
+    pub amount: Amount,
+    /// The blocks that the report starts.
+    pub blocks: Blocks,
+}
+
+/// How far a use stands into its block after some more units.
+fn place_in_block(into_block: u64, units: Units, block: u64) -> u64
+    requires { 1 ≤ block }
+    ensures { result ≡ (into_block + units.0) % block }
+{
+    let used = u128::from(into_block) + u128::from(units.0);
+    (used % u128::from(block)) as u64
+}
+
+/// Rates the parts of a report in their order: each starts blocks after the session's use that the one before left
+/// (`used_before` at first), and is priced at the places after the one where the counter then stands (`place` at
+/// first). The blocks of the whole report have to fit 64 bits.
+pub fn rate_report(tariff: &Tariff, used_before: Units, place: u64, parts: &[Part]) -> Rated
+    requires { report_blocks tariff.now.block used_before.0 parts.now < 2 ^ 64 }
+    ensures { result ≡ rated_report tariff.now used_before.0 place parts.now }
+{
+    let block = tariff.block();
+    // How far the use stands into its block is all that decides which blocks are started.
+    let mut into_block = used_before.0 % block;
+    let mut blocks: u64 = 0;
+    let mut amount: u128 = 0;
+    for part in parts {
+        let started = blocks_started(Units(into_block), part.units, block);
+        amount += rated_amount(
+            tariff.tiers(part.period),
+            u128::from(place) + u128::from(blocks),
+            started.0,
+        );
+        blocks += started.0;
+        into_block = place_in_block(into_block, part.units, block);
+    }
+    Rated {
+        amount: Amount(amount),
+        blocks: Blocks(blocks),
+    }
+}
+
+/// The law of cutting: units used in two parts of one period, with nothing between, start and cost what they do as
+/// one part; and two reports after each other start and cost what their parts do as one report.
+pub fn cutting()
+    ensures parts { CutsAlike }
+    ensures reports { FollowsOn }
+{}

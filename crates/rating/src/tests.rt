@@ -1,0 +1,179 @@
+//! Prices and grants of worked sessions. The expected values are reckoned by hand from the book's prices: seconds in
+//! blocks of 60 at 50000 or 100000 micro-units a block, and octets in blocks of 1048576, of which the first 100 of a
+//! month are free and the others cost 10000.
+
+ghost use Rattle.std.specs.Prelude.{◌≡◌, ◌<◌, ◌^◌};
+ghost use Rattle.rating.specs.Rated.{units_of};
+
+use crate::{Grant, Part, Periods, Rated, greatest_grant, rate, rate_report};
+use calendar::Period;
+use std::test::Fail;
+use tariffs::{Tariff, TariffBook};
+use units::{Amount, Blocks, Units};
+
+const OFF: Period = Period(0);
+
+const PEAK: Period = Period(1);
+
+const BOOK: &str = r#"zone = "+00:00"
+currency = 978
+validity = 3600
+periods = ["off", "peak"]
+[[week]]
+period = "peak"
+days = [1, 2, 3, 4, 5]
+from = "08:00"
+to = "20:00"
+[[week]]
+period = "off"
+days = [1, 2, 3, 4, 5]
+from = "00:00"
+to = "08:00"
+[[week]]
+period = "off"
+days = [1, 2, 3, 4, 5]
+from = "20:00"
+to = "24:00"
+[[week]]
+period = "off"
+days = [6, 7]
+from = "00:00"
+to = "24:00"
+[[group]]
+id = 10
+unit = "time"
+block = 60
+slice = 600
+max_grant = 3600
+cycle = "none"
+final = "terminate"
+price = [{period = "off", tiers = [{price = 50000}]}, {period = "peak", tiers = [{price = 100000}]}]
+[[group]]
+id = 20
+unit = "octets"
+block = 1048576
+slice = 10485760
+max_grant = 1048576000
+cycle = "month"
+final = "redirect"
+redirect = "http://topup.example/"
+price = [{period = "off", tiers = [{upto = 100, price = 0}, {price = 10000}]}, {period = "peak", tiers = [{upto = 100, price = 0}, {price = 10000}]}]
+[[group]]
+id = 30
+unit = "events"
+block = 1
+slice = 1
+max_grant = 100
+cycle = "none"
+final = "terminate"
+price = [{period = "off", tiers = [{price = 90000}]}, {period = "peak", tiers = [{price = 90000}]}]
+"#;
+
+fn grant_of(blocks: u64, units: u64, amount: u128) -> Grant {
+    Grant {
+        blocks: Blocks(blocks),
+        units: Units(units),
+        amount: Amount(amount),
+    }
+}
+
+#[test]
+fn grants(rt: HostRuntime) -> Result<(), Fail> {
+    let book = TariffBook::read(rt.alloc(), BOOK.as_bytes())?;
+    let cases = [
+        // At 07:30, half an hour before the dearer period.
+        (10, OFF, 0, 0, 600, 1_000_000, grant_of(10, 600, 1_000_000)),
+        (10, OFF, 0, 0, 600, 999_999, grant_of(9, 540, 900_000)),
+        // Within the dearer period.
+        (10, PEAK, 0, 0, 600, 250_000, grant_of(2, 120, 200_000)),
+        // After 61 seconds the second block runs on to 120.
+        (10, PEAK, 61, 2, 600, 800_000, grant_of(8, 539, 800_000)),
+        (10, PEAK, 61, 2, 600, 99_999, grant_of(0, 59, 0)),
+        (10, PEAK, 60, 1, 600, 99_999, grant_of(0, 0, 0)),
+        // Up to the last free block but one, and then over it.
+        (
+            20,
+            PEAK,
+            0,
+            0,
+            103_809_024,
+            50_000,
+            grant_of(99, 103_809_024, 0),
+        ),
+        (
+            20,
+            PEAK,
+            103_809_024,
+            99,
+            2_097_152,
+            50_000,
+            grant_of(2, 2_097_152, 10_000),
+        ),
+    ];
+    for (group, before, used, place, wanted, funds, grant) in cases {
+        let tariff = book.tariff(group).ok_or("no such group")?;
+        let periods = Periods {
+            before,
+            after: PEAK,
+        };
+        let found = greatest_grant(
+            tariff,
+            periods,
+            Units(used),
+            place,
+            Units(wanted),
+            Amount(funds),
+        );
+        assert_eq!(rt; found, grant, "{used} used, {funds}");
+    }
+    Ok(())
+}
+
+#[test]
+fn blocks_are_rated(rt: HostRuntime) -> Result<(), Fail> {
+    let book = TariffBook::read(rt.alloc(), BOOK.as_bytes())?;
+    let tariff = book.tariff(20).ok_or("no group 20")?;
+    assert_eq!(rt; rate(tariff, OFF, 99, Blocks(2)), Amount(10_000));
+    assert_eq!(rt; rate(tariff, OFF, u64::MAX, Blocks(2)), Amount(20_000));
+    Ok(())
+}
+
+/// The rated amount and the blocks of a report whose units fit 64 bits.
+#[tactic(auto, using(crate::proofs::Reports::report_blocks_le))]
+fn rated(tariff: &Tariff, used: u64, place: u64, parts: &[Part]) -> (u128, u64)
+    requires { units_of parts.now < 2 ^ 64 }
+{
+    let Rated { amount, blocks } = rate_report(tariff, Units(used), place, parts);
+    (amount.0, blocks.0)
+}
+
+fn part(period: Period, units: u64) -> Part
+    ensures { result.units.0 ≡ units }
+{
+    Part {
+        period,
+        units: Units(units),
+    }
+}
+
+#[test]
+fn reports_are_rated(rt: HostRuntime) -> Result<(), Fail> {
+    let book = TariffBook::read(rt.alloc(), BOOK.as_bytes())?;
+    let seconds = book.tariff(10).ok_or("no group 10")?;
+    let octets = book.tariff(20).ok_or("no group 20")?;
+    // 300 seconds before the dearer period and 90 in it.
+    assert_eq!(rt;
+        rated(seconds, 0, 0, &[part(OFF, 300), part(PEAK, 90)]),
+        (450_000, 7)
+    );
+    // 61 seconds, and then the 59 that are left of the second block.
+    assert_eq!(rt; rated(seconds, 0, 0, &[part(PEAK, 61)]), (200_000, 2));
+    assert_eq!(rt; rated(seconds, 61, 2, &[part(PEAK, 59)]), (0, 0));
+    // The last free block and the first one that isn't.
+    assert_eq!(rt; rated(octets, 0, 0, &[part(PEAK, 103_809_024)]), (0, 99));
+    assert_eq!(rt;
+        rated(octets, 103_809_024, 99, &[part(PEAK, 2_097_152)]),
+        (10_000, 2)
+    );
+    Ok(())
+}

@@ -1,0 +1,4 @@
+pub mod TierFacts
+pub mod PriceFacts
+pub mod NameFacts
+pub mod WeekFacts

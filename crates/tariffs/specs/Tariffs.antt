@@ -1,0 +1,38 @@
+-- The tariff of a rating group as contracts see it.
+use Rattle.std.specs.Prelude.{◌≡◌, ℕ, ◌≤◌, ◌/◌, List, [], slice_index_or}
+use Rattle.std.specs.List.{AllByRecursion}
+use Rattle.calendar.specs.declared.cycle.Cycle.{Cycle}
+use Rattle.units.specs.declared.blocks.UnitKind.{UnitKind}
+use Rattle.units.specs.declared.blocks.UnitKind.TheVariants.{Time}
+use Rattle.tariffs.specs.declared.tiers.Tier.{Tier}
+use Rattle.tariffs.specs.declared.final_action.FinalAction.{FinalAction}
+use Rattle.tariffs.specs.Prices.{AreTiers}
+
+-- a rating group: what it counts, in blocks of how many units, what is granted without a wish and at most,
+-- the cycle of its counter, what follows the last units, and the tiers of each period, in the order of the
+-- book's periods
+pub record GroupTariff : Type 0 where
+  pub group : ℕ
+  pub unit : UnitKind
+  pub block : ℕ
+  pub slice : ℕ
+  pub max_grant : ℕ
+  pub cycle : Cycle
+  pub final_action : FinalAction
+  pub prices : List (List Tier)
+
+-- the ranges of a tariff (profile)
+pub record IsTariff (t : GroupTariff) : Type 0 where
+  pub group : t.group ≤ 4_294_967_295
+  pub some_block : 1 ≤ t.block
+  pub block : t.block ≤ 1_000_000_000_000_000
+  pub some_slice : 1 ≤ t.slice
+  pub slice : t.slice ≤ t.max_grant
+  pub max_grant : t.max_grant ≤ 1_000_000_000_000_000
+  pub seconds : t.unit ≡ Time → t.max_grant ≤ 4_294_967_295
+  pub few_blocks : t.max_grant / t.block ≤ 999_999_999
+  pub tiers : AllByRecursion AreTiers t.prices
+
+-- the tiers of a period; none for a period that the tariff doesn't have
+abbrev pub tiers_at : GroupTariff → ℕ → List Tier
+tiers_at t period = slice_index_or t.prices period []

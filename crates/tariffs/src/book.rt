@@ -1,0 +1,190 @@
+ghost use Rattle.std.specs.Prelude.{◌≡◌, ◌≢◌, ◌==◌, ℕ, ◌+◌, ◌<◌, ◌≤◌, length, find, slice_get, option_copied, IfOk, IfErr, IfSome, IfNone, Ok, Err};
+ghost use Rattle.toml.specs.Data.{Members};
+ghost use Rattle.toml.specs.View.{table_view};
+ghost use Rattle.calendar.specs.Timetable.{period_at, IsChange, switch_within, validity_from, cycle_of, day_end};
+ghost use Rattle.book_fields.specs.declared.fault.BookFault.TheVariants.{NotToml};
+ghost use Rattle.book_fields.specs.Faults.{Gives};
+ghost use Rattle.tariffs.specs.Names.{period_named};
+ghost use Rattle.tariffs.specs.Tariffs.{IsTariff};
+ghost use Rattle.tariffs.specs.Books.{Book, IsBook, IsDocument, book_of};
+
+use crate::names::PeriodNames;
+use crate::tariff::Tariff;
+use crate::{group_fields, week_fields};
+use book_fields::BookFault;
+use calendar::{Calendar, Cycle, Period};
+use std::alloc::Global;
+use std::marker::Model;
+use toml::Table;
+use units::Moment;
+
+/// The tariff book of an operator: what rating groups cost in which period of the week.
+#[derive(Drop)]
+pub struct TariffBook {
+    calendar: Calendar,
+    currency: u16,
+    validity: u32,
+    periods: PeriodNames,
+    tariffs: Vec<Tariff>,
+}
+
+impl Model for TariffBook {
+    ghost use Rattle.tariffs.specs.Books.{Book, IsBook};
+
+    ghost Value = { Book };
+
+    ghost view = { λ b. record {
+      calendar = b.calendar;
+      currency = b.currency;
+      validity = b.validity;
+      periods = b.periods;
+      tariffs = b.tariffs.items;
+    } };
+
+    ghost invariant = { λ b. IsBook (record {
+      calendar = b.calendar;
+      currency = b.currency;
+      validity = b.validity;
+      periods = b.periods;
+      tariffs = b.tariffs.items;
+    }) };
+}
+
+#[tactic(auto, unfolding(crate::specs::Books::book_of))]
+fn book(alloc: Global, table: &Table) -> Result<TariffBook, BookFault>
+    ensures { Gives (λ b. b) result (book_of (table_view table.now)) }
+{
+    let zone = week_fields::zone(table)?;
+    let currency = book_fields::number(table, "currency", 1, 999)? as u16;
+    let validity = book_fields::number(table, "validity", 60, 43_200)? as u32;
+    let periods = PeriodNames::read(alloc, table)?;
+    let entries = week_fields::entries(alloc, &periods, table)?;
+    let Some(calendar) = Calendar::new(zone, entries) else {
+        return Err(BookFault::WeekNotCovered);
+    };
+    let tariffs = group_fields::groups(alloc, &periods, table)?;
+    Ok(TariffBook {
+        calendar,
+        currency,
+        validity,
+        periods,
+        tariffs,
+    })
+}
+
+impl TariffBook {
+    /// Reads a book from a TOML document (profile).
+    ///
+    /// Keys are read in the order `zone`, `currency`, `validity`, `periods`, `week`, `group`, arrays in their
+    /// order, and the first fault is answered; want of memory may be answered in place of it.
+    pub fn read(alloc: Global, bytes: &[u8]) -> Result<TariffBook, BookFault>
+        ensures book { IfOk result (λ b. (t : Members) × IsDocument bytes.now t × (book_of t ≡ Ok b)) }
+        ensures fault { (t : Members) → IsDocument bytes.now t → Gives (λ b. b) result (book_of t) }
+        ensures no_document { ((t : Members) → IsDocument bytes.now t → ⊥) → Gives (λ b. b) result (Err NotToml) }
+    {
+        match toml::table_from_slice(alloc, bytes) {
+            Ok(table) => book(alloc, &table),
+            Err(error) => {
+                if error.is_memory() {
+                    Err(BookFault::Memory)
+                } else {
+                    Err(BookFault::NotToml)
+                }
+            }
+        }
+    }
+
+    /// The ISO 4217 number of the currency (Currency-Code, RFC 8506 section 8.11), 1 to 999.
+    pub fn currency(&self) -> u16
+        ensures value { result ≡ self.now.currency }
+        ensures book { IsBook self.now }
+    {
+        self.currency
+    }
+
+    /// The validity of a grant (Validity-Time, RFC 8506 section 8.33), 60 to 43,200 seconds.
+    pub fn validity(&self) -> u32
+        ensures value { result ≡ self.now.validity }
+        ensures book { IsBook self.now }
+    {
+        self.validity
+    }
+
+    /// The tariff of a rating group; None for a group that the book doesn't have.
+    pub fn tariff(&self, group: u32) -> Option<&Tariff>
+        ensures value { option_copied result ≡ find (λ t. t.group == group) self.now.tariffs }
+        ensures tariff { IfSome result (λ t. IsTariff t.now) }
+        ensures periods { IfSome result (λ t. length t.now.prices ≡ length self.now.periods) }
+    {
+        for tariff in &self.tariffs {
+            if tariff.group() == group {
+                return Some(tariff);
+            }
+        }
+        None
+    }
+
+    /// The name of a period; None for one that the book doesn't have.
+    pub fn period_name(&self, period: Period) -> Option<&str>
+        ensures value { option_copied result ≡ slice_get self.now.periods period.0 }
+        // Its period is found by the name again.
+        ensures back { IfSome result (λ s. period_named self.now.periods s.now ≡ Some period) }
+    {
+        self.periods.name(period)
+    }
+
+    /// The period of a name; None for a name that the book doesn't have.
+    pub fn period_named(&self, name: &str) -> Option<Period>
+        ensures value { result ≡ period_named self.now.periods name.now }
+        ensures in_range { IfSome result (λ p. p.0 < length self.now.periods) }
+    {
+        self.periods.named(name)
+    }
+
+    /// The tariff period at a moment: that of the civil weekday and minute, in the book's zone, of the beginning
+    /// of the moment's UTC minute (rating by time, TS 32.296; the rule of the minute is profile).
+    pub fn period_at(&self, moment: Moment) -> Period
+        ensures value { result ≡ period_at self.now.calendar moment }
+        ensures in_range { result.0 < length self.now.periods }
+    {
+        self.calendar.period_at(moment)
+    }
+
+    /// The tariff switch (Tariff-Time-Change, RFC 8506 section 8.20): the least whole minute after the moment, and
+    /// less than so many seconds later, whose period is another than that at the moment.
+    pub fn next_switch(&self, moment: Moment, seconds: u32) -> Option<Moment>
+        requires seconds { seconds ≤ 43_200 }
+        requires in_range { moment + seconds ≤ 4_102_488_000 }
+        ensures value { result ≡ switch_within self.now.calendar moment seconds }
+        ensures found { IfSome result (IsChange self.now.calendar moment (moment + seconds)) }
+        ensures least { IfSome result (λ s. (r : ℕ) → IsChange self.now.calendar moment (moment + seconds) r → s ≤ r) }
+        ensures none { IfNone result ((r : ℕ) → IsChange self.now.calendar moment (moment + seconds) r → ⊥) }
+    {
+        self.calendar.next_switch(moment, seconds)
+    }
+
+    /// The Validity-Time of a grant (RFC 8506 section 8.33), in seconds: the book's validity, cut at the next later
+    /// change of period after the switch that lies within it.
+    pub fn validity_from(&self, moment: Moment) -> u32
+        requires { moment ≤ 4_102_444_800 }
+        ensures value { result ≡ validity_from self.now.calendar moment self.now.validity }
+    {
+        self.calendar.validity_from(moment, self.validity)
+    }
+
+    /// The number of a counter's cycle at a moment, in the book's zone: 0 for none; days since 1969-12-31; months
+    /// since January 1969 (profile).
+    pub fn cycle_of(&self, cycle: Cycle, moment: Moment) -> u32
+        ensures { result ≡ cycle_of self.now.calendar.zone cycle moment }
+    {
+        self.calendar.cycle_of(cycle, moment)
+    }
+
+    /// 00:00, in the book's zone, of the civil day after the day so many days after that of the moment; None past
+    /// the last moment of commands.
+    pub fn day_end(&self, moment: Moment, days: u32) -> Option<Moment>
+        ensures { result ≡ day_end self.now.calendar.zone moment days }
+    {
+        self.calendar.day_end(moment, days)
+    }
+}

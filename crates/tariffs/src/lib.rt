@@ -1,0 +1,17 @@
+//! The tariff book of an online charging system: rating groups with their prices by period and tier.
+#![tactic(auto)]
+
+mod book;
+mod final_action;
+mod group_fields;
+mod names;
+mod price_fields;
+mod tariff;
+mod tiers;
+mod week_fields;
+
+pub use crate::book::TariffBook;
+pub use crate::final_action::{FinalAction, RedirectAddress};
+pub use crate::tariff::Tariff;
+pub use crate::tiers::Tier;
+pub use book_fields::BookFault;

@@ -1,0 +1,4 @@
+pub mod Spelled
+pub mod Rules
+pub mod Written
+pub mod ReadingAnswers

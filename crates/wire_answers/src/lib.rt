@@ -1,0 +1,11 @@
+//! Answers as JSON.
+#![tactic(auto)]
+
+mod names;
+mod reading;
+mod reading_services;
+mod services;
+mod writing;
+
+pub use crate::reading::{answer_again, read_answer};
+pub use crate::writing::{write_answer, write_fault};

@@ -1,0 +1,183 @@
+ghost use Rattle.std.specs.Prelude.{◌≡◌, ◌≤◌};
+ghost use Rattle.serde_json.specs.View.{view};
+ghost use Rattle.serde_json.specs.Find.{get};
+ghost use Rattle.commands.specs.Names.{name_of};
+ghost use Rattle.json_fields.specs.Gives.{Gives};
+ghost use Rattle.wire_answers.specs.Spelled.{answer_text};
+ghost use Rattle.wire_answers.specs.ReadingAnswers.{avp_named, failed_at, failure_told, balance_of, cost_in, priced_when, checked_when, served_when, outcome_told, request_answer_at, refusal_at, done_at, answer_when, refused_when, answer_of, AnswersReadAgain};
+
+use crate::names::{avp_named, refusal_named};
+use crate::reading_services::{service_failure, services_in};
+use commands::{Answer, Avp, Balance, Cost, Failure, Outcome, RequestAnswer};
+use json_fields::{WireFault, document, number, object, optional_number, text};
+use serde_json::Value;
+use std::alloc::Global;
+use wire_requests::{request_kind, session_id};
+
+#[tactic(auto, unfolding(crate::specs::ReadingAnswers::avp_named))]
+fn avp(name: &str) -> Result<Avp, WireFault>
+    ensures { Gives (λ a. a) result (avp_named name.now) }
+{
+    match avp_named(name) {
+        Some(avp) => Ok(avp),
+        None => Err(WireFault::Invalid(Avp::FailedAvp)),
+    }
+}
+
+#[tactic(auto, unfolding(crate::specs::ReadingAnswers::failed_at))]
+fn failed(parent: &Value) -> Result<Failure, WireFault>
+    ensures { Gives (λ f. f) result (failed_at (view parent.now)) }
+{
+    let name = text(parent, Avp::FailedAvp)?;
+    Ok(Failure::InvalidAvpValue(avp(name)?))
+}
+
+#[tactic(auto, unfolding(crate::specs::ReadingAnswers::failure_told))]
+fn failure(code: u64, parent: &Value) -> Result<Failure, WireFault>
+    ensures { Gives (λ f. f) result (failure_told code (view parent.now)) }
+{
+    match code {
+        5002 => Ok(Failure::UnknownSessionId),
+        5004 => failed(parent),
+        5012 => Ok(Failure::UnableToComply),
+        5030 => Ok(Failure::UserUnknown),
+        _ => Ok(Failure::Denied(service_failure(code)?)),
+    }
+}
+
+#[tactic(auto, unfolding(crate::specs::ReadingAnswers::balance_of))]
+fn balance(number: u64) -> Balance
+    ensures { result ≡ balance_of number }
+{
+    if number == 0 {
+        Balance::EnoughCredit
+    } else {
+        Balance::NoCredit
+    }
+}
+
+#[tactic(auto, unfolding(crate::specs::ReadingAnswers::cost_in))]
+fn cost(value: &Value) -> Result<Cost, WireFault>
+    ensures { Gives (λ c. c) result (cost_in (view value.now)) }
+{
+    let unit_value = object(value, Avp::UnitValue)?;
+    let micros = number(unit_value, Avp::ValueDigits, 0, u64::MAX)?;
+    let currency = number(value, Avp::CurrencyCode, 0, 65_535)? as u16;
+    Ok(Cost { micros, currency })
+}
+
+fn priced(parent: &Value) -> Result<Outcome, WireFault>
+    ensures { Gives (λ o. o) result (priced_when (get (name_of Avp.CostInformation) (view parent.now))) }
+{
+    match parent.get(Avp::CostInformation.name()) {
+        None => Ok(Outcome::Refunded),
+        Some(value) => Ok(Outcome::Priced(cost(value)?)),
+    }
+}
+
+fn checked(told: Option<u64>, parent: &Value) -> Result<Outcome, WireFault>
+    ensures { Gives (λ o. o) result (checked_when (view parent.now) told) }
+{
+    match told {
+        Some(number) => Ok(Outcome::Checked(balance(number))),
+        None => priced(parent),
+    }
+}
+
+fn served(alloc: Global, parent: &Value) -> Result<Outcome, WireFault>
+    ensures { Gives (λ o. o) result (served_when (view parent.now) (get (name_of Avp.Services) (view parent.now))) }
+{
+    match parent.get(Avp::Services.name()) {
+        Some(value) => Ok(Outcome::Services(services_in(alloc, value)?)),
+        None => checked(optional_number(parent, Avp::CheckBalanceResult, 0, 1)?, parent),
+    }
+}
+
+#[tactic(auto, unfolding(crate::specs::ReadingAnswers::outcome_told))]
+fn outcome(alloc: Global, code: u64, parent: &Value) -> Result<Outcome, WireFault>
+    ensures { Gives (λ o. o) result (outcome_told code (view parent.now)) }
+{
+    if code == 2001 {
+        served(alloc, parent)
+    } else {
+        Ok(Outcome::Failed(failure(code, parent)?))
+    }
+}
+
+#[tactic(auto, unfolding(crate::specs::ReadingAnswers::request_answer_at))]
+fn request_answer(alloc: Global, parent: &Value) -> Result<RequestAnswer, WireFault>
+    ensures { Gives (λ a. a) result (request_answer_at (view parent.now)) }
+{
+    let session = session_id(alloc, parent)?;
+    let kind = request_kind(parent)?;
+    let number_told = number(parent, Avp::RequestNumber, 0, 4_294_967_295)? as u32;
+    let code = number(parent, Avp::ResultCode, 0, 9999)?;
+    let outcome = outcome(alloc, code, parent)?;
+    Ok(RequestAnswer {
+        session,
+        kind,
+        number: number_told,
+        outcome,
+    })
+}
+
+#[tactic(auto, unfolding(crate::specs::ReadingAnswers::refusal_at))]
+fn refusal(parent: &Value) -> Result<Answer, WireFault>
+    ensures { Gives (λ a. a) result (refusal_at (view parent.now)) }
+{
+    match refusal_named(text(parent, Avp::Refusal)?) {
+        Some(refusal) => Ok(Answer::Refused(refusal)),
+        None => Err(WireFault::Invalid(Avp::Refusal)),
+    }
+}
+
+#[tactic(auto, unfolding(crate::specs::ReadingAnswers::done_at))]
+fn done(parent: &Value) -> Result<Answer, WireFault>
+    ensures { Gives (λ a. a) result (done_at (view parent.now)) }
+{
+    number(parent, Avp::ResultCode, 2001, 2001)?;
+    if let Some(bucket) = optional_number(parent, Avp::Bucket, 0, 4_294_967_295)? {
+        return Ok(Answer::Bucket(bucket as u32));
+    }
+    match optional_number(parent, Avp::Accounts, 0, u64::MAX)? {
+        None => Ok(Answer::Done),
+        Some(accounts) => Ok(Answer::Swept(accounts)),
+    }
+}
+
+fn refused(parent: &Value) -> Result<Answer, WireFault>
+    ensures { Gives (λ a. a) result (refused_when (view parent.now) (get (name_of Avp.Refusal) (view parent.now))) }
+{
+    match parent.get(Avp::Refusal.name()) {
+        None => done(parent),
+        Some(_) => refusal(parent),
+    }
+}
+
+fn answered(alloc: Global, parent: &Value) -> Result<Answer, WireFault>
+    ensures { Gives (λ a. a) result (answer_when (view parent.now) (get (name_of Avp.SessionId) (view parent.now))) }
+{
+    match parent.get(Avp::SessionId.name()) {
+        Some(_) => Ok(Answer::Request(request_answer(alloc, parent)?)),
+        None => refused(parent),
+    }
+}
+
+/// The answer that the bytes are, as `write_answer` writes it.
+///
+/// # Errors
+/// `NotRequest` where the bytes are no JSON object, `Missing` and `Invalid` with the first member at fault, `Memory`
+/// where memory ran out.
+#[tactic(auto, unfolding(crate::specs::ReadingAnswers::answer_of))]
+pub fn read_answer(alloc: Global, bytes: &[u8]) -> Result<Answer, WireFault>
+    ensures { Gives (λ a. a) result (answer_of bytes.now) }
+{
+    let parent = document(alloc, bytes)?;
+    answered(alloc, &parent)
+}
+
+/// An answer that is written is read again as the same answer.
+#[tactic(auto, using(crate::proofs::AnswersAgain::answers_again))]
+pub fn answer_again()
+    ensures { AnswersReadAgain answer_text }
+{}

@@ -1,0 +1,181 @@
+ghost use Rattle.std.specs.Prelude.{◌≡◌, ◌≤◌, IfOk, OnOk, Ok, string_bytes, codes};
+ghost use Rattle.std.specs.List.{AllByRecursion};
+ghost use Rattle.serde_json.specs.Data.{string, object, array, member, no_members};
+ghost use Rattle.commands.specs.Names.{name_of};
+ghost use Rattle.json_fields.specs.Spelling.{whole, money_data};
+ghost use Rattle.json_fields.specs.Tokens.{Adds, tokens_of, member_tokens};
+ghost use Rattle.wire_answers.specs.Spelled.{service_items, outcome_code, code_member, request_answer_data, answer_data, answer_text, fault_data, fault_text};
+ghost use Rattle.wire_answers.specs.Rules.{IsServiceAnswer, IsCost, IsOutcome, IsRequestAnswer, IsAnswer};
+ghost use Rattle.wire_answers.specs.ReadingAnswers.{answer_of};
+ghost use Rattle.wire_answers.specs.Written.{failure_tokens, outcome_tokens};
+
+use crate::services::put_services;
+use commands::{Answer, Avp, Cost, Failure, Outcome, RequestAnswer, ServiceAnswers};
+use json::Writer;
+use json_fields::{WireFault, put_money, put_number, put_text};
+use std::alloc::{AllocError, Global};
+
+fn put_array(out: &mut Writer, services: &ServiceAnswers) -> Result<(), AllocError>
+    ensures adds { Adds result out.old out.new
+        (member_tokens (codes "Multiple-Services-Credit-Control") (array (service_items services.now))) }
+    ensures rule { OnOk result (AllByRecursion IsServiceAnswer services.now) }
+{
+    out.key("Multiple-Services-Credit-Control")?;
+    out.begin_array()?;
+    put_services(out, services.as_slice())?;
+    out.end_array()?;
+    Ok(())
+}
+
+fn put_failure(out: &mut Writer, failure: Failure) -> Result<(), AllocError>
+    ensures { Adds result out.old out.new (failure_tokens failure) }
+{
+    match failure {
+        Failure::InvalidAvpValue(avp) => put_text(out, "Failed-AVP", avp.name()),
+        _ => Ok(()),
+    }
+}
+
+fn put_cost(out: &mut Writer, cost: Cost) -> Result<(), AllocError>
+    ensures adds { Adds result out.old out.new
+        (member_tokens (codes "Cost-Information") (money_data cost.micros cost.currency)) }
+    ensures rule { OnOk result (IsCost cost) }
+{
+    out.key("Cost-Information")?;
+    put_money(out, cost.micros, cost.currency)?;
+    Ok(())
+}
+
+fn put_outcome(out: &mut Writer, outcome: &Outcome) -> Result<(), AllocError>
+    ensures adds { Adds result out.old out.new (outcome_tokens outcome.now) }
+    ensures rule { OnOk result (IsOutcome outcome.now) }
+{
+    match outcome {
+        Outcome::Services(services) => put_array(out, services),
+        Outcome::Refunded => Ok(()),
+        Outcome::Checked(balance) => put_number(out, "Check-Balance-Result", balance.number()),
+        Outcome::Priced(cost) => put_cost(out, *cost),
+        Outcome::Failed(failure) => put_failure(out, *failure),
+    }
+}
+
+fn outcome_code(outcome: &Outcome) -> u64
+    ensures { result ≡ outcome_code outcome.now }
+{
+    match outcome {
+        Outcome::Failed(failure) => failure.number(),
+        _ => 2001,
+    }
+}
+
+#[tactic(auto, using(crate::proofs::Fronts::outcome_front), unfolding(crate::specs::Spelled::request_answer_data))]
+fn put_request_answer(out: &mut Writer, answer: &RequestAnswer) -> Result<(), AllocError>
+    ensures adds { Adds result out.old out.new (tokens_of (request_answer_data answer.now)) }
+    ensures rule { OnOk result (IsRequestAnswer answer.now) }
+{
+    out.begin_object()?;
+    put_number(out, "CC-Request-Number", answer.number as u64)?;
+    put_number(out, "CC-Request-Type", answer.kind.number())?;
+    put_outcome(out, &answer.outcome)?;
+    put_number(out, "Result-Code", outcome_code(&answer.outcome))?;
+    put_text(out, "Session-Id", answer.session.as_str())?;
+    out.end_object()?;
+    Ok(())
+}
+
+fn put_counted(out: &mut Writer, name: &str, n: u64) -> Result<(), AllocError>
+    ensures { Adds result out.old out.new (tokens_of (object (member name.now (whole n) (code_member 2001)))) }
+{
+    out.begin_object()?;
+    put_number(out, name, n)?;
+    put_number(out, "Result-Code", 2001)?;
+    out.end_object()?;
+    Ok(())
+}
+
+fn put_code(out: &mut Writer, code: u64) -> Result<(), AllocError>
+    ensures { Adds result out.old out.new (tokens_of (object (code_member code))) }
+{
+    out.begin_object()?;
+    put_number(out, "Result-Code", code)?;
+    out.end_object()?;
+    Ok(())
+}
+
+fn put_refusal(out: &mut Writer, name: &str) -> Result<(), AllocError>
+    ensures { Adds result out.old out.new (tokens_of (object (member (codes "Refusal") (string name.now) no_members))) }
+{
+    out.begin_object()?;
+    put_text(out, "Refusal", name)?;
+    out.end_object()?;
+    Ok(())
+}
+
+#[tactic(auto, unfolding(crate::specs::Spelled::answer_data))]
+fn put_answer(out: &mut Writer, answer: &Answer) -> Result<(), AllocError>
+    ensures adds { Adds result out.old out.new (tokens_of (answer_data answer.now)) }
+    ensures rule { OnOk result (IsAnswer answer.now) }
+{
+    match answer {
+        Answer::Request(answer) => put_request_answer(out, answer),
+        Answer::Done => put_code(out, 2001),
+        Answer::Bucket(number) => put_counted(out, "Bucket", *number as u64),
+        Answer::Swept(accounts) => put_counted(out, "Accounts", *accounts),
+        Answer::Refused(refusal) => put_refusal(out, refusal.name()),
+    }
+}
+
+#[tactic(auto, using(json_fields::proofs::Tokens::printed), unfolding(crate::specs::Spelled::answer_text))]
+fn compact(alloc: Global, answer: &Answer) -> Result<String, AllocError>
+    ensures text { IfOk result (λ s. string_bytes s ≡ answer_text answer.now) }
+    ensures rule { IfOk result (λ s. IsAnswer answer.now) }
+{
+    let mut out = Writer::new(Vec::new(alloc));
+    put_answer(&mut out, answer)?;
+    let bytes = out.into_inner();
+    Ok(String::from_utf8(bytes).unwrap())
+}
+
+/// The text of an answer: compact JSON, with the members in the byte order of their names. It is read again as the
+/// same answer.
+pub fn write_answer(alloc: Global, answer: &Answer) -> Result<String, AllocError>
+    ensures text { IfOk result (λ s. string_bytes s ≡ answer_text answer.now) }
+    ensures read_again { IfOk result (λ s. answer_of (string_bytes s) ≡ Ok answer.now) }
+{
+    let text = compact(alloc, answer)?;
+    Ok(text)
+}
+
+fn put_failed(out: &mut Writer, avp: Avp, code: u64) -> Result<(), AllocError>
+    ensures { Adds result out.old out.new
+        (tokens_of (object (member (codes "Failed-AVP") (string (name_of avp)) (code_member code)))) }
+{
+    out.begin_object()?;
+    put_text(out, "Failed-AVP", avp.name())?;
+    put_number(out, "Result-Code", code)?;
+    out.end_object()?;
+    Ok(())
+}
+
+#[tactic(auto, unfolding(crate::specs::Spelled::fault_data))]
+fn put_fault(out: &mut Writer, fault: WireFault) -> Result<(), AllocError>
+    ensures { Adds result out.old out.new (tokens_of (fault_data fault)) }
+{
+    match fault {
+        WireFault::NotRequest => put_code(out, 5012),
+        WireFault::Memory => put_code(out, 5012),
+        WireFault::Missing(avp) => put_failed(out, avp, 5005),
+        WireFault::Invalid(avp) => put_failed(out, avp, 5004),
+    }
+}
+
+/// The answer to a text that isn't read, as compact JSON.
+#[tactic(auto, using(json_fields::proofs::Tokens::printed), unfolding(crate::specs::Spelled::fault_text))]
+pub fn write_fault(alloc: Global, fault: WireFault) -> Result<String, AllocError>
+    ensures { IfOk result (λ s. string_bytes s ≡ fault_text fault) }
+{
+    let mut out = Writer::new(Vec::new(alloc));
+    put_fault(&mut out, fault)?;
+    let bytes = out.into_inner();
+    Ok(String::from_utf8(bytes).unwrap())
+}

@@ -1,0 +1,5 @@
+pub mod Objects
+pub mod Kept
+pub mod Micros
+pub mod Fronts
+pub mod RequestsAgain

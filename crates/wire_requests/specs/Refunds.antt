@@ -1,0 +1,42 @@
+-- The money of a refund.
+use Rattle.std.specs.Prelude.{ℕ, ◌*◌, ◌^◌, ◌&&◌, ℤ, pos, negsuc, ◌+ℤ◌, unsigned_abs, int_le, Option, Some, None, Result, Ok, Err, nat_le, if◌then◌else◌, option_and_then}
+use Rattle.serde_json.specs.Data.{Data}
+use Rattle.serde_json.specs.Find.{get, as_number, as_i64}
+use Rattle.commands.specs.declared.avp.Avp.TheVariants as avp
+use Rattle.commands.specs.Names.{name_of}
+use Rattle.commands.specs.Refunds.{Refunded}
+use Rattle.json_fields.specs.declared.fault.WireFault.{WireFault}
+use Rattle.json_fields.specs.declared.fault.WireFault.TheVariants.{Invalid}
+use Rattle.json_fields.specs.Gives.{◌>>=◌, or_fault, where_true}
+use Rattle.json_fields.specs.Fields.{number_at, object_at}
+
+abbrev pub exponent_when : Option Data → Result ℤ WireFault
+exponent_when None = Ok (pos 0)
+exponent_when (Some v) = do
+  z ← or_fault (Invalid avp.Exponent) (option_and_then as_i64 (as_number v))
+  where_true (int_le (negsuc 5) z && int_le z (pos 0)) (Invalid avp.Exponent) z
+
+-- Exponent, from -6 to 0; without it 0
+unfoldable pub exponent_at : Data → Result ℤ WireFault
+exponent_at d = exponent_when (get (name_of avp.Exponent) d)
+
+-- the digits times 10 to the exponent, counted in micro-units (Unit-Value, RFC 8506 section 8.8)
+abbrev pub micros_told : ℕ → ℤ → ℕ
+micros_told digits exponent = digits * 10 ^ unsigned_abs (exponent +ℤ pos 6)
+
+-- Value-Digits before Exponent; more than 10^15 micro-units are a fault of Value-Digits
+unfoldable pub money_at : Data → Result ℕ WireFault
+money_at d = do
+  digits ← number_at avp.ValueDigits 1 18446744073709551615 d
+  exponent ← exponent_at d
+  where_true (nat_le (micros_told digits exponent) 1000000000000000) (Invalid avp.ValueDigits) (micros_told digits exponent)
+
+-- CC-Money in the Requested-Service-Unit of the request (RFC 8506 section 8.22)
+unfoldable pub refund_at : Data → Result Refunded WireFault
+refund_at d = do
+  r ← object_at avp.RequestedUnit d
+  m ← object_at avp.Money r
+  u ← object_at avp.UnitValue m
+  micros ← money_at u
+  currency ← number_at avp.CurrencyCode 0 999 m
+  Ok (record { micros = micros; currency = currency })

@@ -1,0 +1,13 @@
+//! Requests for credit control as JSON.
+#![tactic(auto)]
+
+mod phase;
+mod reading;
+mod refund;
+mod reports;
+mod services;
+mod writing;
+mod written_services;
+
+pub use crate::reading::{account_number, read_request, request_kind, session_id};
+pub use crate::writing::{request_again, write_request};

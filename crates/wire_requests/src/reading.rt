@@ -1,0 +1,163 @@
+ghost use Rattle.std.specs.Prelude.{◌≡◌, IfOk, IsTrue};
+ghost use Rattle.serde_json.specs.View.{view, items_view};
+ghost use Rattle.json_fields.specs.Gives.{Gives, or_fault};
+ghost use Rattle.wire_requests.specs.Reading.{session_at, kind_of, kind_at, account_at, only_item, event_of, event_at, action_at, ask_at, request_of};
+
+use crate::phase::Phase;
+use crate::refund::refund;
+use crate::reports::required;
+use crate::services::services;
+use commands::{
+    Ask, Avp, Event, EventAction, InitialServices, Request, RequestKind, TerminationServices,
+    UpdateServices,
+};
+use identifiers::{AccountNumber, SessionId};
+use json_fields::{WireFault, array, document, member, number, object, text};
+use serde_json::Value;
+use std::alloc::Global;
+
+/// The Session-Id of a request or an answer.
+#[tactic(auto, unfolding(crate::specs::Reading::session_at))]
+pub fn session_id(alloc: Global, parent: &Value) -> Result<SessionId, WireFault>
+    ensures { Gives (λ s. s) result (session_at (view parent.now)) }
+{
+    let text = text(parent, Avp::SessionId)?;
+    match SessionId::new(alloc, text)? {
+        Some(session) => Ok(session),
+        None => Err(WireFault::Invalid(Avp::SessionId)),
+    }
+}
+
+#[tactic(auto, unfolding(crate::specs::Reading::kind_of))]
+fn kind_of(number: u64) -> Result<RequestKind, WireFault>
+    ensures { Gives (λ k. k) result (kind_of number) }
+{
+    match number {
+        1 => Ok(RequestKind::Initial),
+        2 => Ok(RequestKind::Update),
+        3 => Ok(RequestKind::Termination),
+        4 => Ok(RequestKind::Event),
+        _ => Err(WireFault::Invalid(Avp::RequestType)),
+    }
+}
+
+/// The CC-Request-Type of a request or an answer.
+#[tactic(auto, unfolding(crate::specs::Reading::kind_at))]
+pub fn request_kind(parent: &Value) -> Result<RequestKind, WireFault>
+    ensures { Gives (λ k. k) result (kind_at (view parent.now)) }
+{
+    kind_of(number(parent, Avp::RequestType, 1, 4)?)
+}
+
+/// The account that the Subscription-Id of a request names.
+#[tactic(auto, unfolding(crate::specs::Reading::account_at))]
+pub fn account_number(alloc: Global, parent: &Value) -> Result<AccountNumber, WireFault>
+    ensures { Gives (λ n. n) result (account_at (view parent.now)) }
+{
+    let subscription = object(parent, Avp::SubscriptionId)?;
+    number(subscription, Avp::SubscriptionIdType, 0, 0)?;
+    let text = text(subscription, Avp::SubscriptionIdData)?;
+    match AccountNumber::new(alloc, text)? {
+        Some(account) => Ok(account),
+        None => Err(WireFault::Invalid(Avp::SubscriptionIdData)),
+    }
+}
+
+#[tactic(auto, using(crate::proofs::Objects::not_one))]
+fn only_item(list: &Vec<Value>) -> Result<&Value, WireFault>
+    ensures { Gives (λ v. view v.now) result
+        (or_fault (WireFault.Invalid Avp.Services) (only_item (items_view list.now.items))) }
+{
+    if list.len() == 1 {
+        Ok(&list[0])
+    } else {
+        Err(WireFault::Invalid(Avp::Services))
+    }
+}
+
+#[tactic(auto, unfolding(crate::specs::Reading::event_of))]
+fn event_of(action: EventAction, value: &Value) -> Result<Event, WireFault>
+    ensures { Gives (λ e. e) result (event_of action (view value.now)) }
+{
+    let list = array(value, Avp::Services)?;
+    let service = only_item(list)?;
+    if !service.is_object() {
+        return Err(WireFault::Invalid(Avp::Services));
+    }
+    let group = number(service, Avp::RatingGroup, 0, 4_294_967_295)? as u32;
+    let requested = required(service)?;
+    if service.get(Avp::UsedUnit.name()).is_some() {
+        return Err(WireFault::Invalid(Avp::UsedUnit));
+    }
+    Ok(Event {
+        action,
+        group,
+        requested,
+    })
+}
+
+#[tactic(auto, unfolding(crate::specs::Reading::event_at))]
+fn event(action: EventAction, parent: &Value) -> Result<Ask, WireFault>
+    ensures { Gives (λ a. a) result (event_at action (view parent.now)) }
+{
+    let value = member(parent, Avp::Services)?;
+    Ok(Ask::Event(event_of(action, value)?))
+}
+
+#[tactic(auto, unfolding(crate::specs::Reading::action_at))]
+fn action(number: u64, parent: &Value) -> Result<Ask, WireFault>
+    ensures { Gives (λ a. a) result (action_at number (view parent.now)) }
+{
+    match number {
+        0 => event(EventAction::DirectDebiting, parent),
+        1 => Ok(Ask::Refund(refund(parent)?)),
+        2 => event(EventAction::CheckBalance, parent),
+        _ => event(EventAction::PriceEnquiry, parent),
+    }
+}
+
+#[tactic(auto, using(crate::proofs::Kept::initial, crate::proofs::Kept::update, crate::proofs::Kept::termination), unfolding(crate::specs::Reading::ask_at))]
+fn ask(alloc: Global, kind: RequestKind, parent: &Value) -> Result<Ask, WireFault>
+    ensures { Gives (λ a. a) result (ask_at kind (view parent.now)) }
+{
+    match kind {
+        RequestKind::Initial => {
+            let list = services(alloc, Phase::Initial, parent)?;
+            Ok(Ask::Initial(InitialServices::new(list)))
+        }
+        RequestKind::Update => {
+            let list = services(alloc, Phase::Update, parent)?;
+            Ok(Ask::Update(UpdateServices::new(list)))
+        }
+        RequestKind::Termination => {
+            let list = services(alloc, Phase::Termination, parent)?;
+            Ok(Ask::Termination(TerminationServices::new(list)))
+        }
+        RequestKind::Event => action(number(parent, Avp::RequestedAction, 0, 3)?, parent),
+    }
+}
+
+/// The request that the bytes are, or the first fault in the order of the fields: Session-Id, CC-Request-Type,
+/// CC-Request-Number, Subscription-Id with its type and data, Requested-Action of an event, the money of a refund,
+/// and else the services, each with its Rating-Group, Requested-Service-Unit and Used-Service-Unit. Other members
+/// are ignored.
+///
+/// # Errors
+/// `NotRequest`, `Missing` and `Invalid` as the fields say; `Memory` where memory ran out.
+#[tactic(auto, unfolding(crate::specs::Reading::request_of))]
+pub fn read_request(alloc: Global, bytes: &[u8]) -> Result<Request, WireFault>
+    ensures { Gives (λ r. r) result (request_of bytes.now) }
+{
+    let parent = document(alloc, bytes)?;
+    let session = session_id(alloc, &parent)?;
+    let kind = request_kind(&parent)?;
+    let number = number(&parent, Avp::RequestNumber, 0, 4_294_967_295)? as u32;
+    let account = account_number(alloc, &parent)?;
+    let ask = ask(alloc, kind, &parent)?;
+    Ok(Request {
+        session,
+        number,
+        account,
+        ask,
+    })
+}

@@ -1,0 +1,133 @@
+ghost use Rattle.std.specs.Prelude.{◌≡◌, ◌≤◌, []};
+ghost use Rattle.serde_json.specs.View.{view, items_view};
+ghost use Rattle.std.specs.Option.{option_eq};
+ghost use Rattle.commands.specs.Reports.{same_usage};
+ghost use Rattle.json_fields.specs.Gives.{Gives};
+ghost use Rattle.wire_requests.specs.Reports.{wanted_in, requested_of, required_at, usage_of, usage_at, tag_is_taken, part_at, kind_of_first, parts_from, used_of};
+
+use commands::{Avp, Quantity, Requested, TariffChangeUsage, UsedPart, UsedParts};
+use json_fields::{WireFault, array, member, unit_told, units_in};
+use serde_json::Value;
+use std::alloc::Global;
+use units::UnitKind;
+
+#[tactic(auto, unfolding(crate::specs::Reports::wanted_in))]
+fn wanted_in(told: Option<UnitKind>, value: &Value) -> Result<Requested, WireFault>
+    ensures { Gives (λ r. r) result (wanted_in told (view value.now)) }
+{
+    let Some(kind) = told else {
+        return Ok(Requested::Slice);
+    };
+    let units = units_in(value, Avp::RequestedUnit, 1, kind)?;
+    Ok(Requested::Units(Quantity::new(kind, units)))
+}
+
+#[tactic(auto, unfolding(crate::specs::Reports::requested_of))]
+pub(crate) fn requested_in(value: &Value) -> Result<Requested, WireFault>
+    ensures { Gives (λ r. r) result (requested_of (view value.now)) }
+{
+    if !value.is_object() {
+        return Err(WireFault::Invalid(Avp::RequestedUnit));
+    }
+    if value.get(Avp::Money.name()).is_some() {
+        return Err(WireFault::Invalid(Avp::RequestedUnit));
+    }
+    wanted_in(unit_told(value), value)
+}
+
+#[tactic(auto, unfolding(crate::specs::Reports::required_at))]
+pub(crate) fn required(parent: &Value) -> Result<Requested, WireFault>
+    ensures { Gives (λ r. r) result (required_at (view parent.now)) }
+{
+    requested_in(member(parent, Avp::RequestedUnit)?)
+}
+
+#[tactic(auto, unfolding(crate::specs::Reports::usage_of))]
+fn usage_of(number: u64) -> Result<TariffChangeUsage, WireFault>
+    ensures { Gives (λ u. u) result (usage_of number) }
+{
+    match number {
+        0 => Ok(TariffChangeUsage::UnitBeforeTariffChange),
+        1 => Ok(TariffChangeUsage::UnitAfterTariffChange),
+        2 => Ok(TariffChangeUsage::UnitIndeterminate),
+        _ => Err(WireFault::Invalid(Avp::UsedUnit)),
+    }
+}
+
+#[tactic(auto, unfolding(crate::specs::Reports::usage_at))]
+fn usage(parent: &Value) -> Result<Option<TariffChangeUsage>, WireFault>
+    ensures { Gives (λ u. u) result (usage_at (view parent.now)) }
+{
+    let Some(value) = parent.get("Tariff-Change-Usage") else {
+        return Ok(None);
+    };
+    let Some(number) = value.as_u64() else {
+        return Err(WireFault::Invalid(Avp::UsedUnit));
+    };
+    Ok(Some(usage_of(number)?))
+}
+
+fn same_tag(a: Option<TariffChangeUsage>, b: Option<TariffChangeUsage>) -> bool
+    ensures { result ≡ option_eq same_usage a b }
+{
+    match (a, b) {
+        (None, None) => true,
+        (Some(a), Some(b)) => a.number() == b.number(),
+        _ => false,
+    }
+}
+
+fn is_taken(done: &[UsedPart], tag: Option<TariffChangeUsage>) -> bool
+    ensures { result ≡ tag_is_taken done.now tag }
+{
+    done.iter().any(|p| same_tag(p.tag, tag))
+}
+
+#[tactic(auto, unfolding(crate::specs::Reports::part_at))]
+fn part(kind: UnitKind, done: &[UsedPart], value: &Value) -> Result<UsedPart, WireFault>
+    ensures { Gives (λ p. p) result (part_at kind done.now (view value.now)) }
+{
+    if !value.is_object() {
+        return Err(WireFault::Invalid(Avp::UsedUnit));
+    }
+    let units = units_in(value, Avp::UsedUnit, 0, kind)?;
+    let tag = usage(value)?;
+    if is_taken(done, tag) {
+        return Err(WireFault::Invalid(Avp::UsedUnit));
+    }
+    Ok(UsedPart { units, tag })
+}
+
+#[tactic(auto, unfolding(crate::specs::Reports::kind_of_first))]
+fn kind_of_first(list: &Vec<Value>) -> UnitKind
+    ensures { result ≡ kind_of_first (items_view list.now.items) }
+{
+    match list.first() {
+        Some(value) => unit_told(value).unwrap_or(UnitKind::ServiceSpecific),
+        None => UnitKind::ServiceSpecific,
+    }
+}
+
+fn parts_in(alloc: Global, kind: UnitKind, list: &Vec<Value>) -> Result<Vec<UsedPart>, WireFault>
+    ensures { Gives (λ v. v.items) result (parts_from kind (items_view list.now.items)) }
+{
+    let mut done = Vec::new(alloc);
+    for value in list {
+        let part = part(kind, &done, value)?;
+        done.push(part)?;
+    }
+    Ok(done)
+}
+
+#[tactic(auto, using(json_fields::proofs::Counts::counts, crate::proofs::Kept::report), unfolding(crate::specs::Reports::used_of))]
+pub(crate) fn used_in(alloc: Global, value: &Value) -> Result<UsedParts, WireFault>
+    ensures { Gives (λ u. u) result (used_of (view value.now)) }
+{
+    let list = array(value, Avp::UsedUnit)?;
+    if !(1 <= list.len() && list.len() <= 4) {
+        return Err(WireFault::Invalid(Avp::UsedUnit));
+    }
+    let kind = kind_of_first(list);
+    let parts = parts_in(alloc, kind, list)?;
+    Ok(UsedParts::new(kind, parts))
+}

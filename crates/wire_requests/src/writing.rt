@@ -1,0 +1,133 @@
+ghost use Rattle.std.specs.Prelude.{◌≡◌, ◌++◌, IfOk, OnOk, string_bytes, codes, Ok, true};
+ghost use Rattle.serde_json.specs.Data.{array, no_items, item};
+ghost use Rattle.commands.specs.Codes.{action_number};
+ghost use Rattle.json_fields.specs.Spelling.{whole};
+ghost use Rattle.json_fields.specs.Tokens.{Adds, tokens_of, member_tokens};
+ghost use Rattle.wire_requests.specs.Reading.{request_of};
+ghost use Rattle.wire_requests.specs.Spelled.{event_data, refund_data, subscription_data, request_data, request_text};
+ghost use Rattle.wire_requests.specs.Rules.{IsEvent, IsAsk, IsRequest, RequestsReadAgain};
+ghost use Rattle.wire_requests.specs.Written.{ask_tokens};
+ghost use Rattle.commands.specs.Refunds.{is_refund};
+ghost use Rattle.identifiers.specs.Texts.{is_account_number};
+
+use crate::written_services::{put_service, put_services};
+use commands::{Ask, Event, Refund, Request};
+use identifiers::AccountNumber;
+use json::Writer;
+use json_fields::{put_money, put_number, put_text};
+use std::alloc::{AllocError, Global};
+
+fn put_event_service(out: &mut Writer, event: &Event) -> Result<(), AllocError>
+    ensures adds { Adds result out.old out.new
+        (member_tokens (codes "Multiple-Services-Credit-Control") (array (item (event_data event.now) no_items))) }
+    ensures rule { OnOk result (IsEvent event.now) }
+{
+    out.key("Multiple-Services-Credit-Control")?;
+    out.begin_array()?;
+    put_service(out, event.group, Some(event.requested), &None)?;
+    out.end_array()?;
+    Ok(())
+}
+
+fn put_event(out: &mut Writer, event: &Event) -> Result<(), AllocError>
+    ensures adds { Adds result out.old out.new
+        (member_tokens (codes "Multiple-Services-Credit-Control") (array (item (event_data event.now) no_items))
+        ++ member_tokens (codes "Requested-Action") (whole (action_number event.now.action))) }
+    ensures rule { OnOk result (IsEvent event.now) }
+{
+    put_event_service(out, event)?;
+    put_number(out, "Requested-Action", event.action.number())?;
+    Ok(())
+}
+
+#[tactic(auto, unfolding(crate::specs::Spelled::refund_data))]
+fn put_refund_money(out: &mut Writer, refund: Refund) -> Result<(), AllocError>
+    ensures adds { Adds result out.old out.new (tokens_of (refund_data refund)) }
+    ensures rule { OnOk result (is_refund refund.micros refund.currency ≡ true) }
+{
+    out.begin_object()?;
+    out.key("CC-Money")?;
+    put_money(out, refund.money().micros(), refund.currency())?;
+    out.end_object()?;
+    Ok(())
+}
+
+fn put_refund(out: &mut Writer, refund: Refund) -> Result<(), AllocError>
+    ensures adds { Adds result out.old out.new
+        (member_tokens (codes "Requested-Action") (whole 1)
+        ++ member_tokens (codes "Requested-Service-Unit") (refund_data refund)) }
+    ensures rule { OnOk result (is_refund refund.micros refund.currency ≡ true) }
+{
+    put_number(out, "Requested-Action", 1)?;
+    out.key("Requested-Service-Unit")?;
+    put_refund_money(out, refund)?;
+    Ok(())
+}
+
+fn put_ask(out: &mut Writer, ask: &Ask) -> Result<(), AllocError>
+    ensures adds { Adds result out.old out.new (ask_tokens ask.now) }
+    ensures rule { OnOk result (IsAsk ask.now) }
+{
+    match ask {
+        Ask::Initial(services) => put_services(out, services.as_slice()),
+        Ask::Update(services) => put_services(out, services.as_slice()),
+        Ask::Termination(services) => put_services(out, services.as_slice()),
+        Ask::Event(event) => put_event(out, event),
+        Ask::Refund(refund) => put_refund(out, *refund),
+    }
+}
+
+#[tactic(auto, unfolding(crate::specs::Spelled::subscription_data))]
+fn put_subscription(out: &mut Writer, account: &AccountNumber) -> Result<(), AllocError>
+    ensures adds { Adds result out.old out.new (tokens_of (subscription_data account.now)) }
+    ensures rule { OnOk result (is_account_number account.now ≡ true) }
+{
+    out.begin_object()?;
+    put_text(out, "Subscription-Id-Data", account.as_str())?;
+    put_number(out, "Subscription-Id-Type", 0)?;
+    out.end_object()?;
+    Ok(())
+}
+
+#[tactic(auto, using(crate::proofs::Fronts::ask_front), unfolding(crate::specs::Spelled::request_data))]
+fn put_request(out: &mut Writer, request: &Request) -> Result<(), AllocError>
+    ensures adds { Adds result out.old out.new (tokens_of (request_data request.now)) }
+    ensures rule { OnOk result (IsRequest request.now) }
+{
+    out.begin_object()?;
+    put_number(out, "CC-Request-Number", request.number as u64)?;
+    put_number(out, "CC-Request-Type", request.kind().number())?;
+    put_ask(out, &request.ask)?;
+    put_text(out, "Session-Id", request.session.as_str())?;
+    out.key("Subscription-Id")?;
+    put_subscription(out, &request.account)?;
+    out.end_object()?;
+    Ok(())
+}
+
+#[tactic(auto, using(json_fields::proofs::Tokens::printed), unfolding(crate::specs::Spelled::request_text))]
+fn compact(alloc: Global, request: &Request) -> Result<String, AllocError>
+    ensures text { IfOk result (λ s. string_bytes s ≡ request_text request.now) }
+    ensures rule { IfOk result (λ s. IsRequest request.now) }
+{
+    let mut out = Writer::new(Vec::new(alloc));
+    put_request(&mut out, request)?;
+    let bytes = out.into_inner();
+    Ok(String::from_utf8(bytes).unwrap())
+}
+
+/// The text of a request as it is kept: compact JSON, with the members in the byte order of their names. It is read
+/// again as the same request.
+pub fn write_request(alloc: Global, request: &Request) -> Result<String, AllocError>
+    ensures text { IfOk result (λ s. string_bytes s ≡ request_text request.now) }
+    ensures read_again { IfOk result (λ s. request_of (string_bytes s) ≡ Ok request.now) }
+{
+    let text = compact(alloc, request)?;
+    Ok(text)
+}
+
+/// A request that is written is read again as the same request.
+#[tactic(auto, using(crate::proofs::RequestsAgain::requests_again))]
+pub fn request_again()
+    ensures { RequestsReadAgain request_text }
+{}
