@@ -1,10 +1,9 @@
 ghost use Rattle.std.specs.Prelude.{◌≡◌, ◌≤◌, [], IfOk};
 
-use std::alloc::{AllocError, Global};
-use std::marker::Model;
-
 use crate::along;
 use crate::bucket::Bucket;
+use std::alloc::{AllocError, Global};
+use std::marker::Model;
 
 /// An amount that is reserved in a bucket.
 #[derive(Clone, Copy, Debug, PartialEq, Eq)]

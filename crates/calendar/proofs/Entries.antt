@@ -27,9 +27,9 @@ one_entry w m zero (e ∷ es) d once within holds = rw holds refl
 one_entry w m (suc i) (e ∷ es) d once within holds =
     elim (cases_Bool (covers w m e)) [
       | inl yes' ↦ (
-        let here : one_if (covers w m e) ≡ 1 = rw yes' refl in
-        absurd (uncounted w m i es d (omega (arith, counted w m e es, here)) (omega arith) holds))
+          let here : one_if (covers w m e) ≡ 1 = rw yes' refl in
+          absurd (uncounted w m i es d (omega (arith, counted w m e es, here)) (omega arith) holds))
       | inr no' ↦ (
-        let here : one_if (covers w m e) ≡ 0 = rw no' refl in
-        rw no' (one_entry w m i es d (omega (arith, counted w m e es, here)) (omega arith) holds))
+          let here : one_if (covers w m e) ≡ 0 = rw no' refl in
+          rw no' (one_entry w m i es d (omega (arith, counted w m e es, here)) (omega arith) holds))
     ]

@@ -55,7 +55,12 @@ impl PartialEq for Credit {
     ghost laws = { partial_equiv_from_equiv (decided same_credit credit_exact) };
 
     fn eq(&self, other: &Credit) -> bool {
-        self.account == other.account && self.amount == other.amount && self.from == other.from && self.until == other.until && self.scope == other.scope && self.reference == other.reference
+        self.account == other.account
+            && self.amount == other.amount
+            && self.from == other.from
+            && self.until == other.until
+            && self.scope == other.scope
+            && self.reference == other.reference
     }
 }
 

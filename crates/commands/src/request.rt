@@ -166,7 +166,9 @@ impl PartialEq for Event {
     ghost laws = { partial_equiv_from_equiv (decided same_event event_exact) };
 
     fn eq(&self, other: &Event) -> bool {
-        self.action.number() == other.action.number() && self.group == other.group && self.requested == other.requested
+        self.action.number() == other.action.number()
+            && self.group == other.group
+            && self.requested == other.requested
     }
 }
 
@@ -239,7 +241,10 @@ impl PartialEq for Request {
     ghost laws = { partial_equiv_from_equiv (decided same_request request_exact) };
 
     fn eq(&self, other: &Request) -> bool {
-        self.number == other.number && self.session == other.session && self.account == other.account && self.ask == other.ask
+        self.number == other.number
+            && self.session == other.session
+            && self.account == other.account
+            && self.ask == other.ask
     }
 }
 

@@ -1,9 +1,8 @@
 ghost use Rattle.std.specs.Prelude.{◌≡◌, IfSome, IfNone, ◌≢◌};
 ghost use Rattle.operator.specs.Lines.{moment_of, IsDated};
 
-use units::Moment;
-
 use crate::numbers::number;
+use units::Moment;
 
 /// A line of dated requests: when its command came, and the command's text.
 #[derive(Clone, Copy, Debug)]

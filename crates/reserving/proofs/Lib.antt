@@ -11,3 +11,17 @@ pub mod Closing
 pub mod Kept
 pub mod Crediting
 pub mod Empty
+pub mod Keys
+pub mod KeysFound
+pub mod SettledHolds
+pub mod SettledFacts
+pub mod SettledBuckets
+pub mod SettledComplete
+pub mod SettledRows
+pub mod SettledKept
+pub mod SettledParts
+pub mod SettledCall
+pub mod Reserved
+pub mod Granting
+pub mod ReservedCall
+mod WorkedRows

@@ -7,12 +7,18 @@ mod credit;
 mod fault;
 mod flat;
 mod funds;
+mod grant;
+mod grouping;
 mod laws;
+mod reserve;
 mod session;
 mod sessions;
+mod settle;
 
 pub use crate::account::Account;
 pub use crate::fault::AccountFault;
 pub use crate::flat::{FlatTariff, Period};
 pub use crate::laws::going_on;
+pub use crate::reserve::Granted;
 pub use crate::session::{Counter, Reservation, Session, SessionGroup, SessionState};
+pub use crate::settle::Settled;

@@ -148,11 +148,13 @@ granted_again n g is v =
     let grant = Some (granted_data g.quantity g.switch) in
     let validity = Some (whole g.validity) in
     let d = service_members n 2001 last grant validity in
-    rw (quantity_again g.quantity g.switch is.quantity,
+    rw (
+      quantity_again g.quantity g.switch is.quantity,
       optional_found avp.ValidityTime 0 4294967295 d (Some g.validity) (validity_is n 2001 last grant validity) (omega arith, v),
       switch_again g.quantity g.switch is.switch,
       last_is n 2001 last grant validity,
-      final_when_again g.last is.last) refl
+      final_when_again g.last is.last,
+    ) refl
 
 debited_again : (n : ℕ) (q : Measured) → is_quantity q.kind q.units ≡ true → granted_in (service_members n 2001 None (Some (granted_data q None)) None) (granted_data q None) ≡ Ok (service.Debited q)
 unfolding granted_in
@@ -196,9 +198,11 @@ service_again s is =
     let grant = granted_of o in
     let validity = option_map whole (validity_of o) in
     let d = data_of s.group o in
-    rw (number_found avp.RatingGroup 0 4294967295 d s.group (group_is s.group (service_code o) last grant validity) (omega arith) is.group,
+    rw (
+      number_found avp.RatingGroup 0 4294967295 d s.group (group_is s.group (service_code o) last grant validity) (omega arith) is.group,
       number_found avp.ResultCode 0 9999 d (service_code o) (code_is s.group (service_code o) last grant validity) (omega arith) (code_low o),
-      told_again s.group o is.validity is.outcome) refl
+      told_again s.group o is.validity is.outcome,
+    ) refl
 
 each_again : (done ss : List ServiceAnswer) → AllByRecursion IsServiceAnswer ss → read_each (λ _ d. service_answer_at d) done (service_items ss) ≡ Ok (done ++ ss)
 unfolding read_each
@@ -318,11 +322,13 @@ request_again : (a : RequestAnswer) → IsRequestAnswer a → request_answer_at 
 unfolding request_answer_at
 request_again a is =
     let d = object (request_members a.number (kind_number a.kind) a.outcome a.session) in
-    rw (session_again d a.session (session_found a.number (kind_number a.kind) a.outcome a.session) is.session,
+    rw (
+      session_again d a.session (session_found a.number (kind_number a.kind) a.outcome a.session) is.session,
       kind_again a.kind d refl,
       number_found avp.RequestNumber 0 4294967295 d a.number refl (omega arith) is.number,
       number_found avp.ResultCode 0 9999 d (outcome_code a.outcome) (code_found a.number (kind_number a.kind) a.outcome a.session) (omega arith) (code_small a.outcome),
-      outcome_again a.number (kind_number a.kind) a.outcome a.session is.outcome) refl
+      outcome_again a.number (kind_number a.kind) a.outcome a.session is.outcome,
+    ) refl
 
 -- ---- how deep it is
 

@@ -89,7 +89,10 @@ fn served(alloc: Global, parent: &Value) -> Result<Outcome, WireFault>
 {
     match parent.get(Avp::Services.name()) {
         Some(value) => Ok(Outcome::Services(services_in(alloc, value)?)),
-        None => checked(optional_number(parent, Avp::CheckBalanceResult, 0, 1)?, parent),
+        None => checked(
+            optional_number(parent, Avp::CheckBalanceResult, 0, 1)?,
+            parent,
+        ),
     }
 }
 

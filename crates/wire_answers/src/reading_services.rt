@@ -5,7 +5,10 @@ ghost use Rattle.commands.specs.Names.{name_of};
 ghost use Rattle.json_fields.specs.Gives.{Gives};
 ghost use Rattle.wire_answers.specs.ReadingAnswers.{redirect_at, final_told, final_in, final_at, quantity_in, granted_in, service_failure_of, success_when, service_told, service_answer_at, services_from, services_in};
 
-use commands::{Avp, FinalUnit, Granted, Quantity, ServiceAnswer, ServiceAnswers, ServiceFailure, ServiceOutcome};
+use commands::{
+    Avp, FinalUnit, Granted, Quantity, ServiceAnswer, ServiceAnswers, ServiceFailure,
+    ServiceOutcome,
+};
 use identifiers::RedirectAddress;
 use json_fields::{WireFault, array, number, object, optional_number, text, unit_told, units_in};
 use serde_json::Value;

@@ -25,7 +25,11 @@ fn seconds_of(moment: Option<Moment>) -> Option<u64>
 }
 
 #[tactic(auto, using(json_fields::proofs::Tokens::perhaps_front), unfolding(crate::specs::Spelled::granted_data))]
-fn put_granted(out: &mut Writer, quantity: Quantity, switch: Option<Moment>) -> Result<(), AllocError>
+fn put_granted(
+    out: &mut Writer,
+    quantity: Quantity,
+    switch: Option<Moment>,
+) -> Result<(), AllocError>
     ensures adds { Adds result out.old out.new (tokens_of (granted_data quantity switch)) }
     ensures rule { OnOk result (is_quantity quantity.kind quantity.units ≡ true) }
     ensures switch { OnOk result (IfSome switch (λ m. m ≤ 4102488000)) }

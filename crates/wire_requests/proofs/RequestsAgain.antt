@@ -529,9 +529,11 @@ unfolding request_of request_text request_data
 requests_again r is =
     let d = ask_data r.ask r.number r.session r.account in
     let fit : Fit 127 (object (request_members r)) = fit_deeper 6 127 _ (lit≤ tt) (fit_object 5 (request_members r) (request_fit r is)) in
-    rw (document_again (request_members r) fit,
+    rw (
+      document_again (request_members r) fit,
       session_again d r.session (session_found r.ask r.number r.session r.account) is.session,
       kind_again (kind_of_ask r.ask) d refl,
       number_found avp.RequestNumber 0 4294967295 d r.number refl (omega arith) is.number,
       account_again d r.account (subscription_found r.ask r.number r.session r.account) is.account,
-      ask_again r.ask r.number r.session r.account is.ask) refl
+      ask_again r.ask r.number r.session r.account is.ask,
+    ) refl

@@ -109,7 +109,12 @@ fn put_used(out: &mut Writer, used: &Option<UsedParts>) -> Result<(), AllocError
 
 /// The service of this group.
 #[tactic(auto, using(json_fields::proofs::Tokens::perhaps_front), unfolding(crate::specs::Spelled::service_data))]
-pub(crate) fn put_service(out: &mut Writer, group: u32, requested: Option<Requested>, used: &Option<UsedParts>) -> Result<(), AllocError>
+pub(crate) fn put_service(
+    out: &mut Writer,
+    group: u32,
+    requested: Option<Requested>,
+    used: &Option<UsedParts>,
+) -> Result<(), AllocError>
     ensures adds { Adds result out.old out.new
         (tokens_of (service_data (record { group = group; requested = requested; used = used.now }))) }
     ensures requested { OnOk result (IfSome requested IsRequested) }

@@ -1,0 +1,66 @@
+use Rattle.std.proofs.Common.{◌≡◌, ◌≤◌, ◌+◌, ℕ, Bool, true, false, List, [], ◌∷◌, sym, ap, subst, ◌∙◌, length, arith, refl}
+use Rattle.std.specs.Prelude.{◌==◌, Err}
+use Rattle.std.proofs.lemmas.Bool.Decides.{nat_tests}
+use Rattle.units.specs.declared.blocks.UsedPart.{UsedPart}
+use Rattle.reserving.specs.Changes.{advanced, used_in, count_in}
+use Rattle.reserving.specs.Prepared.{with_rows}
+use Rattle.reserving.specs.Settlement.{passes, reported, rated_blocks}
+use Rattle.reserving.proofs.SettledCall.{rows_ended, nothing_settled, within_used, within_counted, passes_is, there_later, counter_there, used_middle, count_middle, rows_settled, settlement_is}
+use Rattle.reserving.proofs.account.Account.settle.Goals as goal
+
+is_nothing : (ps : List UsedPart) → (length ps == 0) ≡ true → ps ≡ []
+is_nothing [] h = refl
+is_nothing (p ∷ ps) h = absurd (let none : length (p ∷ ps) ≡ 0 = grind (arith, nat_tests) in omega arith)
+
+is_something : (ps : List UsedPart) → (length ps == 0) ≡ false → ps ≡ [] → ⊥
+is_something ps h e = let some : (length ps == 0) ≡ true = ap (λ xs. length xs == 0) e in cc
+
+pub returns-then-is_empty-clause-rows : goal.returns-then-is_empty-clause-rows
+returns-then-is_empty-clause-rows c = λ ledger rows.
+    rows_ended ledger c.args.self.now c.advance.new.self c.end_reservation.new.self c.args.session.now c.args.group c.args.moment c.args.parts.now
+    c.end_reservation.ensures.account rows c.requires.moment c.requires.live
+    (is_nothing c.args.parts.now (sym c.is_empty.ensures ∙ c.if-is_empty.true)) c.advance.ensures.rows (c.advance.ensures.ledger ledger rows) c.end_reservation.ensures.rows
+
+pub returns-then-is_empty-clause-settled : goal.returns-then-is_empty-clause-settled
+returns-then-is_empty-clause-settled c = λ ledger rows.
+    nothing_settled ledger c.args.self.now c.args.session.now c.args.group c.args.moment c.args.parts.now (is_nothing c.args.parts.now (sym c.is_empty.ensures ∙ c.if-is_empty.true))
+
+pub returns-in_default-clause-limit : goal.returns-in_default-clause-limit
+returns-in_default-clause-limit c = λ e ledger rows.
+    passes_is ledger c.args.self.now c.args.session.now c.args.group c.args.moment c.args.parts.now rows (is_something c.args.parts.now (sym c.is_empty.ensures ∙ c.if-is_empty.false))
+    ∙ c.rate.ensures.none c.in_default.is
+
+pub settle_use-charged-requires-clause-group : goal.settle_use-charged-requires-clause-group
+settle_use-charged-requires-clause-group c = there_later c.args.self.now c.advance-2.new.self c.args.session.now c.args.group 0 c.args.moment (c.advance-2.ensures.rows ∙ ap (advanced c.args.moment) c.in_ok-make_rows.ensures.ok)
+
+pub settle_use-charged-requires-clause-counter : goal.settle_use-charged-requires-clause-counter
+settle_use-charged-requires-clause-counter c = counter_there c.args.self.now c.advance-2.new.self c.args.session.now c.args.group 0 c.args.moment (c.advance-2.ensures.rows ∙ ap (advanced c.args.moment) c.in_ok-make_rows.ensures.ok)
+
+pub settle_use-charged-requires-clause-used : goal.settle_use-charged-requires-clause-used
+settle_use-charged-requires-clause-used c =
+    let same : used_in c.args.session.now c.args.group c.advance-2.new.self.groups ≡ used_in c.args.session.now c.args.group c.args.self.now.groups = used_middle c.args.self.now c.advance-2.new.self c.args.session.now c.args.group 0 c.args.moment (c.advance-2.ensures.rows ∙ ap (advanced c.args.moment) c.in_ok-make_rows.ensures.ok) in
+    omega (arith, same, within_used (used_in c.args.session.now c.args.group c.args.self.now.groups) c.in-Some.rated.units.0 (count_in c.args.group 0 c.args.self.now.counters) c.in-Some.rated.blocks.0 c.args.self.now.next_charge c.in-Some.ensures.some)
+
+pub settle_use-charged-requires-clause-counted : goal.settle_use-charged-requires-clause-counted
+settle_use-charged-requires-clause-counted c =
+    let same : count_in c.args.group 0 c.advance-2.new.self.counters ≡ count_in c.args.group 0 c.args.self.now.counters = count_middle c.args.self.now c.advance-2.new.self c.args.session.now c.args.group 0 c.args.moment (c.advance-2.ensures.rows ∙ ap (advanced c.args.moment) c.in_ok-make_rows.ensures.ok) in
+    omega (arith, same, within_counted (used_in c.args.session.now c.args.group c.args.self.now.groups) c.in-Some.rated.units.0 (count_in c.args.group 0 c.args.self.now.counters) c.in-Some.rated.blocks.0 c.args.self.now.next_charge c.in-Some.ensures.some)
+
+pub returns-clause-rows : goal.returns-clause-rows
+returns-clause-rows c = λ ledger rows.
+    rows_settled ledger c.args.self.now c.advance-2.new.self c.settle_use-charged.new.self c.args.session.now c.args.group c.args.moment c.in-Some.rated.units.0 c.in-Some.rated.blocks.0 c.in-Some.rated.amount.0 c.args.parts.now
+    c.rate.ensures.account rows c.requires.moment c.requires.live (is_something c.args.parts.now (sym c.is_empty.ensures ∙ c.if-is_empty.false))
+    c.in-Some.ensures.units c.in-Some.ensures.blocks c.in-Some.ensures.amount
+    (c.advance-2.ensures.rows ∙ ap (advanced c.args.moment) c.in_ok-make_rows.ensures.ok) c.settle_use-charged.ensures.rows
+
+pub returns-clause-settled : goal.returns-clause-settled
+returns-clause-settled c = λ ledger rows.
+    settlement_is ledger c.args.self.now c.advance-2.new.self c.args.session.now c.args.group c.args.moment c.args.parts.now _
+    c.rate.ensures.account rows c.requires.moment c.requires.live c.in-Some.ensures.blocks c.in-Some.ensures.amount
+    (c.advance-2.ensures.rows ∙ ap (advanced c.args.moment) c.in_ok-make_rows.ensures.ok) c.settle_use-charged.ensures.uncollected c.settle_use-charged.ensures.collected
+
+pub returns-clause-within : goal.returns-clause-within
+returns-clause-within c = λ ledger rows.
+    passes_is ledger c.args.self.now c.args.session.now c.args.group c.args.moment c.args.parts.now rows (is_something c.args.parts.now (sym c.is_empty.ensures ∙ c.if-is_empty.false))
+    ∙ (λ i. passes (used_in c.args.session.now c.args.group c.args.self.now.groups) (sym c.in-Some.ensures.units i) (count_in c.args.group 0 c.args.self.now.counters) (sym c.in-Some.ensures.blocks i) c.args.self.now.next_charge)
+    ∙ c.in-Some.ensures.some

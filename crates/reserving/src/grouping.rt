@@ -1,0 +1,171 @@
+//! The rows of sessions' groups and of counters: found by their keys, made, and written.
+
+ghost use Rattle.std.specs.Prelude.{◌≡◌, ℕ, ◌+◌, ◌≤◌, ◌^◌, ◌<◌, true, is_some, OnOk, OnErr, position, map, length, vec_len, vec_capacity};
+ghost use Rattle.reserving.specs.Sessions.{is_of, group_in, is_counter, counter_in, holds_in};
+ghost use Rattle.reserving.specs.Rows.{AreApart};
+ghost use Rattle.reserving.specs.Changes.{used_in, reserved_in, count_in, with_use, with_count, with_reservation, ended_group};
+ghost use Rattle.reserving.specs.Prepared.{with_group, with_counter};
+
+use crate::flat::Period;
+use crate::session::{Counter, Reservation, SessionGroup};
+use buckets::Holds;
+use identifiers::SessionId;
+use std::alloc::{AllocError, Global};
+
+/// The place of the row of a session's group.
+fn place_of(groups: &[SessionGroup], session: &SessionId, group: u32) -> Option<usize>
+    ensures { result ≡ position (is_of session.now group) groups.now }
+{
+    groups
+        .iter()
+        .position(|row| row.session == *session && row.group == group)
+}
+
+/// The place of the row of a counter.
+fn counter_place(counters: &[Counter], group: u32, cycle: u32) -> Option<usize>
+    ensures { result ≡ position (is_counter group cycle) counters.now }
+{
+    counters
+        .iter()
+        .position(|row| row.group == group && row.cycle == cycle)
+}
+
+/// The units that a session used of a group so far.
+pub(crate) fn used_of(groups: &[SessionGroup], session: &SessionId, group: u32) -> u64
+    ensures { result ≡ used_in session.now group groups.now }
+{
+    let Some(place) = place_of(groups, session, group) else {
+        return 0;
+    };
+    groups[place].used
+}
+
+/// The blocks that a counter has counted.
+pub(crate) fn count_of(counters: &[Counter], group: u32, cycle: u32) -> u64
+    ensures { result ≡ count_in group cycle counters.now }
+{
+    let Some(place) = counter_place(counters, group, cycle) else {
+        return 0;
+    };
+    counters[place].blocks
+}
+
+/// Makes the row of a session's group where there is none. At a fault nothing has changed.
+pub(crate) fn add_group(
+    groups: &mut Vec<SessionGroup>,
+    session: &SessionId,
+    group: u32,
+) -> Result<(), AllocError>
+    ensures ok { OnOk result (groups.new.items ≡ with_group session.now group groups.old.items) }
+    ensures err { OnErr result (groups.new.items ≡ groups.old.items) }
+{
+    if place_of(groups, session, group).is_some() {
+        return Ok(());
+    }
+    let session = session.clone()?;
+    groups.push(SessionGroup {
+        session,
+        group,
+        used: 0,
+        reservation: None,
+    })?;
+    Ok(())
+}
+
+/// Makes the row of a counter where there is none, in memory that was taken before.
+pub(crate) fn add_counter(counters: &mut Vec<Counter>, group: u32, cycle: u32)
+    requires { vec_len counters.old < vec_capacity counters.old }
+    ensures { counters.new.items ≡ with_counter group cycle counters.old.items }
+{
+    if counter_place(counters, group, cycle).is_none() {
+        counters.push_reserved(Counter {
+            group,
+            cycle,
+            blocks: 0,
+        });
+    }
+}
+
+/// What a reservation that is over held.
+fn holds_of(alloc: Global, reservation: Option<Reservation>) -> Holds
+    ensures { result ≡ holds_in reservation }
+{
+    match reservation {
+        Some(reservation) => reservation.holds,
+        None => Holds::none(alloc),
+    }
+}
+
+/// Counts a use in the row of a session's group, and ends its reservation.
+pub(crate) fn use_group(
+    alloc: Global,
+    groups: &mut Vec<SessionGroup>,
+    session: &SessionId,
+    group: u32,
+    units: u64,
+) -> Holds
+    requires there { is_some (group_in session.now group groups.old.items) ≡ true }
+    requires fits { used_in session.now group groups.old.items + units < 2 ^ 64 }
+    ensures groups { groups.new.items ≡ with_use session.now group units groups.old.items }
+    ensures holds { result ≡ reserved_in session.now group groups.old.items }
+{
+    let Some(place) = place_of(groups, session, group) else {
+        unreachable!();
+    };
+    let row = &mut groups[place];
+    row.used += units;
+    holds_of(alloc, row.reservation.take())
+}
+
+/// Counts the blocks of a use in the row of a counter.
+pub(crate) fn count_blocks(counters: &mut Vec<Counter>, group: u32, cycle: u32, blocks: u64)
+    requires there { is_some (counter_in group cycle counters.old.items) ≡ true }
+    requires fits { count_in group cycle counters.old.items + blocks < 2 ^ 64 }
+    ensures { counters.new.items ≡ with_count group cycle blocks counters.old.items }
+{
+    let Some(place) = counter_place(counters, group, cycle) else {
+        unreachable!();
+    };
+    let row = &mut counters[place];
+    row.blocks += blocks;
+}
+
+/// Ends the reservation of a session's group.
+pub(crate) fn end_group(
+    alloc: Global,
+    groups: &mut Vec<SessionGroup>,
+    session: &SessionId,
+    group: u32,
+) -> Holds
+    requires { AreApart (λ x y. is_of x.session x.group y) groups.old.items }
+    ensures groups { groups.new.items ≡ map (ended_group session.now group) groups.old.items }
+    ensures holds { result ≡ reserved_in session.now group groups.old.items }
+{
+    let Some(place) = place_of(groups, session, group) else {
+        return Holds::none(alloc);
+    };
+    let row = &mut groups[place];
+    holds_of(alloc, row.reservation.take())
+}
+
+/// Gives the row of a session's group a reservation.
+pub(crate) fn reserve_group(
+    groups: &mut Vec<SessionGroup>,
+    session: &SessionId,
+    group: u32,
+    period: Period,
+    holds: Holds,
+)
+    requires { is_some (group_in session.now group groups.old.items) ≡ true }
+    ensures { groups.new.items ≡ with_reservation session.now group period.0 holds groups.old.items }
+{
+    let Some(place) = place_of(groups, session, group) else {
+        unreachable!();
+    };
+    let row = &mut groups[place];
+    row.reservation = Some(Reservation {
+        before: period,
+        after: period,
+        holds,
+    });
+}
