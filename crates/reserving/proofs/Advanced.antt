@@ -1,12 +1,12 @@
 -- The account at a later moment: what it keeps, and its rows as the code makes them.
-use Rattle.std.proofs.Common.{◌≡◌, ℕ, ◌+◌, ◌-◌, ◌*◌, ◌<◌, ◌≤◌, Bool, true, false, List, [], ◌∷◌, map, refl, sym, ap, ◌∙◌, arith, Option, Some, None}
-use Rattle.std.specs.Prelude.{if◌then◌else◌, ◌==◌, ◌&&◌, not, nat_lt}
+use Rattle.std.proofs.Common.{◌≡◌, ℕ, ◌+◌, ◌*◌, ◌≤◌, Bool, true, false, List, [], ◌∷◌, map, refl, ap, ◌∙◌, None}
+use Rattle.std.specs.Prelude.{if◌then◌else◌, ◌&&◌, not, nat_lt}
 use Rattle.buckets.specs.Row.{Row, with_release, with_end}
 use Rattle.reserving.specs.declared.session.Session.{Session}
 use Rattle.reserving.specs.declared.session.SessionState.TheVariants.{Ended}
 use Rattle.reserving.specs.declared.session.SessionGroup.{SessionGroup}
 use Rattle.reserving.specs.Sessions.{is_session, is_of, is_open, is_live_in}
-use Rattle.reserving.specs.Rows.{AccountRows, EachIn, IsAccount}
+use Rattle.reserving.specs.Rows.{AccountRows, IsAccount}
 use Rattle.reserving.specs.Changes.{advanced, lapse, lapse_group, lapsed_in, lapsed_rows}
 use Rattle.reserving.proofs.Lists.{EachIn-map, AreApart-map}
 use Rattle.reserving.proofs.Lapsing.{named_lapsed, lapsable_of, lapsed_rows-is, IsSound-ends, IsBelow-ends, held_lapsed}

@@ -1,25 +1,21 @@
 -- Time goes on: the rows of a ledger become its rows at a later moment.
-use Rattle.std.proofs.Common.{◌≡◌, ℕ, ◌+◌, ◌-◌, ◌*◌, ◌<◌, ◌≤◌, Bool, true, false, cond, List, [], ◌∷◌, map, refl, sym, ap, ◌∙◌, arith, Option, Some, None}
-use Rattle.std.specs.Prelude.{if◌then◌else◌, ◌==◌, ◌&&◌, not, nat_lt, option_map, sum_by}
-use Rattle.std.specs.List.{find}
-use Rattle.std.proofs.lemmas.Bool.Decides.{nat_tests}
-use Rattle.buckets.specs.declared.holds.Hold.{Hold}
+use Rattle.std.proofs.Common.{◌≡◌, ℕ, ◌+◌, ◌*◌, ◌≤◌, Bool, true, false, List, [], ◌∷◌, map, refl, sym, ap, ◌∙◌, arith, Option, Some, None}
+use Rattle.std.specs.Prelude.{if◌then◌else◌, ◌==◌, ◌&&◌, not, nat_lt, option_map}
 use Rattle.buckets.specs.Row.{Row, IsBalanced, with_release, with_end}
-use Rattle.buckets.specs.Share.{parts}
-use Rattle.buckets.specs.Spend.{Each, IsSound, AreDistinct}
+use Rattle.buckets.specs.Spend.{Each, IsSound}
 use Rattle.buckets.specs.Holding.{held_in}
 use Rattle.buckets.proofs.Parts.{sum_at, sum_at-parts, held_in-sum_at}
 use Rattle.reserving.specs.declared.session.Session.{Session}
 use Rattle.reserving.specs.declared.session.SessionState.TheVariants.{Ended}
 use Rattle.reserving.specs.declared.session.SessionGroup.{SessionGroup}
 use Rattle.reserving.specs.declared.session.Reservation.{Reservation}
-use Rattle.reserving.specs.Ledger.{Ledger, Periods, is_same, is_live, last_touch, held, only, open_grant, has_group, used}
+use Rattle.reserving.specs.Ledger.{Ledger, Periods, is_same, is_live, held, only, open_grant, has_group, used}
 use Rattle.reserving.specs.Balance.{credits, bucket_at, buckets_at}
-use Rattle.reserving.specs.Sessions.{is_session, session_in, is_of, group_in, group_at, reservation_at, reservation_of, holds_at, holds_in, held_by, is_open, is_live_in, is_live_row}
+use Rattle.reserving.specs.Sessions.{is_session, is_of, group_in, group_at, reservation_at, reservation_of, holds_at, holds_in, held_by, is_open, is_live_in, is_live_row}
 use Rattle.reserving.specs.Rows.{AccountRows, EachIn, AreApart, IsAccount, IsRowsOf}
 use Rattle.reserving.specs.Changes.{advanced, lapse, lapse_group, lapsed_in}
-use Rattle.reserving.proofs.Lists.{find-map, find-passes, no_some, some_of, EachIn-map}
-use Rattle.reserving.proofs.Holds.{held_split, split_by, held_same, held_none, same_itself, same_from, number_from, number_itself, both, one_if}
+use Rattle.reserving.proofs.Lists.{find-map, no_some, some_of}
+use Rattle.reserving.proofs.Holds.{held_split, split_by, held_same, held_none, same_itself, same_from, number_from, number_itself, both}
 use Rattle.reserving.proofs.Later.{is_live-later, is_live-before, session_at-later}
 use Rattle.reserving.specs.Laws.{ended_between}
 use Rattle.reserving.proofs.Positions.{bucket_at-later, holds_at-later}

@@ -1,25 +1,19 @@
 -- A bucket is made: what that adds to the rows.
-use Rattle.std.proofs.Common.{◌≡◌, ◌≢◌, ℕ, ◌+◌, ◌-◌, ◌*◌, ◌<◌, ◌≤◌, Bool, true, false, List, [], ◌∷◌, map, refl, sym, ap, ◌∙◌, arith, Option, Some, None}
-use Rattle.std.specs.Prelude.{if◌then◌else◌, ◌==◌, nat_lt, sum_by}
-use Rattle.std.proofs.lemmas.Bool.Decides.{nat_tests}
-use Rattle.std.proofs.lemmas.List.Sums.{sum_by-cons}
+use Rattle.std.proofs.Common.{◌≡◌, ℕ, ◌+◌, ◌-◌, ◌<◌, ◌≤◌, Bool, true, false, List, [], ◌∷◌, map, refl, sym, ap, ◌∙◌, arith, Option, Some, None}
+use Rattle.std.specs.Prelude.{if◌then◌else◌, ◌==◌, nat_lt}
 use Rattle.buckets.specs.declared.holds.Hold.{Hold}
-use Rattle.buckets.specs.Row.{Row, IsBalanced, new_row}
-use Rattle.buckets.specs.Spend.{Each, IsSound, IsBelow, inserted}
-use Rattle.buckets.specs.Holding.{held_in}
+use Rattle.buckets.specs.Row.{Row, new_row}
+use Rattle.buckets.specs.Spend.{IsBelow, inserted}
 use Rattle.buckets.specs.Share.{parts}
 use Rattle.buckets.proofs.Kept.{IsSound-inserted, Each-inserted}
-use Rattle.reserving.specs.declared.session.SessionGroup.{SessionGroup}
-use Rattle.reserving.specs.declared.session.Reservation.{Reservation}
 use Rattle.reserving.specs.Ledger.{Ledger, is_live, charged, held, only, used, counter, has_group, has_counter, open_grant, next_bucket}
-use Rattle.reserving.specs.Balance.{credits, bucket_at, buckets_at, balance_of}
-use Rattle.reserving.specs.Sessions.{held_by, holds_in, holds_at, group_at, reservation_at, reservation_of, counter_at, session_at}
+use Rattle.reserving.specs.Balance.{credits, bucket_at, balance_of}
+use Rattle.reserving.specs.Sessions.{held_by, holds_at, group_at, reservation_of, counter_at}
 use Rattle.reserving.specs.FlatTariff.{cycle_at}
-use Rattle.reserving.specs.Rows.{AccountRows, EachIn, IsAccount, IsRowsOf, IsUnknown}
+use Rattle.reserving.specs.Rows.{AccountRows, IsAccount, IsRowsOf, IsUnknown}
 use Rattle.reserving.specs.Requests.{credited}
 use Rattle.reserving.specs.Changes.{credited_account}
 use Rattle.buckets.specs.Row.{with_end, with_release}
-use Rattle.buckets.proofs.SharesAlong.{KeepsPlace}
 use Rattle.reserving.specs.Sessions.{is_live_in}
 use Rattle.reserving.specs.Changes.{advanced, lapsed_in}
 use Rattle.reserving.proofs.Positions.{parts-at, with_columns}

@@ -1,7 +1,7 @@
 -- An account as it is opened has the rows of the empty ledger.
-use Rattle.std.proofs.Common.{ℕ, List, [], refl, Option, Some, None}
+use Rattle.std.proofs.Common.{[], refl}
 use Rattle.reserving.specs.FlatTariff.{Flat}
-use Rattle.reserving.specs.Rows.{AccountRows, IsRowsOf}
+use Rattle.reserving.specs.Rows.{IsRowsOf}
 use Rattle.reserving.proofs.Lists.{no_some}
 
 pub IsRowsOf-new : (f : Flat) → IsRowsOf [] (record { tariff = f; as_of = 0; buckets = []; counters = []; sessions = []; groups = []; next_bucket = 1; next_charge = 1 })

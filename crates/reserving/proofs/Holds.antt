@@ -1,9 +1,9 @@
 -- What reservations hold of a bucket, split by reservation; and as the sum over the rows of groups.
-use Rattle.std.proofs.Common.{◌≡◌, ◌≢◌, ℕ, ◌+◌, ◌-◌, ◌<◌, ◌≤◌, Bool, true, false, List, [], ◌∷◌, ◌++◌, map, refl, sym, ap, ◌∙◌, arith, Option, Some, None, nat_eq}
-use Rattle.std.specs.Prelude.{if◌then◌else◌, ◌==◌, ◌&&◌, not, nat_lt}
+use Rattle.std.proofs.Common.{◌≡◌, ℕ, ◌+◌, Bool, true, false, List, [], ◌∷◌, refl, ap, arith}
+use Rattle.std.specs.Prelude.{if◌then◌else◌, ◌==◌, ◌&&◌, not}
 use Rattle.std.proofs.lemmas.Bool.Decides.{nat_tests}
 use Rattle.identifiers.proofs.Equality.{equal_names, names_equal}
-use Rattle.reserving.specs.Ledger.{Fact, Dated, Ledger, is_same, counts_before, hold_of, held, only}
+use Rattle.reserving.specs.Ledger.{Fact, Ledger, is_same, counts_before, hold_of, held}
 use Rattle.reserving.specs.Ledger.Fact.{Credit, Grant, Hold as HoldFact, End, Use, Charge, Touch, Close, Recorded}
 
 abbrev pub one_if : Bool → ℕ

@@ -1,22 +1,20 @@
 -- What each account keeps is kept when its sessions change, and when one is closed.
-use Rattle.std.proofs.Common.{◌≡◌, ℕ, ◌+◌, ◌-◌, ◌*◌, ◌<◌, ◌≤◌, Bool, true, false, cond, List, [], ◌∷◌, ◌++◌, map, refl, sym, ap, ◌∙◌, arith, Option, Some, None}
-use Rattle.std.specs.Prelude.{if◌then◌else◌, not, nat_lt}
+use Rattle.std.proofs.Common.{◌≡◌, ℕ, ◌≤◌, Bool, true, false, cond, List, [], ◌∷◌, ◌++◌, map, refl, sym, ap, ◌∙◌, arith, Some, None}
+use Rattle.std.specs.Prelude.{if◌then◌else◌, not}
 use Rattle.std.specs.List.{find}
 use Rattle.buckets.specs.Row.{Row, IsBalanced, with_release}
-use Rattle.buckets.specs.Spend.{Each, IsSound, IsBelow}
+use Rattle.buckets.specs.Spend.{Each, IsSound}
 use Rattle.buckets.proofs.SharesAlong.{KeepsPlace, with_release_number, with_release_until, IsInOrder-map}
 use Rattle.buckets.proofs.Kept.{AreDistinct-map, balanced_release}
 use Rattle.reserving.specs.declared.session.Session.{Session}
 use Rattle.reserving.specs.declared.session.SessionState.{SessionState}
 use Rattle.reserving.specs.declared.session.SessionState.TheVariants.{Open, Ended}
 use Rattle.reserving.specs.declared.session.SessionGroup.{SessionGroup}
-use Rattle.reserving.specs.Ledger.{is_same}
 use Rattle.reserving.specs.Sessions.{is_session, session_in, is_of, held_by}
 use Rattle.reserving.specs.Keyed.{put}
 use Rattle.reserving.specs.Rows.{AccountRows, EachIn, AreApart, IsAccount}
 use Rattle.reserving.specs.Changes.{with_session, touched_account, touched_session, closed_account, closed_session, is_other, lapse_group, lapsed_in, lapsed_rows}
 use Rattle.reserving.proofs.Lists.{no_some, EachIn-map, AreApart-map}
-use Rattle.reserving.proofs.Holds.{same_from, same_itself}
 use Rattle.reserving.proofs.Lapsing.{named_lapsed, lapsable_of, lapsed_rows-is, IsBelow-map, held_by-lapsed, held_by_number, released_reserved}
 use Rattle.reserving.proofs.Advancing.{held_by-split}
 use Rattle.reserving.proofs.Touching.{same_back}

@@ -1,20 +1,18 @@
 -- What a row that is found by its key tells, and what is written to it.
-use Rattle.std.proofs.Common.{◌≡◌, ◌≢◌, ℕ, ◌+◌, ◌<◌, ◌≤◌, Bool, true, false, cond, List, [], ◌∷◌, ◌++◌, map, length, get_or, set, refl, sym, ap, subst, ◌∙◌, arith, Option, Some, None}
-use Prim.Native.Nat.{zero, suc}
+use Rattle.std.proofs.Common.{◌≡◌, ℕ, Bool, true, false, cond, List, [], ◌∷◌, ◌++◌, map, get_or, set, refl, sym, ap, subst, ◌∙◌, arith, Option, Some, None}
 use Rattle.std.specs.Prelude.{if◌then◌else◌, is_some, unwrap_or, option_map, position}
-use Rattle.std.specs.List.{find, position_from}
+use Rattle.std.specs.List.{find}
 use Rattle.std.proofs.lemmas.Iterator.Adapters.{position_from-zero}
-use Rattle.buckets.specs.declared.holds.Hold.{Hold}
 use Rattle.reserving.specs.declared.session.SessionGroup.{SessionGroup}
 use Rattle.reserving.specs.declared.session.Reservation.{Reservation}
 use Rattle.reserving.specs.declared.session.Counter.{Counter}
 use Rattle.reserving.specs.Keyed.{put}
 use Rattle.reserving.specs.Sessions.{is_of, group_in, is_counter, counter_in, holds_in}
-use Rattle.reserving.specs.Changes.{new_group, group_or_new, used_in, reserved_in, count_in, with_use, with_count, with_reservation, ended_group}
-use Rattle.reserving.specs.Prepared.{with_group, counter_or_new, with_counter}
+use Rattle.reserving.specs.Changes.{new_group, used_in, reserved_in, count_in, ended_group}
+use Rattle.reserving.specs.Prepared.{with_group, with_counter}
 use Rattle.reserving.specs.Rows.{EachIn, AreApart}
 use Rattle.reserving.proofs.Lists.{IsPlace, IsPlaceFrom, position_is, position_none, find-passes, some_of, no_some}
-use Rattle.reserving.proofs.Keys.{is_key, key_session, key_group, is_key-sym, other_row, cycle_group, cycle_cycle, found_own}
+use Rattle.reserving.proofs.Keys.{is_key, key_session, key_group, cycle_group, cycle_cycle}
 
 -- a row that is put where it was
 pub put-same : {A : Type 0} (p : A → Bool) (x : A) (xs : List A) → find p xs ≡ Some x → put p x xs ≡ xs

@@ -1,12 +1,11 @@
 -- The rows of a ledger at a later moment.
-use Rattle.std.proofs.Common.{◌≡◌, ℕ, ◌+◌, ◌-◌, ◌*◌, ◌<◌, ◌≤◌, Bool, true, false, List, [], ◌∷◌, map, refl, sym, ap, ◌∙◌, arith, Option, Some, None}
-use Rattle.std.specs.Prelude.{if◌then◌else◌, ◌==◌, ◌&&◌, not, nat_lt, option_map, is_some}
+use Rattle.std.proofs.Common.{◌≡◌, ℕ, ◌+◌, ◌*◌, ◌≤◌, Bool, true, false, List, refl, ap, arith, Option, Some, None}
+use Rattle.std.specs.Prelude.{if◌then◌else◌, ◌&&◌, not, nat_lt, option_map, is_some}
 use Rattle.std.proofs.lemmas.Bool.Decides.{nat_tests}
 use Rattle.reserving.specs.declared.session.Session.{Session}
-use Rattle.reserving.specs.declared.session.SessionState.{SessionState}
 use Rattle.reserving.specs.declared.session.SessionState.TheVariants.{Open, Ended, NeverOpened}
 use Rattle.reserving.specs.Ledger.{Ledger, Recording, is_live, is_within, is_closed, last_touch, last_recording}
-use Rattle.reserving.specs.Sessions.{session_in, session_at, session_row, state_at, is_open, is_live_row, is_live_in}
+use Rattle.reserving.specs.Sessions.{session_at, session_row, is_open, is_live_row}
 use Rattle.reserving.specs.Changes.{lapse}
 use Rattle.reserving.proofs.Lists.{no_some, some_of}
 

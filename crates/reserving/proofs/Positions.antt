@@ -1,13 +1,13 @@
 -- A bucket's position at a later moment: what ended sessions held is given up, and what ended is expired.
-use Rattle.std.proofs.Common.{◌≡◌, ℕ, ◌+◌, ◌-◌, ◌*◌, ◌<◌, ◌≤◌, Bool, true, false, List, [], ◌∷◌, map, refl, sym, ap, ◌∙◌, subst, arith}
-use Rattle.std.specs.Prelude.{if◌then◌else◌, ◌==◌, ◌&&◌, not, nat_lt}
+use Rattle.std.proofs.Common.{◌≡◌, ℕ, ◌+◌, ◌-◌, ◌≤◌, Bool, true, false, List, [], ◌∷◌, map, refl, sym, ap, ◌∙◌, subst, arith}
+use Rattle.std.specs.Prelude.{if◌then◌else◌, ◌&&◌, not, nat_lt}
 use Rattle.std.proofs.lemmas.Bool.Decides.{nat_tests}
 use Rattle.buckets.specs.declared.holds.Hold.{Hold}
 use Rattle.buckets.specs.Row.{Row, IsBalanced, with_release, with_end}
 use Rattle.buckets.specs.Share.{parts}
 use Rattle.buckets.proofs.Kept.{balanced_release, balanced_end}
 use Rattle.reserving.specs.Ledger.{Ledger, charged, is_live, held, only}
-use Rattle.reserving.specs.Balance.{credits, bucket_at, buckets_at, balance_of}
+use Rattle.reserving.specs.Balance.{credits, bucket_at}
 use Rattle.reserving.specs.Laws.{ended_between, brought}
 use Rattle.reserving.specs.Sessions.{holds_at}
 use Rattle.reserving.proofs.Holds.{one_if, held_split}

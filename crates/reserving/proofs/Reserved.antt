@@ -1,6 +1,6 @@
 -- What a grant makes of a ledger's buckets, groups and counters, and of an account's rows.
-use Rattle.std.proofs.Common.{◌≡◌, ◌≢◌, ℕ, ◌+◌, ◌-◌, ◌<◌, ◌≤◌, Bool, true, false, cond, List, [], ◌∷◌, ◌++◌, map, refl, sym, ap, subst, ◌∙◌, arith, Option, Some, None}
-use Rattle.std.specs.Prelude.{if◌then◌else◌, ◌==◌, ◌&&◌, ◌||◌, not, nat_lt, nat_le, min, is_some, unwrap_or, option_map}
+use Rattle.std.proofs.Common.{◌≡◌, ℕ, ◌+◌, ◌-◌, ◌≤◌, Bool, true, false, List, [], ◌∷◌, ◌++◌, map, refl, sym, ap, subst, ◌∙◌, arith, Option, Some, None}
+use Rattle.std.specs.Prelude.{if◌then◌else◌, ◌==◌, ◌&&◌, ◌||◌, not, nat_lt, min, is_some, option_map}
 use Rattle.std.proofs.lemmas.Bool.Decides.{nat_tests}
 use Rattle.buckets.specs.declared.holds.Hold.{Hold}
 use Rattle.buckets.specs.Row.{Row, eligible_amount, is_eligible, with_hold}
@@ -13,19 +13,18 @@ use Rattle.buckets.proofs.Kept.{IsSound-hold}
 use Rattle.reserving.specs.declared.session.SessionGroup.{SessionGroup}
 use Rattle.reserving.specs.declared.session.Reservation.{Reservation}
 use Rattle.reserving.specs.declared.session.Counter.{Counter}
-use Rattle.reserving.specs.Ledger.{Fact, Dated, Ledger, Periods, or_else, total, charged, held, only, used, counter, has_group, has_counter, open_grant, inner, is_live, is_within, is_same, is_closed, units_in, names_group, grant_in, counts_group, blocks_in, uses_in, credits_in, any, newest, last_touch, last_recording, counts_before, next_bucket, next_charge}
-use Rattle.reserving.specs.Ledger.Fact.{Grant, Hold as HoldFact}
+use Rattle.reserving.specs.Ledger.{Ledger, Periods, or_else, charged, held, only, used, counter, has_group, has_counter, open_grant, inner, is_live, is_within, is_same, is_closed, units_in, names_group, grant_in, counts_group, blocks_in, uses_in, credits_in, newest, last_touch, last_recording}
+use Rattle.reserving.specs.Ledger.Fact.{Grant}
 use Rattle.reserving.specs.FlatTariff.{Flat, period_at, cycle_at}
 use Rattle.reserving.specs.Keyed.{put}
 use Rattle.reserving.specs.Balance.{credits, balance_of, bucket_at, buckets_at}
-use Rattle.reserving.specs.Sessions.{is_of, group_in, group_at, counter_in, counter_at, holds_at, holds_in, held_by, reservation_of, reservation_at}
+use Rattle.reserving.specs.Sessions.{is_of, group_in, group_at, counter_at, holds_at, holds_in, held_by, reservation_of, reservation_at}
 use Rattle.reserving.specs.Reservation.{hold_facts, reserved}
-use Rattle.reserving.specs.Changes.{new_group, used_in, reserved_in, with_reservation, reserved_account}
+use Rattle.reserving.specs.Changes.{used_in, reserved_in, with_reservation, reserved_account}
 use Rattle.reserving.specs.Prepared.{reservation_in}
 use Rattle.reserving.specs.Rows.{AccountRows, IsAccount, IsRowsOf, IsUnknown}
 use Rattle.reserving.proofs.Lists.{find-put, find-put_other, EachIn-put, no_some}
 use Rattle.reserving.proofs.Keys.{is_key, own_key, key_session, key_group, other_row, not_true, first_true}
-use Rattle.reserving.proofs.SettledHolds.{held_same}
 use Rattle.reserving.proofs.SettledFacts.{total-front, newest-front, any-front, any_dated-front, each_hold, held-hold_facts, held-hold_facts_other, credits-hold_facts, charged-hold_facts, IsMoved, SameSessions, SameGroup, same_session, same_live, same_touched, same_group}
 use Rattle.reserving.proofs.SettledBuckets.{balance_by, with_columns}
 use Rattle.reserving.proofs.SettledComplete.{held_free}

@@ -1,13 +1,12 @@
 -- A grant's call, from any ledger whose rows the account is before it.
-use Rattle.std.proofs.Common.{◌≡◌, ◌≢◌, ℕ, ◌+◌, ◌-◌, ◌<◌, ◌≤◌, Bool, true, false, cond, List, [], ◌∷◌, ◌++◌, map, refl, sym, ap, subst, ◌∙◌, arith, Option, Some, None, length}
-use Rattle.std.specs.Prelude.{◌*◌, if◌then◌else◌, is_some, unwrap_or, option_map, not, nat_lt}
+use Rattle.std.proofs.Common.{◌≡◌, ℕ, ◌+◌, ◌<◌, ◌≤◌, Bool, true, false, List, map, refl, sym, ap, subst, ◌∙◌, arith, Option, Some, None}
+use Rattle.std.specs.Prelude.{◌*◌, if◌then◌else◌, is_some, unwrap_or, option_map, not, nat_lt, min}
 use Rattle.units.specs.Blocks.{started}
 use Rattle.buckets.specs.declared.holds.Hold.{Hold}
 use Rattle.buckets.specs.Row.{Row, with_release, with_end}
 use Rattle.buckets.specs.Spend.{funds, held_rows}
 use Rattle.buckets.specs.Holding.{holds_of}
 use Rattle.reserving.specs.declared.session.SessionGroup.{SessionGroup}
-use Rattle.reserving.specs.declared.session.Reservation.{Reservation}
 use Rattle.reserving.specs.Ledger.{Ledger, used, is_live}
 use Rattle.reserving.specs.FlatTariff.{Flat, period_at}
 use Rattle.reserving.specs.Keyed.{put}
@@ -24,7 +23,7 @@ use Rattle.reserving.proofs.Advancing.{is_live_in-is, IsRowsOf-advanced}
 use Rattle.reserving.proofs.Advanced.{IsAccount-advanced}
 use Rattle.reserving.proofs.SettledRows.{used_in_is}
 use Rattle.reserving.proofs.SettledParts.{or_new_later, group_later, put_later, key_kept, held_by-with_group}
-use Rattle.reserving.proofs.Reserved.{IsRowsOf-reserved, IsAccount-reserved}
+use Rattle.reserving.proofs.Reserved.{IsRowsOf-reserved}
 
 pub reserved_parts : (a : AccountRows) (s : List ℕ) (g amount : ℕ) (holds : List Hold) (buckets : List Row) (groups : List SessionGroup) →
     buckets ≡ held_rows g a.as_of amount a.buckets → holds ≡ holds_of g a.as_of amount a.buckets → groups ≡ with_reservation s g 0 holds a.groups →
@@ -128,3 +127,6 @@ grant_is ledger a middle after s g t requested wanted units blocks amount validi
           subst (λ n. funds g t (buckets_at f.validity t ledger) < (n + 1) * f.price) blocks_told (subst (λ xs. funds g t xs < (blocks + 1) * f.price) now (q.greatest before)));
       rows = subst (λ n. IsRowsOf (reserved f t s g units n ledger) after) amount_told (rows_granted ledger a middle after s g t units amount account rows le live none m e);
     }
+
+pub wanted_le : (f : Flat) (requested : Option ℕ) (wanted : ℕ) → wanted ≡ wanted_units f requested → wanted ≤ f.max_grant
+wanted_le f requested wanted h = let least : min (unwrap_or requested f.slice) f.max_grant ≤ f.max_grant = omega arith in omega (arith, h, least)

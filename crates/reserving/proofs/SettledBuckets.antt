@@ -1,5 +1,5 @@
 -- What the end of a reservation, and a settlement, make of each bucket of a ledger.
-use Rattle.std.proofs.Common.{◌≡◌, ◌≢◌, ℕ, ◌+◌, ◌-◌, ◌<◌, ◌≤◌, Bool, true, false, List, [], ◌∷◌, ◌++◌, map, refl, sym, ap, ◌∙◌, arith}
+use Rattle.std.proofs.Common.{◌≡◌, ℕ, ◌+◌, ◌-◌, ◌≤◌, Bool, true, false, List, [], ◌∷◌, ◌++◌, map, refl, sym, ap, ◌∙◌, arith}
 use Rattle.std.specs.Prelude.{if◌then◌else◌, ◌==◌, ◌&&◌, not, nat_lt, min}
 use Rattle.buckets.specs.declared.holds.Hold.{Hold}
 use Rattle.buckets.specs.Row.{Row, IsBalanced, with_charge, with_charge_of_hold, with_release}
@@ -7,7 +7,7 @@ use Rattle.buckets.specs.Share.{parts}
 use Rattle.buckets.specs.Spend.{Each, AreDistinct}
 use Rattle.buckets.specs.Holding.{held_in, paid_of_hold, paid_of_rest, paid, settled_row, settled_rows, released_rows}
 use Rattle.buckets.proofs.Parts.{sum_at, sum_at-parts, held_in-sum_at}
-use Rattle.reserving.specs.Ledger.{Dated, Ledger, charged, held, only, is_live, is_same}
+use Rattle.reserving.specs.Ledger.{Ledger, charged, held, only, is_live, is_same}
 use Rattle.reserving.specs.Ledger.Fact.{End}
 use Rattle.reserving.specs.Balance.{credits, balance_of, bucket_at, buckets_at}
 use Rattle.reserving.specs.Sessions.{holds_at}

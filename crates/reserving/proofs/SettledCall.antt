@@ -1,26 +1,24 @@
 -- A settlement's call, from any ledger whose rows the account is before it.
-use Rattle.std.proofs.Common.{◌≡◌, ◌≢◌, ℕ, ◌+◌, ◌-◌, ◌<◌, ◌≤◌, Bool, true, false, cond, List, [], ◌∷◌, ◌++◌, map, refl, sym, ap, subst, ◌∙◌, arith, Option, Some, None, length}
-use Rattle.std.specs.Prelude.{◌*◌, ◌||◌, ◌==◌, if◌then◌else◌, is_some, unwrap_or, option_map, not, nat_lt}
+use Rattle.std.proofs.Common.{◌≡◌, ℕ, ◌+◌, ◌≤◌, Bool, true, false, List, [], ◌∷◌, map, refl, sym, ap, subst, ◌∙◌, arith}
+use Rattle.std.specs.Prelude.{is_some, not}
 use Rattle.std.proofs.lemmas.Bool.Decides.{nat_tests}
 use Rattle.units.specs.declared.blocks.UsedPart.{UsedPart}
-use Rattle.buckets.specs.declared.holds.Hold.{Hold}
 use Rattle.buckets.specs.Row.{Row, with_release, with_end}
 use Rattle.buckets.specs.Holding.{uncollected}
 use Rattle.reserving.specs.declared.session.SessionGroup.{SessionGroup}
 use Rattle.reserving.specs.declared.settle.Settled.{Settled}
-use Rattle.reserving.specs.Ledger.{Ledger, used, counter, is_live, next_charge}
+use Rattle.reserving.specs.Ledger.{Ledger, used, is_live}
 use Rattle.reserving.specs.FlatTariff.{cycle_at}
 use Rattle.reserving.specs.Balance.{buckets_at}
 use Rattle.reserving.specs.Sessions.{group_in, counter_in, holds_in, is_live_in, holds_at}
-use Rattle.reserving.specs.Settlement.{settled_by, reported, rated_blocks, rated_amount, missing, passes, passes_limit}
-use Rattle.reserving.specs.Changes.{lapse_group, lapsed_in, advanced, group_or_new, used_in, reserved_in, count_in, ended_rows, settled_account, settled_by_rows}
-use Rattle.reserving.specs.Prepared.{with_group, with_counter, with_rows, counter_or_new}
+use Rattle.reserving.specs.Settlement.{settled_by, reported, rated_blocks, rated_amount, passes, passes_limit}
+use Rattle.reserving.specs.Changes.{lapsed_in, advanced, used_in, reserved_in, count_in, ended_rows, settled_account, settled_by_rows}
+use Rattle.reserving.specs.Prepared.{with_group, with_rows, counter_or_new}
 use Rattle.reserving.specs.Rows.{AccountRows, IsAccount, IsRowsOf}
 use Rattle.reserving.specs.Results.{IsSettlementOf}
 use Rattle.reserving.proofs.Lists.{find-put}
 use Rattle.reserving.proofs.Advancing.{is_live_in-is, IsRowsOf-advanced}
 use Rattle.reserving.proofs.Advanced.{IsAccount-advanced}
-use Rattle.reserving.proofs.SettledBuckets.{with_end as with_end_fact}
 use Rattle.reserving.proofs.SettledComplete.{reserved_in_is}
 use Rattle.reserving.proofs.SettledKept.{or_new_cycle}
 use Rattle.reserving.proofs.SettledRows.{used_in_is, count_in_is, IsRowsOf-settled_by}

@@ -1,11 +1,11 @@
 -- The rows are complete: where no row has a reservation, the ledger holds nothing.
-use Rattle.std.proofs.Common.{◌≡◌, ◌≢◌, ℕ, ◌+◌, ◌-◌, ◌<◌, ◌≤◌, Bool, true, false, cond, List, [], ◌∷◌, map, refl, sym, ap, subst, ◌∙◌, arith, Option, Some, None}
-use Rattle.std.specs.Prelude.{if◌then◌else◌, ◌==◌, ◌&&◌, ◌||◌, not, nat_lt, is_some, unwrap_or}
+use Rattle.std.proofs.Common.{◌≡◌, ℕ, ◌+◌, Bool, true, false, List, [], ◌∷◌, map, refl, sym, ap, subst, ◌∙◌, arith, Option, Some, None}
+use Rattle.std.specs.Prelude.{if◌then◌else◌, ◌&&◌, ◌||◌, not, is_some, unwrap_or}
 use Rattle.std.specs.List.{find}
 use Rattle.buckets.specs.declared.holds.Hold.{Hold}
 use Rattle.buckets.specs.Row.{Row}
 use Rattle.buckets.specs.Share.{parts}
-use Rattle.buckets.specs.Spend.{Each, AreDistinct, IsSound}
+use Rattle.buckets.specs.Spend.{Each, IsSound}
 use Rattle.buckets.specs.Holding.{held_in}
 use Rattle.buckets.proofs.Parts.{sum_at, sum_at-parts, held_in-sum_at}
 use Rattle.reserving.specs.declared.session.SessionGroup.{SessionGroup}
@@ -13,11 +13,11 @@ use Rattle.reserving.specs.declared.session.Reservation.{Reservation}
 use Rattle.reserving.specs.Ledger.{Ledger, Periods, held, only, is_live, has_group, open_grant}
 use Rattle.reserving.specs.Balance.{credits, bucket_at, buckets_at}
 use Rattle.reserving.specs.Sessions.{is_of, group_in, group_at, holds_in, holds_at, held_by, reservation_of, reservation_at}
-use Rattle.reserving.specs.Changes.{new_group, group_or_new, reserved_in}
+use Rattle.reserving.specs.Changes.{new_group, reserved_in}
 use Rattle.reserving.specs.Prepared.{reservation_in}
 use Rattle.reserving.specs.Rows.{EachIn, AreApart, AccountRows, IsAccount, IsRowsOf}
 use Rattle.reserving.proofs.Lists.{some_of, no_some}
-use Rattle.reserving.proofs.Keys.{is_key, key_session, key_group, is_key-sym, found_own, not_true, first_true, second_true, own_key}
+use Rattle.reserving.proofs.Keys.{is_key, key_session, key_group, is_key-sym, found_own, not_true, first_true, second_true}
 use Rattle.reserving.proofs.SettledHolds.{one_if, IsSplit, held_split, held_none, held_same}
 
 -- ---- the reservations that rows have

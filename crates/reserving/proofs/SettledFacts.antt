@@ -1,17 +1,16 @@
 -- What facts in front of a ledger leave of its sums and of its sessions.
-use Rattle.std.proofs.Common.{◌≡◌, ◌≢◌, ℕ, ◌+◌, ◌-◌, ◌<◌, ◌≤◌, Bool, true, false, cond, List, [], ◌∷◌, ◌++◌, map, refl, sym, ap, ◌∙◌, arith, Option, Some, None}
-use Rattle.std.specs.Prelude.{sum_by, if◌then◌else◌, ◌==◌, ◌&&◌, ◌||◌, not, nat_lt, is_some, option_map}
+use Rattle.std.proofs.Common.{◌≡◌, ℕ, ◌+◌, Bool, true, false, List, [], ◌∷◌, ◌++◌, map, refl, sym, ap, ◌∙◌, arith, Option, Some, None}
+use Rattle.std.specs.Prelude.{if◌then◌else◌, ◌==◌, ◌&&◌, ◌||◌, not, nat_lt, is_some, option_map}
 use Rattle.buckets.specs.declared.holds.Hold.{Hold}
 use Rattle.buckets.specs.Row.{Row}
 use Rattle.buckets.specs.Share.{parts}
 use Rattle.buckets.proofs.Parts.{sum_at}
-use Rattle.reserving.specs.declared.session.Session.{Session}
 use Rattle.reserving.specs.declared.session.SessionGroup.{SessionGroup}
 use Rattle.reserving.specs.declared.session.SessionState.TheVariants.{Open, Ended, NeverOpened}
-use Rattle.reserving.specs.Ledger.{Fact, Dated, Ledger, Recording, total, newest, any, any_dated, or_else, held, charged, only, last_touch, last_recording, is_closed, is_live, is_within, has_group, used, open_grant, inner, names_group, units_in, touch_in, grant_in, recording_in}
-use Rattle.reserving.specs.Ledger.Fact.{Credit, Grant, Hold as HoldFact, End, Use, Charge, Touch, Close, Recorded}
-use Rattle.reserving.specs.Balance.{credits, bucket_at, buckets_at}
-use Rattle.reserving.specs.Sessions.{session_row, state_at, session_at, holds_at, reservation_of, reservation_at, group_at}
+use Rattle.reserving.specs.Ledger.{Fact, Dated, Ledger, total, newest, any, any_dated, or_else, held, charged, only, last_touch, last_recording, is_closed, is_live, is_within, has_group, used, open_grant}
+use Rattle.reserving.specs.Ledger.Fact.{Hold as HoldFact, Charge}
+use Rattle.reserving.specs.Balance.{credits, buckets_at}
+use Rattle.reserving.specs.Sessions.{session_row, session_at, holds_at, reservation_of, reservation_at, group_at}
 use Rattle.reserving.specs.Settlement.{charge_facts}
 use Rattle.reserving.specs.Reservation.{hold_facts}
 use Rattle.reserving.specs.Rows.{EachIn}

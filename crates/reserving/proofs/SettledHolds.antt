@@ -1,9 +1,9 @@
 -- What reservations hold, seen from a ledger: split by reservation; and where a row has no reservation, the
 -- ledger holds nothing for it.
-use Rattle.std.proofs.Common.{◌≡◌, ◌≢◌, ℕ, ◌+◌, ◌-◌, ◌<◌, ◌≤◌, Bool, true, false, cond, List, [], ◌∷◌, ◌++◌, map, refl, sym, ap, ◌∙◌, arith, Option, Some, None}
-use Rattle.std.specs.Prelude.{sum_by, if◌then◌else◌, ◌==◌, ◌&&◌, ◌||◌, not, nat_lt, is_some}
+use Rattle.std.proofs.Common.{◌≡◌, ℕ, ◌+◌, Bool, true, false, List, [], ◌∷◌, refl, ap, ◌∙◌, arith}
+use Rattle.std.specs.Prelude.{if◌then◌else◌, ◌==◌, ◌&&◌, not}
 use Rattle.std.proofs.lemmas.Bool.Decides.{nat_tests}
-use Rattle.reserving.specs.Ledger.{Fact, Dated, Ledger, counts_before, hold_of, held, only, is_same}
+use Rattle.reserving.specs.Ledger.{Fact, Ledger, counts_before, hold_of, held, only, is_same}
 use Rattle.reserving.specs.Ledger.Fact.{Credit, Grant, Hold as HoldFact, End, Use, Charge, Touch, Close, Recorded}
 use Rattle.identifiers.proofs.Equality.{equal_names}
 

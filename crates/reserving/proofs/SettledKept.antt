@@ -1,11 +1,10 @@
 -- What each account keeps is kept by a settlement, by the end of a reservation, and by rows without facts.
-use Rattle.std.proofs.Common.{◌≡◌, ◌≢◌, ℕ, ◌+◌, ◌-◌, ◌<◌, ◌≤◌, Bool, true, false, cond, List, [], ◌∷◌, ◌++◌, map, refl, sym, ap, subst, ◌∙◌, arith, Option, Some, None}
-use Rattle.std.specs.Prelude.{if◌then◌else◌, is_some, unwrap_or, option_map, nat_lt, min, sum_by, ◌==◌}
-use Rattle.std.specs.List.{find}
+use Rattle.std.proofs.Common.{◌≡◌, ℕ, ◌+◌, ◌-◌, ◌<◌, ◌≤◌, Bool, true, false, cond, List, [], ◌∷◌, map, refl, sym, ap, subst, ◌∙◌, arith, Option, Some, None}
+use Rattle.std.specs.Prelude.{if◌then◌else◌, unwrap_or, nat_lt, sum_by, ◌==◌}
 use Rattle.buckets.specs.declared.holds.Hold.{Hold}
-use Rattle.buckets.specs.Row.{Row, with_charge, with_charge_of_hold, with_release, eligible_amount}
+use Rattle.buckets.specs.Row.{Row, with_charge, with_charge_of_hold, with_release}
 use Rattle.buckets.specs.Spend.{Each, IsSound, IsBelow}
-use Rattle.buckets.specs.Holding.{held_in, held_sum, IsWithin, paid_of_hold, paid_of_rest, settled_row, settled_rows, released_rows}
+use Rattle.buckets.specs.Holding.{held_in, held_sum, IsWithin, paid_of_hold, paid_of_rest, settled_row, settled_rows}
 use Rattle.buckets.proofs.SharesAlong.{with_release_number}
 use Rattle.buckets.proofs.Kept.{IsSound-charge, IsSound-charge_of_hold, IsSound-release}
 use Rattle.buckets.proofs.Settling.{left_within, settled_rows-along, IsSound-release_rest}
@@ -14,8 +13,8 @@ use Rattle.reserving.specs.declared.session.Counter.{Counter}
 use Rattle.reserving.specs.FlatTariff.{cycle_at}
 use Rattle.reserving.specs.Keyed.{put}
 use Rattle.reserving.specs.Sessions.{is_of, group_in, is_counter, counter_in, holds_in, held_by}
-use Rattle.reserving.specs.Changes.{new_group, group_or_new, used_in, reserved_in, count_in, with_use, with_count, ended_group, ended_rows, settled_account}
-use Rattle.reserving.specs.Prepared.{with_group, counter_or_new, with_counter, with_rows, with_group_row}
+use Rattle.reserving.specs.Changes.{new_group, group_or_new, used_in, reserved_in, count_in, with_use, ended_group, ended_rows, settled_account}
+use Rattle.reserving.specs.Prepared.{with_group, counter_or_new, with_rows, with_group_row}
 use Rattle.reserving.specs.Rows.{EachIn, AreApart, AccountRows, IsAccount}
 use Rattle.reserving.proofs.Lists.{EachIn-put, EachIn-map, AreApart-map, find-passes}
 use Rattle.reserving.proofs.Keys.{is_key, is_key-sym, own_key, key_session, key_group, is_cycle, own_cycle, cycle_group, cycle_cycle, same_tests}

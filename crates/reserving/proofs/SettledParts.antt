@@ -1,18 +1,16 @@
 -- The rows as a call leaves them, part by part; and time going on in rows without facts.
-use Rattle.std.proofs.Common.{◌≡◌, ◌≢◌, ℕ, ◌+◌, ◌-◌, ◌<◌, ◌≤◌, Bool, true, false, cond, List, [], ◌∷◌, ◌++◌, map, refl, sym, ap, subst, ◌∙◌, arith, Option, Some, None}
-use Rattle.std.specs.Prelude.{if◌then◌else◌, is_some, unwrap_or, option_map, not}
-use Rattle.std.specs.List.{find}
+use Rattle.std.proofs.Common.{◌≡◌, ℕ, ◌+◌, Bool, true, false, List, [], ◌∷◌, ◌++◌, map, refl, sym, ap, ◌∙◌, arith, Option, Some, None}
+use Rattle.std.specs.Prelude.{if◌then◌else◌, unwrap_or, option_map, not}
 use Rattle.buckets.specs.declared.holds.Hold.{Hold}
 use Rattle.buckets.specs.Row.{Row, with_release, with_end}
-use Rattle.buckets.specs.Spend.{funds, held_rows}
-use Rattle.buckets.specs.Holding.{held_in, settled_rows, released_rows, holds_of}
+use Rattle.buckets.specs.Holding.{held_in, settled_rows, released_rows}
 use Rattle.reserving.specs.declared.session.SessionGroup.{SessionGroup}
 use Rattle.reserving.specs.declared.session.Counter.{Counter}
-use Rattle.reserving.specs.FlatTariff.{cycle_at, period_at}
+use Rattle.reserving.specs.FlatTariff.{cycle_at}
 use Rattle.reserving.specs.Keyed.{put}
 use Rattle.reserving.specs.Sessions.{is_of, group_in, is_counter, counter_in, holds_in, held_by, is_live_in}
-use Rattle.reserving.specs.Changes.{lapse_group, lapsed_in, advanced, new_group, group_or_new, used_in, reserved_in, count_in, with_use, with_count, with_reservation, ended_group, ended_rows, settled_account, reserved_account}
-use Rattle.reserving.specs.Prepared.{with_group, counter_or_new, with_counter, with_rows, with_group_row}
+use Rattle.reserving.specs.Changes.{lapse_group, lapsed_in, advanced, new_group, group_or_new, used_in, reserved_in, count_in, with_use, with_count, ended_group, ended_rows, settled_account}
+use Rattle.reserving.specs.Prepared.{with_group, counter_or_new, with_counter, with_rows}
 use Rattle.reserving.specs.Rows.{AccountRows}
 use Rattle.reserving.proofs.Lists.{find-map, find-put}
 use Rattle.reserving.proofs.KeysFound.{kept_group, put-none}

@@ -1,30 +1,30 @@
 -- What a settlement makes of an account's rows: those of the ledger with the settlement.
-use Rattle.std.proofs.Common.{◌≡◌, ◌≢◌, ℕ, ◌+◌, ◌-◌, ◌<◌, ◌≤◌, Bool, true, false, cond, List, [], ◌∷◌, ◌++◌, map, refl, sym, ap, subst, ◌∙◌, arith, Option, Some, None}
-use Rattle.std.specs.Prelude.{◌*◌, if◌then◌else◌, ◌==◌, ◌&&◌, ◌||◌, not, nat_lt, is_some, unwrap_or, option_map}
+use Rattle.std.proofs.Common.{◌≡◌, ℕ, ◌+◌, ◌-◌, ◌<◌, ◌≤◌, Bool, true, false, List, [], ◌∷◌, ◌++◌, map, refl, sym, ap, subst, ◌∙◌, arith, Option, Some, None}
+use Rattle.std.specs.Prelude.{if◌then◌else◌, ◌==◌, ◌&&◌, ◌||◌, not, unwrap_or, option_map}
 use Rattle.std.proofs.lemmas.Bool.Decides.{nat_tests}
 use Rattle.units.specs.declared.blocks.UsedPart.{UsedPart}
 use Rattle.buckets.specs.declared.holds.Hold.{Hold}
 use Rattle.buckets.specs.Row.{Row, with_charge, with_charge_of_hold, with_release}
 use Rattle.buckets.specs.Share.{parts}
-use Rattle.buckets.specs.Spend.{Each, IsSound, IsBelow, DiffersFromAll}
+use Rattle.buckets.specs.Spend.{IsSound, IsBelow, DiffersFromAll}
 use Rattle.buckets.specs.Holding.{held_in, paid, paid_of_hold, paid_of_rest, settled_row, settled_rows, released_rows}
 use Rattle.buckets.proofs.Parts.{sum_at}
 use Rattle.buckets.proofs.SharesAlong.{with_release_number}
 use Rattle.reserving.specs.declared.session.SessionGroup.{SessionGroup}
 use Rattle.reserving.specs.declared.session.Counter.{Counter}
-use Rattle.reserving.specs.Ledger.{Fact, Dated, Ledger, Periods, or_else, total, charged, held, only, used, counter, has_group, has_counter, open_grant, inner, is_live, is_same, units_in, names_group, grant_in, counts_group, blocks_in, uses_in, credits_in, any, any_dated, newest, counts_before, next_bucket, next_charge}
+use Rattle.reserving.specs.Ledger.{Fact, Dated, Ledger, Periods, or_else, held, only, used, counter, has_group, has_counter, inner, is_live, is_same, units_in, names_group, grant_in, counts_group, blocks_in, uses_in, credits_in, any, newest}
 use Rattle.reserving.specs.Ledger.Fact.{End, Use, Charge, Credit, Grant, Hold as HoldFact, Touch, Close, Recorded}
 use Rattle.reserving.specs.FlatTariff.{cycle_at}
 use Rattle.reserving.specs.Keyed.{put}
 use Rattle.reserving.specs.Balance.{buckets_at}
-use Rattle.reserving.specs.Sessions.{session_in, is_of, group_in, group_at, is_counter, counter_in, counter_at, holds_at, reservation_of, reservation_at}
+use Rattle.reserving.specs.Sessions.{is_of, group_in, group_at, is_counter, counter_in, counter_at, holds_at, reservation_of, reservation_at}
 use Rattle.reserving.specs.Settlement.{charge_facts, settled, settled_by, reported, rated_blocks, rated_amount}
 use Rattle.reserving.specs.Changes.{new_group, used_in, reserved_in, count_in, with_use, with_count, ended_group, ended_rows, settled_account, settled_by_rows}
 use Rattle.reserving.specs.Rows.{AccountRows, IsAccount, IsRowsOf, IsUnknown}
 use Rattle.reserving.proofs.Lists.{find-put, find-put_other, find-map}
-use Rattle.reserving.proofs.Keys.{is_key, own_key, key_session, key_group, key_of, other_row, is_cycle, own_cycle, cycle_group, cycle_cycle, other_counter, same_tests, second_true, not_true}
-use Rattle.reserving.proofs.SettledHolds.{one_if, held_split, held_same, held_none}
-use Rattle.reserving.proofs.SettledFacts.{total-front, newest-front, any-front, any_dated-front, each_charge, held-charge_facts, charged-charge_facts, IsMoved, SameSessions, SameGroup, same_session, same_live, same_touched, same_group}
+use Rattle.reserving.proofs.Keys.{is_key, own_key, key_session, key_group, key_of, other_row, is_cycle, own_cycle, cycle_group, cycle_cycle, other_counter, same_tests, not_true}
+use Rattle.reserving.proofs.SettledHolds.{one_if, held_split, held_same}
+use Rattle.reserving.proofs.SettledFacts.{total-front, newest-front, any-front, any_dated-front, each_charge, held-charge_facts, charged-charge_facts, IsMoved, SameSessions, SameGroup, same_session, same_touched, same_group}
 use Rattle.reserving.proofs.SettledBuckets.{with_end, buckets_at-settled, buckets_at-ended, same_sessions-settled, same_sessions-ended}
 use Rattle.reserving.proofs.SettledComplete.{reserved_in_is}
 

@@ -1,27 +1,22 @@
 -- Requests are recorded, sessions touched: what that leaves of the rows.
-use Rattle.std.proofs.Common.{◌≡◌, ℕ, ◌+◌, ◌-◌, ◌*◌, ◌<◌, ◌≤◌, Bool, true, false, cond, List, [], ◌∷◌, ◌++◌, map, refl, sym, ap, ◌∙◌, subst, arith, Option, Some, None}
-use Rattle.std.specs.Prelude.{if◌then◌else◌, ◌==◌, ◌&&◌, not, nat_lt, option_map, is_some}
-use Rattle.std.specs.List.{find}
+use Rattle.std.proofs.Common.{◌≡◌, ℕ, ◌+◌, ◌*◌, ◌<◌, ◌≤◌, Bool, true, false, List, [], ◌∷◌, map, refl, sym, ap, ◌∙◌, subst, arith, Option, Some, None}
+use Rattle.std.specs.Prelude.{if◌then◌else◌, ◌==◌, nat_lt, option_map}
 use Rattle.std.proofs.lemmas.Bool.Decides.{nat_tests}
-use Rattle.buckets.specs.declared.holds.Hold.{Hold}
 use Rattle.buckets.specs.Row.{Row}
 use Rattle.buckets.specs.Share.{parts}
 use Rattle.reserving.specs.declared.session.Session.{Session}
 use Rattle.reserving.specs.declared.session.SessionState.{SessionState}
-use Rattle.reserving.specs.declared.session.SessionState.TheVariants.{Open, Ended, NeverOpened}
-use Rattle.reserving.specs.declared.session.SessionGroup.{SessionGroup}
-use Rattle.reserving.specs.declared.session.Reservation.{Reservation}
-use Rattle.reserving.specs.Ledger.{Fact, Dated, Ledger, Recording, is_same, is_live, is_within, is_closed, last_touch, last_recording, or_else, charged, held, only, used, counter, has_group, has_counter, open_grant, next_bucket, next_charge}
-use Rattle.reserving.specs.Ledger.Fact.{Touch, Close, Recorded}
+use Rattle.reserving.specs.declared.session.SessionState.TheVariants.{Open, NeverOpened}
+use Rattle.reserving.specs.Ledger.{Ledger, Recording, is_same, is_live, is_closed, last_touch, last_recording, or_else, charged, held, only, used, counter, has_group, has_counter, open_grant, next_bucket, next_charge}
 use Rattle.reserving.specs.Balance.{credits, bucket_at, buckets_at, balance_of}
-use Rattle.reserving.specs.Sessions.{is_session, session_in, session_at, session_row, state_at, group_in, group_at, reservation_at, reservation_of, holds_at, counter_at, is_open, is_live_row, is_live_in}
+use Rattle.reserving.specs.Sessions.{is_session, session_in, session_at, session_row, state_at, group_at, reservation_at, reservation_of, holds_at, counter_at}
 use Rattle.reserving.specs.Keyed.{put}
 use Rattle.reserving.specs.FlatTariff.{cycle_at}
 use Rattle.reserving.specs.Rows.{AccountRows, IsRowsOf, IsUnknown}
 use Rattle.reserving.specs.Requests.{recorded, touched, closed}
-use Rattle.reserving.specs.Changes.{with_session, touched_account, touched_session}
-use Rattle.reserving.proofs.Lists.{find-map, find-passes, find-put, find-put_other, no_some, some_of}
-use Rattle.reserving.proofs.Holds.{held_split, held_same, same_itself, same_from, both, one_if, IsSplit}
+use Rattle.reserving.specs.Changes.{with_session}
+use Rattle.reserving.proofs.Lists.{find-put, find-put_other, no_some}
+use Rattle.reserving.proofs.Holds.{held_split, same_itself, same_from, one_if, IsSplit}
 use Rattle.reserving.proofs.Positions.{parts-at}
 
 -- ---- ledgers that differ by facts of sessions alone

@@ -4,11 +4,11 @@ use Rattle.std.specs.Prelude.{None, Some}
 use Rattle.units.specs.declared.blocks.UsedPart.{UsedPart}
 use Rattle.units.specs.declared.blocks.UnitKind.TheVariants.{Time}
 use Rattle.buckets.specs.Row.{Row}
-use Rattle.reserving.specs.Ledger.{Fact, Dated, Ledger, used}
+use Rattle.reserving.specs.Ledger.{Ledger, used}
 use Rattle.reserving.specs.Ledger.Fact.{Credit, Touch}
 use Rattle.reserving.specs.FlatTariff.{Flat}
 use Rattle.reserving.specs.Balance.{buckets_at}
-use Rattle.reserving.specs.Settlement.{settled_by, missing, rated_amount}
+use Rattle.reserving.specs.Settlement.{settled_by, missing}
 use Rattle.reserving.specs.Grant.{greatest_within}
 use Rattle.reserving.specs.Reservation.{reserved, units_for, blocks_for}
 

@@ -1,8 +1,8 @@
 -- The balance: each bucket at a moment, as sums over the ledger.
-use Rattle.std.specs.Prelude.{ℕ, ◌-◌, nat_lt, if◌then◌else◌, List, [], ◌∷◌, Option, map}
+use Rattle.std.specs.Prelude.{ℕ, ◌-◌, nat_lt, if◌then◌else◌, List, [], ◌∷◌, map}
 use Rattle.buckets.specs.Row.{Row, new_row}
 use Rattle.buckets.specs.Spend.{inserted}
-use Rattle.reserving.specs.Ledger.{Fact, Dated, Ledger, charged, held, is_live}
+use Rattle.reserving.specs.Ledger.{Fact, Ledger, charged, held, is_live}
 use Rattle.reserving.specs.Ledger.Fact.{Credit}
 
 -- the buckets as they were credited, by end and then by number

@@ -1,5 +1,5 @@
 -- What each call makes of an account's rows.
-use Rattle.std.specs.Prelude.{ℕ, ◌+◌, ◌*◌, ◌≤◌, Bool, true, false, not, ◌&&◌, nat_lt, if◌then◌else◌, List, [], ◌∷◌, Option, Some, None, map, sum_by, unwrap_or, option_map}
+use Rattle.std.specs.Prelude.{ℕ, ◌+◌, ◌*◌, ◌≤◌, Bool, not, ◌&&◌, nat_lt, if◌then◌else◌, List, [], ◌∷◌, Option, Some, None, map, sum_by, unwrap_or, option_map}
 use Rattle.units.specs.declared.blocks.UsedPart.{UsedPart}
 use Rattle.buckets.specs.declared.holds.Hold.{Hold}
 use Rattle.buckets.specs.Row.{Row, is_eligible, with_end, with_release, new_row}
@@ -7,14 +7,14 @@ use Rattle.buckets.specs.Spend.{Each, inserted, held_rows}
 use Rattle.buckets.specs.Holding.{settled_rows, released_rows, holds_of}
 use Rattle.reserving.specs.declared.session.Session.{Session}
 use Rattle.reserving.specs.declared.session.SessionState.{SessionState}
-use Rattle.reserving.specs.declared.session.SessionState.TheVariants.{Open, Ended, NeverOpened}
+use Rattle.reserving.specs.declared.session.SessionState.TheVariants.{Open, Ended}
 use Rattle.reserving.specs.declared.session.SessionGroup.{SessionGroup}
 use Rattle.reserving.specs.declared.session.Reservation.{Reservation}
 use Rattle.reserving.specs.declared.session.Counter.{Counter}
 use Rattle.reserving.specs.Ledger.{is_same}
-use Rattle.reserving.specs.FlatTariff.{Flat, period_at, cycle_at}
+use Rattle.reserving.specs.FlatTariff.{period_at, cycle_at}
 use Rattle.reserving.specs.Keyed.{put}
-use Rattle.reserving.specs.Sessions.{is_session, session_in, is_of, group_in, is_counter, counter_in, is_open, is_live_in, held_by, holds_in}
+use Rattle.reserving.specs.Sessions.{is_session, is_of, group_in, is_counter, counter_in, is_open, is_live_in, held_by, holds_in}
 use Rattle.reserving.specs.Settlement.{reported, rated_blocks, rated_amount}
 use Rattle.reserving.specs.Rows.{AccountRows}
 

@@ -1,5 +1,5 @@
 -- A flat tariff: one rating group with one price, in one tariff period without a switch.
-use Rattle.std.specs.Prelude.{ℕ, ◌+◌, ◌*◌, ◌≤◌, ◌/◌}
+use Rattle.std.specs.Prelude.{ℕ, ◌≤◌, ◌/◌}
 use Rattle.units.specs.declared.blocks.UnitKind.{UnitKind}
 use Rattle.units.specs.declared.blocks.UnitKind.TheVariants.{Time, TotalOctets, ServiceSpecific}
 

@@ -1,6 +1,6 @@
 -- The ledger of an account: a list of dated facts, the newest first. It only grows, at its front, and every
 -- balance is a sum over it (TS 32.296, account balance management function).
-use Rattle.std.specs.Prelude.{◌≡◌, ℕ, ◌+◌, ◌*◌, Bool, true, false, not, ◌==◌, ◌&&◌, ◌||◌, nat_lt, nat_eq, if◌then◌else◌, List, [], ◌∷◌, Option, Some, None}
+use Rattle.std.specs.Prelude.{ℕ, ◌+◌, ◌*◌, Bool, false, not, ◌==◌, ◌&&◌, ◌||◌, nat_lt, nat_eq, if◌then◌else◌, List, [], ◌∷◌, Option, Some, None}
 use Rattle.std.specs.Cmp.Lexicographic.{pointwise}
 
 -- Credit: a bucket is made. Grant, Hold and End: a session gets units of a rating group, priced by the tariff

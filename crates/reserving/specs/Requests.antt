@@ -1,6 +1,6 @@
 -- What accepted requests and credits add to the ledger, beside what their services add.
 use Rattle.std.specs.Prelude.{ℕ, List, ◌∷◌, Option}
-use Rattle.reserving.specs.Ledger.{Fact, Dated, Ledger, next_bucket}
+use Rattle.reserving.specs.Ledger.{Ledger, next_bucket}
 use Rattle.reserving.specs.Ledger.Fact.{Credit, Touch, Close, Recorded}
 
 -- a session's request is recorded

@@ -1,10 +1,10 @@
 -- Reservation: units are granted as far as the funds cover their blocks, and their price is held in what is
 -- eligible (RFC 8506 sections 5.2 and 5.3; TS 32.299, session charging with unit reservation).
-use Rattle.std.specs.Prelude.{ℕ, ◌*◌, List, [], ◌∷◌, ◌++◌, Option, unwrap_or, min}
+use Rattle.std.specs.Prelude.{ℕ, List, [], ◌∷◌, ◌++◌, Option, unwrap_or, min}
 use Rattle.buckets.specs.declared.holds.Hold.{Hold}
 use Rattle.buckets.specs.Spend.{funds}
 use Rattle.buckets.specs.Holding.{holds_of}
-use Rattle.reserving.specs.Ledger.{Fact, Dated, Ledger, used, counter}
+use Rattle.reserving.specs.Ledger.{Ledger, counter}
 use Rattle.reserving.specs.Ledger.Fact.{Grant, Hold as HoldFact}
 use Rattle.reserving.specs.FlatTariff.{Flat, period_at, cycle_at}
 use Rattle.reserving.specs.Balance.{buckets_at}

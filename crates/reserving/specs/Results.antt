@@ -38,3 +38,8 @@ pub record IsGrantOf (f : Flat) (t : ℕ) (session : List ℕ) (group : ℕ) (re
 abbrev pub GivesGrant : Flat → ℕ → List ℕ → ℕ → Option ℕ → Ledger → AccountRows → Granted → Type 0
 GivesGrant f t session group requested ledger after Nothing = (units_for f t group (used session group ledger) requested ledger ≡ 0) × IsRowsOf ledger after
 GivesGrant f t session group requested ledger after (Units units switch validity fewer) = IsGrantOf f t session group requested ledger after units.0 switch validity fewer
+
+-- units that are granted are some, and no more than the greatest grant of the group
+abbrev pub IsWithinGrant : Flat → Granted → Type 0
+IsWithinGrant f Nothing = Unit {0}
+IsWithinGrant f (Units units switch validity fewer) = (0 < units.0) × (units.0 ≤ f.max_grant)

@@ -1,11 +1,11 @@
 -- An account's rows, and the ledger that they are the sums of.
-use Rattle.std.specs.Prelude.{◌≡◌, ℕ, ◌≤◌, List, [], ◌∷◌, Bool, true, false, Option, Some, None, option_map}
+use Rattle.std.specs.Prelude.{◌≡◌, ℕ, ◌≤◌, List, [], ◌∷◌, Bool, true, false, Some, None, option_map}
 use Rattle.buckets.specs.Row.{Row}
 use Rattle.buckets.specs.Spend.{Each, IsSound, IsBelow}
 use Rattle.reserving.specs.declared.session.Session.{Session}
 use Rattle.reserving.specs.declared.session.SessionGroup.{SessionGroup}
 use Rattle.reserving.specs.declared.session.Counter.{Counter}
-use Rattle.reserving.specs.Ledger.{Ledger, Recording, charged, held, is_same, is_closed, open_grant, last_touch, last_recording, next_bucket, next_charge}
+use Rattle.reserving.specs.Ledger.{Ledger, charged, held, is_same, is_closed, open_grant, last_touch, last_recording, next_bucket, next_charge}
 use Rattle.reserving.specs.FlatTariff.{Flat, IsFlat, cycle_at}
 use Rattle.reserving.specs.Balance.{buckets_at}
 use Rattle.reserving.specs.Sessions.{is_session, session_in, session_at, is_of, group_in, group_at, is_counter, counter_in, counter_at, held_by}

@@ -7,7 +7,7 @@ use Rattle.buckets.specs.declared.holds.Hold.{Hold}
 use Rattle.buckets.specs.Row.{Row}
 use Rattle.buckets.specs.Share.{parts}
 use Rattle.buckets.specs.Holding.{paid, uncollected}
-use Rattle.reserving.specs.Ledger.{Fact, Dated, Ledger, used, counter, next_charge}
+use Rattle.reserving.specs.Ledger.{Ledger, used, counter, next_charge}
 use Rattle.reserving.specs.Ledger.Fact.{Use, Charge, End}
 use Rattle.reserving.specs.FlatTariff.{Flat, cycle_at}
 use Rattle.reserving.specs.Balance.{buckets_at}

@@ -32,6 +32,7 @@ pub(crate) fn greatest_grant(
     ensures wanted { result.wanted ≡ wanted_units tariff.now (option_map (λ u. u.0) requested) }
     ensures units { result.units ≡ granted_units used result.wanted tariff.now.block tariff.now.price funds.0 }
     ensures blocks { result.blocks ≡ granted_blocks used result.wanted tariff.now.block tariff.now.price funds.0 }
+    ensures within { result.units ≤ result.wanted }
     ensures amount { result.amount ≡ result.blocks * tariff.now.price }
     ensures covered { result.amount ≤ funds.0 }
     ensures greatest { result.blocks < started used result.wanted tariff.now.block → funds.0 < (result.blocks + 1) * tariff.now.price }
@@ -96,7 +97,8 @@ fn units_to_end(used: u64, wanted: u64, block: u64, blocks: u64) -> u64
     requires size { 0 < block }
     requires fewer { blocks < started used wanted block }
     requires room { used + wanted < 2 ^ 63 }
-    ensures { result ≡ next_multiple used block + blocks * block - used }
+    ensures value { result ≡ next_multiple used block + blocks * block - used }
+    ensures within { result ≤ wanted }
 {
     let size = block as u128;
     let begun = (used as u128 + (size - 1)) / size * size;

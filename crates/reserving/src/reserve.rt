@@ -8,7 +8,7 @@ ghost use Rattle.reserving.specs.Reservation.{wanted_units, units_for};
 ghost use Rattle.reserving.specs.Changes.{advanced, used_in, reserved_account};
 ghost use Rattle.reserving.specs.Prepared.{with_group_row, reservation_in};
 ghost use Rattle.reserving.specs.Rows.{IsAccount, IsRowsOf};
-ghost use Rattle.reserving.specs.Results.{GivesGrant};
+ghost use Rattle.reserving.specs.Results.{GivesGrant, IsWithinGrant};
 
 use crate::account::Account;
 use crate::fault::AccountFault;
@@ -59,6 +59,7 @@ impl<'b> Account<'b> {
             GivesGrant self.old.tariff moment session.now group (option_map (λ u. u.0) requested) ledger self.new granted) }
         ensures as_of { OnOk result (self.new.as_of ≡ moment) }
         ensures tariff { self.new.tariff ≡ self.old.tariff }
+        ensures within { IfOk result (IsWithinGrant self.old.tariff) }
         ensures memory { OnErr result (result ≡ Err AccountFault.Memory) }
         ensures err { OnErr result (self.new ≡ self.old) }
     {
@@ -103,6 +104,7 @@ impl<'b> Account<'b> {
         ensures wanted { result.wanted ≡ wanted_units self.now.tariff (option_map (λ u. u.0) requested) }
         ensures units { result.units ≡ granted_units (used_in session.now group self.now.groups) result.wanted self.now.tariff.block self.now.tariff.price (funds group moment (advanced moment self.now).buckets) }
         ensures blocks { result.blocks ≡ granted_blocks (used_in session.now group self.now.groups) result.wanted self.now.tariff.block self.now.tariff.price (funds group moment (advanced moment self.now).buckets) }
+        ensures within { result.units ≤ result.wanted }
         ensures amount { result.amount ≡ result.blocks * self.now.tariff.price }
         ensures covered { result.amount ≤ funds group moment (advanced moment self.now).buckets }
         ensures greatest { result.blocks < started (used_in session.now group self.now.groups) result.wanted self.now.tariff.block →

@@ -7,7 +7,7 @@ ghost use Rattle.reserving.specs.Results.{IsSettlementOf};
 ghost use Rattle.buckets.specs.Holding.{uncollected};
 ghost use Rattle.reserving.specs.FlatTariff.{cycle_at};
 ghost use Rattle.reserving.specs.Sessions.{group_in, counter_in};
-ghost use Rattle.reserving.specs.Changes.{used_in, reserved_in, count_in, settled_account, ended_rows};
+ghost use Rattle.reserving.specs.Changes.{advanced, used_in, reserved_in, count_in, settled_account, ended_rows};
 ghost use Rattle.reserving.specs.Prepared.{with_rows};
 
 use crate::account::Account;
@@ -70,6 +70,7 @@ impl<'b> Account<'b> {
             IsRowsOf (settled_by self.old.tariff moment session.now group parts.now ledger) self.new) }
         ensures as_of { OnOk result (self.new.as_of ≡ moment) }
         ensures tariff { self.new.tariff ≡ self.old.tariff }
+        ensures sessions { OnOk result (self.new.sessions ≡ (advanced moment self.old).sessions) }
         ensures settled { IfOk result (λ s. (ledger : Ledger) → IsRowsOf ledger self.old →
             IsSettlementOf self.old.tariff moment session.now group parts.now ledger s) }
         ensures within { OnOk result ((ledger : Ledger) → IsRowsOf ledger self.old →

@@ -1,8 +1,7 @@
-use Rattle.std.proofs.Common.{◌≡◌, ◌<◌, ◌+◌, List, true, false, sym, ap, ◌∙◌, arith, rules, length, set, drop}
+use Rattle.std.proofs.Common.{◌≡◌, ◌<◌, ◌+◌, sym, ap, ◌∙◌, arith, length, set, drop}
 use Rattle.std.specs.Prelude.{not}
 use Rattle.std.proofs.lemmas.List.{drop-set-lt}
 use Rattle.std.proofs.lemmas.Grind.{common_steps}
-use Rattle.reserving.specs.declared.session.SessionGroup.{SessionGroup}
 use Rattle.reserving.specs.Sessions.{is_live_in}
 use Rattle.reserving.proofs.Lapsing.{within_at, lapsed_next, lapsable_next}
 use Rattle.reserving.proofs.advance.lapse_groups.Goals as goal

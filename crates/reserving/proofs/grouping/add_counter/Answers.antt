@@ -1,6 +1,6 @@
-use Rattle.std.proofs.Common.{sym, ap, ◌∙◌, ◌≡◌, arith, ℕ, ◌+◌, Some, None, length, get_or, rules}
+use Rattle.std.proofs.Common.{sym, ap, ◌∙◌}
 use Rattle.std.specs.Prelude.{position, is_some, not}
-use Rattle.reserving.specs.Sessions.{is_of, is_counter, group_in, counter_in, holds_in}
+use Rattle.reserving.specs.Sessions.{is_counter}
 use Rattle.reserving.proofs.KeysFound.{made_counter, counter_there_kept, is_none_is}
 use Rattle.reserving.proofs.grouping.add_counter.Goals as goal
 

@@ -1,6 +1,4 @@
-use Rattle.std.proofs.Common.{sym, ap, ◌∙◌, ◌≡◌, arith, ℕ, ◌+◌, Some, None, length, get_or}
-use Rattle.std.specs.Prelude.{position, is_some}
-use Rattle.reserving.specs.Sessions.{is_of, is_counter}
+use Rattle.std.proofs.Common.{sym, ◌∙◌}
 use Rattle.reserving.proofs.KeysFound.{count_at, uncounted}
 use Rattle.reserving.proofs.grouping.count_of.Goals as goal
 

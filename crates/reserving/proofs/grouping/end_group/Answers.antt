@@ -1,6 +1,6 @@
-use Rattle.std.proofs.Common.{sym, ap, ◌∙◌, ◌≡◌, arith, ℕ, ◌+◌, Some, None, length, get_or, set, rules}
-use Rattle.std.specs.Prelude.{position, is_some}
-use Rattle.reserving.specs.Sessions.{is_of, is_counter, group_in, counter_in, holds_in}
+use Rattle.std.proofs.Common.{sym, ap, ◌∙◌, ◌≡◌, Some, set}
+use Rattle.std.specs.Prelude.{position}
+use Rattle.reserving.specs.Sessions.{is_of, holds_in}
 use Rattle.reserving.proofs.KeysFound.{ended_at, ended_none, unreserved, reserved_at}
 use Rattle.reserving.specs.declared.session.SessionGroup.{SessionGroup}
 use Rattle.reserving.proofs.grouping.end_group.Goals.{After-holds_of}

@@ -1,6 +1,6 @@
-use Rattle.std.proofs.Common.{sym, ap, ◌∙◌, ◌≡◌, arith, ℕ, ◌+◌, Some, None, length, get_or, rules}
-use Rattle.std.specs.Prelude.{position, is_some}
-use Rattle.reserving.specs.Sessions.{is_of, is_counter, group_in, counter_in, holds_in}
+use Rattle.std.proofs.Common.{sym, ap, ◌∙◌, ◌≡◌, Some}
+use Rattle.std.specs.Prelude.{position}
+use Rattle.reserving.specs.Sessions.{is_of}
 use Rattle.reserving.specs.declared.session.SessionGroup.{SessionGroup}
 use Rattle.reserving.specs.declared.session.Reservation.{Reservation}
 use Rattle.reserving.specs.Keyed.{put}

@@ -1,6 +1,6 @@
-use Rattle.std.proofs.Common.{◌≡◌, map, sym, ap, ◌∙◌, subst, true}
+use Rattle.std.proofs.Common.{◌≡◌, sym, ap, ◌∙◌, subst, true}
 use Rattle.std.specs.Prelude.{not}
-use Rattle.reserving.specs.Ledger.{Ledger, is_live}
+use Rattle.reserving.specs.Ledger.{is_live}
 use Rattle.reserving.specs.Rows.{AccountRows, IsAccount, IsRowsOf}
 use Rattle.reserving.specs.Requests.{closed}
 use Rattle.reserving.specs.Changes.{advanced, closed_account, is_other, lapsed_rows}

@@ -1,4 +1,4 @@
-use Rattle.std.proofs.Common.{◌≡◌, sym, ap, ◌∙◌, subst}
+use Rattle.std.proofs.Common.{sym, ap, ◌∙◌, subst}
 use Rattle.reserving.specs.Rows.{IsRowsOf}
 use Rattle.reserving.specs.Requests.{credited}
 use Rattle.reserving.specs.Changes.{advanced}

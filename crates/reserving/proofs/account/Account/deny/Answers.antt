@@ -1,8 +1,6 @@
-use Rattle.std.proofs.Common.{◌≡◌, ◌<◌, sym, ◌∙◌, subst, arith}
-use Rattle.reserving.specs.declared.session.SessionState.TheVariants.{NeverOpened}
+use Rattle.std.proofs.Common.{sym, subst}
 use Rattle.reserving.specs.Rows.{IsRowsOf}
 use Rattle.reserving.specs.Requests.{recorded}
-use Rattle.reserving.specs.Changes.{with_session}
 use Rattle.reserving.proofs.Touching.{IsRowsOf-denied}
 use Rattle.reserving.proofs.account.Account.deny.Goals as goal
 

@@ -1,4 +1,4 @@
-use Rattle.std.proofs.Common.{◌≡◌, sym, ap, subst, ◌∙◌}
+use Rattle.std.proofs.Common.{sym, subst}
 use Rattle.reserving.specs.Rows.{AccountRows, IsAccount}
 use Rattle.reserving.proofs.SettledKept.{IsAccount-with_group_row}
 use Rattle.reserving.proofs.account.Account.make_row.Goals as goal

@@ -1,8 +1,6 @@
-use Rattle.std.proofs.Common.{◌≡◌, ◌<◌, sym, ◌∙◌, subst, arith}
-use Rattle.reserving.specs.declared.session.SessionState.TheVariants.{Open}
+use Rattle.std.proofs.Common.{◌<◌, sym, subst, arith}
 use Rattle.reserving.specs.Rows.{IsAccount, IsRowsOf}
 use Rattle.reserving.specs.Requests.{touched}
-use Rattle.reserving.specs.Changes.{with_session}
 use Rattle.reserving.proofs.Touching.{IsRowsOf-opened}
 use Rattle.reserving.proofs.account.Account.open.Goals as goal
 

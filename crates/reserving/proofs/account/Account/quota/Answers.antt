@@ -1,4 +1,4 @@
-use Rattle.std.proofs.Common.{◌≡◌, ◌≤◌, ℕ, ap, ◌∙◌, arith}
+use Rattle.std.proofs.Common.{◌≡◌, ap, ◌∙◌, arith}
 use Rattle.reserving.specs.Changes.{used_in}
 use Rattle.reserving.proofs.SettledKept.{used_le}
 use Rattle.reserving.proofs.account.Account.quota.Goals as goal

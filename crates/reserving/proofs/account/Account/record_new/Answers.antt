@@ -1,7 +1,6 @@
-use Rattle.std.proofs.Common.{◌≡◌, List, ◌∷◌, ◌++◌, [], sym, ap, ◌∙◌, subst, None}
+use Rattle.std.proofs.Common.{◌≡◌, ◌∷◌, ◌++◌, [], sym, ap, ◌∙◌, subst, None}
 use Rattle.reserving.specs.declared.session.Session.{Session}
 use Rattle.reserving.specs.Sessions.{is_session, session_in}
-use Rattle.reserving.specs.Keyed.{put}
 use Rattle.reserving.specs.Rows.{AccountRows, IsAccount}
 use Rattle.reserving.specs.Changes.{with_session}
 use Rattle.reserving.proofs.Kept.{put_new, IsAccount-with_session}

@@ -1,9 +1,9 @@
-use Rattle.std.proofs.Common.{◌≡◌, ◌≤◌, ◌<◌, ℕ, sym, ap, ◌∙◌, arith, refl}
+use Rattle.std.proofs.Common.{◌≤◌, ◌<◌, sym, ap, ◌∙◌, arith, refl}
 use Rattle.std.specs.Prelude.{option_map, nat_lt}
 use Rattle.units.specs.declared.blocks.Units.{Units}
 use Rattle.reserving.specs.Changes.{advanced}
 use Rattle.reserving.specs.Rows.{AccountRows}
-use Rattle.reserving.proofs.ReservedCall.{group_there, free_middle, covered_middle, IsQuota, units_told, grant_is}
+use Rattle.reserving.proofs.ReservedCall.{group_there, free_middle, covered_middle, IsQuota, units_told, grant_is, wanted_le}
 use Rattle.reserving.proofs.account.Account.reserve.Goals as goal
 
 pub returns-then-quota-eq0-clause-rows : goal.returns-then-quota-eq0-clause-rows
@@ -44,3 +44,10 @@ returns-clause-rows c = λ ledger rows.
     c.quota-quota.ensures.account rows c.requires.moment c.requires.live c.requires.free q some
     (c.validity-validity.ensures.value ∙ ap (λ (x : AccountRows). x.tariff.validity) c.self.view_is) refl
     (c.advance-2.ensures.rows ∙ ap (advanced c.args.moment) c.in_ok-room.ensures.ok) c.hold_quota.ensures
+
+pub returns-clause-within : goal.returns-clause-within
+returns-clause-within c =
+    let some : 0 < c.quota-quota.result.units = omega (arith, c.if-quota-eq0.false) in
+    let wanted : c.quota-quota.result.wanted ≤ c.args.self.now.tariff.max_grant =
+    wanted_le c.args.self.now.tariff (option_map (λ (u : Units). u.0) c.args.requested) c.quota-quota.result.wanted c.quota-quota.ensures.wanted in
+    (some, omega (arith, c.quota-quota.ensures.within, wanted))

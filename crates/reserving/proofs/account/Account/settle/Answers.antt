@@ -1,10 +1,10 @@
-use Rattle.std.proofs.Common.{◌≡◌, ◌≤◌, ◌+◌, ℕ, Bool, true, false, List, [], ◌∷◌, sym, ap, subst, ◌∙◌, length, arith, refl}
-use Rattle.std.specs.Prelude.{◌==◌, Err}
+use Rattle.std.proofs.Common.{◌≡◌, true, false, List, [], ◌∷◌, sym, ap, ◌∙◌, length, arith, refl}
+use Rattle.std.specs.Prelude.{◌==◌}
 use Rattle.std.proofs.lemmas.Bool.Decides.{nat_tests}
 use Rattle.units.specs.declared.blocks.UsedPart.{UsedPart}
-use Rattle.reserving.specs.Changes.{advanced, used_in, count_in}
-use Rattle.reserving.specs.Prepared.{with_rows}
-use Rattle.reserving.specs.Settlement.{passes, reported, rated_blocks}
+use Rattle.reserving.specs.Changes.{advanced, used_in, count_in, settled_account, ended_rows}
+use Rattle.reserving.specs.Rows.{AccountRows}
+use Rattle.reserving.specs.Settlement.{passes}
 use Rattle.reserving.proofs.SettledCall.{rows_ended, nothing_settled, within_used, within_counted, passes_is, there_later, counter_there, used_middle, count_middle, rows_settled, settlement_is}
 use Rattle.reserving.proofs.account.Account.settle.Goals as goal
 
@@ -64,3 +64,12 @@ returns-clause-within c = λ ledger rows.
     passes_is ledger c.args.self.now c.args.session.now c.args.group c.args.moment c.args.parts.now rows (is_something c.args.parts.now (sym c.is_empty.ensures ∙ c.if-is_empty.false))
     ∙ (λ i. passes (used_in c.args.session.now c.args.group c.args.self.now.groups) (sym c.in-Some.ensures.units i) (count_in c.args.group 0 c.args.self.now.counters) (sym c.in-Some.ensures.blocks i) c.args.self.now.next_charge)
     ∙ c.in-Some.ensures.some
+
+pub returns-clause-sessions : goal.returns-clause-sessions
+returns-clause-sessions c =
+    ap (λ (x : AccountRows). x.sessions) (c.settle_use-charged.ensures.rows ∙ ap (settled_account c.args.session.now c.args.group c.in-Some.rated.units.0 c.in-Some.rated.blocks.0 c.in-Some.rated.amount.0)
+    (c.advance-2.ensures.rows ∙ ap (advanced c.args.moment) c.in_ok-make_rows.ensures.ok))
+
+pub returns-then-is_empty-clause-sessions : goal.returns-then-is_empty-clause-sessions
+returns-then-is_empty-clause-sessions c =
+    ap (λ (x : AccountRows). x.sessions) (c.end_reservation.ensures.rows ∙ ap (ended_rows c.args.session.now c.args.group) c.advance.ensures.rows)

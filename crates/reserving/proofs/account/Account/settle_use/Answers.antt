@@ -1,4 +1,4 @@
-use Rattle.std.proofs.Common.{◌≡◌, ◌≤◌, ◌<◌, ◌+◌, ℕ, sym, ap, subst, ◌∙◌}
+use Rattle.std.proofs.Common.{◌≡◌, ◌≤◌, ◌<◌, ◌+◌, sym, subst}
 use Rattle.buckets.specs.Holding.{IsWithin}
 use Rattle.reserving.specs.FlatTariff.{cycle_at}
 use Rattle.reserving.specs.Rows.{AccountRows, IsAccount}

@@ -1,5 +1,5 @@
-use Rattle.std.proofs.Common.{◌≡◌, map, sym, ap, ◌∙◌, subst, arith, ◌<◌, ◌≤◌, true}
-use Rattle.reserving.specs.Ledger.{Ledger, is_live}
+use Rattle.std.proofs.Common.{◌≡◌, map, sym, ap, ◌∙◌, subst, arith, ◌<◌, true}
+use Rattle.reserving.specs.Ledger.{is_live}
 use Rattle.reserving.specs.Rows.{AccountRows, IsAccount, IsRowsOf}
 use Rattle.reserving.specs.Requests.{touched}
 use Rattle.reserving.specs.Changes.{advanced, touched_account, touched_session}

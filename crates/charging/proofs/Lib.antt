@@ -1,0 +1,6 @@
+pub mod Looked
+pub mod Alive
+pub mod Granted
+pub mod Opening
+pub mod Orders
+pub mod Sums

@@ -1,0 +1,62 @@
+-- The body of a credit, and a credit as it is kept.
+use Rattle.std.specs.Prelude.{◌≡◌, ℕ, ◌≤◌, ◌&&◌, List, true, codes, Option, Some, None, option_map, IfSome, Result, Ok, Err, nat_le, if◌then◌else◌}
+use Rattle.serde_json.specs.Data.{Data, string, object, no_members, member}
+use Rattle.serde_json.specs.Written.{compact_text}
+use Rattle.identifiers.specs.Texts.{is_account_number, is_reference}
+use Rattle.commands.specs.declared.avp.Avp.TheVariants as avp
+use Rattle.commands.specs.declared.command.Credit.{Credit}
+use Rattle.json_fields.specs.declared.fault.WireFault.{WireFault}
+use Rattle.json_fields.specs.declared.fault.WireFault.TheVariants.{Invalid}
+use Rattle.json_fields.specs.Gives.{◌>>=◌, or_fault, where_true}
+use Rattle.json_fields.specs.Fields.{document_at, number_at, optional_at, text_at}
+use Rattle.json_fields.specs.Spelling.{whole, perhaps}
+
+unfoldable pub reference_at : Data → Result (List ℕ) WireFault
+reference_at d = do
+  s ← text_at avp.Reference d
+  where_true (is_reference s) (Invalid avp.Reference) s
+
+-- Amount, From, Until, Scope and Reference, in this order: an amount from `least` on, From up to `last_from`, Until from
+-- `first_until` to `last_until`
+unfoldable pub credit_at : ℕ → ℕ → ℕ → ℕ → List ℕ → Data → Result Credit WireFault
+credit_at least last_from first_until last_until account d = do
+  amount ← number_at avp.Amount least 1000000000000000 d
+  from ← optional_at avp.From 0 last_from d
+  until ← optional_at avp.Until first_until last_until d
+  scope ← optional_at avp.Scope 0 4294967295 d
+  reference ← reference_at d
+  Ok (record { account = account; amount = amount; from = from; until = until; scope = scope; reference = reference })
+
+-- the credit that the body of an operator's request is, or the first fault: 1 to 10^15 micro-units, from a moment of a
+-- command on, until one or "no end"
+unfoldable pub credit_of : List ℕ → List ℕ → Result Credit WireFault
+credit_of account bytes = do
+  d ← document_at bytes
+  credit_at 1 4102444799 1 4102444800 account d
+
+-- a credit that is kept: all that its types can hold
+unfoldable pub kept_credit_of : List ℕ → List ℕ → Result Credit WireFault
+kept_credit_of account bytes = do
+  d ← document_at bytes
+  credit_at 0 4102488000 0 4102488000 account d
+
+-- ---- as it is kept
+
+unfoldable pub credit_data : Credit → Data
+credit_data c = object
+    (member (codes "Amount") (whole c.amount)
+    (perhaps (codes "From") (option_map whole c.from)
+    (member (codes "Reference") (string c.reference)
+    (perhaps (codes "Scope") (option_map whole c.scope)
+    (perhaps (codes "Until") (option_map whole c.until) no_members)))))
+
+unfoldable pub credit_text : Credit → List ℕ
+credit_text c = compact_text (credit_data c)
+
+-- what the types of a credit's parts keep
+pub record IsCredit (c : Credit) : Type 0 where
+  pub amount : c.amount ≤ 1000000000000000
+  pub from : IfSome c.from (λ m. m ≤ 4102488000)
+  pub until : IfSome c.until (λ m. m ≤ 4102488000)
+  pub scope : IfSome c.scope (λ g. g ≤ 4294967295)
+  pub reference : is_reference c.reference ≡ true

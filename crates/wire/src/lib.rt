@@ -1,0 +1,11 @@
+//! The texts of the interface: requests and operators' bodies in, answers out, and what is kept of a command.
+#![tactic(auto)]
+
+mod contents;
+mod credits;
+
+pub use crate::contents::{content_again, read_content, write_content};
+pub use crate::credits::read_credit;
+pub use json_fields::WireFault;
+pub use wire_answers::{answer_again, read_answer, write_answer, write_fault};
+pub use wire_requests::{read_request, request_again, write_request};
