@@ -1,6 +1,0 @@
-pub mod Looked
-pub mod Alive
-pub mod Granted
-pub mod Opening
-pub mod Orders
-pub mod Sums
