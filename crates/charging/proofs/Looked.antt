@@ -1,0 +1,101 @@
+-- What the rows of an account tell of its ledger.
+use Rattle.std.proofs.Common.{◌≡◌, ℕ, ◌+◌, Bool, true, false, List, [], ◌∷◌, refl, sym, ap, ◌∙◌, Option, Some, None, arith}
+use Rattle.std.specs.Prelude.{if◌then◌else◌, ◌||◌, ◌&&◌, ◌==◌, is_some, option_map, unwrap_or}
+use Rattle.reserving.specs.declared.session.Session.{Session}
+use Rattle.reserving.specs.declared.session.SessionState.{SessionState}
+use Rattle.reserving.specs.declared.session.SessionGroup.{SessionGroup}
+use Rattle.reserving.specs.declared.session.Reservation.{Reservation}
+use Rattle.reserving.specs.Ledger.{Fact, Dated, Ledger, Recording, Periods, is_same, any, used, units_in, names_group, has_group, open_grant, is_live, last_recording}
+use Rattle.reserving.specs.Ledger.Fact.{Credit, Grant, Hold, End, Use, Charge, Touch, Close, Recorded}
+use Rattle.reserving.specs.Sessions.{session_in, session_row, state_at, group_in, group_at, reservation_at, reservation_of, holds_at}
+use Rattle.reserving.specs.Rows.{AccountRows, IsRowsOf}
+use Rattle.reserving.specs.Changes.{used_in, group_or_new, new_group}
+use Rattle.charging.specs.Recorded.{has_record, is_late, is_late_row}
+use Rattle.charging.specs.Free.{IsFree, is_reserved}
+
+abbrev used_by : Option SessionGroup → ℕ
+used_by None = 0
+used_by (Some r) = r.used
+
+row_late : (n : ℕ) (s : List ℕ) (state : SessionState) (o : Option Recording) → is_late_row n (session_row s state o) ≡ is_late n o
+row_late n s state None = refl
+row_late n s state (Some r) = refl
+
+pub is_late-is : (ledger : Ledger) (a : AccountRows) (s : List ℕ) (n : ℕ) → IsRowsOf ledger a → is_late_row n (session_in s a.sessions) ≡ is_late n (last_recording s ledger)
+is_late-is ledger a s n rows =
+    ap (is_late_row n) (rows.sessions s) ∙ row_late n s (state_at a.tariff.validity a.as_of ledger s) (last_recording s ledger)
+
+-- ---- use
+
+use_of : (t b : Bool) (u n : ℕ) → (t || b) ≡ false → (b ≡ false → n ≡ 0) → (if t then u else 0) + n ≡ 0
+use_of false b u n e rest = omega (arith, rest e)
+use_of true b u n e rest = absurd (let no : true ≡ false = e in cc)
+
+no_use : (t b : Bool) (n : ℕ) → (t || b) ≡ false → (b ≡ false → n ≡ 0) → 0 + n ≡ 0
+no_use false b n e rest = omega (arith, rest e)
+no_use true b n e rest = absurd (let no : true ≡ false = e in cc)
+
+used_of_fact : (s : List ℕ) (g : ℕ) (x : Fact) (b : Bool) (n : ℕ) → (names_group s g x || b) ≡ false → (b ≡ false → n ≡ 0) → units_in s g x + n ≡ 0
+used_of_fact s g (Credit number from until scope amount) b n e rest = no_use false b n e rest
+used_of_fact s g (Grant session group before after units counter) b n e rest = no_use (is_same session s && group == g) b n e rest
+used_of_fact s g (Hold session group bucket amount) b n e rest = no_use false b n e rest
+used_of_fact s g (End session group) b n e rest = no_use false b n e rest
+used_of_fact s g (Use session group units blocks rated uncollected) b n e rest = use_of (is_same session s && group == g) b units n e rest
+used_of_fact s g (Charge bucket amount) b n e rest = no_use false b n e rest
+used_of_fact s g (Touch session) b n e rest = no_use false b n e rest
+used_of_fact s g (Close session) b n e rest = no_use false b n e rest
+used_of_fact s g (Recorded session number) b n e rest = no_use false b n e rest
+
+-- a session's group without a grant or a use has no use
+none_used : (s : List ℕ) (g : ℕ) (ledger : Ledger) → has_group s g ledger ≡ false → used s g ledger ≡ 0
+none_used s g [] h = refl
+none_used s g (d ∷ older) h = used_of_fact s g d.fact (has_group s g older) (used s g older) h (none_used s g older)
+
+used_row : (v t : ℕ) (ledger : Ledger) (s : List ℕ) (g : ℕ) (o : Option SessionGroup) → o ≡ group_at v t ledger s g → used_by o ≡ used s g ledger
+used_row v t ledger s g o e = ap used_by e ∙ at (has_group s g ledger) refl
+  where
+    at : (b : Bool) → has_group s g ledger ≡ b → used_by (if b then Some (record { session = s; group = g; used = used s g ledger; reservation = reservation_at v t ledger s g }) else None) ≡ used s g ledger
+    at true h = refl
+    at false h = sym (none_used s g ledger h)
+
+by_row : (s : List ℕ) (g : ℕ) (o : Option SessionGroup) → (unwrap_or o (new_group s g)).used ≡ used_by o
+by_row s g None = refl
+by_row s g (Some r) = refl
+
+pub used_in-is : (ledger : Ledger) (a : AccountRows) (s : List ℕ) (g : ℕ) → IsRowsOf ledger a → used_in s g a.groups ≡ used s g ledger
+used_in-is ledger a s g rows =
+    by_row s g (group_in s g a.groups) ∙ used_row a.tariff.validity a.as_of ledger s g (group_in s g a.groups) (rows.groups s g)
+
+-- ---- a session without a record
+
+row_there : (s : List ℕ) (state : SessionState) (o : Option Recording) → is_some (session_row s state o) ≡ is_some o
+row_there s state None = refl
+row_there s state (Some r) = refl
+
+none_reserved : (v t : ℕ) (ledger : Ledger) (s : List ℕ) (g : ℕ) → open_grant s g ledger ≡ None → is_reserved (group_at v t ledger s g) ≡ false
+none_reserved v t ledger s g e = at (has_group s g ledger) (is_live v t ledger s)
+  where
+    at : (b l : Bool) → is_reserved (if b then Some (record { session = s; group = g; used = used s g ledger; reservation = if l then reservation_of (holds_at v t s g ledger) (open_grant s g ledger) else None }) else None) ≡ false
+    at true true = rw e refl
+    at true false = refl
+    at false l = refl
+
+pub is_known-is : (ledger : Ledger) (a : AccountRows) (s : List ℕ) (g : ℕ) → IsRowsOf ledger a → (is_some (session_in s a.sessions) || is_reserved (group_in s g a.groups)) ≡ has_record s ledger
+is_known-is ledger a s g rows = at (last_recording s ledger) refl
+  where
+    there : is_some (session_in s a.sessions) ≡ is_some (last_recording s ledger)
+    there = ap is_some (rows.sessions s) ∙ row_there s (state_at a.tariff.validity a.as_of ledger s) (last_recording s ledger)
+
+    at : (o : Option Recording) → last_recording s ledger ≡ o → (is_some (session_in s a.sessions) || is_reserved (group_in s g a.groups)) ≡ is_some (last_recording s ledger)
+    at None e =
+        let free : is_reserved (group_in s g a.groups) ≡ false = ap is_reserved (rows.groups s g) ∙ none_reserved a.tariff.validity a.as_of ledger s g ((rows.unknown s e).granted g) in
+        rw (there, free, e) refl
+    at (Some r) e = rw (there, e) refl
+
+pub free_from : (o : Option SessionGroup) → is_reserved o ≡ false → IsFree o
+free_from None e = tt
+free_from (Some r) e = no_reservation r.reservation e
+  where
+    no_reservation : (x : Option Reservation) → is_some x ≡ false → x ≡ None
+    no_reservation None h = refl
+    no_reservation (Some y) h = absurd (let no : true ≡ false = h in cc)

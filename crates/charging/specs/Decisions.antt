@@ -1,0 +1,113 @@
+-- The answer of a request on an account's ledger, and the ledger after it, in the order of decisions: what was
+-- accepted under the request's number, its session, the units of its services, the limits of stored numbers, the
+-- account's money (RFC 8506 sections 5.1 and 9).
+use Rattle.std.specs.Prelude.{ℕ, Bool, true, false, not, nat_le, if◌then◌else◌, List, [], ◌∷◌, length, Option, Some, None, option_map}
+use Rattle.commands.specs.declared.avp.Avp.{Avp}
+use Rattle.commands.specs.declared.avp.Avp.TheVariants.{SessionId, RequestType, RequestNumber, Services as ServicesAvp}
+use Rattle.commands.specs.declared.service.Service.{Service}
+use Rattle.commands.specs.declared.answer.Failure.{Failure}
+use Rattle.commands.specs.declared.answer.Failure.TheVariants.{Denied, UnknownSessionId, InvalidAvpValue, UnableToComply, UserUnknown}
+use Rattle.commands.specs.declared.answer.Outcome.{Outcome}
+use Rattle.commands.specs.declared.answer.Outcome.TheVariants.{Services, Refunded, Checked, Priced, Failed}
+use Rattle.commands.specs.declared.answer.RequestAnswer.{RequestAnswer}
+use Rattle.commands.specs.declared.request.Ask.{Ask}
+use Rattle.commands.specs.declared.request.Ask.TheVariants.{Initial, Update, Termination, Event, Refund}
+use Rattle.commands.specs.declared.request.Request.{Request}
+use Rattle.commands.specs.Codes.{kind_of_ask}
+use Rattle.reserving.specs.Ledger.{Ledger, is_live, last_recording, or_else}
+use Rattle.reserving.specs.FlatTariff.{Flat}
+use Rattle.reserving.specs.Requests.{recorded, touched, closed}
+use Rattle.charging.specs.Recorded.{is_recorded, has_record, is_late}
+use Rattle.charging.specs.Reports.{units_fault}
+use Rattle.charging.specs.Granting.{any_grants, first_denial, grant_answers, after_grants}
+use Rattle.charging.specs.Settling.{settled_services, settled_answers, any_passes}
+
+-- what a request is answered, and the ledger after it
+pub record Decision : Type 0 where
+  pub outcome : Outcome
+  pub after : Ledger
+
+abbrev pub invalid : Avp → Failure
+invalid avp = InvalidAvpValue avp
+
+-- a refused request changes nothing
+abbrev pub refused_or : Option Failure → Ledger → Decision → Decision
+refused_or None ledger accepted = accepted
+refused_or (Some failure) ledger accepted = record { outcome = Failed failure; after = ledger }
+
+-- ---- an initial request
+
+-- a Session-Id names one session for good
+abbrev pub initial_refusal : Flat → List ℕ → List Service → Ledger → Option Failure
+initial_refusal f s services ledger =
+    if has_record s ledger then Some (invalid SessionId) else option_map invalid (units_fault f s ledger services)
+
+-- where some service is granted units the session opens; else the request is denied for its first service's reason
+abbrev pub opened : Flat → ℕ → List ℕ → ℕ → List Service → Ledger → Decision
+opened f t s n services ledger =
+    if any_grants f t ledger services
+    then record { outcome = Services (grant_answers f t s services (touched t s n ledger)); after = after_grants f t s services (touched t s n ledger) }
+    else record { outcome = Failed (Denied (first_denial f services)); after = recorded t s n ledger }
+
+abbrev pub initial_decision : Flat → ℕ → List ℕ → ℕ → List Service → Ledger → Decision
+initial_decision f t s n services ledger = refused_or (initial_refusal f s services ledger) ledger (opened f t s n services ledger)
+
+-- ---- a termination
+
+abbrev pub limit_refusal : Bool → Option Failure
+limit_refusal passes = if passes then Some UnableToComply else None
+
+abbrev pub termination_refusal : Flat → ℕ → List ℕ → ℕ → List Service → Ledger → Option Failure
+termination_refusal f t s n services ledger =
+    if not (is_live f.validity t ledger s) then Some UnknownSessionId
+    else (if is_late n (last_recording s ledger) then Some (invalid RequestNumber)
+    else or_else (option_map invalid (units_fault f s ledger services)) (limit_refusal (any_passes f t s services ledger)))
+
+-- its services are settled, and the session ends
+abbrev pub ended : Flat → ℕ → List ℕ → ℕ → List Service → Ledger → Decision
+ended f t s n services ledger = record {
+  outcome = Services (settled_answers f services);
+  after = closed t s (touched t s n (settled_services f t s services ledger));
+}
+
+abbrev pub termination_decision : Flat → ℕ → List ℕ → ℕ → List Service → Ledger → Decision
+termination_decision f t s n services ledger = refused_or (termination_refusal f t s n services ledger) ledger (ended f t s n services ledger)
+
+-- ---- a request
+
+-- at most one service
+abbrev pub is_single : List Service → Bool
+is_single services = nat_le (length services) 1
+
+abbrev pub refused : Failure → Ledger → Decision
+refused failure ledger = record { outcome = Failed failure; after = ledger }
+
+abbrev pub decided : Flat → ℕ → List ℕ → ℕ → Ask → Ledger → Decision
+decided f t s n (Initial services) ledger = if is_single services then initial_decision f t s n services ledger else refused (invalid ServicesAvp) ledger
+decided f t s n (Termination services) ledger = if is_single services then termination_decision f t s n services ledger else refused (invalid ServicesAvp) ledger
+decided f t s n (Update services) ledger = refused (invalid RequestType) ledger
+decided f t s n (Event event) ledger = refused (invalid RequestType) ledger
+decided f t s n (Refund refund) ledger = refused (invalid RequestType) ledger
+
+-- the answer of a request at a moment, and the ledger after it
+abbrev pub decision : Flat → ℕ → Request → Ledger → Decision
+decision f t r ledger =
+    if is_recorded r.session r.number ledger then refused (invalid RequestNumber) ledger else decided f t r.session r.number r.ask ledger
+
+abbrev pub answer_of : Request → Outcome → RequestAnswer
+answer_of r outcome = record { session = r.session; kind = kind_of_ask r.ask; number = r.number; outcome = outcome }
+
+-- an accepted request is answered by its services, or denied; a refusal and a read aren't kept
+abbrev pub is_accepted_failure : Failure → Bool
+is_accepted_failure (Denied failure) = true
+is_accepted_failure UnknownSessionId = false
+is_accepted_failure (InvalidAvpValue avp) = false
+is_accepted_failure UnableToComply = false
+is_accepted_failure UserUnknown = false
+
+abbrev pub is_accepted : Outcome → Bool
+is_accepted (Services answers) = true
+is_accepted Refunded = true
+is_accepted (Checked balance) = false
+is_accepted (Priced cost) = false
+is_accepted (Failed failure) = is_accepted_failure failure

@@ -1,0 +1,74 @@
+-- The grants of a request, service by service (RFC 8506 section 5.1.1; TS 32.299, session charging with unit
+-- reservation).
+use Rattle.std.specs.Prelude.{ℕ, ◌*◌, Bool, true, false, ◌==◌, ◌&&◌, nat_lt, if◌then◌else◌, List, [], ◌∷◌, Option, Some, None}
+use Rattle.std.specs.List.{list_any}
+use Rattle.commands.specs.declared.service.Service.{Service}
+use Rattle.commands.specs.declared.answer.FinalUnit.{FinalUnit}
+use Rattle.commands.specs.declared.answer.FinalUnit.TheVariants.{Terminate}
+use Rattle.commands.specs.declared.answer.ServiceFailure.{ServiceFailure}
+use Rattle.commands.specs.declared.answer.ServiceFailure.TheVariants.{CreditLimitReached, RatingFailed}
+use Rattle.commands.specs.declared.answer.ServiceOutcome.{ServiceOutcome}
+use Rattle.commands.specs.declared.answer.ServiceOutcome.TheVariants as service
+use Rattle.commands.specs.declared.answer.ServiceAnswer.{ServiceAnswer}
+use Rattle.reserving.specs.Ledger.{Ledger, used}
+use Rattle.reserving.specs.FlatTariff.{Flat}
+use Rattle.reserving.specs.Reservation.{reserved, units_for, blocks_for, wanted_units}
+use Rattle.charging.specs.Reports.{asked_units}
+use Rattle.reserving.specs.Requests.{recorded, touched}
+
+-- what a service is answered, and the ledger after it
+pub record Answered : Type 0 where
+  pub outcome : ServiceOutcome
+  pub after : Ledger
+
+-- Final-Unit-Indication (RFC 8506 section 8.34) stands exactly where fewer units are granted than wanted
+abbrev pub final_unit : Flat → ℕ → Option ℕ → Option FinalUnit
+final_unit f units asked = if nat_lt units (wanted_units f asked) then Some Terminate else None
+
+abbrev pub grant_answer : Flat → ℕ → Option ℕ → ServiceOutcome
+grant_answer f units asked = service.Granted (record { quantity = record { kind = f.kind; units = units }; switch = None; validity = f.validity; last = final_unit f units asked })
+
+-- what a session with this use is granted of the tariff's group; no unit is 4012
+abbrev pub granted_with : Flat → ℕ → List ℕ → ℕ → Option ℕ → Ledger → ℕ → Answered
+granted_with f t s g asked ledger before =
+    if nat_lt 0 (units_for f t g before asked ledger)
+    then record {
+      outcome = grant_answer f (units_for f t g before asked ledger) asked;
+      after = reserved f t s g (units_for f t g before asked ledger) (blocks_for f t g before asked ledger * f.price) ledger;
+    }
+    else record { outcome = service.Failed CreditLimitReached; after = ledger }
+
+-- the grant of a service; a rating group without a tariff is 5031
+abbrev pub granted : Flat → ℕ → List ℕ → Service → Ledger → Answered
+granted f t s x ledger =
+    if x.group == f.group
+    then granted_with f t s x.group (asked_units x.requested) ledger (used s x.group ledger)
+    else record { outcome = service.Failed RatingFailed; after = ledger }
+
+-- the grants of all services, one after the other
+abbrev pub grant_answers : Flat → ℕ → List ℕ → List Service → Ledger → List ServiceAnswer
+grant_answers f t s [] ledger = []
+grant_answers f t s (x ∷ xs) ledger = record { group = x.group; outcome = (granted f t s x ledger).outcome } ∷ grant_answers f t s xs (granted f t s x ledger).after
+
+abbrev pub after_grants : Flat → ℕ → List ℕ → List Service → Ledger → Ledger
+after_grants f t s [] ledger = ledger
+after_grants f t s (x ∷ xs) ledger = after_grants f t s xs (granted f t s x ledger).after
+
+-- ---- a session that isn't open yet
+
+-- the service of a new session would be granted a unit
+abbrev pub grants_new : Flat → ℕ → Ledger → Service → Bool
+grants_new f t ledger x = x.group == f.group && nat_lt 0 (units_for f t x.group 0 (asked_units x.requested) ledger)
+
+-- until one is granted the funds stay the same, so that each can be asked for by itself
+abbrev pub any_grants : Flat → ℕ → Ledger → List Service → Bool
+any_grants f t ledger services = list_any (grants_new f t ledger) services
+
+-- why a service that grants nothing doesn't
+abbrev pub denial : Flat → Service → ServiceFailure
+denial f x = if x.group == f.group then CreditLimitReached else RatingFailed
+
+-- the first service's; a request without one has nothing to grant
+abbrev pub first_denial : Flat → List Service → ServiceFailure
+first_denial f [] = CreditLimitReached
+first_denial f (x ∷ xs) = denial f x

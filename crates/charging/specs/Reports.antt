@@ -1,0 +1,71 @@
+-- The units that a service asks for and reports (RFC 8506 sections 8.17 to 8.19).
+use Rattle.std.specs.Prelude.{ℕ, Bool, true, false, not, ◌==◌, ◌||◌, nat_lt, if◌then◌else◌, List, [], ◌∷◌, Option, Some, None, map, option_map}
+use Rattle.units.specs.declared.blocks.UnitKind.{UnitKind}
+use Rattle.units.specs.declared.blocks.UnitKind.TheVariants as unit
+use Rattle.units.specs.declared.blocks.UsedPart.{UsedPart}
+use Rattle.units.specs.declared.blocks.TariffChangeUsage.{TariffChangeUsage}
+use Rattle.units.specs.declared.blocks.TariffChangeUsage.TheVariants as change
+use Rattle.commands.specs.declared.used.UsedPart.{UsedPart as ReportPart}
+use Rattle.commands.specs.declared.used.TariffChangeUsage.{TariffChangeUsage as Tag}
+use Rattle.commands.specs.declared.used.TariffChangeUsage.TheVariants as tag
+use Rattle.commands.specs.declared.service.Requested.{Requested}
+use Rattle.commands.specs.declared.service.Requested.TheVariants.{Slice, Units}
+use Rattle.commands.specs.declared.service.Service.{Service}
+use Rattle.commands.specs.declared.avp.Avp.{Avp}
+use Rattle.commands.specs.declared.avp.Avp.TheVariants.{RequestedUnit, UsedUnit}
+use Rattle.commands.specs.Used.{Used}
+use Rattle.reserving.specs.Ledger.{Ledger, or_else, used}
+use Rattle.reserving.specs.FlatTariff.{Flat}
+use Rattle.reserving.specs.Settlement.{rated_blocks}
+
+abbrev pub is_kind : UnitKind → UnitKind → Bool
+is_kind unit.Time unit.Time = true
+is_kind unit.TotalOctets unit.TotalOctets = true
+is_kind unit.ServiceSpecific unit.ServiceSpecific = true
+is_kind a b = false
+
+-- the units that are asked for; None: an empty Requested-Service-Unit, which asks for the group's slice
+abbrev pub units_of : Requested → Option ℕ
+units_of Slice = None
+units_of (Units q) = Some q.units
+
+abbrev pub asked_units : Option Requested → Option ℕ
+asked_units None = None
+asked_units (Some r) = units_of r
+
+abbrev pub change_of : Tag → TariffChangeUsage
+change_of tag.UnitBeforeTariffChange = change.UnitBeforeTariffChange
+change_of tag.UnitAfterTariffChange = change.UnitAfterTariffChange
+change_of tag.UnitIndeterminate = change.UnitIndeterminate
+
+abbrev pub part_of : ReportPart → UsedPart
+part_of p = record { units = record { 0 = p.units }; change = option_map change_of p.tag }
+
+-- the parts of a report
+abbrev pub parts_of : Option Used → List UsedPart
+parts_of None = []
+parts_of (Some u) = map part_of u.parts
+
+-- ---- units that a service can't speak of
+
+abbrev pub asks_other : UnitKind → Option Requested → Bool
+asks_other kind None = false
+asks_other kind (Some Slice) = false
+asks_other kind (Some (Units q)) = not (is_kind q.kind kind)
+
+-- a use in other units than the group's, or one that starts more than 10^9 blocks
+abbrev pub reports_other : Flat → ℕ → Option Used → Bool
+reports_other f before None = false
+reports_other f before (Some u) = not (is_kind u.kind f.kind) || nat_lt 1000000000 (rated_blocks f before (map part_of u.parts))
+
+-- what is wrong with the units of a service of a known group, what it asks for first
+abbrev pub wrong_units : Flat → ℕ → Service → Option Avp
+wrong_units f before x =
+    if x.group == f.group
+    then (if asks_other f.kind x.requested then Some RequestedUnit else (if reports_other f before x.used then Some UsedUnit else None))
+    else None
+
+-- the first fault of the services' units, in their order
+abbrev pub units_fault : Flat → List ℕ → Ledger → List Service → Option Avp
+units_fault f s ledger [] = None
+units_fault f s ledger (x ∷ xs) = or_else (wrong_units f (used s x.group ledger) x) (units_fault f s ledger xs)

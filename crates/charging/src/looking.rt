@@ -1,0 +1,79 @@
+ghost use Rattle.std.specs.Prelude.{◌≡◌, ◌≤◌, false, is_some};
+ghost use Rattle.std.specs.List.{list_any};
+ghost use Rattle.reserving.specs.Ledger.{Ledger, used, last_recording};
+ghost use Rattle.reserving.specs.Sessions.{is_session, session_in, group_in};
+ghost use Rattle.reserving.specs.Rows.{IsRowsOf};
+ghost use Rattle.reserving.specs.Changes.{used_in};
+ghost use Rattle.charging.specs.Recorded.{has_record, is_late, is_late_row};
+ghost use Rattle.charging.specs.Free.{IsFree, is_reserved};
+
+use identifiers::SessionId;
+use reserving::{Account, Session, SessionGroup};
+
+/// Whether the number isn't greater than that of the session's last accepted request.
+pub(crate) fn is_late(account: &Account, id: &SessionId, number: u32) -> bool
+    ensures { (ledger : Ledger) → IsRowsOf ledger account.now → result ≡ is_late number (last_recording id.now ledger) }
+{
+    is_late_in(account.sessions(), id, number)
+}
+
+fn is_late_in(sessions: &[Session], id: &SessionId, number: u32) -> bool
+    ensures { result ≡ is_late_row number (session_in id.now sessions.now) }
+{
+    for session in sessions {
+        if session.id == *id {
+            return number <= session.last_number;
+        }
+    }
+    false
+}
+
+/// The units that a session used of a group so far.
+pub(crate) fn used_of(account: &Account, id: &SessionId, group: u32) -> u64
+    ensures { (ledger : Ledger) → IsRowsOf ledger account.now → result ≡ used id.now group ledger }
+{
+    used_in(account.groups(), id, group)
+}
+
+fn used_in(groups: &[SessionGroup], id: &SessionId, group: u32) -> u64
+    ensures { result ≡ used_in id.now group groups.now }
+{
+    for row in groups {
+        if row.session == *id && row.group == group {
+            return row.used;
+        }
+    }
+    0
+}
+
+/// Whether the session has a reservation of the group.
+fn is_reserved(groups: &[SessionGroup], id: &SessionId, group: u32) -> bool
+    ensures { result ≡ is_reserved (group_in id.now group groups.now) }
+{
+    for row in groups {
+        if row.session == *id && row.group == group {
+            return row.reservation.is_some();
+        }
+    }
+    false
+}
+
+fn has_row(sessions: &[Session], id: &SessionId) -> bool
+    ensures { result ≡ is_some (session_in id.now sessions.now) }
+{
+    for session in sessions {
+        if session.id == *id {
+            return true;
+        }
+    }
+    false
+}
+
+/// Whether some request of the session was accepted: then it has a row, and only then a reservation of the group.
+pub(crate) fn is_known(account: &Account, id: &SessionId, group: u32) -> bool
+    ensures new { result ≡ false → is_some (session_in id.now account.now.sessions) ≡ false }
+    ensures free { result ≡ false → IsFree (group_in id.now group account.now.groups) }
+    ensures ledger { (ledger : Ledger) → IsRowsOf ledger account.now → result ≡ has_record id.now ledger }
+{
+    has_row(account.sessions(), id) || is_reserved(account.groups(), id, group)
+}

@@ -1,0 +1,125 @@
+ghost use Rattle.std.specs.Prelude.{◌≡◌, ◌<◌, ◌≤◌, ◌^◌, IfOk, map, option_map, sum_by, Some, None};
+ghost use Rattle.reserving.specs.FlatTariff.{IsFlat};
+ghost use Rattle.reserving.specs.Settlement.{reported, rated_blocks};
+ghost use Rattle.charging.specs.Reports.{is_kind, units_of, asked_units, change_of, part_of, parts_of, asks_other, reports_other, wrong_units};
+
+use commands::{Avp, Requested, Service, UsedParts};
+use reserving::FlatTariff;
+use std::alloc::{AllocError, Global};
+use units::{TariffChangeUsage, UnitKind, Units, UsedPart, blocks_started};
+
+/// The most blocks that a report can start.
+const MOST_BLOCKS: u64 = 1_000_000_000;
+
+fn is_kind(a: UnitKind, b: UnitKind) -> bool
+    ensures { result ≡ is_kind a b }
+{
+    match (a, b) {
+        (UnitKind::Time, UnitKind::Time) => true,
+        (UnitKind::TotalOctets, UnitKind::TotalOctets) => true,
+        (UnitKind::ServiceSpecific, UnitKind::ServiceSpecific) => true,
+        _ => false,
+    }
+}
+
+/// The units that a service asks for; None: the group's slice.
+pub(crate) fn asked_units(requested: &Option<Requested>) -> Option<Units>
+    ensures { option_map (λ u. u.0) result ≡ asked_units requested.now }
+{
+    match requested {
+        Some(Requested::Units(quantity)) => Some(Units(quantity.units())),
+        _ => None,
+    }
+}
+
+fn change_of(tag: commands::TariffChangeUsage) -> TariffChangeUsage
+    ensures { result ≡ change_of tag }
+{
+    match tag {
+        commands::TariffChangeUsage::UnitBeforeTariffChange => {
+            TariffChangeUsage::UnitBeforeTariffChange
+        }
+        commands::TariffChangeUsage::UnitAfterTariffChange => {
+            TariffChangeUsage::UnitAfterTariffChange
+        }
+        commands::TariffChangeUsage::UnitIndeterminate => TariffChangeUsage::UnitIndeterminate,
+    }
+}
+
+fn part_of(part: &commands::UsedPart) -> UsedPart
+    ensures { result ≡ part_of part.now }
+{
+    UsedPart {
+        units: Units(part.units),
+        change: match part.tag {
+            Some(tag) => Some(change_of(tag)),
+            None => None,
+        },
+    }
+}
+
+fn report_parts(alloc: Global, used: &UsedParts) -> Result<Vec<UsedPart>, AllocError>
+    ensures { IfOk result (λ v. v.items ≡ map part_of used.now.parts) }
+{
+    used.parts().iter().map(|part| part_of(part)).collect(alloc)
+}
+
+/// The parts of a service's report; none without a report.
+pub(crate) fn parts_of(alloc: Global, service: &Service) -> Result<Vec<UsedPart>, AllocError>
+    ensures { IfOk result (λ v. v.items ≡ parts_of service.now.used) }
+{
+    match &service.used {
+        Some(used) => report_parts(alloc, used),
+        None => Ok(Vec::new(alloc)),
+    }
+}
+
+fn asks_other(kind: UnitKind, requested: &Option<Requested>) -> bool
+    ensures { result ≡ asks_other kind requested.now }
+{
+    match requested {
+        Some(Requested::Units(quantity)) => !is_kind(quantity.kind(), kind),
+        _ => false,
+    }
+}
+
+/// The units of a list of parts.
+fn units_of(parts: &[commands::UsedPart]) -> u64
+    requires { sum_by (λ p. p.units) parts.now < 2 ^ 64 }
+    ensures { result ≡ sum_by (λ p. p.units) parts.now }
+{
+    parts.iter().map(|part| part.units).sum()
+}
+
+/// The units of a report, all its parts together.
+fn reported_units(used: &UsedParts) -> u64
+    ensures { result ≡ reported (map part_of used.now.parts) }
+{
+    units_of(used.parts())
+}
+
+fn reports_other(tariff: &FlatTariff, before: u64, used: &UsedParts) -> bool
+    ensures { result ≡ reports_other tariff.now before (Some used.now) }
+{
+    let block = tariff.block();
+    let units = Units(reported_units(used));
+    !is_kind(used.kind(), tariff.kind())
+        || MOST_BLOCKS < blocks_started(Units(before), units, block).0
+}
+
+/// What is wrong with the units of a service of a known group, what it asks for first; `before` is the session's
+/// use of the group so far.
+pub(crate) fn wrong_units(tariff: &FlatTariff, before: u64, service: &Service) -> Option<Avp>
+    ensures { result ≡ wrong_units tariff.now before service.now }
+{
+    if service.group != tariff.group() {
+        return None;
+    }
+    if asks_other(tariff.kind(), &service.requested) {
+        return Some(Avp::RequestedUnit);
+    }
+    match &service.used {
+        Some(used) if reports_other(tariff, before, used) => Some(Avp::UsedUnit),
+        _ => None,
+    }
+}

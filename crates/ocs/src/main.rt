@@ -1,0 +1,61 @@
+//! `ocs`: online charging for prepaid subscribers, from lines of requests to lines of answers.
+#![tactic(auto)]
+
+mod fault;
+mod lines;
+mod office;
+mod words;
+
+use std::env;
+use std::io;
+use std::io::{BufReader, Read, Write};
+use std::process::ExitCode;
+
+use byte_streams::write_whole;
+
+use crate::fault::LinesFault;
+use crate::lines::lines;
+use crate::words::once_words;
+
+fn main(rt: HostRuntime) -> io::Result<ExitCode> {
+    let alloc = rt.alloc();
+    let owned: Vec<String> = env::args(&rt)?.collect(alloc)?;
+    let words: Vec<&str> = owned.iter().map(|word| word.as_str()).collect(alloc)?;
+    let mut reader = BufReader::new(alloc, rt.reader())?;
+    let status = run_words(
+        &rt,
+        words.as_slice(),
+        &mut reader,
+        &mut io::writer(&rt),
+        &mut rt.stderr(),
+    );
+    Ok(ExitCode::from(status))
+}
+
+/// Runs the program's words: 0 where they were done, 1 at a fault, which is one line on `errors`, and 2 where the
+/// words weren't read.
+pub fn run_words<R: AllocGlobal, I: Read, O: Write, E: Write>(
+    rt: &R,
+    words: &[&str],
+    input: &mut I,
+    output: &mut O,
+    errors: &mut E,
+) -> u8 {
+    let Some(once) = once_words(words) else {
+        return 2;
+    };
+    match lines(rt.alloc(), input, output, &once.tariff, once.credit) {
+        Ok(_account) => 0,
+        Err(fault) => {
+            let _ = write_whole(errors, fault_line(fault));
+            1
+        }
+    }
+}
+
+fn fault_line(fault: LinesFault) -> &'static [u8] {
+    match fault {
+        LinesFault::Memory => b"ocs: memory fault\n",
+        LinesFault::File => b"ocs: file fault\n",
+    }
+}
