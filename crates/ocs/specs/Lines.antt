@@ -1,18 +1,13 @@
 -- A line of input: the moment of a command, one space, and a request for credit control as JSON.
-use Rattle.std.specs.Prelude.{ℕ, ◌==◌, ◌&&◌, List, length, Option, None, Result, Ok, Err, nat_lt, if◌then◌else◌}
+use Rattle.std.specs.Prelude.{ℕ, Bool, ◌==◌, ◌&&◌, List, length, Option, None, Result, Ok, nat_lt, if◌then◌else◌}
 use Rattle.std.specs.List.{before_first, after_first, position_or_len}
 use Rattle.std.specs.Str.{is_utf8}
-use Rattle.commands.specs.declared.request.Request.{Request}
 use Rattle.json_fields.specs.declared.fault.WireFault.{WireFault}
 use Rattle.json_fields.specs.declared.fault.WireFault.TheVariants.{NotRequest}
 use Rattle.json_fields.specs.Gives.{◌>>=◌, or_fault}
 use Rattle.operator.specs.Lines.{moment_of}
 use Rattle.wire_requests.specs.Reading.{request_of}
-
--- a request, and the moment that it is handed in with
-pub record Dated : Type 0 where
-  pub moment : ℕ
-  pub request : Request
+use Rattle.ocs.specs.declared.reading.DatedRequest.{DatedRequest}
 
 -- a space is found in a text
 abbrev pub is_parted : List ℕ → Bool
@@ -22,10 +17,14 @@ is_parted line = is_utf8 line && nat_lt (position_or_len (λ b. b == 32) line) (
 abbrev pub line_moment : List ℕ → Option ℕ
 line_moment line = if is_parted line then moment_of (before_first (λ b. b == 32) line) else None
 
+-- what follows the first space
+abbrev pub line_rest : List ℕ → List ℕ
+line_rest line = after_first (λ b. b == 32) line
+
 -- the request of a line, or the first fault: it isn't a moment of 1 to 10 digits, a space and a body; then the
 -- body's
-abbrev pub line_request : List ℕ → Result Dated WireFault
+abbrev pub line_request : List ℕ → Result DatedRequest WireFault
 line_request line =
     or_fault NotRequest (line_moment line) >>= λ t.
-    request_of (after_first (λ b. b == 32) line) >>= λ r.
+    request_of (line_rest line) >>= λ r.
     Ok (record { moment = t; request = r })

@@ -1,3 +1,7 @@
+ghost use Rattle.std.specs.Prelude.{◌≡◌, Option, option_map, IfOk, IfSome, OnErr};
+ghost use Rattle.ocs.specs.Served.{Subscriber, run, line_text};
+ghost use Rattle.ocs.specs.Office.{IsServing, IsLineServed, IsAccountAfter, IsRun, WritesBeginning};
+
 use std::alloc::Global;
 use std::io::{Read, Write};
 
@@ -6,29 +10,70 @@ use commands::RequestKind;
 use reserving::{Account, FlatTariff};
 use units::Money;
 
+use crate::account::Opened;
 use crate::fault::LinesFault;
 use crate::office::Office;
 
 /// Answers at most two lines `MOMENT JSON`, an initial request and a termination, a line each, and gives back the
 /// account: none where no line was read as a request. The first request's account is opened before it with one
-/// bucket of this amount.
+/// bucket of this amount in micro-units, from the beginning and without end.
+///
+/// # Errors
+/// Want of memory, or a fault of the reader or the writer. Then a beginning of the answers is written.
 pub fn lines<'b, R: Read, W: Write>(
     alloc: Global,
     reader: &mut R,
     writer: &mut W,
     tariff: &'b FlatTariff,
     credit: Money,
-) -> Result<Option<Account<'b>>, LinesFault> {
-    let mut office = Office::new(alloc, tariff, credit);
-    for kind in [RequestKind::Initial, RequestKind::Termination] {
-        let Some(line) = next_line(alloc, reader)? else {
-            break;
-        };
-        let mut text = office.answer(kind, &line)?;
-        text.push('\n')?;
-        write_whole(writer, text.as_bytes())?;
+) -> Result<Option<Account<'b>>, LinesFault>
+    ensures run { IfOk result (λ account. IfSome (R.remaining reader.old) (λ stream.
+        IsRun tariff.now (run tariff.now credit stream) (W.contents writer.old) (W.contents writer.new) account)) }
+    ensures err { OnErr result (IfSome (R.remaining reader.old) (λ stream.
+        WritesBeginning (W.contents writer.old) (W.contents writer.new) (run tariff.now credit stream).text)) }
+{
+    let office = Office {
+        alloc,
+        tariff,
+        credit,
+    };
+    let mut opened = None;
+    if answer_line(&office, RequestKind::Initial, reader, writer, &mut opened)? {
+        answer_line(&office, RequestKind::Termination, reader, writer, &mut opened)?;
     }
-    Ok(office.into_account())
+    Ok(account_of(opened))
+}
+
+/// Answers the next line; false where there is none.
+fn answer_line<'b, R: Read, W: Write>(
+    office: &Office<'b>,
+    kind: RequestKind,
+    reader: &mut R,
+    writer: &mut W,
+    opened: &mut Option<Opened<'b>>,
+) -> Result<bool, LinesFault>
+    ensures served { IfOk result (λ more. IfSome (R.remaining reader.old) (λ stream. (x : Option Subscriber) → IsServing office.now.tariff.now x opened.old →
+        IsLineServed kind office.now.tariff.now office.now.credit stream x more (R.remaining reader.new) (W.contents writer.old) (W.contents writer.new) opened.new)) }
+    ensures err { OnErr result (IfSome (R.remaining reader.old) (λ stream. (x : Option Subscriber) → IsServing office.now.tariff.now x opened.old →
+        WritesBeginning (W.contents writer.old) (W.contents writer.new) (line_text kind office.now.tariff.now office.now.credit stream x))) }
+{
+    let Some(line) = next_line(office.alloc, reader)? else {
+        return Ok(false);
+    };
+    let mut text = office.answer(opened, kind, &line)?;
+    text.push('\n')?;
+    write_whole(writer, text.as_bytes())?;
+    Ok(true)
+}
+
+/// The account that was opened.
+fn account_of(opened: Option<Opened<'_>>) -> Option<Account<'_>>
+    ensures { result ≡ option_map (λ o. o.account) opened.entry }
+{
+    match opened {
+        Some(Opened { account, .. }) => Some(account),
+        None => None,
+    }
 }
 
 #[cfg(test)]

@@ -1,9 +1,11 @@
 //! `ocs`: online charging for prepaid subscribers, from lines of requests to lines of answers.
 #![tactic(auto)]
 
+mod account;
 mod fault;
 mod lines;
 mod office;
+mod reading;
 mod words;
 
 use std::env;

@@ -1,172 +1,102 @@
-ghost use Rattle.std.specs.Prelude.{◌≤◌};
+ghost use Rattle.std.specs.Prelude.{◌≡◌, ℕ, Option, IfOk, IfSome, IsTrue, take, ◌++◌, ◌∷◌, [], OnErr, string_bytes};
+ghost use Rattle.std.specs.Io.KnownBytes.{Appends};
+ghost use Rattle.ocs.specs.Served.{Subscriber, services_of, misplaced, placed, served_line, subscriber_of};
+ghost use Rattle.ocs.specs.Office.{IsServing, IsOpenedFor, IsServed};
 
 use std::alloc::Global;
 
-use charging::{decide, is_accepted};
-use commands::{Answer, Ask, Avp, Failure, Outcome, Request, RequestAnswer, RequestKind};
-use identifiers::{AccountNumber, SessionId};
+use commands::{Answer, Ask, Avp, Request, RequestKind};
 use json_fields::WireFault;
-use operator::dated_line;
-use reserving::{Account, FlatTariff};
-use units::{Moment, Money};
+use reserving::FlatTariff;
+use units::Money;
 use wire_answers::{write_answer, write_fault};
-use wire_requests::read_request;
 
+use crate::account::Opened;
 use crate::fault::LinesFault;
+use crate::reading::{DatedRequest, read_line};
 
-/// The key of an accepted request.
-#[derive(Drop)]
-struct Key {
-    session: SessionId,
-    number: u32,
-}
-
-/// An account that was opened, and the keys of its accepted requests.
-#[derive(Drop)]
-struct Opened<'b> {
-    number: AccountNumber,
-    account: Account<'b>,
-    recorded: Vec<Key>,
-}
-
-/// One account, opened by the first request, and the requests to it.
-#[derive(Drop)]
+/// What an account is opened with: its tariff, and the amount of its bucket.
+#[derive(Clone, Copy)]
 pub(crate) struct Office<'b> {
-    alloc: Global,
-    tariff: &'b FlatTariff,
-    credit: Money,
-    opened: Option<Opened<'b>>,
+    pub(crate) alloc: Global,
+    pub(crate) tariff: &'b FlatTariff,
+    pub(crate) credit: Money,
 }
 
 impl<'b> Office<'b> {
-    /// An office without an account: the first request opens it, with one bucket of this amount.
-    pub(crate) fn new(alloc: Global, tariff: &'b FlatTariff, credit: Money) -> Self {
-        Office {
-            alloc,
-            tariff,
-            credit,
-            opened: None,
-        }
-    }
-
-    /// The account, where a request opened it.
-    pub(crate) fn into_account(self) -> Option<Account<'b>> {
-        let Office { opened, .. } = self;
-        match opened {
-            None => None,
-            Some(Opened { account, .. }) => Some(account),
-        }
-    }
-
-    /// The text of the answer to a line that is to be a request of this kind.
-    pub(crate) fn answer(&mut self, kind: RequestKind, line: &[u8]) -> Result<String, LinesFault> {
-        let Ok(line) = str::from_utf8(line) else {
-            return Ok(write_fault(self.alloc, WireFault::NotRequest)?);
-        };
-        let Some(dated) = dated_line(line) else {
-            return Ok(write_fault(self.alloc, WireFault::NotRequest)?);
-        };
-        match read_request(self.alloc, dated.body.as_bytes()) {
-            Ok(request) => self.serve(kind, &request, dated.moment),
+    /// The text of the answer to a line that is to be a request of this kind. The first request opens the account.
+    pub(crate) fn answer(
+        &self,
+        opened: &mut Option<Opened<'b>>,
+        kind: RequestKind,
+        line: &[u8],
+    ) -> Result<String, LinesFault>
+        ensures { IfOk result (λ text. (x : Option Subscriber) → IsServing self.now.tariff.now x opened.old →
+            IsServed self.now.tariff.now (served_line kind self.now.tariff.now self.now.credit line.now x) (string_bytes text) opened.new) }
+    {
+        match read_line(self.alloc, line) {
+            Ok(dated) => self.serve(opened, kind, &dated),
             Err(WireFault::Memory) => Err(LinesFault::Memory),
             Err(fault) => Ok(write_fault(self.alloc, fault)?),
         }
     }
 
     fn serve(
-        &mut self,
+        &self,
+        opened: &mut Option<Opened<'b>>,
         kind: RequestKind,
-        request: &Request,
-        moment: Moment,
-    ) -> Result<String, LinesFault> {
-        if let Some(fault) = unserved(kind, request) {
+        dated: &DatedRequest,
+    ) -> Result<String, LinesFault>
+        ensures { IfOk result (λ text. (x : Option Subscriber) → IsServing self.now.tariff.now x opened.old →
+            IsServed self.now.tariff.now (placed (misplaced kind dated.now.request) self.now.tariff.now self.now.credit dated.now x) (string_bytes text) opened.new) }
+    {
+        if let Some(fault) = misplaced(kind, &dated.request) {
             return Ok(write_fault(self.alloc, fault)?);
         }
-        let mut opened = match self.opened.take() {
-            Some(opened) => opened,
-            None => open_account(self.alloc, self.tariff, self.credit, &request.account)?,
-        };
-        let answer = opened.answer(self.alloc, request, moment)?;
-        self.opened = Some(opened);
+        let mut account = self.opened_for(opened.take(), &dated.request)?;
+        let answer = account.answer(self.alloc, dated)?;
+        *opened = Some(account);
         Ok(write_answer(self.alloc, &Answer::Request(answer))?)
     }
-}
 
-impl<'b> Opened<'b> {
-    /// The answer to a request at the later of its moment and the account's last change.
-    fn answer(
-        &mut self,
-        alloc: Global,
+    /// The account, which a first request opens.
+    fn opened_for(
+        &self,
+        opened: Option<Opened<'b>>,
         request: &Request,
-        moment: Moment,
-    ) -> Result<RequestAnswer, LinesFault> {
-        if request.account != self.number {
-            return Ok(RequestAnswer {
-                session: request.session.clone()?,
-                kind: request.kind(),
-                number: request.number,
-                outcome: Outcome::Failed(Failure::UserUnknown),
-            });
+    ) -> Result<Opened<'b>, LinesFault>
+        ensures { IfOk result (λ account. (x : Option Subscriber) → IsServing self.now.tariff.now x opened.entry →
+            IsOpenedFor self.now.tariff.now (subscriber_of self.now.credit request.now x) account) }
+    {
+        match opened {
+            Some(opened) => Ok(opened),
+            None => Opened::new(self.alloc, self.tariff, self.credit, &request.account),
         }
-        let session = request.session.clone()?;
-        self.recorded.reserve(1)?;
-        let recorded = is_recorded(&self.recorded, request);
-        let at = later(moment, self.account.as_of());
-        let answer = decide(alloc, &mut self.account, request, recorded, at)?;
-        if is_accepted(&answer.outcome) {
-            let number = request.number;
-            self.recorded.push_reserved(Key { session, number });
-        }
-        Ok(answer)
     }
 }
 
-/// Opens an account with one bucket, from the beginning and without end.
-fn open_account<'b>(
-    alloc: Global,
-    tariff: &'b FlatTariff,
-    credit: Money,
-    number: &AccountNumber,
-) -> Result<Opened<'b>, LinesFault> {
-    let number = number.clone()?;
-    let mut account = Account::new(alloc, tariff);
-    let first = Moment::first();
-    let Ok(_bucket) = account.credit(first, Moment::no_end(), None, credit, first) else {
-        return Err(LinesFault::Memory);
-    };
-    let recorded = Vec::new(alloc);
-    Ok(Opened {
-        number,
-        account,
-        recorded,
-    })
-}
-
-/// The later of two moments.
-fn later(one: Moment, other: Moment) -> Moment
-    ensures { other ≤ result }
+/// How many services a request has in its place.
+fn services_of(ask: &Ask) -> usize
+    ensures { result ≡ services_of ask.now }
 {
-    if one < other { other } else { one }
-}
-
-fn is_recorded(keys: &[Key], request: &Request) -> bool {
-    keys.iter()
-        .any(|key| key.number == request.number && key.session == request.session)
-}
-
-/// Why a request isn't served in its place: it is of another type, or it has more than one service.
-fn unserved(kind: RequestKind, request: &Request) -> Option<WireFault> {
-    if request.kind() != kind {
-        return Some(WireFault::Invalid(Avp::RequestType));
-    }
-    let services = match &request.ask {
+    match ask {
         Ask::Initial(services) => services.as_slice().len(),
         Ask::Termination(services) => services.as_slice().len(),
-        Ask::Update(_) | Ask::Event(_) | Ask::Refund(_) => 0,
-    };
-    if 1 < services {
-        Some(WireFault::Invalid(Avp::Services))
-    } else {
-        None
+        Ask::Update(_) => 0,
+        Ask::Event(_) => 0,
+        Ask::Refund(_) => 0,
     }
+}
+
+/// What is wrong with a request in its place: it is of another type, or it has more than one service.
+fn misplaced(kind: RequestKind, request: &Request) -> Option<WireFault>
+    ensures { result ≡ misplaced kind request.now }
+{
+    if request.kind().number() != kind.number() {
+        return Some(WireFault::Invalid(Avp::RequestType));
+    }
+    if 1 < services_of(&request.ask) {
+        return Some(WireFault::Invalid(Avp::Services));
+    }
+    None
 }
