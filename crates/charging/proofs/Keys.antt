@@ -68,7 +68,7 @@ module _ (s : List ℕ) (n : ℕ) (f : Flat) (t : ℕ) (session : List ℕ) wher
 
   recorded-settled_by : (g : ℕ) (used_parts : List UsedPart) (ledger : Ledger) → is_recorded s n (settled_by f t session g used_parts ledger) ≡ is_recorded s n ledger
   recorded-settled_by g [] ledger = refl
-  recorded-settled_by g (p ∷ ps) ledger = 
+  recorded-settled_by g (p ∷ ps) ledger =
       recorded-charge_facts s n t (parts (paid holds g t rated rows) rows) ledger
     where
       rows : List Row

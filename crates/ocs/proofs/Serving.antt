@@ -64,9 +64,9 @@ own_kept f d x old new recorded at answer h at_is seen decided number items =
           rows = rows;
         };
         keys = λ s n.
-        ap (list_any (is_key s n)) (items ∙ (λ i. if is_accepted (same i).outcome then old.recorded.items ++ key_of r ∷ [] else old.recorded.items))
-        ∙ key_kept (is_key s n) (key_of r) old.recorded.items (is_recorded s n x.ledger) (is_accepted right.outcome) (h.keys s n)
-        ∙ sym (key-decision s n f (max d.moment x.as_of) r x.ledger);
+            ap (list_any (is_key s n)) (items ∙ (λ i. if is_accepted (same i).outcome then old.recorded.items ++ key_of r ∷ [] else old.recorded.items))
+            ∙ key_kept (is_key s n) (key_of r) old.recorded.items (is_recorded s n x.ledger) (is_accepted right.outcome) (h.keys s n)
+            ∙ sym (key-decision s n f (max d.moment x.as_of) r x.ledger);
       };
     }
 

@@ -7,16 +7,14 @@ ghost use Rattle.charging.specs.Decisions.{answer_of};
 ghost use Rattle.ocs.specs.Served.{Subscriber, opening, own_answer, own_after, answer_to, after_of};
 ghost use Rattle.ocs.specs.Office.{is_key, IsOpenedFor, IsAnswered};
 
-use std::alloc::{AllocError, Global};
-
+use crate::fault::LinesFault;
+use crate::reading::DatedRequest;
 use charging::{decide, is_accepted};
 use commands::{Failure, Outcome, Request, RequestAnswer};
 use identifiers::{AccountNumber, SessionId};
 use reserving::{Account, FlatTariff};
+use std::alloc::{AllocError, Global};
 use units::{Moment, Money};
-
-use crate::fault::LinesFault;
-use crate::reading::DatedRequest;
 
 /// The key of an accepted request.
 #[derive(Drop)]
@@ -123,6 +121,5 @@ fn later(one: Moment, other: Moment) -> Moment
 fn is_recorded(keys: &[Key], request: &Request) -> bool
     ensures { result ≡ list_any (is_key request.now.session request.now.number) keys.now }
 {
-    keys.iter()
-        .any(|key| key.session == request.session && key.number == request.number)
+    keys.iter().any(|key| key.session == request.session && key.number == request.number)
 }

@@ -1,6 +1,5 @@
-use std::alloc::AllocError;
-
 use byte_streams::StreamFault;
+use std::alloc::AllocError;
 use thiserror::Error;
 
 /// Why lines weren't answered to their end.

@@ -2,17 +2,15 @@ ghost use Rattle.std.specs.Prelude.{◌≡◌, Option, option_map, IfOk, IfSome,
 ghost use Rattle.ocs.specs.Served.{Subscriber, run, line_text};
 ghost use Rattle.ocs.specs.Office.{IsServing, IsLineServed, IsAccountAfter, IsRun, WritesBeginning};
 
-use std::alloc::Global;
-use std::io::{Read, Write};
-
-use byte_streams::{next_line, write_whole};
-use commands::RequestKind;
-use reserving::{Account, FlatTariff};
-use units::Money;
-
 use crate::account::Opened;
 use crate::fault::LinesFault;
 use crate::office::Office;
+use byte_streams::{next_line, write_whole};
+use commands::RequestKind;
+use reserving::{Account, FlatTariff};
+use std::alloc::Global;
+use std::io::{Read, Write};
+use units::Money;
 
 /// Answers at most two lines `MOMENT JSON`, an initial request and a termination, a line each, and gives back the
 /// account: none where no line was read as a request. The first request's account is opened before it with one
@@ -39,7 +37,13 @@ pub fn lines<'b, R: Read, W: Write>(
     };
     let mut opened = None;
     if answer_line(&office, RequestKind::Initial, reader, writer, &mut opened)? {
-        answer_line(&office, RequestKind::Termination, reader, writer, &mut opened)?;
+        answer_line(
+            &office,
+            RequestKind::Termination,
+            reader,
+            writer,
+            &mut opened,
+        )?;
     }
     Ok(account_of(opened))
 }

@@ -8,16 +8,20 @@ mod office;
 mod reading;
 mod words;
 
-use std::env;
-use std::io;
-use std::io::{BufReader, Read, Write};
-use std::process::ExitCode;
-
-use byte_streams::write_whole;
+ghost use Rattle.std.specs.Prelude.{◌≡◌, ◌≤◌, IfSome, Some, None};
+ghost use Rattle.std.specs.Io.KnownBytes.{Appends, Keeps};
+ghost use Rattle.ocs.specs.declared.words.OnceWords.{OnceWords};
+ghost use Rattle.ocs.specs.Words.{IsOnce, once_of};
+ghost use Rattle.ocs.specs.Served.{run};
+ghost use Rattle.ocs.specs.Office.{WritesBeginning};
 
 use crate::fault::LinesFault;
 use crate::lines::lines;
 use crate::words::once_words;
+use byte_streams::write_whole;
+use std::io::{BufReader, Read, Write};
+use std::process::ExitCode;
+use std::{env, io};
 
 fn main(rt: HostRuntime) -> io::Result<ExitCode> {
     let alloc = rt.alloc();
@@ -42,7 +46,15 @@ pub fn run_words<R: AllocGlobal, I: Read, O: Write, E: Write>(
     input: &mut I,
     output: &mut O,
     errors: &mut E,
-) -> u8 {
+) -> u8
+    ensures other { (IsOnce words.now → once_of words.now ≡ None) → result ≡ 2 }
+    ensures unwritten { result ≡ 2 → Keeps (O.contents output.old) (O.contents output.new) }
+    ensures once { (once : OnceWords) → IsOnce words.now → once_of words.now ≡ Some once → result ≤ 1 }
+    ensures done { (once : OnceWords) → IsOnce words.now → once_of words.now ≡ Some once → result ≡ 0 →
+        IfSome (I.remaining input.old) (λ stream. Appends (O.contents output.old) (O.contents output.new) (run once.tariff once.credit stream).text) }
+    ensures fault { (once : OnceWords) → IsOnce words.now → once_of words.now ≡ Some once → result ≡ 1 →
+        IfSome (I.remaining input.old) (λ stream. WritesBeginning (O.contents output.old) (O.contents output.new) (run once.tariff once.credit stream).text) }
+{
     let Some(once) = once_words(words) else {
         return 2;
     };

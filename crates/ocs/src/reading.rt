@@ -2,11 +2,10 @@ ghost use Rattle.std.specs.Prelude.{◌≡◌, option_map, IfSome};
 ghost use Rattle.json_fields.specs.Gives.{Gives};
 ghost use Rattle.ocs.specs.Lines.{line_moment, line_rest, line_request};
 
-use std::alloc::Global;
-
 use commands::Request;
 use json_fields::WireFault;
 use operator::{DatedLine, dated_line};
+use std::alloc::Global;
 use units::Moment;
 use wire_requests::read_request;
 

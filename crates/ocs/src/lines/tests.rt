@@ -2,17 +2,35 @@ use super::*;
 use std::test::Fail;
 use units::UnitKind;
 
-const ASKED: &[u8] = b"1767607200 {\"Session-Id\":\"s3\",\"CC-Request-Type\":1,\"CC-Request-Number\":0,\"Subscription-Id\":{\"Subscription-Id-Type\":0,\"Subscription-Id-Data\":\"49151\"},\"Multiple-Services-Credit-Control\":[{\"Rating-Group\":10,\"Requested-Service-Unit\":{\"CC-Time\":600}}]}\n1767607500 {\"Session-Id\":\"s3\",\"CC-Request-Type\":3,\"CC-Request-Number\":1,\"Subscription-Id\":{\"Subscription-Id-Type\":0,\"Subscription-Id-Data\":\"49151\"},\"Multiple-Services-Credit-Control\":[{\"Rating-Group\":10,\"Used-Service-Unit\":[{\"CC-Time\":300}]}]}\n";
+const ASKED: &[u8] =
+    b"1767607200 {\"Session-Id\":\"s3\",\"CC-Request-Type\":1,\"CC-Request-Number\":0,\"Subscription-Id\":{\"Subscription-Id-Type\":0,\"Subscription-Id-Data\":\"49151\"},\"Multiple-Services-Credit-Control\":[{\"Rating-Group\":10,\"Requested-Service-Unit\":{\"CC-Time\":600}}]}\n1767607500 {\"Session-Id\":\"s3\",\"CC-Request-Type\":3,\"CC-Request-Number\":1,\"Subscription-Id\":{\"Subscription-Id-Type\":0,\"Subscription-Id-Data\":\"49151\"},\"Multiple-Services-Credit-Control\":[{\"Rating-Group\":10,\"Used-Service-Unit\":[{\"CC-Time\":300}]}]}\n";
+
+const GRANTED: &[u8] =
+    b"{\"CC-Request-Number\":0,\"CC-Request-Type\":1,\"Multiple-Services-Credit-Control\":[{\"Final-Unit-Indication\":{\"Final-Unit-Action\":0},\"Granted-Service-Unit\":{\"CC-Time\":120},\"Rating-Group\":10,\"Result-Code\":2001,\"Validity-Time\":3600}],\"Result-Code\":2001,\"Session-Id\":\"s3\"}\n{\"CC-Request-Number\":1,\"CC-Request-Type\":3,\"Multiple-Services-Credit-Control\":[{\"Rating-Group\":10,\"Result-Code\":2001}],\"Result-Code\":2001,\"Session-Id\":\"s3\"}\n";
+
+const ENDED_AGAIN: &[u8] =
+    b"1767607200 {\"Session-Id\":\"s3\",\"CC-Request-Type\":1,\"CC-Request-Number\":0,\"Subscription-Id\":{\"Subscription-Id-Type\":0,\"Subscription-Id-Data\":\"49151\"},\"Multiple-Services-Credit-Control\":[{\"Rating-Group\":10,\"Requested-Service-Unit\":{\"CC-Time\":600}}]}\n1767607500 {\"Session-Id\":\"s3\",\"CC-Request-Type\":3,\"CC-Request-Number\":0,\"Subscription-Id\":{\"Subscription-Id-Type\":0,\"Subscription-Id-Data\":\"49151\"}}\n";
+
+const DENIED: &[u8] =
+    b"{\"CC-Request-Number\":0,\"CC-Request-Type\":1,\"Result-Code\":4012,\"Session-Id\":\"s3\"}\n{\"CC-Request-Number\":0,\"CC-Request-Type\":3,\"Failed-AVP\":\"CC-Request-Number\",\"Result-Code\":5004,\"Session-Id\":\"s3\"}\n";
+
+const UNKNOWN: &[u8] =
+    b"{\"CC-Request-Number\":0,\"CC-Request-Type\":1,\"Result-Code\":4012,\"Session-Id\":\"s3\"}\n{\"CC-Request-Number\":1,\"CC-Request-Type\":3,\"Result-Code\":5002,\"Session-Id\":\"s3\"}\n";
+
+fn tariff() -> Option<FlatTariff> {
+    FlatTariff::new(10, UnitKind::Time, 60, 600, 3_600, 100_000, 3_600)
+}
 
 /// A grant of two blocks of five used: two are collected.
 #[test]
 fn a_session_from_line_to_line(rt: HostRuntime) -> Result<(), Fail> {
     let alloc = rt.alloc();
-    let tariff = FlatTariff::new(10, UnitKind::Time, 60, 600, 3_600, 100_000, 3_600).ok_or("a tariff")?;
+    let tariff = tariff().ok_or("a tariff")?;
     let credit = Money::new(250_000).ok_or("an amount")?;
     let mut input = ASKED;
     let mut output = Vec::new(alloc);
     let account = lines(alloc, &mut input, &mut output, &tariff, credit)?.ok_or("an account")?;
+    assert_eq!(rt; output.as_slice(), GRANTED);
     let buckets = account.purse().buckets();
     assert_eq!(rt; buckets.len(), 1);
     let bucket = &buckets[0];
@@ -21,5 +39,31 @@ fn a_session_from_line_to_line(rt: HostRuntime) -> Result<(), Fail> {
     assert_eq!(rt; bucket.reserved(), 0);
     assert_eq!(rt; bucket.charged(), 250_000);
     assert_eq!(rt; bucket.expired(), 0);
+    Ok(())
+}
+
+/// An amount below a block's price grants nothing: the denied request's number is kept.
+#[test]
+fn a_denied_request_keeps_its_number(rt: HostRuntime) -> Result<(), Fail> {
+    let alloc = rt.alloc();
+    let tariff = tariff().ok_or("a tariff")?;
+    let credit = Money::new(40_000).ok_or("an amount")?;
+    let mut input = ENDED_AGAIN;
+    let mut output = Vec::new(alloc);
+    let _account = lines(alloc, &mut input, &mut output, &tariff, credit)?;
+    assert_eq!(rt; output.as_slice(), DENIED);
+    Ok(())
+}
+
+/// And it opens no session.
+#[test]
+fn a_denied_request_opens_no_session(rt: HostRuntime) -> Result<(), Fail> {
+    let alloc = rt.alloc();
+    let tariff = tariff().ok_or("a tariff")?;
+    let credit = Money::new(40_000).ok_or("an amount")?;
+    let mut input = ASKED;
+    let mut output = Vec::new(alloc);
+    let _account = lines(alloc, &mut input, &mut output, &tariff, credit)?;
+    assert_eq!(rt; output.as_slice(), UNKNOWN);
     Ok(())
 }

@@ -22,14 +22,16 @@ returns-clause-run g c =
     let f : Flat = c.args.tariff.now in
     let right : Option (List ℕ) → Option Opened → Type 0 = λ w o. IfSome (g.R.Read.remaining c.args.reader.now) (λ stream. IsRun f (run f c.args.credit stream) (g.W.Write.contents c.args.writer.now) w (option_map (λ a. a.account) o)) in
     let done : right (g.W.Write.contents c.if-branch.writer) c.if-branch.opened =
-    elim c.if-branch.branch [ then-branch+in_ok-answer_line-2 w ↦
-    subst (λ o. right (g.W.Write.contents c.if-branch.writer) o) (sym w.opened-is)
-    (subst (λ v. right (g.W.Write.contents v) w.answer_line-then-branch.new.opened) (sym w.writer-is)
-    (both_served f c.args.credit (g.R.Read.remaining c.args.reader.now) (g.R.Read.remaining c.answer_line.new.reader) (g.R.Read.remaining w.answer_line-then-branch.new.reader) (g.W.Write.contents c.args.writer.now) (g.W.Write.contents c.answer_line.new.writer) (g.W.Write.contents w.answer_line-then-branch.new.writer)
-    c.in_ok-answer_line.field-0 w.in_ok-answer_line-2.field-0 c.answer_line.new.opened w.answer_line-then-branch.new.opened c.in_ok-answer_line.ensures.served w.in_ok-answer_line-2.ensures.served))
-    | else-branch w ↦
-    subst (λ o. right (g.W.Write.contents c.if-branch.writer) o) (sym w.opened-is)
-    (subst (λ v. right (g.W.Write.contents v) c.answer_line.new.opened) (sym w.writer-is)
-    (none_served f c.args.credit (g.R.Read.remaining c.args.reader.now) (g.R.Read.remaining c.answer_line.new.reader) (g.W.Write.contents c.args.writer.now) (g.W.Write.contents c.answer_line.new.writer)
-    c.in_ok-answer_line.field-0 c.answer_line.new.opened w.if-branch.false c.in_ok-answer_line.ensures.served)) ] in
+    elim c.if-branch.branch [
+      | then-branch+in_ok-answer_line-2 w ↦
+          subst (λ o. right (g.W.Write.contents c.if-branch.writer) o) (sym w.opened-is)
+          (subst (λ v. right (g.W.Write.contents v) w.answer_line-then-branch.new.opened) (sym w.writer-is)
+          (both_served f c.args.credit (g.R.Read.remaining c.args.reader.now) (g.R.Read.remaining c.answer_line.new.reader) (g.R.Read.remaining w.answer_line-then-branch.new.reader) (g.W.Write.contents c.args.writer.now) (g.W.Write.contents c.answer_line.new.writer) (g.W.Write.contents w.answer_line-then-branch.new.writer)
+          c.in_ok-answer_line.field-0 w.in_ok-answer_line-2.field-0 c.answer_line.new.opened w.answer_line-then-branch.new.opened c.in_ok-answer_line.ensures.served w.in_ok-answer_line-2.ensures.served))
+      | else-branch w ↦
+          subst (λ o. right (g.W.Write.contents c.if-branch.writer) o) (sym w.opened-is)
+          (subst (λ v. right (g.W.Write.contents v) c.answer_line.new.opened) (sym w.writer-is)
+          (none_served f c.args.credit (g.R.Read.remaining c.args.reader.now) (g.R.Read.remaining c.answer_line.new.reader) (g.W.Write.contents c.args.writer.now) (g.W.Write.contents c.answer_line.new.writer)
+          c.in_ok-answer_line.field-0 c.answer_line.new.opened w.if-branch.false c.in_ok-answer_line.ensures.served))
+    ] in
     subst (λ a. IfSome (g.R.Read.remaining c.args.reader.now) (λ stream. IsRun f (run f c.args.credit stream) (g.W.Write.contents c.args.writer.now) (g.W.Write.contents c.if-branch.writer) a)) (sym c.account_of.ensures) done
