@@ -4,5 +4,4 @@ pub mod Granted
 pub mod Opening
 pub mod Orders
 pub mod Sums
-pub mod Keys
 pub mod Single

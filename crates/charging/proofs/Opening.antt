@@ -1,20 +1,18 @@
 -- A session of one service is opened by what its service is granted.
-use Rattle.std.proofs.Common.{◌≡◌, ℕ, ◌+◌, ◌*◌, ◌<◌, ◌≤◌, Bool, true, false, List, [], ◌∷◌, refl, sym, ap, ◌∙◌, subst, arith}
-use Rattle.std.specs.Prelude.{if◌then◌else◌, nat_lt, Option, Some, None, unwrap_or}
+use Rattle.std.proofs.Common.{◌≡◌, ℕ, true, List, [], ◌∷◌, refl, ap}
+use Rattle.std.specs.Prelude.{Option, Some, None, unwrap_or}
 use Rattle.commands.specs.declared.service.Service.{Service}
-use Rattle.commands.specs.declared.answer.Outcome.{Outcome}
 use Rattle.commands.specs.declared.answer.Outcome.TheVariants.{Services}
 use Rattle.commands.specs.declared.answer.ServiceOutcome.{ServiceOutcome}
 use Rattle.reserving.specs.declared.session.SessionGroup.{SessionGroup}
 use Rattle.reserving.specs.Ledger.{Ledger}
 use Rattle.reserving.specs.FlatTariff.{Flat}
 use Rattle.reserving.specs.Requests.{touched}
-use Rattle.reserving.specs.Rows.{AccountRows, IsRowsOf}
-use Rattle.reserving.specs.Sessions.{group_in}
-use Rattle.reserving.specs.Changes.{group_or_new, new_group}
+use Rattle.reserving.specs.Rows.{AccountRows}
+use Rattle.reserving.specs.Changes.{new_group}
 use Rattle.charging.specs.Free.{IsFree}
 use Rattle.charging.specs.Granting.{granted, grants_new}
-use Rattle.charging.specs.Decisions.{Decision, opened}
+use Rattle.charging.specs.Decisions.{opened}
 use Rattle.charging.specs.Follows.{Agrees, Grants}
 
 pub opened_granted : (f : Flat) (t : ℕ) (s : List ℕ) (n : ℕ) (x : Service) (ledger : Ledger) (o : ServiceOutcome) (new : AccountRows) →

@@ -1,5 +1,5 @@
 -- The order of decisions, one test after the other.
-use Rattle.std.proofs.Common.{◌≡◌, ℕ, Bool, true, false, List, [], ◌∷◌, refl, sym, ap, ◌∙◌, Option, Some, None}
+use Rattle.std.proofs.Common.{◌≡◌, ℕ, true, false, List, [], ◌∷◌, refl, sym, ap, ◌∙◌, Option, Some, None}
 use Rattle.commands.specs.declared.avp.Avp.{Avp}
 use Rattle.commands.specs.declared.avp.Avp.TheVariants.{SessionId, RequestNumber}
 use Rattle.commands.specs.declared.service.Service.{Service}
@@ -13,7 +13,7 @@ use Rattle.reserving.specs.Rows.{AccountRows, IsRowsOf}
 use Rattle.charging.specs.Recorded.{has_record, is_late}
 use Rattle.charging.specs.Reports.{wrong_units, units_fault}
 use Rattle.charging.specs.Settling.{settled_services, settled_answers, any_passes}
-use Rattle.charging.specs.Decisions.{Decision, invalid, opened, initial_decision, termination_decision}
+use Rattle.charging.specs.Decisions.{invalid, opened, initial_decision, termination_decision}
 use Rattle.charging.specs.Follows.{Agrees}
 
 or_none : (o : Option Avp) → or_else o None ≡ o

@@ -1,7 +1,7 @@
 -- A settlement of one service.
-use Rattle.std.proofs.Common.{◌≡◌, ℕ, Bool, true, false, List, [], ◌∷◌, refl, sym, arith}
+use Rattle.std.proofs.Common.{◌≡◌, ℕ, true, false, List, [], ◌∷◌, refl, sym, arith}
 use Rattle.std.proofs.lemmas.Bool.Decides.{nat_tests}
-use Rattle.std.specs.Prelude.{if◌then◌else◌, ◌==◌, ◌&&◌, ◌||◌}
+use Rattle.std.specs.Prelude.{◌==◌}
 use Rattle.units.specs.declared.blocks.UsedPart.{UsedPart}
 use Rattle.commands.specs.declared.service.Service.{Service}
 use Rattle.reserving.specs.Ledger.{Ledger}

@@ -1,7 +1,7 @@
 -- The answer of a request on an account's ledger, and the ledger after it, in the order of decisions: what was
 -- accepted under the request's number, its session, the units of its services, the limits of stored numbers, the
 -- account's money (RFC 8506 sections 5.1 and 9).
-use Rattle.std.specs.Prelude.{ℕ, Bool, true, false, not, nat_le, if◌then◌else◌, List, [], ◌∷◌, length, Option, Some, None, option_map}
+use Rattle.std.specs.Prelude.{ℕ, Bool, true, false, not, nat_le, if◌then◌else◌, List, length, Option, Some, None, option_map}
 use Rattle.commands.specs.declared.avp.Avp.{Avp}
 use Rattle.commands.specs.declared.avp.Avp.TheVariants.{SessionId, RequestType, RequestNumber, Services as ServicesAvp}
 use Rattle.commands.specs.declared.service.Service.{Service}
@@ -17,7 +17,7 @@ use Rattle.commands.specs.Codes.{kind_of_ask}
 use Rattle.reserving.specs.Ledger.{Ledger, is_live, last_recording, or_else}
 use Rattle.reserving.specs.FlatTariff.{Flat}
 use Rattle.reserving.specs.Requests.{recorded, touched, closed}
-use Rattle.charging.specs.Recorded.{is_recorded, has_record, is_late}
+use Rattle.charging.specs.Recorded.{has_record, is_late}
 use Rattle.charging.specs.Reports.{units_fault}
 use Rattle.charging.specs.Granting.{any_grants, first_denial, grant_answers, after_grants}
 use Rattle.charging.specs.Settling.{settled_services, settled_answers, any_passes}
@@ -91,8 +91,7 @@ decided f t s n (Refund refund) ledger = refused (invalid RequestType) ledger
 
 -- the answer of a request at a moment, and the ledger after it
 abbrev pub decision : Flat → ℕ → Request → Ledger → Decision
-decision f t r ledger =
-    if is_recorded r.session r.number ledger then refused (invalid RequestNumber) ledger else decided f t r.session r.number r.ask ledger
+decision f t r ledger = decided f t r.session r.number r.ask ledger
 
 abbrev pub answer_of : Request → Outcome → RequestAnswer
 answer_of r outcome = record { session = r.session; kind = kind_of_ask r.ask; number = r.number; outcome = outcome }

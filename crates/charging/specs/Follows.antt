@@ -1,5 +1,5 @@
 -- What a call on an account comes to, for each ledger whose rows the account is.
-use Rattle.std.specs.Prelude.{◌≡◌, ℕ, ◌==◌, ◌&&◌, Bool, true, false, List, Result, Ok, Err}
+use Rattle.std.specs.Prelude.{◌≡◌, ℕ, true, false, List, Result, Ok, Err}
 use Rattle.commands.specs.declared.service.Service.{Service}
 use Rattle.commands.specs.declared.answer.Outcome.{Outcome}
 use Rattle.commands.specs.declared.answer.ServiceOutcome.{ServiceOutcome}
@@ -8,9 +8,8 @@ use Rattle.reserving.specs.declared.fault.AccountFault.TheVariants.{Memory, Limi
 use Rattle.reserving.specs.Ledger.{Ledger}
 use Rattle.reserving.specs.Rows.{AccountRows, IsRowsOf}
 use Rattle.charging.specs.Granting.{Answered}
-use Rattle.charging.specs.Settling.{settled_service, settled_services, any_passes}
+use Rattle.charging.specs.Settling.{settled_services, any_passes}
 use Rattle.charging.specs.Decisions.{Decision}
-use Rattle.charging.specs.Reports.{parts_of}
 
 -- the outcome is the decision's, and the account is the rows of the ledger after it
 pub record Agrees (outcome : Outcome) (decision : Decision) (new : AccountRows) : Type 0 where

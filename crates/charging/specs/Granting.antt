@@ -1,6 +1,6 @@
 -- The grants of a request, service by service (RFC 8506 section 5.1.1; TS 32.299, session charging with unit
 -- reservation).
-use Rattle.std.specs.Prelude.{ℕ, ◌*◌, Bool, true, false, ◌==◌, ◌&&◌, nat_lt, if◌then◌else◌, List, [], ◌∷◌, Option, Some, None}
+use Rattle.std.specs.Prelude.{ℕ, ◌*◌, Bool, ◌==◌, ◌&&◌, nat_lt, if◌then◌else◌, List, [], ◌∷◌, Option, Some, None}
 use Rattle.std.specs.List.{list_any}
 use Rattle.commands.specs.declared.service.Service.{Service}
 use Rattle.commands.specs.declared.answer.FinalUnit.{FinalUnit}
@@ -14,7 +14,6 @@ use Rattle.reserving.specs.Ledger.{Ledger, used}
 use Rattle.reserving.specs.FlatTariff.{Flat}
 use Rattle.reserving.specs.Reservation.{reserved, units_for, blocks_for, wanted_units}
 use Rattle.charging.specs.Reports.{asked_units}
-use Rattle.reserving.specs.Requests.{recorded, touched}
 
 -- what a service is answered, and the ledger after it
 pub record Answered : Type 0 where

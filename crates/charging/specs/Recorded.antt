@@ -1,7 +1,7 @@
 -- What a ledger tells of the requests that were accepted (CC-Request-Number, RFC 8506 section 8.2).
-use Rattle.std.specs.Prelude.{ℕ, Bool, true, false, ◌==◌, ◌&&◌, nat_le, List, Option, Some, None, is_some}
+use Rattle.std.specs.Prelude.{ℕ, Bool, false, ◌==◌, ◌&&◌, nat_le, List, Option, Some, None, is_some}
 use Rattle.reserving.specs.declared.session.Session.{Session}
-use Rattle.reserving.specs.Ledger.{Fact, Dated, Ledger, Recording, is_same, any, last_recording}
+use Rattle.reserving.specs.Ledger.{Fact, Ledger, Recording, is_same, any, last_recording}
 use Rattle.reserving.specs.Ledger.Fact.{Recorded}
 
 abbrev pub records : List ℕ → ℕ → Fact → Bool

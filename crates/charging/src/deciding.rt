@@ -1,7 +1,6 @@
 ghost use Rattle.std.specs.Prelude.{◌≡◌, ◌≤◌, ℕ, true, [], ◌∷◌, length, OnOk, OnErr, IfOk, if◌then◌else◌};
 ghost use Rattle.reserving.specs.Ledger.{Ledger};
 ghost use Rattle.reserving.specs.Rows.{IsRowsOf};
-ghost use Rattle.charging.specs.Recorded.{is_recorded};
 ghost use Rattle.charging.specs.Follows.{Follows, SettlesAll};
 ghost use Rattle.charging.specs.Reports.{units_fault};
 ghost use Rattle.reserving.specs.Sessions.{is_live_in};
@@ -164,8 +163,7 @@ fn decide_ask(
 
 /// Decides a request on an account in the order of decisions, and answers it (RFC 8506 sections 5.1 and 9).
 ///
-/// `recorded` tells whether a request of the session was accepted under this number before. A refused request
-/// changes nothing. An initial request and a termination have at most one service; other requests are refused
+/// Its number has no kept answer: the caller looks for those before. A refused request changes nothing. An initial request and a termination have at most one service; other requests are refused
 /// as invalid (5004).
 ///
 /// # Errors
@@ -174,15 +172,12 @@ pub fn decide(
     alloc: Global,
     account: &mut Account,
     request: &Request,
-    recorded: bool,
     moment: Moment,
 ) -> Result<RequestAnswer, AllocError>
     requires later { account.old.as_of ≤ moment }
     ensures answer { IfOk result (λ answer. (ledger : Ledger) → IsRowsOf ledger account.old →
-        recorded ≡ is_recorded request.now.session request.now.number ledger →
         answer ≡ answer_of request.now (decision account.old.tariff moment request.now ledger).outcome) }
     ensures rows { IfOk result (λ answer. (ledger : Ledger) → IsRowsOf ledger account.old →
-        recorded ≡ is_recorded request.now.session request.now.number ledger →
         IsRowsOf (decision account.old.tariff moment request.now ledger).after account.new) }
     ensures moment { IfOk result (λ answer. account.new.as_of ≡ if is_accepted answer.outcome then moment else account.old.as_of) }
     ensures tariff { account.new.tariff ≡ account.old.tariff }
@@ -190,18 +185,14 @@ pub fn decide(
     let session = request.session.clone()?;
     let kind = request.kind();
     let number = request.number;
-    let outcome = if recorded {
-        invalid(Avp::RequestNumber)
-    } else {
-        decide_ask(
-            alloc,
-            account,
-            &request.session,
-            number,
-            &request.ask,
-            moment,
-        )?
-    };
+    let outcome = decide_ask(
+        alloc,
+        account,
+        &request.session,
+        number,
+        &request.ask,
+        moment,
+    )?;
     Ok(RequestAnswer {
         session,
         kind,

@@ -1,61 +1,47 @@
 -- The account that serves a subscriber, after a request.
-use Rattle.std.proofs.Common.{◌≡◌, ℕ, Bool, true, false, List, [], ◌∷◌, ◌++◌, refl, sym, ap, subst, ◌∙◌}
-use Rattle.std.specs.Prelude.{if◌then◌else◌, ◌&&◌, ◌||◌, max}
-use Rattle.std.specs.List.{list_any}
-use Rattle.std.proofs.lemmas.List.Folds.{list_any-append}
+use Rattle.std.proofs.Common.{◌≡◌, ℕ, Bool, true, false, List, [], ◌∷◌, ◌++◌, refl, sym, ap, subst, ◌∙◌, Option, Some, None}
+use Rattle.std.specs.Prelude.{if◌then◌else◌, max}
+use Rattle.std.specs.List.{find}
+use Rattle.commands.specs.declared.answer.Answer.{Answer}
+use Rattle.commands.specs.declared.answer.Answer.TheVariants.{Request as Answered}
 use Rattle.commands.specs.declared.answer.Failure.TheVariants.{UserUnknown}
 use Rattle.commands.specs.declared.answer.Outcome.TheVariants.{Failed}
 use Rattle.commands.specs.declared.answer.RequestAnswer.{RequestAnswer}
 use Rattle.commands.specs.declared.request.Request.{Request}
+use Rattle.wire_answers.specs.Spelled.{answer_text}
 use Rattle.reserving.specs.Ledger.{Ledger, is_same}
 use Rattle.reserving.specs.FlatTariff.{Flat}
 use Rattle.reserving.specs.Rows.{AccountRows, IsRowsOf}
-use Rattle.charging.specs.Recorded.{is_recorded}
 use Rattle.charging.specs.Decisions.{Decision, decision, answer_of, is_accepted}
-use Rattle.charging.proofs.Keys.{key-decision}
-use Rattle.ocs.specs.declared.account.Key.{Key}
+use Rattle.ocs.specs.declared.account.Kept.{Kept}
 use Rattle.ocs.specs.declared.account.Opened.{Opened}
 use Rattle.ocs.specs.declared.reading.DatedRequest.{DatedRequest}
-use Rattle.ocs.specs.Served.{Subscriber, own_answer, own_after, answer_to, after_of}
-use Rattle.ocs.specs.Office.{is_key, IsOpenedFor, IsAnswered}
-
-or_turned : (a q : Bool) → (a || (q || false)) ≡ (q || a)
-or_turned true true = refl
-or_turned true false = refl
-or_turned false true = refl
-or_turned false false = refl
-
--- keys, with another one or without
-key_kept : (p : Key → Bool) (key : Key) (ks : List Key) (before : Bool) (b : Bool) → list_any p ks ≡ before → list_any p (if b then ks ++ key ∷ [] else ks) ≡ ((b && p key) || before)
-key_kept p key ks before true h = list_any-append p ks (key ∷ []) ∙ ap (λ a. a || (p key || false)) h ∙ or_turned before (p key)
-key_kept p key ks before false h = h
-
-abbrev pub key_of : Request → Key
-key_of r = record { session = r.session; number = r.number }
+use Rattle.ocs.specs.Served.{Subscriber, subscriber_of, served_request, answered, is_kept_for, keeping, answer_again, new_turn, own_turn, turn}
+use Rattle.ocs.specs.Office.{IsAccountOf, IsOpenedFor, IsTurned, IsServed}
+use Rattle.json_fields.specs.declared.fault.WireFault.{WireFault}
 
 -- what a decision leaves of the account
-pub record IsDecided (r : Request) (at : ℕ) (recorded : Bool) (answer : RequestAnswer) (old new : AccountRows) : Type 0 where
-  pub answered : (ledger : Ledger) → IsRowsOf ledger old → recorded ≡ is_recorded r.session r.number ledger → answer ≡ answer_of r (decision old.tariff at r ledger).outcome
-  pub rows : (ledger : Ledger) → IsRowsOf ledger old → recorded ≡ is_recorded r.session r.number ledger → IsRowsOf (decision old.tariff at r ledger).after new
+pub record IsDecided (r : Request) (at : ℕ) (answer : RequestAnswer) (old new : AccountRows) : Type 0 where
+  pub told : (ledger : Ledger) → IsRowsOf ledger old → answer ≡ answer_of r (decision old.tariff at r ledger).outcome
+  pub rows : (ledger : Ledger) → IsRowsOf ledger old → IsRowsOf (decision old.tariff at r ledger).after new
   pub as_of : new.as_of ≡ (if is_accepted answer.outcome then at else old.as_of)
   pub tariff : new.tariff ≡ old.tariff
 
-pub own_kept : (f : Flat) (d : DatedRequest) (x : Subscriber) (old new : Opened) (recorded : Bool) (at : ℕ) (answer : RequestAnswer) →
-    IsOpenedFor f x old → at ≡ max d.moment old.account.as_of → recorded ≡ list_any (is_key d.request.session d.request.number) old.recorded.items → IsDecided d.request at recorded answer old.account new.account →
-    new.number ≡ old.number → new.recorded.items ≡ (if is_accepted answer.outcome then old.recorded.items ++ key_of d.request ∷ [] else old.recorded.items) →
-    IsAnswered f (own_answer f d x) (own_after f d x) answer new
-own_kept f d x old new recorded at answer h at_is seen decided number items =
+pub newly_turned : (f : Flat) (d : DatedRequest) (x : Subscriber) (old new : Opened) (at : ℕ) (answer : RequestAnswer) (text : List ℕ) →
+    IsOpenedFor f x old → at ≡ max d.moment old.account.as_of → IsDecided d.request at answer old.account new.account → text ≡ answer_text (Answered answer) →
+    new.number ≡ old.number → new.kept.items ≡ (if is_accepted answer.outcome then old.kept.items ++ keeping d.request (Answered answer) else old.kept.items) →
+    IsTurned f (new_turn f d x) text new
+newly_turned f d x old new at answer text h at_is decided written number items =
     let r : Request = d.request in
     let later : at ≡ max d.moment x.as_of = at_is ∙ ap (max d.moment) h.account.as_of in
-    let known : recorded ≡ is_recorded r.session r.number x.ledger = seen ∙ h.keys r.session r.number in
     let right : Decision = decision f (max d.moment x.as_of) r x.ledger in
     let same : answer ≡ answer_of r right.outcome =
-    decided.answered x.ledger h.account.rows known ∙ (λ i. answer_of r (decision (h.account.tariff i) (later i) r x.ledger).outcome) in
+    decided.told x.ledger h.account.rows ∙ (λ i. answer_of r (decision (h.account.tariff i) (later i) r x.ledger).outcome) in
     let rows : IsRowsOf right.after new.account =
-    subst (λ (f2 : Flat). IsRowsOf (decision f2 (max d.moment x.as_of) r x.ledger).after new.account) h.account.tariff
-    (subst (λ (t : ℕ). IsRowsOf (decision old.account.tariff t r x.ledger).after new.account) later (decided.rows x.ledger h.account.rows known)) in
+    subst (λ (g : Flat). IsRowsOf (decision g (max d.moment x.as_of) r x.ledger).after new.account) h.account.tariff
+    (subst (λ (t : ℕ). IsRowsOf (decision old.account.tariff t r x.ledger).after new.account) later (decided.rows x.ledger h.account.rows)) in
     record {
-      same = same;
+      same = written ∙ ap (λ (a : RequestAnswer). answer_text (Answered a)) same;
       account = record {
         number = number ∙ h.number;
         account = record {
@@ -63,24 +49,32 @@ own_kept f d x old new recorded at answer h at_is seen decided number items =
           as_of = decided.as_of ∙ (λ i. if is_accepted (same i).outcome then later i else h.account.as_of i);
           rows = rows;
         };
-        keys = λ s n.
-            ap (list_any (is_key s n)) (items ∙ (λ i. if is_accepted (same i).outcome then old.recorded.items ++ key_of r ∷ [] else old.recorded.items))
-            ∙ key_kept (is_key s n) (key_of r) old.recorded.items (is_recorded s n x.ledger) (is_accepted right.outcome) (h.keys s n)
-            ∙ sym (key-decision s n f (max d.moment x.as_of) r x.ledger);
+        kept = items ∙ (λ i. if is_accepted (same i).outcome then h.kept i ++ keeping r (Answered (same i)) else h.kept i);
       };
     }
 
-pub mine_answered : (f : Flat) (d : DatedRequest) (x : Subscriber) (answer : RequestAnswer) (new : Opened) → is_same d.request.account x.number ≡ true →
-    IsAnswered f (own_answer f d x) (own_after f d x) answer new → IsAnswered f (answer_to f d x) (after_of f d x) answer new
-mine_answered f d x answer new e h = rw e h
+-- a number that is kept
+pub turned_again : (f : Flat) (d : DatedRequest) (x : Subscriber) (old : Opened) (k : Kept) (text : List ℕ) → IsOpenedFor f x old →
+    find (is_kept_for d.request) old.kept.items ≡ Some k → text ≡ answer_text (answer_again d.request k) → IsTurned f (own_turn f d x) text old
+turned_again f d x old k text h e written =
+    let found : find (is_kept_for d.request) x.kept ≡ Some k = ap (find (is_kept_for d.request)) (sym h.kept) ∙ e in
+    rw found (record { same = written; account = h })
 
-pub other_answered : (f : Flat) (d : DatedRequest) (x : Subscriber) (answer : RequestAnswer) (old : Opened) → is_same d.request.account x.number ≡ false →
-    answer ≡ answer_of d.request (Failed UserUnknown) → IsOpenedFor f x old → IsAnswered f (answer_to f d x) (after_of f d x) answer old
-other_answered f d x answer old e same h = rw e (record { same = same; account = h })
+-- and one that isn't
+pub turned_new : (f : Flat) (d : DatedRequest) (x : Subscriber) (old new : Opened) (text : List ℕ) → IsOpenedFor f x old →
+    find (is_kept_for d.request) old.kept.items ≡ None → IsTurned f (new_turn f d x) text new → IsTurned f (own_turn f d x) text new
+turned_new f d x old new text h e turned =
+    let none : find (is_kept_for d.request) x.kept ≡ None = ap (find (is_kept_for d.request)) (sym h.kept) ∙ e in
+    rw none turned
 
--- the keys with the request's, where it is accepted
-pub kept_with : (b : Bool) (new held old : List Key) (key right : Key) → b ≡ true → new ≡ held ++ key ∷ [] → held ≡ old → key ≡ right → new ≡ (if b then old ++ right ∷ [] else old)
-kept_with b new held old key right e pushed same known = rw e (pushed ∙ (λ i. same i ++ known i ∷ []))
+-- a request of the account
+pub mine_turned : (f : Flat) (d : DatedRequest) (x : Subscriber) (old new : Opened) (text : List ℕ) → is_same d.request.account old.number ≡ true → IsOpenedFor f x old →
+    IsTurned f (own_turn f d x) text new → IsTurned f (turn f d x) text new
+mine_turned f d x old new text e h turned =
+    let same : is_same d.request.account x.number ≡ true = ap (is_same d.request.account) (sym h.number) ∙ e in
+    rw same turned
 
-pub kept_without : (b : Bool) (new old : List Key) (right : Key) → b ≡ false → new ≡ old → new ≡ (if b then old ++ right ∷ [] else old)
-kept_without b new old right e same = rw e same
+-- a request that is served
+pub told_served : (f : Flat) (credit : ℕ) (d : DatedRequest) (y : Option Subscriber) (fault : Option WireFault) (text : List ℕ) (new : Opened) → fault ≡ None →
+    IsTurned f (turn f d (subscriber_of credit d.request y)) text new → IsServed f (served_request fault f credit d y) text (Some new)
+told_served f credit d y fault text new e turned = rw e (record { same = turned.same; account = turned.account })

@@ -1,17 +1,16 @@
 -- Two lines, one after the other, and beginnings of what is written.
-use Rattle.std.proofs.Common.{◌≡◌, ℕ, Bool, false, List, [], ◌∷◌, ◌++◌, refl, sym, ap, subst, ◌∙◌, Option, Some, None, append-nil, append_assoc, take, drop, take-append-drop, IfSome, Result, Ok, Err}
+use Rattle.std.proofs.Common.{◌≡◌, ℕ, Bool, true, false, List, [], ◌∷◌, ◌++◌, refl, sym, ap, subst, ◌∙◌, Option, Some, None, append-nil, append_assoc, take, drop, take-append-drop, IfSome, Result, Ok, Err}
 use Rattle.std.proofs.KnownBytes.{Appends-nil, Appends-trans}
-use Rattle.std.specs.Prelude.{OnErr, option_map}
+use Rattle.std.specs.Prelude.{OnErr, option_map, if◌then◌else◌, ◌==◌}
 use Rattle.std.specs.Io.KnownBytes.{Appends}
 use Rattle.std.specs.Prelude.{Vec}
 use Rattle.std.specs.Global.{Global}
 use Rattle.byte_streams.specs.Lines.{line_of, after_line, IsLineOf}
-use Rattle.commands.specs.declared.request.RequestKind.{RequestKind}
-use Rattle.commands.specs.declared.request.RequestKind.TheVariants as kind
 use Rattle.reserving.specs.FlatTariff.{Flat}
 use Rattle.ocs.specs.declared.account.Opened.{Opened}
-use Rattle.ocs.specs.Served.{Subscriber, served_line, line_text, line_after, served_lines, run}
-use Rattle.ocs.specs.Office.{IsServing, IsServed, IsLineServed, IsAccountAfter, IsRun, WritesBeginning}
+use Rattle.ocs.specs.Lines.{prepend, lines_of}
+use Rattle.ocs.specs.Served.{Subscriber, Served, served_line, served_lines, run}
+use Rattle.ocs.specs.Office.{IsServing, IsServed, IsLineServed, line_text, line_after, IsAccountAfter, IsRun, WritesBeginning}
 
 -- nothing is written
 pub nothing_written : (a : Option (List ℕ)) (text : List ℕ) → WritesBeginning a a text
@@ -38,19 +37,19 @@ on_err (Err e) h = h
 
 -- ---- an answer's text and its line feed
 
-pub write_failed : (kind : RequestKind) (f : Flat) (credit : ℕ) (r0 r1 w0 w1 : Option (List ℕ)) (line : Vec ℕ Global) (text written : List ℕ) (o p : Option Opened) (n : ℕ) →
+pub write_failed : (f : Flat) (credit : ℕ) (r0 r1 w0 w1 : Option (List ℕ)) (line : Vec ℕ Global) (text written : List ℕ) (o p : Option Opened) (n : ℕ) →
     IfSome r0 (λ stream. IsLineOf stream (Some line) r1) →
-    ((x : Option Subscriber) → IsServing f x o → IsServed f (served_line kind f credit line.items x) text p) →
+    ((x : Option Subscriber) → IsServing f x o → IsServed f (served_line f credit line.items x) text p) →
     written ≡ text ++ 10 ∷ [] → Appends w0 w1 (take n written) →
-    IfSome r0 (λ stream. (x : Option Subscriber) → IsServing f x o → WritesBeginning w0 w1 (line_text kind f credit stream x))
-write_failed kind f credit None r1 w0 w1 line text written o p n taken served pushed h = tt
-write_failed kind f credit (Some []) r1 w0 w1 line text written o p n taken served pushed h = absurd taken
-write_failed kind f credit (Some (b ∷ bs)) r1 w0 w1 line text written o p n taken served pushed h = λ x serving.
-    let same : written ≡ (served_line kind f credit (line_of (b ∷ bs)) x).text ++ 10 ∷ [] =
-    pushed ∙ ap (λ l. l ++ 10 ∷ []) ((served x serving).same ∙ ap (λ l. (served_line kind f credit l x).text) taken.0) in
+    IfSome r0 (λ stream. (x : Option Subscriber) → IsServing f x o → WritesBeginning w0 w1 (line_text f credit stream x))
+write_failed f credit None r1 w0 w1 line text written o p n taken served pushed h = tt
+write_failed f credit (Some []) r1 w0 w1 line text written o p n taken served pushed h = absurd taken
+write_failed f credit (Some (b ∷ bs)) r1 w0 w1 line text written o p n taken served pushed h = λ x serving.
+    let same : written ≡ (served_line f credit (line_of (b ∷ bs)) x).text ++ 10 ∷ [] =
+    pushed ∙ ap (λ l. l ++ 10 ∷ []) ((served x serving).same ∙ ap (λ l. (served_line f credit l x).text) taken.0) in
     subst (WritesBeginning w0 w1) same (some_written w0 w1 written n h)
 
--- ---- two lines
+-- ---- line after line
 
 pub served_account : (f : Flat) (x : Option Subscriber) (o : Option Opened) → IsServing f x o → IsAccountAfter f x (option_map (λ p. p.account) o)
 served_account f None None h = tt
@@ -58,60 +57,104 @@ served_account f None (Some o) h = absurd h
 served_account f (Some x) None h = absurd h
 served_account f (Some x) (Some o) h = h.account
 
+first_alone : (b : ℕ) (e : Bool) → (if e then [] ∷ lines_of [] else prepend b (lines_of [])) ≡ (if e then [] else b ∷ line_of []) ∷ lines_of (if e then [] else after_line [])
+first_alone b true = refl
+first_alone b false = refl
+
+first_before : (b : ℕ) (cs : List ℕ) (e : Bool) → lines_of cs ≡ line_of cs ∷ lines_of (after_line cs) →
+    (if e then [] ∷ lines_of cs else prepend b (lines_of cs)) ≡ (if e then [] else b ∷ line_of cs) ∷ lines_of (if e then cs else after_line cs)
+first_before b cs true h = refl
+first_before b cs false h = ap (prepend b) h
+
+-- a stream's lines are its first one and those after it
+pub lines_first : (b : ℕ) (bs : List ℕ) → lines_of (b ∷ bs) ≡ line_of (b ∷ bs) ∷ lines_of (after_line (b ∷ bs))
+lines_first b [] = first_alone b (b == 10)
+lines_first b (c ∷ cs) = first_before b (c ∷ cs) (b == 10) (lines_first c cs)
+
+-- what is told so far, and what stands before the rest of the stream
+pub record IsSoFar (f : Flat) (credit : ℕ) (stream : List ℕ) (r old new : Option (List ℕ)) (o : Option Opened) : Type 0 where
+  pub left : List ℕ
+  pub x : Option Subscriber
+  pub told : List ℕ
+  pub rest : r ≡ Some left
+  pub written : Appends old new told
+  pub serving : IsServing f x o
+  pub text : (run f credit stream).text ≡ told ++ (served_lines f credit (lines_of left) x).text
+  pub after : (run f credit stream).after ≡ (served_lines f credit (lines_of left) x).after
+
 module _ (f : Flat) (credit : ℕ) where
-  -- the first line isn't answered whole
-  pub first_failed : (r0 w0 w1 : Option (List ℕ)) →
-      IfSome r0 (λ stream. (x : Option Subscriber) → IsServing f x None → WritesBeginning w0 w1 (line_text kind.Initial f credit stream x)) →
-      IfSome r0 (λ stream. WritesBeginning w0 w1 (run f credit stream).text)
+  text_first : (stream : List ℕ) (x : Option Subscriber) → (served_lines f credit (lines_of stream) x).text ≡ line_text f credit stream x ++ (served_lines f credit (lines_of (after_line stream)) (line_after f credit stream x)).text
   unfolding served_lines
-  first_failed None w0 w1 h = tt
-  first_failed (Some stream) w0 w1 h =
-      beginning_before w0 w1 (line_text kind.Initial f credit stream None) (served_lines (kind.Termination ∷ []) f credit (after_line stream) (line_after kind.Initial f credit stream None)).text (h None tt)
+  text_first [] x = refl
+  text_first (b ∷ bs) x =
+      ap (λ ls. (served_lines f credit ls x).text) (lines_first b bs) ∙ sym (append_assoc (served_line f credit (line_of (b ∷ bs)) x).text (10 ∷ []) (served_lines f credit (lines_of (after_line (b ∷ bs))) (line_after f credit (b ∷ bs) x)).text)
 
-  -- the second line isn't
-  pub second_failed : (r0 r1 w0 w1 w2 : Option (List ℕ)) (more : Bool) (o : Option Opened) →
-      IfSome r0 (λ stream. (x : Option Subscriber) → IsServing f x None → IsLineServed kind.Initial f credit stream x more r1 w0 w1 o) →
-      IfSome r1 (λ stream. (x : Option Subscriber) → IsServing f x o → WritesBeginning w1 w2 (line_text kind.Termination f credit stream x)) →
-      IfSome r0 (λ stream. WritesBeginning w0 w2 (run f credit stream).text)
+  after_first : (stream : List ℕ) (x : Option Subscriber) → (served_lines f credit (lines_of stream) x).after ≡ (served_lines f credit (lines_of (after_line stream)) (line_after f credit stream x)).after
   unfolding served_lines
-  second_failed None r1 w0 w1 w2 more o h k = tt
-  second_failed (Some stream) r1 w0 w1 w2 more o h k =
-      let first : IsLineServed kind.Initial f credit stream None more r1 w0 w1 o = h None tt in
-      let x : Option Subscriber = line_after kind.Initial f credit stream None in
-      let next : (y : Option Subscriber) → IsServing f y o → WritesBeginning w1 w2 (line_text kind.Termination f credit (after_line stream) y) =
-      subst (λ (r : Option (List ℕ)). IfSome r (λ left. (y : Option Subscriber) → IsServing f y o → WritesBeginning w1 w2 (line_text kind.Termination f credit left y))) first.rest k in
-      beginning_after w0 w1 w2 (line_text kind.Initial f credit stream None) (line_text kind.Termination f credit (after_line stream) x ++ []) first.written
-      (beginning_before w1 w2 (line_text kind.Termination f credit (after_line stream) x) [] (next x first.account))
+  after_first [] x = refl
+  after_first (b ∷ bs) x = ap (λ ls. (served_lines f credit ls x).after) (lines_first b bs)
 
-  -- both lines are answered
-  pub both_served : (r0 r1 r2 w0 w1 w2 : Option (List ℕ)) (more further : Bool) (o p : Option Opened) →
-      IfSome r0 (λ stream. (x : Option Subscriber) → IsServing f x None → IsLineServed kind.Initial f credit stream x more r1 w0 w1 o) →
-      IfSome r1 (λ stream. (x : Option Subscriber) → IsServing f x o → IsLineServed kind.Termination f credit stream x further r2 w1 w2 p) →
-      IfSome r0 (λ stream. IsRun f (run f credit stream) w0 w2 (option_map (λ a. a.account) p))
-  unfolding served_lines
-  both_served None r1 r2 w0 w1 w2 more further o p h k = tt
-  both_served (Some stream) r1 r2 w0 w1 w2 more further o p h k =
-      let first : IsLineServed kind.Initial f credit stream None more r1 w0 w1 o = h None tt in
-      let x : Option Subscriber = line_after kind.Initial f credit stream None in
-      let next : (y : Option Subscriber) → IsServing f y o → IsLineServed kind.Termination f credit (after_line stream) y further r2 w1 w2 p =
-      subst (λ (r : Option (List ℕ)). IfSome r (λ left. (y : Option Subscriber) → IsServing f y o → IsLineServed kind.Termination f credit left y further r2 w1 w2 p)) first.rest k in
-      let second : IsLineServed kind.Termination f credit (after_line stream) x further r2 w1 w2 p = next x first.account in
-      let text : List ℕ = line_text kind.Termination f credit (after_line stream) x in
+  -- before the first line
+  pub so_far-none : (r w : Option (List ℕ)) → IfSome r (λ stream. IsSoFar f credit stream r w w None)
+  so_far-none None w = tt
+  so_far-none (Some stream) w = record { left = stream; x = None; told = []; rest = refl; written = Appends-nil w; serving = tt; text = refl; after = refl }
+
+  -- a line more
+  pub so_far-line : (r0 r1 r2 w0 w1 w2 : Option (List ℕ)) (more : Bool) (o p : Option Opened) →
+      IfSome r0 (λ stream. IsSoFar f credit stream r1 w0 w1 o) →
+      IfSome r1 (λ stream. (x : Option Subscriber) → IsServing f x o → IsLineServed f credit stream x more r2 w1 w2 p) →
+      IfSome r0 (λ stream. IsSoFar f credit stream r2 w0 w2 p)
+  so_far-line None r1 r2 w0 w1 w2 more o p h k = tt
+  so_far-line (Some stream) r1 r2 w0 w1 w2 more o p h k =
+      let line : IsLineServed f credit h.left h.x more r2 w1 w2 p =
+      subst (λ (r : Option (List ℕ)). IfSome r (λ left. (x : Option Subscriber) → IsServing f x o → IsLineServed f credit left x more r2 w1 w2 p)) h.rest k h.x h.serving in
+      let text : List ℕ = line_text f credit h.left h.x in
       record {
-        written = Appends-trans w0 w1 w2 (line_text kind.Initial f credit stream None) (text ++ []) first.written (subst (Appends w1 w2) (sym (append-nil text)) second.written);
-        opened = served_account f (line_after kind.Termination f credit (after_line stream) x) p second.account;
+        left = after_line h.left;
+        x = line_after f credit h.left h.x;
+        told = h.told ++ text;
+        rest = line.rest;
+        written = Appends-trans w0 w1 w2 h.told text h.written line.written;
+        serving = line.account;
+        text = h.text ∙ ap (λ l. h.told ++ l) (text_first h.left h.x) ∙ sym (append_assoc h.told text (served_lines f credit (lines_of (after_line h.left)) (line_after f credit h.left h.x)).text);
+        after = h.after ∙ after_first h.left h.x;
       }
 
-  -- there was no line
-  pub none_served : (r0 r1 w0 w1 : Option (List ℕ)) (more : Bool) (o : Option Opened) → more ≡ false →
-      IfSome r0 (λ stream. (x : Option Subscriber) → IsServing f x None → IsLineServed kind.Initial f credit stream x more r1 w0 w1 o) →
-      IfSome r0 (λ stream. IsRun f (run f credit stream) w0 w1 (option_map (λ a. a.account) o))
+  -- a line that isn't answered whole
+  pub so_far-failed : (r0 r1 w0 w1 w2 : Option (List ℕ)) (o : Option Opened) →
+      IfSome r0 (λ stream. IsSoFar f credit stream r1 w0 w1 o) →
+      IfSome r1 (λ stream. (x : Option Subscriber) → IsServing f x o → WritesBeginning w1 w2 (line_text f credit stream x)) →
+      IfSome r0 (λ stream. WritesBeginning w0 w2 (run f credit stream).text)
+  so_far-failed None r1 w0 w1 w2 o h k = tt
+  so_far-failed (Some stream) r1 w0 w1 w2 o h k =
+      let line : WritesBeginning w1 w2 (line_text f credit h.left h.x) =
+      subst (λ (r : Option (List ℕ)). IfSome r (λ left. (x : Option Subscriber) → IsServing f x o → WritesBeginning w1 w2 (line_text f credit left x))) h.rest k h.x h.serving in
+      let more : List ℕ = (served_lines f credit (lines_of (after_line h.left)) (line_after f credit h.left h.x)).text in
+      subst (WritesBeginning w0 w2) (ap (λ l. h.told ++ l) (sym (text_first h.left h.x)) ∙ sym h.text)
+      (beginning_after w0 w1 w2 h.told (line_text f credit h.left h.x ++ more) h.written (beginning_before w1 w2 (line_text f credit h.left h.x) more line))
+
+  -- the lines so far, in the midst of all
+  pub so_far-begun : (r0 r1 w0 w1 : Option (List ℕ)) (o : Option Opened) → IfSome r0 (λ stream. IsSoFar f credit stream r1 w0 w1 o) → IfSome r0 (λ stream. WritesBeginning w0 w1 (run f credit stream).text)
+  so_far-begun None r1 w0 w1 o h = tt
+  so_far-begun (Some stream) r1 w0 w1 o h = record { part = h.told; rest = (served_lines f credit (lines_of h.left) h.x).text; written = h.written; whole = h.text }
+
+  ended : (left : List ℕ) (x : Option Subscriber) → left ≡ [] → (line_text f credit left x ≡ []) × ((served_lines f credit (lines_of left) x).text ≡ []) × ((served_lines f credit (lines_of left) x).after ≡ x) × (line_after f credit left x ≡ x)
   unfolding served_lines
-  none_served None r1 w0 w1 more o e h = tt
-  none_served (Some stream) r1 w0 w1 more o e h =
-      let first : IsLineServed kind.Initial f credit stream None more r1 w0 w1 o = h None tt in
-      at stream (first.none e) first
-    where
-      at : (s : List ℕ) → s ≡ [] → IsLineServed kind.Initial f credit s None more r1 w0 w1 o → IsRun f (run f credit s) w0 w1 (option_map (λ a. a.account) o)
-      at [] n k = record { written = k.written; opened = served_account f None o k.account }
-      at (b ∷ bs) n k = absurd (let no_list : (b ∷ bs) ≡ [] = n in cc)
+  ended left x e = rw e (refl, refl, refl, refl)
+
+  -- the end of the stream
+  pub so_far-ended : (r0 r1 r2 w0 w1 w2 : Option (List ℕ)) (more : Bool) (o p : Option Opened) → more ≡ false →
+      IfSome r0 (λ stream. IsSoFar f credit stream r1 w0 w1 o) →
+      IfSome r1 (λ stream. (x : Option Subscriber) → IsServing f x o → IsLineServed f credit stream x more r2 w1 w2 p) →
+      IfSome r0 (λ stream. IsRun f (run f credit stream) w0 w2 (option_map (λ a. a.account) p))
+  so_far-ended None r1 r2 w0 w1 w2 more o p e h k = tt
+  so_far-ended (Some stream) r1 r2 w0 w1 w2 more o p e h k =
+      let line : IsLineServed f credit h.left h.x more r2 w1 w2 p =
+      subst (λ (r : Option (List ℕ)). IfSome r (λ left. (x : Option Subscriber) → IsServing f x o → IsLineServed f credit left x more r2 w1 w2 p)) h.rest k h.x h.serving in
+      let none = ended h.left h.x (line.none e) in
+      let nothing : Appends w1 w2 [] = subst (Appends w1 w2) none.0 line.written in
+      let all : (run f credit stream).text ≡ h.told ++ [] = h.text ∙ ap (λ l. h.told ++ l) none.1 in
+      record {
+        written = subst (Appends w0 w2) (sym all) (Appends-trans w0 w1 w2 h.told [] h.written nothing);
+        opened = subst (λ (y : Option Subscriber). IsAccountAfter f y (option_map (λ a. a.account) p)) (none.3 ∙ sym none.2 ∙ sym h.after) (served_account f (line_after f credit h.left h.x) p line.account);
+      }

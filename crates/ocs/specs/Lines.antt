@@ -1,5 +1,5 @@
--- A line of input: the moment of a command, one space, and a request for credit control as JSON.
-use Rattle.std.specs.Prelude.{ℕ, Bool, ◌==◌, ◌&&◌, List, length, Option, None, Result, Ok, nat_lt, if◌then◌else◌}
+-- Lines of input: each has the moment of a command, one space, and a request for credit control as JSON.
+use Rattle.std.specs.Prelude.{ℕ, Bool, [], ◌∷◌, ◌==◌, ◌&&◌, List, length, Option, None, Result, Ok, nat_lt, if◌then◌else◌}
 use Rattle.std.specs.List.{before_first, after_first, position_or_len}
 use Rattle.std.specs.Str.{is_utf8}
 use Rattle.json_fields.specs.declared.fault.WireFault.{WireFault}
@@ -28,3 +28,14 @@ line_request line =
     or_fault NotRequest (line_moment line) >>= λ t.
     request_of (line_rest line) >>= λ r.
     Ok (record { moment = t; request = r })
+
+-- ---- a stream
+
+abbrev pub prepend : ℕ → List (List ℕ) → List (List ℕ)
+prepend b [] = (b ∷ []) ∷ []
+prepend b (l ∷ ls) = (b ∷ l) ∷ ls
+
+-- the lines of a stream: each ends with a line feed, the last perhaps without
+abbrev pub lines_of : List ℕ → List (List ℕ)
+lines_of [] = []
+lines_of (b ∷ bs) = if b == 10 then [] ∷ lines_of bs else prepend b (lines_of bs)

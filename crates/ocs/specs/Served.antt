@@ -1,18 +1,18 @@
 -- One subscriber's requests, a line each, and their answers, a line each. The first request opens its account with
--- one bucket; the lines are to be an initial request and a termination, of at most one service.
-use Rattle.std.specs.Prelude.{ℕ, ◌==◌, nat_lt, if◌then◌else◌, List, [], ◌∷◌, ◌++◌, length, Option, Some, None, Result, Ok, Err, max}
-use Rattle.byte_streams.specs.Lines.{line_of, after_line}
-use Rattle.commands.specs.declared.avp.Avp.TheVariants.{RequestType, Services as ServicesAvp}
-use Rattle.commands.specs.declared.answer.Answer.TheVariants.{Request as RequestAnswered}
-use Rattle.commands.specs.declared.answer.Failure.TheVariants.{UserUnknown}
+-- one bucket (RFC 8506 sections 5.1 and 5.2; keys and repeats: profile, in the place of section 5.1.3's detection of
+-- duplicates).
+use Rattle.std.specs.Prelude.{ℕ, Bool, true, false, ◌==◌, ◌&&◌, if◌then◌else◌, List, [], ◌∷◌, ◌++◌, Option, Some, None, Result, Ok, Err, max}
+use Rattle.std.specs.List.{find}
+use Rattle.commands.specs.Alike.{same_request}
+use Rattle.commands.specs.declared.avp.Avp.TheVariants.{RequestType, RequestNumber}
+use Rattle.commands.specs.declared.answer.Answer.{Answer}
+use Rattle.commands.specs.declared.answer.Answer.TheVariants.{Request as Answered}
+use Rattle.commands.specs.declared.answer.Failure.TheVariants.{UserUnknown, InvalidAvpValue}
+use Rattle.commands.specs.declared.answer.Outcome.{Outcome}
 use Rattle.commands.specs.declared.answer.Outcome.TheVariants.{Failed}
-use Rattle.commands.specs.declared.answer.RequestAnswer.{RequestAnswer}
 use Rattle.commands.specs.declared.request.Ask.{Ask}
 use Rattle.commands.specs.declared.request.Ask.TheVariants.{Initial, Update, Termination, Event, Refund}
 use Rattle.commands.specs.declared.request.Request.{Request}
-use Rattle.commands.specs.declared.request.RequestKind.{RequestKind}
-use Rattle.commands.specs.declared.request.RequestKind.TheVariants as kind
-use Rattle.commands.specs.Codes.{kind_number, kind_of_ask}
 use Rattle.json_fields.specs.declared.fault.WireFault.{WireFault}
 use Rattle.json_fields.specs.declared.fault.WireFault.TheVariants.{Invalid}
 use Rattle.wire_answers.specs.Spelled.{answer_text, fault_text}
@@ -20,23 +20,31 @@ use Rattle.reserving.specs.Ledger.{Ledger, is_same}
 use Rattle.reserving.specs.FlatTariff.{Flat}
 use Rattle.reserving.specs.Requests.{credited}
 use Rattle.charging.specs.Decisions.{Decision, decision, answer_of, is_accepted}
+use Rattle.ocs.specs.declared.account.Kept.{Kept}
 use Rattle.ocs.specs.declared.reading.DatedRequest.{DatedRequest}
-use Rattle.ocs.specs.Lines.{line_request}
+use Rattle.ocs.specs.Lines.{lines_of, line_request}
 
--- a subscriber: the account's number, the moment of its last accepted command, and its ledger
+-- a subscriber: the account's number, the moment of its last accepted command, its ledger, and the requests that
+-- were accepted with their answers
 pub record Subscriber : Type 0 where
   pub number : List ℕ
   pub as_of : ℕ
   pub ledger : Ledger
+  pub kept : List Kept
 
--- what a line is answered, and the subscriber after it: none before the first request
+-- what a request is answered, and the subscriber after it
+pub record Turn : Type 0 where
+  pub answer : Answer
+  pub after : Subscriber
+
+-- what lines are answered, and the subscriber after them: none before the first request
 pub record Served : Type 0 where
   pub text : List ℕ
   pub after : Option Subscriber
 
 -- an account that is opened with one bucket, from the beginning and without end
 abbrev pub opening : ℕ → List ℕ → Subscriber
-opening credit number = record { number = number; as_of = 0; ledger = credited 0 0 4102444800 None credit [] }
+opening credit number = record { number = number; as_of = 0; ledger = credited 0 0 4102444800 None credit []; kept = [] }
 
 abbrev pub subscriber_of : ℕ → Request → Option Subscriber → Subscriber
 subscriber_of credit r None = opening credit r.account
@@ -44,77 +52,86 @@ subscriber_of credit r (Some x) = x
 
 -- ---- a request
 
--- the moment of a command is the later of the one handed in and the last accepted one; a refusal moves nothing
-abbrev pub moved : ℕ → Decision → Subscriber → Subscriber
-moved at d x = record { number = x.number; as_of = if is_accepted d.outcome then at else x.as_of; ledger = d.after }
+abbrev pub answered : Request → Outcome → Answer
+answered r outcome = Answered (answer_of r outcome)
 
--- a request of the account
-abbrev pub own_answer : Flat → DatedRequest → Subscriber → RequestAnswer
-own_answer f d x = answer_of d.request (decision f (max d.moment x.as_of) d.request x.ledger).outcome
+-- a request with its answer is kept under its Session-Id and CC-Request-Number
+abbrev pub is_kept_for : Request → Kept → Bool
+is_kept_for r k = is_same k.request.session r.session && k.request.number == r.number
 
-abbrev pub own_after : Flat → DatedRequest → Subscriber → Subscriber
-own_after f d x = moved (max d.moment x.as_of) (decision f (max d.moment x.as_of) d.request x.ledger) x
+abbrev pub keeping : Request → Answer → List Kept
+keeping r answer = record { request = r; answer = answer } ∷ []
+
+-- an accepted request is kept, at the moment of the command; a refusal changes nothing
+abbrev pub turned : ℕ → Request → Decision → Subscriber → Turn
+turned at r d x = record {
+  answer = answered r d.outcome;
+  after = record {
+    number = x.number;
+    as_of = if is_accepted d.outcome then at else x.as_of;
+    ledger = d.after;
+    kept = if is_accepted d.outcome then x.kept ++ keeping r (answered r d.outcome) else x.kept;
+  };
+}
+
+-- the moment of a command is the later of the one handed in and the last accepted one
+abbrev pub new_turn : Flat → DatedRequest → Subscriber → Turn
+new_turn f d x = turned (max d.moment x.as_of) d.request (decision f (max d.moment x.as_of) d.request x.ledger) x
+
+-- a repeat with equal content gets the kept answer; other content under the same number is refused
+abbrev pub answer_again : Request → Kept → Answer
+answer_again r k = if same_request k.request r then k.answer else answered r (Failed (InvalidAvpValue RequestNumber))
+
+-- and changes nothing
+abbrev pub keyed_turn : Option Kept → Flat → DatedRequest → Subscriber → Turn
+keyed_turn None f d x = new_turn f d x
+keyed_turn (Some k) f d x = record { answer = answer_again d.request k; after = x }
+
+abbrev pub own_turn : Flat → DatedRequest → Subscriber → Turn
+own_turn f d x = keyed_turn (find (is_kept_for d.request) x.kept) f d x
 
 -- another account is unknown
-abbrev pub answer_to : Flat → DatedRequest → Subscriber → RequestAnswer
-answer_to f d x = if is_same d.request.account x.number then own_answer f d x else answer_of d.request (Failed UserUnknown)
-
-abbrev pub after_of : Flat → DatedRequest → Subscriber → Subscriber
-after_of f d x = if is_same d.request.account x.number then own_after f d x else x
+abbrev pub turn : Flat → DatedRequest → Subscriber → Turn
+turn f d x = if is_same d.request.account x.number then own_turn f d x else record { answer = answered d.request (Failed UserUnknown); after = x }
 
 -- ---- a line
 
-abbrev pub services_of : Ask → ℕ
-services_of (Initial services) = length services
-services_of (Update services) = 0
-services_of (Termination services) = length services
-services_of (Event event) = 0
-services_of (Refund refund) = 0
-
--- what is wrong with a request in its place: another type, or more than one service
-abbrev pub misplaced : RequestKind → Request → Option WireFault
-misplaced kind r =
-    if kind_number (kind_of_ask r.ask) == kind_number kind
-    then (if nat_lt 1 (services_of r.ask) then Some (Invalid ServicesAvp) else None)
-    else Some (Invalid RequestType)
+-- events aren't served
+abbrev pub unserved : Ask → Option WireFault
+unserved (Initial services) = None
+unserved (Update services) = None
+unserved (Termination services) = None
+unserved (Event event) = Some (Invalid RequestType)
+unserved (Refund refund) = Some (Invalid RequestType)
 
 abbrev pub faulted : WireFault → Option Subscriber → Served
 faulted fault x = record { text = fault_text fault; after = x }
 
-abbrev pub placed : Option WireFault → Flat → ℕ → DatedRequest → Option Subscriber → Served
-placed (Some fault) f credit d x = faulted fault x
-placed None f credit d x = record {
-  text = answer_text (RequestAnswered (answer_to f d (subscriber_of credit d.request x)));
-  after = Some (after_of f d (subscriber_of credit d.request x));
-}
+abbrev pub told : Turn → Served
+told turn = record { text = answer_text turn.answer; after = Some turn.after }
 
-abbrev pub served : Result DatedRequest WireFault → RequestKind → Flat → ℕ → Option Subscriber → Served
-served (Ok d) kind f credit x = placed (misplaced kind d.request) f credit d x
-served (Err fault) kind f credit x = faulted fault x
+abbrev pub served_request : Option WireFault → Flat → ℕ → DatedRequest → Option Subscriber → Served
+served_request (Some fault) f credit d x = faulted fault x
+served_request None f credit d x = told (turn f d (subscriber_of credit d.request x))
+
+abbrev pub served : Result DatedRequest WireFault → Flat → ℕ → Option Subscriber → Served
+served (Ok d) f credit x = served_request (unserved d.request.ask) f credit d x
+served (Err fault) f credit x = faulted fault x
 
 -- a line is answered
-abbrev pub served_line : RequestKind → Flat → ℕ → List ℕ → Option Subscriber → Served
-served_line kind f credit line x = served (line_request line) kind f credit x
+abbrev pub served_line : Flat → ℕ → List ℕ → Option Subscriber → Served
+served_line f credit line x = served (line_request line) f credit x
 
--- ---- a stream
+-- ---- all lines
 
--- a line, where the stream has one, is answered by a text and a line feed
-abbrev pub line_text : RequestKind → Flat → ℕ → List ℕ → Option Subscriber → List ℕ
-line_text kind f credit [] x = []
-line_text kind f credit (b ∷ bs) x = (served_line kind f credit (line_of (b ∷ bs)) x).text ++ 10 ∷ []
-
-abbrev pub line_after : RequestKind → Flat → ℕ → List ℕ → Option Subscriber → Option Subscriber
-line_after kind f credit [] x = x
-line_after kind f credit (b ∷ bs) x = (served_line kind f credit (line_of (b ∷ bs)) x).after
-
--- the answers to the first lines of a stream, one for each kind, and the subscriber after them
-unfoldable pub served_lines : List RequestKind → Flat → ℕ → List ℕ → Option Subscriber → Served
-served_lines [] f credit stream x = record { text = []; after = x }
-served_lines (kind ∷ kinds) f credit stream x = record {
-  text = line_text kind f credit stream x ++ (served_lines kinds f credit (after_line stream) (line_after kind f credit stream x)).text;
-  after = (served_lines kinds f credit (after_line stream) (line_after kind f credit stream x)).after;
+-- lines are answered one after another, with a line feed after each answer
+unfoldable pub served_lines : Flat → ℕ → List (List ℕ) → Option Subscriber → Served
+served_lines f credit [] x = record { text = []; after = x }
+served_lines f credit (line ∷ lines) x = record {
+  text = (served_line f credit line x).text ++ 10 ∷ (served_lines f credit lines (served_line f credit line x).after).text;
+  after = (served_lines f credit lines (served_line f credit line x).after).after;
 }
 
--- an initial request and a termination
+-- the lines of a stream, from before the first request
 abbrev pub run : Flat → ℕ → List ℕ → Served
-run f credit stream = served_lines (kind.Initial ∷ kind.Termination ∷ []) f credit stream None
+run f credit stream = served_lines f credit (lines_of stream) None

@@ -1,34 +1,36 @@
-ghost use Rattle.std.specs.Prelude.{◌≡◌, max, None, IfOk};
-ghost use Rattle.std.specs.List.{list_any};
-ghost use Rattle.reserving.specs.FlatTariff.{Flat};
-ghost use Rattle.commands.specs.declared.answer.Failure.TheVariants.{UserUnknown};
+ghost use Rattle.std.specs.Prelude.{◌≡◌, ◌++◌, max, None, Some, OnOk, IfOk, option_map, string_bytes, if◌then◌else◌};
+ghost use Rattle.std.specs.List.{find};
 ghost use Rattle.commands.specs.declared.answer.Outcome.TheVariants.{Failed};
-ghost use Rattle.charging.specs.Decisions.{answer_of};
-ghost use Rattle.ocs.specs.Served.{Subscriber, opening, own_answer, own_after, answer_to, after_of};
-ghost use Rattle.ocs.specs.Office.{is_key, IsOpenedFor, IsAnswered};
+ghost use Rattle.reserving.specs.FlatTariff.{Flat};
+ghost use Rattle.wire_answers.specs.Spelled.{answer_text};
+ghost use Rattle.ocs.specs.Served.{Subscriber, opening, answered, keeping, is_kept_for, answer_again as again, new_turn, own_turn, turn};
+ghost use Rattle.ocs.specs.Office.{IsOpenedFor, IsTurned};
+
+use std::alloc::Global;
+
+use charging::{decide, is_accepted};
+use commands::{Answer, Avp, Failure, Outcome, Request, RequestAnswer};
+use identifiers::AccountNumber;
+use reserving::{Account, FlatTariff};
+use units::{Moment, Money};
+use wire_answers::write_answer;
 
 use crate::fault::LinesFault;
 use crate::reading::DatedRequest;
-use charging::{decide, is_accepted};
-use commands::{Failure, Outcome, Request, RequestAnswer};
-use identifiers::{AccountNumber, SessionId};
-use reserving::{Account, FlatTariff};
-use std::alloc::{AllocError, Global};
-use units::{Moment, Money};
 
-/// The key of an accepted request.
+/// An accepted request with its answer.
 #[derive(Drop)]
-pub(crate) struct Key {
-    session: SessionId,
-    number: u32,
+pub(crate) struct Kept {
+    request: Request,
+    answer: Answer,
 }
 
-/// An account that was opened, and the keys of its accepted requests.
+/// An account that was opened, and its accepted requests.
 #[derive(Drop)]
 pub(crate) struct Opened<'b> {
     number: AccountNumber,
     pub(crate) account: Account<'b>,
-    recorded: Vec<Key>,
+    kept: Vec<Kept>,
 }
 
 impl<'b> Opened<'b> {
@@ -47,68 +49,104 @@ impl<'b> Opened<'b> {
         let Ok(_bucket) = account.credit(first, Moment::no_end(), None, credit, first) else {
             return Err(LinesFault::Memory);
         };
-        let recorded = Vec::new(alloc);
+        let kept = Vec::new(alloc);
         Ok(Opened {
             number,
             account,
-            recorded,
+            kept,
         })
     }
 
-    /// The answer to a request: another account than this one is unknown.
+    /// The text of the answer to a request: another account than this one is unknown.
     pub(crate) fn answer(
         &mut self,
         alloc: Global,
-        dated: &DatedRequest,
-    ) -> Result<RequestAnswer, LinesFault>
-        ensures { IfOk result (λ answer. (f : Flat) (x : Subscriber) → IsOpenedFor f x self.old →
-            IsAnswered f (answer_to f dated.now x) (after_of f dated.now x) answer self.new) }
+        dated: DatedRequest,
+    ) -> Result<String, LinesFault>
+        ensures { IfOk result (λ text. (f : Flat) (x : Subscriber) → IsOpenedFor f x self.old →
+            IsTurned f (turn f dated x) (string_bytes text) self.new) }
     {
         if dated.request.account == self.number {
-            return self.own_answer(alloc, dated);
+            let text = self.own_answer(alloc, dated)?;
+            return Ok(text);
         }
-        unknown_user(&dated.request)
+        failed(alloc, &dated.request, Failure::UserUnknown)
     }
 
-    /// The answer to a request of this account, at the later of its moment and the account's last change.
-    fn own_answer(
-        &mut self,
-        alloc: Global,
-        dated: &DatedRequest,
-    ) -> Result<RequestAnswer, LinesFault>
-        ensures { IfOk result (λ answer. (f : Flat) (x : Subscriber) → IsOpenedFor f x self.old →
-            IsAnswered f (own_answer f dated.now x) (own_after f dated.now x) answer self.new) }
+    /// The text of the answer to a request of this account: the kept one, where its number has one.
+    fn own_answer(&mut self, alloc: Global, dated: DatedRequest) -> Result<String, LinesFault>
+        ensures { IfOk result (λ text. (f : Flat) (x : Subscriber) → IsOpenedFor f x self.old →
+            IsTurned f (own_turn f dated x) (string_bytes text) self.new) }
     {
-        let key = key_of(&dated.request)?;
-        let recorded = is_recorded(&self.recorded, &dated.request);
-        let at = later(dated.moment, self.account.as_of());
-        self.recorded.reserve(1)?;
-        let answer = decide(alloc, &mut self.account, &dated.request, recorded, at)?;
-        if is_accepted(&answer.outcome) {
-            self.recorded.push_reserved(key);
+        match kept_for(&self.kept, &dated.request) {
+            Some(kept) => answer_again(alloc, &dated.request, kept),
+            None => self.new_answer(alloc, dated),
         }
-        Ok(answer)
+    }
+
+    /// The text of the answer to a request under a new number, at the later of its moment and the account's last
+    /// change.
+    fn new_answer(&mut self, alloc: Global, dated: DatedRequest) -> Result<String, LinesFault>
+        ensures { IfOk result (λ text. (f : Flat) (x : Subscriber) → IsOpenedFor f x self.old →
+            IsTurned f (new_turn f dated x) (string_bytes text) self.new) }
+    {
+        let DatedRequest { moment, request } = dated;
+        let at = later(moment, self.account.as_of());
+        let answer = decide(alloc, &mut self.account, &request, at)?;
+        let accepted = is_accepted(&answer.outcome);
+        let answer = Answer::Request(answer);
+        let text = write_answer(alloc, &answer)?;
+        keep(&mut self.kept, accepted, request, answer)?;
+        Ok(text)
     }
 }
 
-fn key_of(request: &Request) -> Result<Key, AllocError>
-    ensures { IfOk result (λ key. key ≡ record { session = request.now.session; number = request.now.number }) }
+/// Keeps a request with its answer, where it was accepted.
+fn keep(
+    kept: &mut Vec<Kept>,
+    accepted: bool,
+    request: Request,
+    answer: Answer,
+) -> Result<(), LinesFault>
+    ensures { OnOk result (kept.new.items ≡ if accepted then kept.old.items ++ keeping request answer else kept.old.items) }
 {
-    let session = request.session.clone()?;
-    let number = request.number;
-    Ok(Key { session, number })
+    if accepted {
+        kept.push(Kept { request, answer })?;
+    }
+    Ok(())
 }
 
-fn unknown_user(request: &Request) -> Result<RequestAnswer, LinesFault>
-    ensures { IfOk result (λ answer. answer ≡ answer_of request.now (Failed UserUnknown)) }
+/// The accepted request with the Session-Id and CC-Request-Number of this one.
+fn kept_for<'a>(kept: &'a [Kept], request: &Request) -> Option<&'a Kept>
+    ensures { option_map (λ k. k.now) result ≡ find (is_kept_for request.now) kept.now }
+{
+    kept.iter().find(|kept| {
+        kept.request.session == request.session && kept.request.number == request.number
+    })
+}
+
+/// The text of the answer to a request whose number is taken: the first answer, where the content is the same.
+fn answer_again(alloc: Global, request: &Request, kept: &Kept) -> Result<String, LinesFault>
+    ensures { IfOk result (λ text. string_bytes text ≡ answer_text (again request.now kept.now)) }
+{
+    if kept.request == *request {
+        return Ok(write_answer(alloc, &kept.answer)?);
+    }
+    failed(alloc, request, Failure::InvalidAvpValue(Avp::RequestNumber))
+}
+
+/// The text of the answer to a request that is refused.
+fn failed(alloc: Global, request: &Request, failure: Failure) -> Result<String, LinesFault>
+    ensures { IfOk result (λ text. string_bytes text ≡ answer_text (answered request.now (Failed failure))) }
 {
     let session = request.session.clone()?;
-    Ok(RequestAnswer {
+    let answer = Answer::Request(RequestAnswer {
         session,
         kind: request.kind(),
         number: request.number,
-        outcome: Outcome::Failed(Failure::UserUnknown),
-    })
+        outcome: Outcome::Failed(failure),
+    });
+    Ok(write_answer(alloc, &answer)?)
 }
 
 /// The later of two moments.
@@ -116,10 +154,4 @@ fn later(one: Moment, other: Moment) -> Moment
     ensures { result ≡ max one other }
 {
     if one < other { other } else { one }
-}
-
-fn is_recorded(keys: &[Key], request: &Request) -> bool
-    ensures { result ≡ list_any (is_key request.now.session request.now.number) keys.now }
-{
-    keys.iter().any(|key| key.session == request.session && key.number == request.number)
 }

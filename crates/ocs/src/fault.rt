@@ -1,5 +1,5 @@
 use byte_streams::StreamFault;
-use std::alloc::AllocError;
+use std::alloc::{AllocError, AllocFailed};
 use thiserror::Error;
 
 /// Why lines weren't answered to their end.
@@ -15,6 +15,12 @@ pub enum LinesFault {
 
 impl From<AllocError> for LinesFault {
     fn from(_error: AllocError) -> LinesFault {
+        LinesFault::Memory
+    }
+}
+
+impl<T: Drop> From<AllocFailed<T>> for LinesFault {
+    fn from(_error: AllocFailed<T>) -> LinesFault {
         LinesFault::Memory
     }
 }

@@ -1,20 +1,21 @@
 ghost use Rattle.std.specs.Prelude.{◌≡◌, Option, option_map, IfOk, IfSome, OnErr};
-ghost use Rattle.ocs.specs.Served.{Subscriber, run, line_text};
-ghost use Rattle.ocs.specs.Office.{IsServing, IsLineServed, IsAccountAfter, IsRun, WritesBeginning};
+ghost use Rattle.ocs.specs.Served.{Subscriber, run};
+ghost use Rattle.ocs.specs.Office.{IsServing, IsLineServed, line_text, IsRun, WritesBeginning};
+
+use std::alloc::Global;
+use std::io::{Read, Write};
+
+use byte_streams::{next_line, write_whole};
+use reserving::{Account, FlatTariff};
+use units::Money;
 
 use crate::account::Opened;
 use crate::fault::LinesFault;
 use crate::office::Office;
-use byte_streams::{next_line, write_whole};
-use commands::RequestKind;
-use reserving::{Account, FlatTariff};
-use std::alloc::Global;
-use std::io::{Read, Write};
-use units::Money;
 
-/// Answers at most two lines `MOMENT JSON`, an initial request and a termination, a line each, and gives back the
-/// account: none where no line was read as a request. The first request's account is opened before it with one
-/// bucket of this amount in micro-units, from the beginning and without end.
+/// Answers lines `MOMENT JSON` of initial, update and termination requests, a line each, to the end of the input,
+/// and gives back the account: none where no line was read as a request. The first request's account is opened
+/// before it with one bucket of this amount in micro-units, from the beginning and without end.
 ///
 /// # Errors
 /// Want of memory, or a fault of the reader or the writer. Then a beginning of the answers is written.
@@ -36,35 +37,30 @@ pub fn lines<'b, R: Read, W: Write>(
         credit,
     };
     let mut opened = None;
-    if answer_line(&office, RequestKind::Initial, reader, writer, &mut opened)? {
-        answer_line(
-            &office,
-            RequestKind::Termination,
-            reader,
-            writer,
-            &mut opened,
-        )?;
+    for _line in 0..u64::MAX {
+        if !answer_line(&office, reader, writer, &mut opened)? {
+            return Ok(account_of(opened));
+        }
     }
-    Ok(account_of(opened))
+    Err(LinesFault::Memory)
 }
 
 /// Answers the next line; false where there is none.
 fn answer_line<'b, R: Read, W: Write>(
     office: &Office<'b>,
-    kind: RequestKind,
     reader: &mut R,
     writer: &mut W,
     opened: &mut Option<Opened<'b>>,
 ) -> Result<bool, LinesFault>
     ensures served { IfOk result (λ more. IfSome (R.remaining reader.old) (λ stream. (x : Option Subscriber) → IsServing office.now.tariff.now x opened.old →
-        IsLineServed kind office.now.tariff.now office.now.credit stream x more (R.remaining reader.new) (W.contents writer.old) (W.contents writer.new) opened.new)) }
+        IsLineServed office.now.tariff.now office.now.credit stream x more (R.remaining reader.new) (W.contents writer.old) (W.contents writer.new) opened.new)) }
     ensures err { OnErr result (IfSome (R.remaining reader.old) (λ stream. (x : Option Subscriber) → IsServing office.now.tariff.now x opened.old →
-        WritesBeginning (W.contents writer.old) (W.contents writer.new) (line_text kind office.now.tariff.now office.now.credit stream x))) }
+        WritesBeginning (W.contents writer.old) (W.contents writer.new) (line_text office.now.tariff.now office.now.credit stream x))) }
 {
     let Some(line) = next_line(office.alloc, reader)? else {
         return Ok(false);
     };
-    let mut text = office.answer(opened, kind, &line)?;
+    let mut text = office.answer(opened, &line)?;
     text.push('\n')?;
     write_whole(writer, text.as_bytes())?;
     Ok(true)
