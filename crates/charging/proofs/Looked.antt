@@ -1,16 +1,14 @@
 -- What the rows of an account tell of its ledger.
 use Rattle.std.proofs.Common.{◌≡◌, ℕ, ◌+◌, Bool, true, false, List, [], ◌∷◌, refl, sym, ap, ◌∙◌, Option, Some, None, arith}
-use Rattle.std.specs.Prelude.{if◌then◌else◌, ◌||◌, ◌&&◌, ◌==◌, is_some, unwrap_or}
+use Rattle.std.specs.Prelude.{if◌then◌else◌, ◌||◌, ◌&&◌, ◌==◌, unwrap_or}
 use Rattle.reserving.specs.declared.session.SessionState.{SessionState}
 use Rattle.reserving.specs.declared.session.SessionGroup.{SessionGroup}
-use Rattle.reserving.specs.declared.session.Reservation.{Reservation}
-use Rattle.reserving.specs.Ledger.{Fact, Ledger, Recording, is_same, used, units_in, names_group, has_group, open_grant, is_live, last_recording}
+use Rattle.reserving.specs.Ledger.{Fact, Ledger, Recording, is_same, used, units_in, names_group, has_group, last_recording}
 use Rattle.reserving.specs.Ledger.Fact.{Credit, Grant, Hold, End, Use, Charge, Touch, Close, Recorded}
-use Rattle.reserving.specs.Sessions.{session_in, session_row, state_at, group_in, group_at, reservation_at, reservation_of, holds_at}
+use Rattle.reserving.specs.Sessions.{session_in, session_row, state_at, group_in, group_at, reservation_at}
 use Rattle.reserving.specs.Rows.{AccountRows, IsRowsOf}
 use Rattle.reserving.specs.Changes.{used_in, new_group}
-use Rattle.charging.specs.Recorded.{has_record, is_late, is_late_row}
-use Rattle.charging.specs.Free.{IsFree, is_reserved}
+use Rattle.charging.specs.Recorded.{is_late, is_late_row}
 
 abbrev used_by : Option SessionGroup → ℕ
 used_by None = 0
@@ -64,37 +62,3 @@ by_row s g (Some r) = refl
 pub used_in-is : (ledger : Ledger) (a : AccountRows) (s : List ℕ) (g : ℕ) → IsRowsOf ledger a → used_in s g a.groups ≡ used s g ledger
 used_in-is ledger a s g rows =
     by_row s g (group_in s g a.groups) ∙ used_row a.tariff.validity a.as_of ledger s g (group_in s g a.groups) (rows.groups s g)
-
--- ---- a session without a record
-
-row_there : (s : List ℕ) (state : SessionState) (o : Option Recording) → is_some (session_row s state o) ≡ is_some o
-row_there s state None = refl
-row_there s state (Some r) = refl
-
-none_reserved : (v t : ℕ) (ledger : Ledger) (s : List ℕ) (g : ℕ) → open_grant s g ledger ≡ None → is_reserved (group_at v t ledger s g) ≡ false
-none_reserved v t ledger s g e = at (has_group s g ledger) (is_live v t ledger s)
-  where
-    at : (b l : Bool) → is_reserved (if b then Some (record { session = s; group = g; used = used s g ledger; reservation = if l then reservation_of (holds_at v t s g ledger) (open_grant s g ledger) else None }) else None) ≡ false
-    at true true = rw e refl
-    at true false = refl
-    at false l = refl
-
-pub is_known-is : (ledger : Ledger) (a : AccountRows) (s : List ℕ) (g : ℕ) → IsRowsOf ledger a → (is_some (session_in s a.sessions) || is_reserved (group_in s g a.groups)) ≡ has_record s ledger
-is_known-is ledger a s g rows = at (last_recording s ledger) refl
-  where
-    there : is_some (session_in s a.sessions) ≡ is_some (last_recording s ledger)
-    there = ap is_some (rows.sessions s) ∙ row_there s (state_at a.tariff.validity a.as_of ledger s) (last_recording s ledger)
-
-    at : (o : Option Recording) → last_recording s ledger ≡ o → (is_some (session_in s a.sessions) || is_reserved (group_in s g a.groups)) ≡ is_some (last_recording s ledger)
-    at None e =
-        let free : is_reserved (group_in s g a.groups) ≡ false = ap is_reserved (rows.groups s g) ∙ none_reserved a.tariff.validity a.as_of ledger s g ((rows.unknown s e).granted g) in
-        rw (there, free, e) refl
-    at (Some r) e = rw (there, e) refl
-
-pub free_from : (o : Option SessionGroup) → is_reserved o ≡ false → IsFree o
-free_from None e = tt
-free_from (Some r) e = no_reservation r.reservation e
-  where
-    no_reservation : (x : Option Reservation) → is_some x ≡ false → x ≡ None
-    no_reservation None h = refl
-    no_reservation (Some y) h = absurd (let no : true ≡ false = h in cc)

@@ -1,9 +1,8 @@
--- The answer of a request on an account's ledger, and the ledger after it, in the order of decisions: what was
--- accepted under the request's number, its session, the units of its services, the limits of stored numbers, the
--- account's money (RFC 8506 sections 5.1 and 9).
-use Rattle.std.specs.Prelude.{ℕ, Bool, true, false, not, nat_le, if◌then◌else◌, List, length, Option, Some, None, option_map}
+-- The answer of a request on an account's ledger, and the ledger after it, in the order of decisions: its session,
+-- the units of its services, the limits of stored numbers, the account's money (RFC 8506 sections 5.1 and 9).
+use Rattle.std.specs.Prelude.{ℕ, Bool, true, false, not, if◌then◌else◌, List, Option, Some, None, option_map}
 use Rattle.commands.specs.declared.avp.Avp.{Avp}
-use Rattle.commands.specs.declared.avp.Avp.TheVariants.{SessionId, RequestType, RequestNumber, Services as ServicesAvp}
+use Rattle.commands.specs.declared.avp.Avp.TheVariants.{SessionId, RequestType, RequestNumber}
 use Rattle.commands.specs.declared.service.Service.{Service}
 use Rattle.commands.specs.declared.answer.Failure.{Failure}
 use Rattle.commands.specs.declared.answer.Failure.TheVariants.{Denied, UnknownSessionId, InvalidAvpValue, UnableToComply, UserUnknown}
@@ -52,44 +51,65 @@ opened f t s n services ledger =
 abbrev pub initial_decision : Flat → ℕ → List ℕ → ℕ → List Service → Ledger → Decision
 initial_decision f t s n services ledger = refused_or (initial_refusal f s services ledger) ledger (opened f t s n services ledger)
 
--- ---- a termination
+-- ---- a request of a session
 
 abbrev pub limit_refusal : Bool → Option Failure
 limit_refusal passes = if passes then Some UnableToComply else None
 
-abbrev pub termination_refusal : Flat → ℕ → List ℕ → ℕ → List Service → Ledger → Option Failure
-termination_refusal f t s n services ledger =
+-- what is told before anything is settled: the session isn't live, the number isn't greater than that of its last
+-- accepted request, a service speaks of units that it can't
+abbrev pub early_refusal : Flat → ℕ → List ℕ → ℕ → List Service → Ledger → Option Failure
+early_refusal f t s n services ledger =
     if not (is_live f.validity t ledger s) then Some UnknownSessionId
     else (if is_late n (last_recording s ledger) then Some (invalid RequestNumber)
-    else or_else (option_map invalid (units_fault f s ledger services)) (limit_refusal (any_passes f t s services ledger)))
+    else option_map invalid (units_fault f s ledger services))
+
+-- of an update and of a termination alike
+abbrev pub session_refusal : Flat → ℕ → List ℕ → ℕ → List Service → Ledger → Option Failure
+session_refusal f t s n services ledger = or_else (early_refusal f t s n services ledger) (limit_refusal (any_passes f t s services ledger))
+
+-- its services are settled, and the session is touched
+abbrev pub settled_touched : Flat → ℕ → List ℕ → ℕ → List Service → Ledger → Ledger
+settled_touched f t s n services ledger = touched t s n (settled_services f t s services ledger)
+
+-- ---- an update
+
+-- all its services are settled first; then each is granted what it asks for
+abbrev pub updated : Flat → ℕ → List ℕ → ℕ → List Service → Ledger → Decision
+updated f t s n services ledger = record {
+  outcome = Services (grant_answers f t s services (settled_touched f t s n services ledger));
+  after = after_grants f t s services (settled_touched f t s n services ledger);
+}
+
+abbrev pub update_decision : Flat → ℕ → List ℕ → ℕ → List Service → Ledger → Decision
+update_decision f t s n services ledger = refused_or (session_refusal f t s n services ledger) ledger (updated f t s n services ledger)
+
+-- ---- a termination
 
 -- its services are settled, and the session ends
 abbrev pub ended : Flat → ℕ → List ℕ → ℕ → List Service → Ledger → Decision
 ended f t s n services ledger = record {
   outcome = Services (settled_answers f services);
-  after = closed t s (touched t s n (settled_services f t s services ledger));
+  after = closed t s (settled_touched f t s n services ledger);
 }
 
 abbrev pub termination_decision : Flat → ℕ → List ℕ → ℕ → List Service → Ledger → Decision
-termination_decision f t s n services ledger = refused_or (termination_refusal f t s n services ledger) ledger (ended f t s n services ledger)
+termination_decision f t s n services ledger = refused_or (session_refusal f t s n services ledger) ledger (ended f t s n services ledger)
 
 -- ---- a request
-
--- at most one service
-abbrev pub is_single : List Service → Bool
-is_single services = nat_le (length services) 1
 
 abbrev pub refused : Failure → Ledger → Decision
 refused failure ledger = record { outcome = Failed failure; after = ledger }
 
 abbrev pub decided : Flat → ℕ → List ℕ → ℕ → Ask → Ledger → Decision
-decided f t s n (Initial services) ledger = if is_single services then initial_decision f t s n services ledger else refused (invalid ServicesAvp) ledger
-decided f t s n (Termination services) ledger = if is_single services then termination_decision f t s n services ledger else refused (invalid ServicesAvp) ledger
-decided f t s n (Update services) ledger = refused (invalid RequestType) ledger
+decided f t s n (Initial services) ledger = initial_decision f t s n services ledger
+decided f t s n (Update services) ledger = update_decision f t s n services ledger
+decided f t s n (Termination services) ledger = termination_decision f t s n services ledger
 decided f t s n (Event event) ledger = refused (invalid RequestType) ledger
 decided f t s n (Refund refund) ledger = refused (invalid RequestType) ledger
 
--- the answer of a request at a moment, and the ledger after it
+-- the answer of a request at a moment, and the ledger after it; a request whose number has a kept answer isn't
+-- decided
 abbrev pub decision : Flat → ℕ → Request → Ledger → Decision
 decision f t r ledger = decided f t r.session r.number r.ask ledger
 

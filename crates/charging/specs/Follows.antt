@@ -1,15 +1,18 @@
 -- What a call on an account comes to, for each ledger whose rows the account is.
-use Rattle.std.specs.Prelude.{◌≡◌, ℕ, true, false, List, Result, Ok, Err}
+use Rattle.std.specs.Prelude.{◌≡◌, ℕ, true, false, List, Option, Some, None, Result, Ok, Err}
 use Rattle.commands.specs.declared.service.Service.{Service}
 use Rattle.commands.specs.declared.answer.Outcome.{Outcome}
 use Rattle.commands.specs.declared.answer.ServiceOutcome.{ServiceOutcome}
+use Rattle.commands.specs.declared.answer.ServiceAnswer.{ServiceAnswer}
+use Rattle.commands.specs.declared.answer.Failure.{Failure}
+use Rattle.reserving.specs.FlatTariff.{Flat}
 use Rattle.reserving.specs.declared.fault.AccountFault.{AccountFault}
 use Rattle.reserving.specs.declared.fault.AccountFault.TheVariants.{Memory, Limit}
 use Rattle.reserving.specs.Ledger.{Ledger}
 use Rattle.reserving.specs.Rows.{AccountRows, IsRowsOf}
-use Rattle.charging.specs.Granting.{Answered}
+use Rattle.charging.specs.Granting.{Answered, grant_answers, after_grants}
 use Rattle.charging.specs.Settling.{settled_services, any_passes}
-use Rattle.charging.specs.Decisions.{Decision}
+use Rattle.charging.specs.Decisions.{Decision, session_refusal}
 
 -- the outcome is the decision's, and the account is the rows of the ledger after it
 pub record Agrees (outcome : Outcome) (decision : Decision) (new : AccountRows) : Type 0 where
@@ -18,6 +21,16 @@ pub record Agrees (outcome : Outcome) (decision : Decision) (new : AccountRows) 
 
 abbrev pub Follows : AccountRows → AccountRows → Outcome → (Ledger → Decision) → Type 0
 Follows old new outcome decision = (ledger : Ledger) → IsRowsOf ledger old → Agrees outcome (decision ledger) new
+
+-- the same of a request that its ledgers refuse, or that is still to be answered
+abbrev pub Settles : Option Failure → AccountRows → AccountRows → ℕ → List ℕ → ℕ → List Service → Type 0
+Settles None old new t s n services = (ledger : Ledger) → IsRowsOf ledger old → (session_refusal old.tariff t s n services ledger ≡ None) × IsRowsOf (settled_services old.tariff t s services ledger) new
+Settles (Some failure) old new t s n services = (ledger : Ledger) → IsRowsOf ledger old → session_refusal old.tariff t s n services ledger ≡ Some failure
+
+-- the same of all grants of a request
+pub record GrantsAll (answers : List ServiceAnswer) (f : Flat) (t : ℕ) (s : List ℕ) (services : List Service) (ledger : Ledger) (new : AccountRows) : Type 0 where
+  pub same : answers ≡ grant_answers f t s services ledger
+  pub rows : IsRowsOf (after_grants f t s services ledger) new
 
 -- the same of a service's grant
 pub record Grants (outcome : ServiceOutcome) (answered : Answered) (new : AccountRows) : Type 0 where

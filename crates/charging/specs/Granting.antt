@@ -3,6 +3,7 @@
 use Rattle.std.specs.Prelude.{ℕ, ◌*◌, Bool, ◌==◌, ◌&&◌, nat_lt, if◌then◌else◌, List, [], ◌∷◌, Option, Some, None}
 use Rattle.std.specs.List.{list_any}
 use Rattle.commands.specs.declared.service.Service.{Service}
+use Rattle.commands.specs.declared.service.Requested.{Requested}
 use Rattle.commands.specs.declared.answer.FinalUnit.{FinalUnit}
 use Rattle.commands.specs.declared.answer.FinalUnit.TheVariants.{Terminate}
 use Rattle.commands.specs.declared.answer.ServiceFailure.{ServiceFailure}
@@ -13,7 +14,7 @@ use Rattle.commands.specs.declared.answer.ServiceAnswer.{ServiceAnswer}
 use Rattle.reserving.specs.Ledger.{Ledger, used}
 use Rattle.reserving.specs.FlatTariff.{Flat}
 use Rattle.reserving.specs.Reservation.{reserved, units_for, blocks_for, wanted_units}
-use Rattle.charging.specs.Reports.{asked_units}
+use Rattle.charging.specs.Reports.{units_of, asked_units}
 
 -- what a service is answered, and the ledger after it
 pub record Answered : Type 0 where
@@ -37,11 +38,16 @@ granted_with f t s g asked ledger before =
     }
     else record { outcome = service.Failed CreditLimitReached; after = ledger }
 
+-- a service that asks for nothing is granted nothing, and that is 2001
+abbrev pub granted_if : Flat → ℕ → List ℕ → ℕ → Option Requested → Ledger → Answered
+granted_if f t s g None ledger = record { outcome = service.Settled; after = ledger }
+granted_if f t s g (Some requested) ledger = granted_with f t s g (units_of requested) ledger (used s g ledger)
+
 -- the grant of a service; a rating group without a tariff is 5031
 abbrev pub granted : Flat → ℕ → List ℕ → Service → Ledger → Answered
 granted f t s x ledger =
     if x.group == f.group
-    then granted_with f t s x.group (asked_units x.requested) ledger (used s x.group ledger)
+    then granted_if f t s x.group x.requested ledger
     else record { outcome = service.Failed RatingFailed; after = ledger }
 
 -- the grants of all services, one after the other
@@ -55,7 +61,7 @@ after_grants f t s (x ∷ xs) ledger = after_grants f t s xs (granted f t s x le
 
 -- ---- a session that isn't open yet
 
--- the service of a new session would be granted a unit
+-- the service of a new session, which asks for units, would be granted one
 abbrev pub grants_new : Flat → ℕ → Ledger → Service → Bool
 grants_new f t ledger x = x.group == f.group && nat_lt 0 (units_for f t x.group 0 (asked_units x.requested) ledger)
 

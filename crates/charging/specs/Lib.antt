@@ -5,3 +5,5 @@ pub mod Settling
 pub mod Decisions
 pub mod Free
 pub mod Follows
+pub mod Named
+pub mod Answers

@@ -1,15 +1,17 @@
-ghost use Rattle.std.specs.Prelude.{◌≡◌, ◌≤◌, ℕ, true, [], ◌∷◌, length, OnOk, OnErr, IfOk, if◌then◌else◌};
+ghost use Rattle.std.specs.Prelude.{◌≡◌, ◌≤◌, ℕ, true, false, None, IfOk, IfSome, if◌then◌else◌};
 ghost use Rattle.reserving.specs.Ledger.{Ledger};
 ghost use Rattle.reserving.specs.Rows.{IsRowsOf};
-ghost use Rattle.charging.specs.Follows.{Follows, SettlesAll};
-ghost use Rattle.charging.specs.Reports.{units_fault};
 ghost use Rattle.reserving.specs.Sessions.{is_live_in};
-ghost use Rattle.charging.specs.Decisions.{decision, decided, initial_decision, termination_decision, answer_of, is_accepted};
+ghost use Rattle.commands.specs.Services.{groups_differ};
+ghost use Rattle.charging.specs.Named.{named};
+ghost use Rattle.charging.specs.Free.{IsFreeFor};
+ghost use Rattle.charging.specs.Follows.{Follows, Settles};
+ghost use Rattle.charging.specs.Decisions.{decision, decided, initial_decision, update_decision, termination_decision, answer_of, is_accepted, is_accepted_failure};
 
-use crate::granting::open;
-use crate::looking::{is_known, is_late, used_of};
-use crate::reports::wrong_units;
-use crate::settling::{end, settle, settled_answers};
+use crate::answering::{Quota, service_answers};
+use crate::granting::{open, renew};
+use crate::refusing::{early_refusal, initial_refusal};
+use crate::settling::{end, settle_services};
 use commands::{Ask, Avp, Failure, Outcome, Request, RequestAnswer, Service};
 use identifiers::SessionId;
 use reserving::{Account, AccountFault};
@@ -20,12 +22,6 @@ fn refused(failure: Failure) -> Outcome
     ensures { result ≡ Outcome.Failed failure }
 {
     Outcome::Failed(failure)
-}
-
-fn invalid(avp: Avp) -> Outcome
-    ensures { result ≡ Outcome.Failed (Failure.InvalidAvpValue avp) }
-{
-    refused(Failure::InvalidAvpValue(avp))
 }
 
 /// Whether a request with this answer was accepted: it changed the account and is recorded.
@@ -47,56 +43,71 @@ fn initial(
     account: &mut Account,
     session: &SessionId,
     number: u32,
-    service: &Service,
+    services: &[Service],
     moment: Moment,
 ) -> Result<Outcome, AllocError>
+    requires apart { groups_differ services.now ≡ true }
     requires later { account.old.as_of ≤ moment }
-    ensures follows { IfOk result (λ outcome. Follows account.old account.new outcome (initial_decision account.old.tariff moment session.now number (service.now ∷ []))) }
+    ensures follows { IfOk result (λ outcome. Follows account.old account.new outcome (initial_decision account.old.tariff moment session.now number services.now)) }
     ensures moment { IfOk result (λ outcome. account.new.as_of ≡ if is_accepted outcome then moment else account.old.as_of) }
     ensures tariff { account.new.tariff ≡ account.old.tariff }
+    ensures same { IfOk result (λ outcome. is_accepted outcome ≡ false → account.new ≡ account.old) }
 {
-    if is_known(account, session, service.group) {
-        return Ok(invalid(Avp::SessionId));
+    if let Some(failure) = initial_refusal(account, session, services) {
+        return Ok(refused(failure));
     }
-    let used = used_of(account, session, service.group);
-    if let Some(avp) = wrong_units(account.tariff(), used, service) {
-        return Ok(invalid(avp));
-    }
-    open(alloc, account, session, number, service, moment)
+    open(alloc, account, session, number, services, moment)
 }
 
-/// What is wrong with the units of a termination's services.
-fn wrong_report(account: &Account, session: &SessionId, services: &[Service]) -> Option<Avp>
-    requires { length services.now ≤ 1 }
-    ensures { (ledger : Ledger) → IsRowsOf ledger account.now → result ≡ units_fault account.now.tariff session.now ledger services.now }
-{
-    let [service] = services else {
-        return None;
-    };
-    let used = used_of(account, session, service.group);
-    wrong_units(account.tariff(), used, service)
-}
-
-fn settle_all(
+/// Settles the services of a session's update or termination; or why it is refused.
+fn settle_or_refuse(
     alloc: Global,
     account: &mut Account,
     session: &SessionId,
+    number: u32,
     services: &[Service],
     moment: Moment,
-) -> Result<(), AccountFault>
-    requires few { length services.now ≤ 1 }
+) -> Result<Option<Failure>, AllocError>
+    requires apart { groups_differ services.now ≡ true }
     requires later { account.old.as_of ≤ moment }
-    requires live { is_live_in account.old.tariff.validity moment account.old.sessions session.now ≡ true }
-    ensures settles { SettlesAll result account.old account.new moment session.now services.now }
-    ensures live { is_live_in account.new.tariff.validity moment account.new.sessions session.now ≡ true }
+    ensures settles { IfOk result (λ refusal. Settles refusal account.old account.new moment session.now number services.now) }
+    ensures refusal { IfOk result (λ refusal. IfSome refusal (λ failure. is_accepted_failure failure ≡ false)) }
+    ensures same { IfOk result (λ refusal. IfSome refusal (λ failure. account.new ≡ account.old)) }
+    ensures live { IfOk result (λ refusal. refusal ≡ None → is_live_in account.new.tariff.validity moment account.new.sessions session.now ≡ true) }
+    ensures free { IfOk result (λ refusal. refusal ≡ None → IsFreeFor (named account.old.tariff.group services.now) session.now account.new.groups) }
     ensures later { account.new.as_of ≤ moment }
     ensures tariff { account.new.tariff ≡ account.old.tariff }
-    ensures err { OnErr result (account.new ≡ account.old) }
 {
-    match services {
-        [service] => settle(alloc, account, session, service, moment),
-        _ => Ok(()),
+    if let Some(failure) = early_refusal(account, session, number, services, moment) {
+        return Ok(Some(failure));
     }
+    match settle_services(alloc, account, session, services, moment) {
+        Ok(()) => Ok(None),
+        Err(AccountFault::Limit) => Ok(Some(Failure::UnableToComply)),
+        Err(AccountFault::Memory) => Err(AllocError),
+    }
+}
+
+fn update(
+    alloc: Global,
+    account: &mut Account,
+    session: &SessionId,
+    number: u32,
+    services: &[Service],
+    moment: Moment,
+) -> Result<Outcome, AllocError>
+    requires apart { groups_differ services.now ≡ true }
+    requires later { account.old.as_of ≤ moment }
+    ensures follows { IfOk result (λ outcome. Follows account.old account.new outcome (update_decision account.old.tariff moment session.now number services.now)) }
+    ensures moment { IfOk result (λ outcome. account.new.as_of ≡ if is_accepted outcome then moment else account.old.as_of) }
+    ensures tariff { account.new.tariff ≡ account.old.tariff }
+    ensures same { IfOk result (λ outcome. is_accepted outcome ≡ false → account.new ≡ account.old) }
+{
+    if let Some(failure) = settle_or_refuse(alloc, account, session, number, services, moment)? {
+        return Ok(refused(failure));
+    }
+    let answers = renew(alloc, account, session, number, services, moment)?;
+    Ok(Outcome::Services(answers))
 }
 
 fn terminate(
@@ -107,27 +118,17 @@ fn terminate(
     services: &[Service],
     moment: Moment,
 ) -> Result<Outcome, AllocError>
-    requires few { length services.now ≤ 1 }
+    requires apart { groups_differ services.now ≡ true }
     requires later { account.old.as_of ≤ moment }
     ensures follows { IfOk result (λ outcome. Follows account.old account.new outcome (termination_decision account.old.tariff moment session.now number services.now)) }
     ensures moment { IfOk result (λ outcome. account.new.as_of ≡ if is_accepted outcome then moment else account.old.as_of) }
     ensures tariff { account.new.tariff ≡ account.old.tariff }
+    ensures same { IfOk result (λ outcome. is_accepted outcome ≡ false → account.new ≡ account.old) }
 {
-    if !account.is_live(session, moment) {
-        return Ok(refused(Failure::UnknownSessionId));
+    if let Some(failure) = settle_or_refuse(alloc, account, session, number, services, moment)? {
+        return Ok(refused(failure));
     }
-    if is_late(account, session, number) {
-        return Ok(invalid(Avp::RequestNumber));
-    }
-    if let Some(avp) = wrong_report(account, session, services) {
-        return Ok(invalid(avp));
-    }
-    let answers = settled_answers(alloc, account.tariff(), services)?;
-    match settle_all(alloc, account, session, services, moment) {
-        Ok(()) => {}
-        Err(AccountFault::Limit) => return Ok(refused(Failure::UnableToComply)),
-        Err(AccountFault::Memory) => return Err(AllocError),
-    }
+    let answers = service_answers(alloc, account.tariff(), Quota::Settled, services)?;
     end(account, session, number, moment);
     Ok(Outcome::Services(answers))
 }
@@ -144,27 +145,26 @@ fn decide_ask(
     ensures follows { IfOk result (λ outcome. Follows account.old account.new outcome (decided account.old.tariff moment session.now number ask.now)) }
     ensures moment { IfOk result (λ outcome. account.new.as_of ≡ if is_accepted outcome then moment else account.old.as_of) }
     ensures tariff { account.new.tariff ≡ account.old.tariff }
+    ensures same { IfOk result (λ outcome. is_accepted outcome ≡ false → account.new ≡ account.old) }
 {
     match ask {
-        Ask::Initial(services) => match services.as_slice() {
-            [service] => initial(alloc, account, session, number, service, moment),
-            _ => Ok(invalid(Avp::Services)),
-        },
-        Ask::Termination(services) => {
-            let services = services.as_slice();
-            if 1 < services.len() {
-                return Ok(invalid(Avp::Services));
-            }
-            terminate(alloc, account, session, number, services, moment)
+        Ask::Initial(services) => {
+            initial(alloc, account, session, number, services.as_slice(), moment)
         }
-        Ask::Update(_) | Ask::Event(_) | Ask::Refund(_) => Ok(invalid(Avp::RequestType)),
+        Ask::Update(services) => {
+            update(alloc, account, session, number, services.as_slice(), moment)
+        }
+        Ask::Termination(services) => {
+            terminate(alloc, account, session, number, services.as_slice(), moment)
+        }
+        Ask::Event(_) | Ask::Refund(_) => Ok(refused(Failure::InvalidAvpValue(Avp::RequestType))),
     }
 }
 
 /// Decides a request on an account in the order of decisions, and answers it (RFC 8506 sections 5.1 and 9).
 ///
-/// Its number has no kept answer: the caller looks for those before. A refused request changes nothing. An initial request and a termination have at most one service; other requests are refused
-/// as invalid (5004).
+/// The request's number has no kept answer in its session: the caller looks for those before. A refused request
+/// changes nothing. Events are refused as invalid (5004).
 ///
 /// # Errors
 /// Want of memory. Then the account is to be given up: it may be changed in part.
@@ -181,6 +181,7 @@ pub fn decide(
         IsRowsOf (decision account.old.tariff moment request.now ledger).after account.new) }
     ensures moment { IfOk result (λ answer. account.new.as_of ≡ if is_accepted answer.outcome then moment else account.old.as_of) }
     ensures tariff { account.new.tariff ≡ account.old.tariff }
+    ensures same { IfOk result (λ answer. is_accepted answer.outcome ≡ false → account.new ≡ account.old) }
 {
     let session = request.session.clone()?;
     let kind = request.kind();

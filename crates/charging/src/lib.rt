@@ -1,11 +1,13 @@
 //! Decides requests for credit control on an account, in the order of decisions of the profile.
 //!
-//! Initial requests and terminations of at most one service are decided; others are refused as invalid.
+//! The requests of sessions are decided; events are refused as invalid.
 #![tactic(auto)]
 
+mod answering;
 mod deciding;
 mod granting;
 mod looking;
+mod refusing;
 mod reports;
 mod settling;
 

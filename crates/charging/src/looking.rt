@@ -1,4 +1,4 @@
-ghost use Rattle.std.specs.Prelude.{◌≡◌, ◌≤◌, false, is_some};
+ghost use Rattle.std.specs.Prelude.{◌≡◌, ◌≤◌, false, is_some, option_copied};
 ghost use Rattle.std.specs.List.{list_any};
 ghost use Rattle.reserving.specs.Ledger.{Ledger, used, last_recording};
 ghost use Rattle.reserving.specs.Sessions.{is_session, session_in, group_in};
@@ -6,7 +6,9 @@ ghost use Rattle.reserving.specs.Rows.{IsRowsOf};
 ghost use Rattle.reserving.specs.Changes.{used_in};
 ghost use Rattle.charging.specs.Recorded.{has_record, is_late, is_late_row};
 ghost use Rattle.charging.specs.Free.{IsFree, is_reserved};
+ghost use Rattle.charging.specs.Named.{named};
 
+use commands::Service;
 use identifiers::SessionId;
 use reserving::{Account, Session, SessionGroup};
 
@@ -76,4 +78,16 @@ pub(crate) fn is_known(account: &Account, id: &SessionId, group: u32) -> bool
     ensures ledger { (ledger : Ledger) → IsRowsOf ledger account.now → result ≡ has_record id.now ledger }
 {
     has_row(account.sessions(), id) || is_reserved(account.groups(), id, group)
+}
+
+/// The service of a rating group.
+pub(crate) fn named(group: u32, services: &[Service]) -> Option<&Service>
+    ensures { option_copied result ≡ named group services.now }
+{
+    for service in services {
+        if service.group == group {
+            return Some(service);
+        }
+    }
+    None
 }

@@ -22,13 +22,23 @@ fn is_kind(a: UnitKind, b: UnitKind) -> bool
     }
 }
 
+/// The units that are asked for; None: the group's slice.
+pub(crate) fn requested_units(requested: &Requested) -> Option<Units>
+    ensures { option_map (λ u. u.0) result ≡ units_of requested.now }
+{
+    match requested {
+        Requested::Slice => None,
+        Requested::Units(quantity) => Some(Units(quantity.units())),
+    }
+}
+
 /// The units that a service asks for; None: the group's slice.
 pub(crate) fn asked_units(requested: &Option<Requested>) -> Option<Units>
     ensures { option_map (λ u. u.0) result ≡ asked_units requested.now }
 {
     match requested {
-        Some(Requested::Units(quantity)) => Some(Units(quantity.units())),
-        _ => None,
+        Some(requested) => requested_units(requested),
+        None => None,
     }
 }
 

@@ -21,6 +21,7 @@ pub mod SettledRows
 pub mod SettledKept
 pub mod SettledParts
 pub mod SettledCall
+pub mod SettledFree
 pub mod Reserved
 pub mod Granting
 pub mod ReservedCall

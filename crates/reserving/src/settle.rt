@@ -1,4 +1,4 @@
-ghost use Rattle.std.specs.Prelude.{◌≡◌, ℕ, ◌+◌, ◌≤◌, ◌<◌, ◌^◌, true, false, is_some, OnOk, OnErr, IfOk, IfSome, IsNone};
+ghost use Rattle.std.specs.Prelude.{◌≡◌, ℕ, ◌+◌, ◌≤◌, ◌<◌, ◌^◌, true, false, None, is_some, OnOk, OnErr, IfOk, IfSome, IsNone};
 ghost use Rattle.reserving.specs.Ledger.{Ledger};
 ghost use Rattle.reserving.specs.Sessions.{is_live_in};
 ghost use Rattle.reserving.specs.Settlement.{reported, rated_blocks, rated_amount, passes, passes_limit, settled_by};
@@ -8,7 +8,7 @@ ghost use Rattle.buckets.specs.Holding.{uncollected};
 ghost use Rattle.reserving.specs.FlatTariff.{cycle_at};
 ghost use Rattle.reserving.specs.Sessions.{group_in, counter_in};
 ghost use Rattle.reserving.specs.Changes.{advanced, used_in, reserved_in, count_in, settled_account, ended_rows};
-ghost use Rattle.reserving.specs.Prepared.{with_rows};
+ghost use Rattle.reserving.specs.Prepared.{with_rows, reservation_in};
 
 use crate::account::Account;
 use crate::fault::AccountFault;
@@ -77,6 +77,7 @@ impl<'b> Account<'b> {
             passes_limit self.old.tariff moment session.now group parts.now ledger ≡ false) }
         ensures limit { result ≡ Err AccountFault.Limit → (ledger : Ledger) → IsRowsOf ledger self.old →
             passes_limit self.old.tariff moment session.now group parts.now ledger ≡ true }
+        ensures free { OnOk result (reservation_in session.now group self.new.groups ≡ None) }
         ensures err { OnErr result (self.new ≡ self.old) }
     {
         if parts.is_empty() {

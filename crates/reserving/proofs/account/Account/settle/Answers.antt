@@ -6,6 +6,7 @@ use Rattle.reserving.specs.Changes.{advanced, used_in, count_in, settled_account
 use Rattle.reserving.specs.Rows.{AccountRows}
 use Rattle.reserving.specs.Settlement.{passes}
 use Rattle.reserving.proofs.SettledCall.{rows_ended, nothing_settled, within_used, within_counted, passes_is, there_later, counter_there, used_middle, count_middle, rows_settled, settlement_is}
+use Rattle.reserving.proofs.SettledFree.{ended_free, settled_free}
 use Rattle.reserving.proofs.account.Account.settle.Goals as goal
 
 is_nothing : (ps : List UsedPart) → (length ps == 0) ≡ true → ps ≡ []
@@ -73,3 +74,9 @@ returns-clause-sessions c =
 pub returns-then-is_empty-clause-sessions : goal.returns-then-is_empty-clause-sessions
 returns-then-is_empty-clause-sessions c =
     ap (λ (x : AccountRows). x.sessions) (c.end_reservation.ensures.rows ∙ ap (ended_rows c.args.session.now c.args.group) c.advance.ensures.rows)
+
+pub returns-clause-free : goal.returns-clause-free
+returns-clause-free c = settled_free c.args.session.now c.args.group c.in-Some.rated.units.0 c.in-Some.rated.blocks.0 c.in-Some.rated.amount.0 c.advance-2.new.self c.settle_use-charged.new.self c.settle_use-charged.ensures.rows
+
+pub returns-then-is_empty-clause-free : goal.returns-then-is_empty-clause-free
+returns-then-is_empty-clause-free c = ended_free c.args.session.now c.args.group c.advance.new.self c.end_reservation.new.self c.end_reservation.ensures.rows
