@@ -1,10 +1,10 @@
 -- Worked cases, computed from the definitions: a time tariff of 100,000 micro-units a minute.
-use Rattle.std.proofs.Common.{◌≡◌, ℕ, ◌*◌, List, [], ◌∷◌, refl}
+use Rattle.std.proofs.Common.{◌≡◌, ℕ, ◌*◌, true, false, List, [], ◌∷◌, refl}
 use Rattle.std.specs.Prelude.{None, Some}
 use Rattle.units.specs.declared.blocks.UsedPart.{UsedPart}
 use Rattle.units.specs.declared.blocks.UnitKind.TheVariants.{Time}
 use Rattle.buckets.specs.Row.{Row}
-use Rattle.reserving.specs.Ledger.{Ledger, used}
+use Rattle.reserving.specs.Ledger.{Ledger, used, is_live}
 use Rattle.reserving.specs.Ledger.Fact.{Credit, Touch}
 use Rattle.reserving.specs.FlatTariff.{Flat}
 use Rattle.reserving.specs.Balance.{buckets_at}
@@ -82,3 +82,28 @@ two_held = refl
 two_settled : buckets_at 3600 1767608100 (settled_by flat 1767608100 s 10 (report 60) two_granted) ≡ bucket 1 1767571200 1767607800 150000 0 0 100000 50000 ∷ bucket 2 1767571200 4102444800 300000 300000 0 0 0 ∷ []
 unfolding greatest_within
 two_settled = refl
+
+-- a session lives until two validity times after its last request, 1767614400; its reservation lives as long
+abbrev left_alone : Ledger
+left_alone = granted 1767607200 600 (opened 1000000)
+
+left_alone_live : is_live 3600 1767614399 left_alone s ≡ true
+unfolding greatest_within
+left_alone_live = refl
+
+left_alone_held : buckets_at 3600 1767614399 left_alone ≡ bucket 1 1767571200 4102444800 1000000 0 1000000 0 0 ∷ []
+unfolding greatest_within
+left_alone_held = refl
+
+-- a request in its last second gets what its first one held
+left_alone_again : units_for flat 1767614399 10 0 (Some 600) (settled_by flat 1767614399 s 10 [] left_alone) ≡ 600
+unfolding greatest_within
+left_alone_again = refl
+
+left_alone_over : is_live 3600 1767614400 left_alone s ≡ false
+unfolding greatest_within
+left_alone_over = refl
+
+left_alone_given_up : buckets_at 3600 1767614400 left_alone ≡ bucket 1 1767571200 4102444800 1000000 1000000 0 0 0 ∷ []
+unfolding greatest_within
+left_alone_given_up = refl

@@ -22,3 +22,6 @@ pub use crate::laws::going_on;
 pub use crate::reserve::Granted;
 pub use crate::session::{Counter, Reservation, Session, SessionGroup, SessionState};
 pub use crate::settle::Settled;
+
+#[cfg(test)]
+mod tests;
