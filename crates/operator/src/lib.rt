@@ -6,3 +6,6 @@ mod numbers;
 
 pub use crate::dated::{DatedLine, dated_line};
 pub use crate::numbers::number;
+
+#[cfg(test)]
+mod tests;

@@ -3,6 +3,9 @@ ghost use Rattle.std.specs.List.{list_all};
 ghost use Rattle.std.specs.Char.{is_ascii_digit};
 ghost use Rattle.operator.specs.Numbers.{number_of};
 
+/// The most digits of a number: its value fits 64 bits.
+const MOST_DIGITS: usize = 16;
+
 fn is_digits(text: &str) -> bool
     ensures { result ≡ list_all is_ascii_digit text.now }
 {
@@ -13,7 +16,7 @@ fn is_digits(text: &str) -> bool
 pub fn number(text: &str) -> Option<u64>
     ensures { result ≡ number_of text.now }
 {
-    if text.is_empty() || text.len() > 16 || !is_digits(text) {
+    if text.is_empty() || text.len() > MOST_DIGITS || !is_digits(text) {
         return None;
     }
     text.parse::<u64>().ok()

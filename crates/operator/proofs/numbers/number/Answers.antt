@@ -1,4 +1,4 @@
-use Rattle.std.proofs.Common.{◌≡◌, ◌&&◌, ◌+◌, ◌≤◌, ◌<◌, ◌^◌, ℕ, List, [], ◌∷◌, length, true, Some, Ok, Result, arith, rules, refl, sym, ap, ◌∙◌, lit<}
+use Rattle.std.proofs.Common.{◌≡◌, ◌&&◌, ◌≤◌, ◌<◌, ℕ, List, [], ◌∷◌, length, true, Some, Ok, Result, arith, refl, sym, ap, ◌∙◌}
 use Rattle.std.specs.List.{list_all}
 use Rattle.std.specs.Char.{is_ascii_digit}
 use Rattle.std.specs.Result.{result_ok}
@@ -28,7 +28,7 @@ pub returns : goal.returns
 returns c =
     let bs = c.args.text.now in
     let some : 0 < length bs = grind (arith, c.is_empty.ensures, c.if-is_empty.false) in
-    let few : length bs ≤ 16 = omega (arith, c.if-text-gt16.false) in
+    let few : length bs ≤ 16 = omega (arith, c.if-text-gt-MOST_DIGITS.false) in
     let all : list_all is_ascii_digit bs ≡ true = sym c.is_digits.ensures ∙ c.if-not-is_digits.false in
     let parsed = number_parsed bs c.parse.result c.parse.ensures.value.0 some few all in
     c.ok.ensures.value ∙ ap result_ok parsed ∙ sym (number_value bs some few all)
