@@ -5,7 +5,7 @@ use Rattle.std.proofs.lemmas.List.{at_drop_more}
 use Rattle.std.proofs.lemmas.List.Sums.{sum_by-cons}
 use Rattle.calendar.specs.declared.week.Period.{Period}
 use Rattle.units.specs.Blocks.{started}
-use Rattle.units.proofs.Started.{started-add, started_le}
+use Rattle.units.proofs.Started.{started-add}
 use Rattle.tariffs.specs.Tariffs.{GroupTariff, tiers_at}
 use Rattle.rating.specs.declared.report.Part.{Part}
 use Rattle.rating.specs.declared.report.Rated.{Rated}
@@ -80,13 +80,6 @@ amount_after t a place i done sum n price into total parts within n_is into_is p
     let here = price_is ∙ ap (rated_amount (tiers_at t (get_or parts i no_part).period.0) (place + done)) n_is in
     omega (arith, amount_step t a (place + done) i parts no_part within, rest, here, h)
 
--- a report starts no more blocks than it has units
-pub report_blocks_le : (block used : ℕ) (parts : List Part) → report_blocks block used parts ≤ units_of parts
-unfolding report_blocks
-report_blocks_le block used [] = omega arith
-report_blocks_le block used (part ∷ parts) =
-    omega (arith, started_le used part.units.0 block, report_blocks_le block (used + part.units.0) parts, sum_by-cons (λ (p : Part). p.units.0) part parts)
-
 -- two reports after each other
 pub follows : (t : GroupTariff) (used place : ℕ) (parts more : List Part) → FollowsAt t used place parts more
 unfolding report_blocks report_amount
@@ -127,7 +120,7 @@ cut_amount t used place period one two after some =
 
 report_is : (t : GroupTariff) (used place : ℕ) (xs ys : List Part) → report_blocks t.block used xs ≡ report_blocks t.block used ys
     → report_amount t used place xs ≡ report_amount t used place ys → rated_report t used place xs ≡ rated_report t used place ys
-report_is t used place xs ys blocks amount = λ i. record { amount = record { 0 = amount i }; blocks = record { 0 = blocks i } }
+report_is t used place xs ys blocks amount = λ i. record { amount = record { 0 = amount i }; blocks = blocks i }
 
 -- anywhere in a report
 pub cuts_alike : CutsAlike
@@ -143,9 +136,9 @@ cuts_alike t used place before after period one two some =
 -- after the last part
 pub report_by : (t : GroupTariff) (used place : ℕ) (parts : List Part) (a p amount blocks : ℕ) → blocks + report_blocks t.block a [] ≡ report_blocks t.block used parts
     → amount + report_amount t a p [] ≡ report_amount t used place parts
-    → ◌≡◌ {A = Rated} (record { amount = record { 0 = amount }; blocks = record { 0 = blocks } }) (rated_report t used place parts)
+    → ◌≡◌ {A = Rated} (record { amount = record { 0 = amount }; blocks = blocks }) (rated_report t used place parts)
 unfolding report_blocks report_amount
 report_by t used place parts a p amount blocks hb ha =
     let b : blocks ≡ report_blocks t.block used parts = omega (arith, hb) in
     let m : amount ≡ report_amount t used place parts = omega (arith, ha) in
-    λ i. record { amount = record { 0 = m i }; blocks = record { 0 = b i } }
+    λ i. record { amount = record { 0 = m i }; blocks = b i }

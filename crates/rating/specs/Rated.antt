@@ -29,7 +29,7 @@ report_amount t used place (part ∷ parts) =
 abbrev pub rated_report : GroupTariff → ℕ → ℕ → List Part → Rated
 rated_report t used place parts = record {
   amount = record { 0 = report_amount t used place parts };
-  blocks = record { 0 = report_blocks t.block used parts };
+  blocks = report_blocks t.block used parts;
 }
 
 -- a part of some units in a period

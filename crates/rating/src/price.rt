@@ -33,7 +33,7 @@ pub(crate) fn block_price(tiers: &[Tier], place: u128) -> u64
 /// The rated amount of some blocks at the places after one on the counter.
 pub(crate) fn rated_amount(tiers: &[Tier], place: u128, blocks: u64) -> u128
     requires tiers { ArePriced tiers.now }
-    requires place { place < 2 ^ 65 }
+    requires place { place < 2 ^ 67 }
     ensures value { result ≡ rated_amount tiers.now place blocks }
     ensures bound { result ≤ blocks * 1_000_000_000 }
 {

@@ -1,14 +1,15 @@
 //! The price of a report of used units.
 
-ghost use Rattle.std.specs.Prelude.{◌≡◌, ◌≤◌, ◌<◌, ◌+◌, ◌%◌, ◌^◌};
-ghost use Rattle.rating.specs.Rated.{report_blocks, rated_report, CutsAlike, FollowsOn};
+ghost use Rattle.std.specs.Prelude.{◌≡◌, ◌≤◌, ◌+◌, ◌%◌};
+ghost use Rattle.rating.specs.Rated.{rated_report, CutsAlike, FollowsOn};
 
 use crate::price::rated_amount;
 use calendar::Period;
 use tariffs::Tariff;
-use units::{Amount, Blocks, Units, blocks_started};
+use units::{Amount, Units, blocks_started};
 
-/// A part of a report: units that are priced in one period (Used-Service-Unit, RFC 8506 section 8.19).
+/// A part of a report: units that are priced in one period (Used-Service-Unit, RFC 8506 section 8.19). A part of 0
+/// units starts no block and costs nothing.
 #[derive(Clone, Copy, Debug, PartialEq, Eq)]
 pub struct Part {
     /// The period that prices the blocks which the part starts.
@@ -22,8 +23,8 @@ pub struct Part {
 pub struct Rated {
     /// The rated amount, in micro-units.
     pub amount: Amount,
-    /// The blocks that the report starts.
-    pub blocks: Blocks,
+    /// The blocks that the report starts: those of four parts may pass 64 bits.
+    pub blocks: u128,
 }
 
 /// How far a use stands into its block after some more units.
@@ -37,29 +38,29 @@ fn place_in_block(into_block: u64, units: Units, block: u64) -> u64
 
 /// Rates the parts of a report in their order: each starts blocks after the session's use that the one before left
 /// (`used_before` at first), and is priced at the places after the one where the counter then stands (`place` at
-/// first). The blocks of the whole report have to fit 64 bits.
-pub fn rate_report(tariff: &Tariff, used_before: Units, place: u64, parts: &[Part]) -> Rated
-    requires { report_blocks tariff.now.block used_before.0 parts.now < 2 ^ 64 }
+/// first). A report has at most four parts, one without a Tariff-Change-Usage and one for each of its values
+/// (RFC 8506 section 8.27); one that it doesn't have is a part of 0 units.
+pub fn rate_report(tariff: &Tariff, used_before: Units, place: u64, parts: &[Part; 4]) -> Rated
     ensures { result ≡ rated_report tariff.now used_before.0 place parts.now }
 {
     let block = tariff.block();
     // How far the use stands into its block is all that decides which blocks are started.
     let mut into_block = used_before.0 % block;
-    let mut blocks: u64 = 0;
+    let mut blocks: u128 = 0;
     let mut amount: u128 = 0;
     for part in parts {
         let started = blocks_started(Units(into_block), part.units, block);
         amount += rated_amount(
             tariff.tiers(part.period),
-            u128::from(place) + u128::from(blocks),
+            u128::from(place) + blocks,
             started.0,
         );
-        blocks += started.0;
+        blocks += started.0 as u128;
         into_block = place_in_block(into_block, part.units, block);
     }
     Rated {
         amount: Amount(amount),
-        blocks: Blocks(blocks),
+        blocks,
     }
 }
 

@@ -2,9 +2,6 @@
 //! blocks of 60 at 50000 or 100000 micro-units a block, and octets in blocks of 1048576, of which the first 100 of a
 //! month are free and the others cost 10000.
 
-ghost use Rattle.std.specs.Prelude.{◌≡◌, ◌<◌, ◌^◌};
-ghost use Rattle.rating.specs.Rated.{units_of};
-
 use crate::{Grant, Part, Periods, Rated, greatest_grant, rate, rate_report};
 use calendar::Period;
 use std::test::Fail;
@@ -138,18 +135,19 @@ fn blocks_are_rated(rt: HostRuntime) -> Result<(), Fail> {
     Ok(())
 }
 
-/// The rated amount and the blocks of a report whose units fit 64 bits.
-#[tactic(auto, using(crate::proofs::Reports::report_blocks_le))]
-fn rated(tariff: &Tariff, used: u64, place: u64, parts: &[Part]) -> (u128, u64)
-    requires { units_of parts.now < 2 ^ 64 }
-{
-    let Rated { amount, blocks } = rate_report(tariff, Units(used), place, parts);
-    (amount.0, blocks.0)
+/// The rated amount and the blocks of a report of at most two parts.
+fn rated(tariff: &Tariff, used: u64, place: u64, first: Part, second: Part) -> (u128, u128) {
+    let parts = [first, second, NONE, NONE];
+    let Rated { amount, blocks } = rate_report(tariff, Units(used), place, &parts);
+    (amount.0, blocks)
 }
 
-fn part(period: Period, units: u64) -> Part
-    ensures { result.units.0 ≡ units }
-{
+const NONE: Part = Part {
+    period: PEAK,
+    units: Units(0),
+};
+
+fn part(period: Period, units: u64) -> Part {
     Part {
         period,
         units: Units(units),
@@ -163,16 +161,19 @@ fn reports_are_rated(rt: HostRuntime) -> Result<(), Fail> {
     let octets = book.tariff(20).ok_or("no group 20")?;
     // 300 seconds before the dearer period and 90 in it.
     assert_eq!(rt;
-        rated(seconds, 0, 0, &[part(OFF, 300), part(PEAK, 90)]),
+        rated(seconds, 0, 0, part(OFF, 300), part(PEAK, 90)),
         (450_000, 7)
     );
     // 61 seconds, and then the 59 that are left of the second block.
-    assert_eq!(rt; rated(seconds, 0, 0, &[part(PEAK, 61)]), (200_000, 2));
-    assert_eq!(rt; rated(seconds, 61, 2, &[part(PEAK, 59)]), (0, 0));
+    assert_eq!(rt; rated(seconds, 0, 0, part(PEAK, 61), NONE), (200_000, 2));
+    assert_eq!(rt; rated(seconds, 61, 2, part(PEAK, 59), NONE), (0, 0));
     // The last free block and the first one that isn't.
-    assert_eq!(rt; rated(octets, 0, 0, &[part(PEAK, 103_809_024)]), (0, 99));
     assert_eq!(rt;
-        rated(octets, 103_809_024, 99, &[part(PEAK, 2_097_152)]),
+        rated(octets, 0, 0, part(PEAK, 103_809_024), NONE),
+        (0, 99)
+    );
+    assert_eq!(rt;
+        rated(octets, 103_809_024, 99, part(PEAK, 2_097_152), NONE),
         (10_000, 2)
     );
     Ok(())
