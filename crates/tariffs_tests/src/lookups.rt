@@ -1,0 +1,188 @@
+//! What the look-ups say of the book of three groups. Expected values are the document's, and for moments those of
+//! Python's `datetime` with a fixed offset: the weekday and hour, the date's ordinal, its year and month, the
+//! timestamp of a midnight, and a search over each minute of the next hour.
+
+use crate::documents::BOOK;
+use calendar::{Cycle, Period};
+use std::alloc::Global;
+use std::test::Fail;
+use tariffs::{RedirectAddress, Tariff, TariffBook};
+use units::Moment;
+
+/// What a tariff says of itself, but for its prices.
+fn described(alloc: Global, tariff: &Tariff) -> Result<String, Fail> {
+    let numbers = format!(in alloc;
+        "{} {} {} {}",
+        tariff.group(),
+        tariff.block(),
+        tariff.slice(),
+        tariff.max_grant()
+    )?;
+    let words = format!(in alloc;
+        "{:?} {:?} {:?}",
+        tariff.unit(),
+        tariff.cycle(),
+        tariff.final_action()
+    )?;
+    Ok(format!(in alloc; "{numbers} {words}")?)
+}
+
+/// The bounds and prices of its tiers in a period.
+fn tiers(alloc: Global, tariff: &Tariff, period: u8) -> Result<String, Fail> {
+    let mut text = String::new(alloc);
+    for tier in tariff.tiers(Period(period)) {
+        let line = format!(in alloc; " / {:?} {}", tier.upto, tier.price)?;
+        text.push_str(line.as_str())?;
+    }
+    Ok(text)
+}
+
+/// A group of the book: what it says, and its tiers in a period.
+fn group(alloc: Global, book: &TariffBook, group: u32, period: u8) -> Result<String, Fail> {
+    match book.tariff(group) {
+        Some(tariff) => {
+            let described = described(alloc, tariff)?;
+            let tiers = tiers(alloc, tariff, period)?;
+            Ok(format!(in alloc; "{described}{tiers}")?)
+        }
+        None => Ok(String::from_str(alloc, "none")?),
+    }
+}
+
+/// A group, a period, and what the book says of them.
+const GROUPS: &str = "10 0 -> 10 60 600 3600 Time None Terminate / None 50000
+10 1 -> 10 60 600 3600 Time None Terminate / None 100000
+10 2 -> 10 60 600 3600 Time None Terminate
+20 0 -> 20 1048576 10485760 1048576000 TotalOctets Month Redirect(RedirectAddress { text: \"http://topup.example/\" }) / Some(100) 0 / None 10000
+30 1 -> 30 1 1 100 ServiceSpecific None Terminate / None 90000
+99 0 -> none";
+
+#[test]
+fn groups(rt: HostRuntime) -> Result<(), Fail> {
+    let alloc = rt.alloc();
+    let book = TariffBook::read(alloc, BOOK.as_bytes())?;
+    for line in GROUPS.lines() {
+        let (of, expected) = line.split_once(" -> ").ok_or("a case")?;
+        let (number, period) = of.split_once(" ").ok_or("a group and a period")?;
+        let found = group(alloc, &book, number.parse::<u32>()?, period.parse::<u8>()?)?;
+        assert_eq!(rt; found.as_str(), expected);
+    }
+    Ok(())
+}
+
+/// What the book says of a moment: its period and the switch within an hour of it, the validity from it, the numbers
+/// of its cycles, and the end of its day and of the 30th day after it.
+fn moment(alloc: Global, book: &TariffBook, seconds: u64) -> Result<String, Fail> {
+    let moment = Moment::of_command(seconds).ok_or("a moment")?;
+    let Period(period) = book.period_at(moment);
+    let switch = book.next_switch(moment, 3600).map(Moment::seconds);
+    let validity = book.validity_from(moment);
+    let first = format!(in alloc; "{period} {switch:?} {validity}")?;
+    let none = book.cycle_of(Cycle::None, moment);
+    let day = book.cycle_of(Cycle::Day, moment);
+    let month = book.cycle_of(Cycle::Month, moment);
+    let today = book.day_end(moment, 0).map(Moment::seconds);
+    let later = book.day_end(moment, 30).map(Moment::seconds);
+    let second = format!(in alloc; "{none} {day} {month} {today:?} {later:?}")?;
+    Ok(format!(in alloc; "{first} {second}")?)
+}
+
+/// A zone, a moment, and what the book says of it.
+const MOMENTS: &str =
+    "+00:00 1767598200 -> 0 Some(1767600000) 3600 0 20459 684 Some(1767657600) Some(1770249600)
+-14:00 1767275999 -> 0 None 3600 0 20454 683 Some(1767276000) Some(1769868000)
+-14:00 1767276000 -> 0 None 3600 0 20455 684 Some(1767362400) Some(1769954400)
+-14:00 1709301599 -> 0 None 3600 0 19783 661 Some(1709301600) Some(1711893600)
+-14:00 1709301600 -> 0 None 3600 0 19784 662 Some(1709388000) Some(1711980000)
+-14:00 1767650399 -> 0 Some(1767650400) 3600 0 20459 684 Some(1767708000) Some(1770300000)
+-14:00 1767650400 -> 1 None 3600 0 20459 684 Some(1767708000) Some(1770300000)
+-14:00 1768039140 -> 1 Some(1768039200) 3600 0 20463 684 Some(1768053600) Some(1770645600)
+-14:00 1768039200 -> 0 None 3600 0 20463 684 Some(1768053600) Some(1770645600)
++00:00 1767225599 -> 0 None 3600 0 20454 683 Some(1767225600) Some(1769817600)
++00:00 1767225600 -> 0 None 3600 0 20455 684 Some(1767312000) Some(1769904000)
++00:00 1709251199 -> 0 None 3600 0 19783 661 Some(1709251200) Some(1711843200)
++00:00 1709251200 -> 0 None 3600 0 19784 662 Some(1709337600) Some(1711929600)
++00:00 1767599999 -> 0 Some(1767600000) 3600 0 20459 684 Some(1767657600) Some(1770249600)
++00:00 1767600000 -> 1 None 3600 0 20459 684 Some(1767657600) Some(1770249600)
++00:00 1767988740 -> 1 Some(1767988800) 3600 0 20463 684 Some(1768003200) Some(1770595200)
++00:00 1767988800 -> 0 None 3600 0 20463 684 Some(1768003200) Some(1770595200)
++05:45 1767204899 -> 0 None 3600 0 20454 683 Some(1767204900) Some(1769796900)
++05:45 1767204900 -> 0 None 3600 0 20455 684 Some(1767291300) Some(1769883300)
++05:45 1709230499 -> 0 None 3600 0 19783 661 Some(1709230500) Some(1711822500)
++05:45 1709230500 -> 0 None 3600 0 19784 662 Some(1709316900) Some(1711908900)
++05:45 1767579299 -> 0 Some(1767579300) 3600 0 20459 684 Some(1767636900) Some(1770228900)
++05:45 1767579300 -> 1 None 3600 0 20459 684 Some(1767636900) Some(1770228900)
++05:45 1767968040 -> 1 Some(1767968100) 3600 0 20463 684 Some(1767982500) Some(1770574500)
++05:45 1767968100 -> 0 None 3600 0 20463 684 Some(1767982500) Some(1770574500)
++14:00 1767175199 -> 0 None 3600 0 20454 683 Some(1767175200) Some(1769767200)
++14:00 1767175200 -> 0 None 3600 0 20455 684 Some(1767261600) Some(1769853600)
++14:00 1709200799 -> 0 None 3600 0 19783 661 Some(1709200800) Some(1711792800)
++14:00 1709200800 -> 0 None 3600 0 19784 662 Some(1709287200) Some(1711879200)
++14:00 1767549599 -> 0 Some(1767549600) 3600 0 20459 684 Some(1767607200) Some(1770199200)
++14:00 1767549600 -> 1 None 3600 0 20459 684 Some(1767607200) Some(1770199200)
++14:00 1767938340 -> 1 Some(1767938400) 3600 0 20463 684 Some(1767952800) Some(1770544800)
++14:00 1767938400 -> 0 None 3600 0 20463 684 Some(1767952800) Some(1770544800)";
+
+/// The edges of minutes, days, months and years in four zones.
+#[test]
+fn moments(rt: HostRuntime) -> Result<(), Fail> {
+    let alloc = rt.alloc();
+    for line in MOMENTS.lines() {
+        let (at, expected) = line.split_once(" -> ").ok_or("a case")?;
+        let (zone, seconds) = at.split_once(" ").ok_or("a zone and a moment")?;
+        let text = BOOK.replace(alloc, "+00:00", zone)?;
+        let book = TariffBook::read(alloc, text.as_bytes())?;
+        let found = moment(alloc, &book, seconds.parse::<u64>()?)?;
+        assert_eq!(rt; found.as_str(), expected, "{zone} {seconds}");
+    }
+    Ok(())
+}
+
+/// From 07:50 the period changes at 08:00 and 08:20: the validity ends at the second change.
+#[test]
+fn cut_validity(rt: HostRuntime) -> Result<(), Fail> {
+    let alloc = rt.alloc();
+    let text = BOOK.replace(alloc, "20:00", "08:20")?;
+    let book = TariffBook::read(alloc, text.as_bytes())?;
+    let found = moment(alloc, &book, 1767599400)?;
+    assert!(rt; found.as_str().starts_with("0 Some(1767600000) 1800 "));
+    Ok(())
+}
+
+fn names_of(alloc: Global, book: &TariffBook) -> Result<String, Fail> {
+    let mut text = String::new(alloc);
+    for i in 0..3 {
+        let line = format!(in alloc; "{:?} ", book.period_name(Period(i)))?;
+        text.push_str(line.as_str())?;
+    }
+    for name in ["off", "peak", "night"] {
+        let line = format!(in alloc; "{:?} ", book.period_named(name))?;
+        text.push_str(line.as_str())?;
+    }
+    Ok(text)
+}
+
+#[test]
+fn names(rt: HostRuntime) -> Result<(), Fail> {
+    let alloc = rt.alloc();
+    let book = TariffBook::read(alloc, BOOK.as_bytes())?;
+    let found = names_of(alloc, &book)?;
+    assert_eq!(rt;
+        found.as_str(),
+        "Some(\"off\") Some(\"peak\") None Some(Period(0)) Some(Period(1)) None "
+    );
+    assert_eq!(rt; book.currency(), 978);
+    assert_eq!(rt; book.validity(), 3600);
+    Ok(())
+}
+
+#[test]
+fn addresses(rt: HostRuntime) -> Result<(), Fail> {
+    let alloc = rt.alloc();
+    assert!(rt; RedirectAddress::new(alloc, "a b")?.is_none());
+    let address = RedirectAddress::new(alloc, "http://topup.example/")?.ok_or("an address")?;
+    assert_eq!(rt; address.as_str(), "http://topup.example/");
+    let other = RedirectAddress::new(alloc, "http://topup.example")?.ok_or("an address")?;
+    assert!(rt; address != other);
+    Ok(())
+}
