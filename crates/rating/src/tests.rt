@@ -168,10 +168,7 @@ fn reports_are_rated(rt: HostRuntime) -> Result<(), Fail> {
     assert_eq!(rt; rated(seconds, 0, 0, part(PEAK, 61), NONE), (200_000, 2));
     assert_eq!(rt; rated(seconds, 61, 2, part(PEAK, 59), NONE), (0, 0));
     // The last free block and the first one that isn't.
-    assert_eq!(rt;
-        rated(octets, 0, 0, part(PEAK, 103_809_024), NONE),
-        (0, 99)
-    );
+    assert_eq!(rt; rated(octets, 0, 0, part(PEAK, 103_809_024), NONE), (0, 99));
     assert_eq!(rt;
         rated(octets, 103_809_024, 99, part(PEAK, 2_097_152), NONE),
         (10_000, 2)

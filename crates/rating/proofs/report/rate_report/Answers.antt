@@ -1,6 +1,6 @@
 use Rattle.std.proofs.Common.{◌≡◌, ◌+◌, ◌<◌, ◌≤◌, arith, length, drop, []}
 use Rattle.std.proofs.Math.ListN.{drop_of_length-le}
-use Rattle.rating.proofs.Reports.{blocks_mod, amount_mod, blocks_after, amount_after, report_by, no_part}
+use Rattle.rating.proofs.Reports.{blocks_mod, amount_mod, blocks_after, amount_after, report_by}
 use Rattle.rating.proofs.report.rate_report.Goals as goal
 
 pub loop-part-init : goal.loop-part-init
