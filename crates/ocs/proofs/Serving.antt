@@ -1,11 +1,8 @@
 -- The account that serves a subscriber, after a request.
-use Rattle.std.proofs.Common.{◌≡◌, ℕ, Bool, true, false, List, [], ◌∷◌, ◌++◌, refl, sym, ap, subst, ◌∙◌, Option, Some, None}
+use Rattle.std.proofs.Common.{◌≡◌, ℕ, true, List, ◌++◌, sym, ap, subst, ◌∙◌, Option, Some, None}
 use Rattle.std.specs.Prelude.{if◌then◌else◌, max}
 use Rattle.std.specs.List.{find}
-use Rattle.commands.specs.declared.answer.Answer.{Answer}
 use Rattle.commands.specs.declared.answer.Answer.TheVariants.{Request as Answered}
-use Rattle.commands.specs.declared.answer.Failure.TheVariants.{UserUnknown}
-use Rattle.commands.specs.declared.answer.Outcome.TheVariants.{Failed}
 use Rattle.commands.specs.declared.answer.RequestAnswer.{RequestAnswer}
 use Rattle.commands.specs.declared.request.Request.{Request}
 use Rattle.wire_answers.specs.Spelled.{answer_text}
@@ -16,8 +13,8 @@ use Rattle.charging.specs.Decisions.{Decision, decision, answer_of, is_accepted}
 use Rattle.ocs.specs.declared.account.Kept.{Kept}
 use Rattle.ocs.specs.declared.account.Opened.{Opened}
 use Rattle.ocs.specs.declared.reading.DatedRequest.{DatedRequest}
-use Rattle.ocs.specs.Served.{Subscriber, subscriber_of, served_request, answered, is_kept_for, keeping, answer_again, new_turn, own_turn, turn}
-use Rattle.ocs.specs.Office.{IsAccountOf, IsOpenedFor, IsTurned, IsServed}
+use Rattle.ocs.specs.Served.{Subscriber, subscriber_of, served_request, is_kept_for, keeping, answer_again, new_turn, own_turn, turn}
+use Rattle.ocs.specs.Office.{IsOpenedFor, IsTurned, IsServed}
 use Rattle.json_fields.specs.declared.fault.WireFault.{WireFault}
 
 -- what a decision leaves of the account

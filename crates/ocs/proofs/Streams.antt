@@ -1,5 +1,5 @@
 -- Two lines, one after the other, and beginnings of what is written.
-use Rattle.std.proofs.Common.{◌≡◌, ℕ, Bool, true, false, List, [], ◌∷◌, ◌++◌, refl, sym, ap, subst, ◌∙◌, Option, Some, None, append-nil, append_assoc, take, drop, take-append-drop, IfSome, Result, Ok, Err}
+use Rattle.std.proofs.Common.{◌≡◌, ℕ, Bool, true, false, List, [], ◌∷◌, ◌++◌, refl, sym, ap, subst, ◌∙◌, Option, Some, None, append_assoc, take, drop, take-append-drop, IfSome, Result, Ok, Err}
 use Rattle.std.proofs.KnownBytes.{Appends-nil, Appends-trans}
 use Rattle.std.specs.Prelude.{OnErr, option_map, if◌then◌else◌, ◌==◌}
 use Rattle.std.specs.Io.KnownBytes.{Appends}
@@ -9,7 +9,7 @@ use Rattle.byte_streams.specs.Lines.{line_of, after_line, IsLineOf}
 use Rattle.reserving.specs.FlatTariff.{Flat}
 use Rattle.ocs.specs.declared.account.Opened.{Opened}
 use Rattle.ocs.specs.Lines.{prepend, lines_of}
-use Rattle.ocs.specs.Served.{Subscriber, Served, served_line, served_lines, run}
+use Rattle.ocs.specs.Served.{Subscriber, served_line, served_lines, run}
 use Rattle.ocs.specs.Office.{IsServing, IsServed, IsLineServed, line_text, line_after, IsAccountAfter, IsRun, WritesBeginning}
 
 -- nothing is written

@@ -1,7 +1,7 @@
 -- One subscriber's requests, a line each, and their answers, a line each. The first request opens its account with
 -- one bucket (RFC 8506 sections 5.1 and 5.2; keys and repeats: profile, in the place of section 5.1.3's detection of
 -- duplicates).
-use Rattle.std.specs.Prelude.{ℕ, Bool, true, false, ◌==◌, ◌&&◌, if◌then◌else◌, List, [], ◌∷◌, ◌++◌, Option, Some, None, Result, Ok, Err, max}
+use Rattle.std.specs.Prelude.{ℕ, Bool, ◌==◌, ◌&&◌, if◌then◌else◌, List, [], ◌∷◌, ◌++◌, Option, Some, None, Result, Ok, Err, max}
 use Rattle.std.specs.List.{find}
 use Rattle.commands.specs.Alike.{same_request}
 use Rattle.commands.specs.declared.avp.Avp.TheVariants.{RequestType, RequestNumber}

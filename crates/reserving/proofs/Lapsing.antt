@@ -159,3 +159,9 @@ held_lapsed keeps t groups (b ∷ bs) h =
 
 pub named_lapsed : (keeps : List ℕ → Bool) (t : ℕ) (groups : List SessionGroup) (b : Row) → held_by (λ s. true) groups b ≡ 0 → held_by (λ s. true) (map (lapse_group keeps) groups) b ≡ 0
 named_lapsed keeps t groups b h = omega (arith, h, held_by-split keeps b groups, held_by-lapsed keeps t b groups)
+
+-- a group without a reservation holds nothing to give up
+pub lapse_none : (live : Bool) (t : ℕ) (o : Option Reservation) (rows : List Row) → is_none o ≡ true → rows ≡ lapse_from live t o rows
+lapse_none true t None rows e = refl
+lapse_none false t None rows e = sym (released_rows-none t rows)
+lapse_none live t (Some r) rows e = absurd (let no_reservation : false ≡ true = e in cc)

@@ -83,9 +83,27 @@ fn lapse_groups(
     ensures groups { groups.new.items ≡ map (lapse_group (is_live_in validity at sessions.now)) groups.old.items }
 {
     for group in groups.iter_mut() {
-        let live = is_live(sessions, &group.session, validity, at);
-        lapse_reservation(purse, group, live, at);
+        lapse_group(purse, group, sessions, validity, at);
     }
+}
+
+/// Gives up the reservation of a group whose session has ended by the moment.
+fn lapse_group(
+    purse: &mut Purse,
+    group: &mut SessionGroup,
+    sessions: &[Session],
+    validity: u32,
+    at: Moment,
+)
+    requires { is_live_in validity at sessions.now group.old.session ≡ false → IsWithin (holds_in group.old.reservation) purse.old }
+    ensures purse { purse.new ≡ lapse_from (is_live_in validity at sessions.now group.old.session) at group.old.reservation purse.old }
+    ensures group { group.new ≡ lapse_group (is_live_in validity at sessions.now) group.old }
+{
+    if group.reservation.is_none() {
+        return;
+    }
+    let live = is_live(sessions, &group.session, validity, at);
+    lapse_reservation(purse, group, live, at);
 }
 
 pub(crate) fn lapse_reservation(purse: &mut Purse, group: &mut SessionGroup, live: bool, at: Moment)

@@ -1,4 +1,4 @@
-ghost use Rattle.std.specs.Prelude.{◌≡◌, ◌≤◌, true};
+ghost use Rattle.std.specs.Prelude.{◌≡◌, ◌≤◌, true, not, if◌then◌else◌};
 ghost use Rattle.buckets.specs.Spend.{funds};
 ghost use Rattle.buckets.specs.Holding.{held_in};
 ghost use Rattle.reserving.specs.Ledger.{Ledger};
@@ -73,11 +73,27 @@ fn lapsed(
 {
     let mut total = 0;
     for group in groups {
-        if !is_live(sessions, &group.session, validity, at) {
-            total += held_of(bucket, group);
-        }
+        total += lapsed_of(bucket, group, sessions, validity, at);
     }
     total
+}
+
+/// What a group's reservation holds of a bucket, where its session has ended by the moment.
+fn lapsed_of(
+    bucket: &Bucket,
+    group: &SessionGroup,
+    sessions: &[Session],
+    validity: u32,
+    at: Moment,
+) -> u128
+    ensures { result ≡ if not (is_live_in validity at sessions.now group.now.session) then held_in (holds_in group.now.reservation) bucket.now else 0 }
+{
+    let held = held_of(bucket, group);
+    if held == 0 || is_live(sessions, &group.session, validity, at) {
+        0
+    } else {
+        held
+    }
 }
 
 /// What a group's reservation holds of a bucket.

@@ -1,5 +1,4 @@
-use Rattle.std.proofs.Common.{◌≡◌, Bool, true, false, not, List, Option, option_map, IfSome, subst, sym, ap}
-use Rattle.reserving.specs.FlatTariff.{Flat}
+use Rattle.std.proofs.Common.{Option, IfSome, subst, sym}
 use Rattle.reserving.specs.Rows.{AccountRows}
 use Rattle.ocs.specs.Served.{run}
 use Rattle.ocs.specs.Office.{IsRun}

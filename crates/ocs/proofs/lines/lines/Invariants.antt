@@ -1,4 +1,4 @@
-use Rattle.std.proofs.Common.{Option, IfSome}
+use Rattle.std.proofs.Common.{IfSome}
 use Rattle.ocs.proofs.Streams.{IsSoFar}
 use Rattle.ocs.proofs.lines.lines.Given as goal
 

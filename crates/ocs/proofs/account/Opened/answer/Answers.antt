@@ -1,4 +1,4 @@
-use Rattle.std.proofs.Common.{◌≡◌, sym, ◌∙◌, string_bytes}
+use Rattle.std.proofs.Common.{sym, ◌∙◌, string_bytes}
 use Rattle.ocs.proofs.Serving.{mine_turned}
 use Rattle.ocs.proofs.account.Opened.answer.Goals as goal
 

@@ -1,6 +1,5 @@
-use Rattle.std.proofs.Common.{◌≡◌, List, [], ◌∷◌, ◌++◌, refl, sym, ap, subst, ◌∙◌, string_bytes}
+use Rattle.std.proofs.Common.{◌++◌, refl, ap, ◌∙◌, string_bytes}
 use Rattle.std.specs.Prelude.{max, if◌then◌else◌}
-use Rattle.charging.specs.Decisions.{is_accepted}
 use Rattle.commands.specs.declared.answer.Answer.TheVariants.{Request as Answered}
 use Rattle.ocs.specs.Served.{keeping}
 use Rattle.ocs.proofs.Serving.{newly_turned}

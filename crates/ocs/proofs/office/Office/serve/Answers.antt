@@ -1,4 +1,4 @@
-use Rattle.std.proofs.Common.{◌≡◌, Option, subst, sym, string_bytes}
+use Rattle.std.proofs.Common.{Option, subst, sym, string_bytes}
 use Rattle.ocs.specs.declared.account.Opened.{Opened}
 use Rattle.ocs.specs.Served.{unserved, subscriber_of}
 use Rattle.ocs.specs.Office.{IsServing}
