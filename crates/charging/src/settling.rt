@@ -1,6 +1,6 @@
-ghost use Rattle.reserving.specs.Requests.{touched, closed};
 ghost use Rattle.std.specs.Prelude.{◌≡◌, ◌≤◌, true, ◌∷◌, [], OnOk, OnErr};
 ghost use Rattle.reserving.specs.Ledger.{Ledger};
+ghost use Rattle.reserving.specs.Requests.{touched, closed};
 ghost use Rattle.reserving.specs.Sessions.{is_live_in, group_in};
 ghost use Rattle.reserving.specs.Rows.{IsRowsOf};
 ghost use Rattle.commands.specs.Services.{groups_differ};
@@ -16,7 +16,8 @@ use reserving::{Account, AccountFault};
 use std::alloc::Global;
 use units::Moment;
 
-/// Settles a service of the tariff's group for a live session: its reservation ends, with the reported use or none. `Limit` where a stored number would pass its limit; then, and where memory ran out, nothing has changed.
+/// Settles a service of the tariff's group for a live session: its reservation ends, with the reported use or
+/// none. `Limit` where a stored number would pass its limit; then, and where memory ran out, nothing has changed.
 fn settle(
     alloc: Global,
     account: &mut Account,

@@ -6,17 +6,15 @@ ghost use Rattle.wire_answers.specs.Spelled.{answer_text};
 ghost use Rattle.ocs.specs.Served.{Subscriber, opening, answered, keeping, is_kept_for, answer_again as again, new_turn, own_turn, turn};
 ghost use Rattle.ocs.specs.Office.{IsOpenedFor, IsTurned};
 
-use std::alloc::Global;
-
+use crate::fault::LinesFault;
+use crate::reading::DatedRequest;
 use charging::{decide, is_accepted};
 use commands::{Answer, Avp, Failure, Outcome, Request, RequestAnswer};
 use identifiers::AccountNumber;
 use reserving::{Account, FlatTariff};
+use std::alloc::Global;
 use units::{Moment, Money};
 use wire_answers::write_answer;
-
-use crate::fault::LinesFault;
-use crate::reading::DatedRequest;
 
 /// An accepted request with its answer.
 #[derive(Drop)]

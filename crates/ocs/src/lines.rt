@@ -2,16 +2,14 @@ ghost use Rattle.std.specs.Prelude.{◌≡◌, Option, option_map, IfOk, IfSome,
 ghost use Rattle.ocs.specs.Served.{Subscriber, run};
 ghost use Rattle.ocs.specs.Office.{IsServing, IsLineServed, line_text, IsRun, WritesBeginning};
 
-use std::alloc::Global;
-use std::io::{Read, Write};
-
-use byte_streams::{next_line, write_whole};
-use reserving::{Account, FlatTariff};
-use units::Money;
-
 use crate::account::Opened;
 use crate::fault::LinesFault;
 use crate::office::Office;
+use byte_streams::{next_line, write_whole};
+use reserving::{Account, FlatTariff};
+use std::alloc::Global;
+use std::io::{Read, Write};
+use units::Money;
 
 /// Answers lines `MOMENT JSON` of initial, update and termination requests, a line each, to the end of the input,
 /// and gives back the account: none where no line was read as a request. The first request's account is opened

@@ -2,17 +2,15 @@ ghost use Rattle.std.specs.Prelude.{◌≡◌, Option, IfOk, string_bytes};
 ghost use Rattle.ocs.specs.Served.{Subscriber, unserved, served_request, served_line, subscriber_of};
 ghost use Rattle.ocs.specs.Office.{IsServing, IsOpenedFor, IsServed};
 
-use std::alloc::Global;
-
-use commands::{Ask, Avp, Request};
-use json_fields::WireFault;
-use reserving::FlatTariff;
-use units::Money;
-use wire_answers::write_fault;
-
 use crate::account::Opened;
 use crate::fault::LinesFault;
 use crate::reading::{DatedRequest, read_line};
+use commands::{Ask, Avp, Request};
+use json_fields::WireFault;
+use reserving::FlatTariff;
+use std::alloc::Global;
+use units::Money;
+use wire_answers::write_fault;
 
 /// What an account is opened with: its tariff, and the amount of its bucket.
 #[derive(Clone, Copy)]

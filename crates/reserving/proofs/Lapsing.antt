@@ -1,5 +1,5 @@
 -- The reservations of sessions that aren't live are given up one after another.
-use Rattle.std.proofs.Common.{◌≡◌, ℕ, ◌+◌, ◌-◌, ◌<◌, ◌≤◌, Bool, true, false, List, [], ◌∷◌, map, length, get_or, drop, refl, sym, ap, ◌∙◌, arith, Option, None}
+use Rattle.std.proofs.Common.{◌≡◌, ℕ, ◌+◌, ◌-◌, ◌<◌, ◌≤◌, Bool, true, false, List, [], ◌∷◌, map, length, get_or, drop, refl, sym, ap, ◌∙◌, arith, Option, Some, None, is_some}
 use Rattle.std.specs.Prelude.{if◌then◌else◌, ◌==◌, not, nat_lt, sum_by}
 use Rattle.buckets.specs.Spend.{IsBelow}
 use Rattle.std.proofs.lemmas.List.{drop_more}
@@ -161,7 +161,7 @@ pub named_lapsed : (keeps : List ℕ → Bool) (t : ℕ) (groups : List SessionG
 named_lapsed keeps t groups b h = omega (arith, h, held_by-split keeps b groups, held_by-lapsed keeps t b groups)
 
 -- a group without a reservation holds nothing to give up
-pub lapse_none : (live : Bool) (t : ℕ) (o : Option Reservation) (rows : List Row) → is_none o ≡ true → rows ≡ lapse_from live t o rows
+pub lapse_none : (live : Bool) (t : ℕ) (o : Option Reservation) (rows : List Row) → is_some o ≡ false → rows ≡ lapse_from live t o rows
 lapse_none true t None rows e = refl
 lapse_none false t None rows e = sym (released_rows-none t rows)
-lapse_none live t (Some r) rows e = absurd (let no_reservation : false ≡ true = e in cc)
+lapse_none live t (Some r) rows e = absurd (let no_reservation : true ≡ false = e in cc)

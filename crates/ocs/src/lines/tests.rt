@@ -1,6 +1,6 @@
 use super::*;
 use std::test::Fail;
-use units::UnitKind;
+use units::{Moment, UnitKind};
 
 const ASKED: &[u8] =
     b"1767607200 {\"Session-Id\":\"s3\",\"CC-Request-Type\":1,\"CC-Request-Number\":0,\"Subscription-Id\":{\"Subscription-Id-Type\":0,\"Subscription-Id-Data\":\"49151\"},\"Multiple-Services-Credit-Control\":[{\"Rating-Group\":10,\"Requested-Service-Unit\":{\"CC-Time\":600}}]}\n1767607500 {\"Session-Id\":\"s3\",\"CC-Request-Type\":3,\"CC-Request-Number\":1,\"Subscription-Id\":{\"Subscription-Id-Type\":0,\"Subscription-Id-Data\":\"49151\"},\"Multiple-Services-Credit-Control\":[{\"Rating-Group\":10,\"Used-Service-Unit\":[{\"CC-Time\":300}]}]}\n";
@@ -16,6 +16,24 @@ const DENIED: &[u8] =
 
 const UNKNOWN: &[u8] =
     b"{\"CC-Request-Number\":0,\"CC-Request-Type\":1,\"Result-Code\":4012,\"Session-Id\":\"s3\"}\n{\"CC-Request-Number\":1,\"CC-Request-Type\":3,\"Result-Code\":5002,\"Session-Id\":\"s3\"}\n";
+
+const REPEATED: &[u8] =
+    b"1767607200 {\"Session-Id\":\"s11\",\"CC-Request-Type\":1,\"CC-Request-Number\":0,\"Subscription-Id\":{\"Subscription-Id-Type\":0,\"Subscription-Id-Data\":\"49151\"},\"Multiple-Services-Credit-Control\":[{\"Rating-Group\":10,\"Requested-Service-Unit\":{\"CC-Time\":600}}]}\n1767607500 {\"Session-Id\":\"s11\",\"CC-Request-Type\":2,\"CC-Request-Number\":1,\"Subscription-Id\":{\"Subscription-Id-Type\":0,\"Subscription-Id-Data\":\"49151\"},\"Multiple-Services-Credit-Control\":[{\"Rating-Group\":10,\"Requested-Service-Unit\":{\"CC-Time\":60},\"Used-Service-Unit\":[{\"CC-Time\":60}]}]}\n1767607560 {\"Session-Id\":\"s11\",\"CC-Request-Type\":2,\"CC-Request-Number\":1,\"Subscription-Id\":{\"Subscription-Id-Type\":0,\"Subscription-Id-Data\":\"49151\"},\"Multiple-Services-Credit-Control\":[{\"Rating-Group\":10,\"Requested-Service-Unit\":{\"CC-Time\":60},\"Used-Service-Unit\":[{\"CC-Time\":60}]}]}\n1767607560 {\"Session-Id\":\"s11\",\"CC-Request-Type\":2,\"CC-Request-Number\":1,\"Subscription-Id\":{\"Subscription-Id-Type\":0,\"Subscription-Id-Data\":\"49151\"},\"Multiple-Services-Credit-Control\":[{\"Rating-Group\":10,\"Requested-Service-Unit\":{\"CC-Time\":60},\"Used-Service-Unit\":[{\"CC-Time\":61}]}]}\n";
+
+const ANSWERED_ALIKE: &[u8] =
+    b"{\"CC-Request-Number\":0,\"CC-Request-Type\":1,\"Multiple-Services-Credit-Control\":[{\"Granted-Service-Unit\":{\"CC-Time\":600},\"Rating-Group\":10,\"Result-Code\":2001,\"Validity-Time\":3600}],\"Result-Code\":2001,\"Session-Id\":\"s11\"}\n{\"CC-Request-Number\":1,\"CC-Request-Type\":2,\"Multiple-Services-Credit-Control\":[{\"Granted-Service-Unit\":{\"CC-Time\":60},\"Rating-Group\":10,\"Result-Code\":2001,\"Validity-Time\":3600}],\"Result-Code\":2001,\"Session-Id\":\"s11\"}\n{\"CC-Request-Number\":1,\"CC-Request-Type\":2,\"Multiple-Services-Credit-Control\":[{\"Granted-Service-Unit\":{\"CC-Time\":60},\"Rating-Group\":10,\"Result-Code\":2001,\"Validity-Time\":3600}],\"Result-Code\":2001,\"Session-Id\":\"s11\"}\n{\"CC-Request-Number\":1,\"CC-Request-Type\":2,\"Failed-AVP\":\"CC-Request-Number\",\"Result-Code\":5004,\"Session-Id\":\"s11\"}\n";
+
+const IN_TIME: &[u8] =
+    b"1767607200 {\"Session-Id\":\"s13\",\"CC-Request-Type\":1,\"CC-Request-Number\":0,\"Subscription-Id\":{\"Subscription-Id-Type\":0,\"Subscription-Id-Data\":\"49151\"},\"Multiple-Services-Credit-Control\":[{\"Rating-Group\":10,\"Requested-Service-Unit\":{\"CC-Time\":600}}]}\n1767614399 {\"Session-Id\":\"s13\",\"CC-Request-Type\":2,\"CC-Request-Number\":1,\"Subscription-Id\":{\"Subscription-Id-Type\":0,\"Subscription-Id-Data\":\"49151\"},\"Multiple-Services-Credit-Control\":[{\"Rating-Group\":10,\"Requested-Service-Unit\":{\"CC-Time\":600}}]}\n";
+
+const LIVE: &[u8] =
+    b"{\"CC-Request-Number\":0,\"CC-Request-Type\":1,\"Multiple-Services-Credit-Control\":[{\"Granted-Service-Unit\":{\"CC-Time\":600},\"Rating-Group\":10,\"Result-Code\":2001,\"Validity-Time\":3600}],\"Result-Code\":2001,\"Session-Id\":\"s13\"}\n{\"CC-Request-Number\":1,\"CC-Request-Type\":2,\"Multiple-Services-Credit-Control\":[{\"Granted-Service-Unit\":{\"CC-Time\":600},\"Rating-Group\":10,\"Result-Code\":2001,\"Validity-Time\":3600}],\"Result-Code\":2001,\"Session-Id\":\"s13\"}\n";
+
+const TOO_LATE: &[u8] =
+    b"1767607200 {\"Session-Id\":\"s13\",\"CC-Request-Type\":1,\"CC-Request-Number\":0,\"Subscription-Id\":{\"Subscription-Id-Type\":0,\"Subscription-Id-Data\":\"49151\"},\"Multiple-Services-Credit-Control\":[{\"Rating-Group\":10,\"Requested-Service-Unit\":{\"CC-Time\":600}}]}\n1767614400 {\"Session-Id\":\"s13\",\"CC-Request-Type\":2,\"CC-Request-Number\":1,\"Subscription-Id\":{\"Subscription-Id-Type\":0,\"Subscription-Id-Data\":\"49151\"},\"Multiple-Services-Credit-Control\":[{\"Rating-Group\":10,\"Requested-Service-Unit\":{\"CC-Time\":600}}]}\n";
+
+const OVER: &[u8] =
+    b"{\"CC-Request-Number\":0,\"CC-Request-Type\":1,\"Multiple-Services-Credit-Control\":[{\"Granted-Service-Unit\":{\"CC-Time\":600},\"Rating-Group\":10,\"Result-Code\":2001,\"Validity-Time\":3600}],\"Result-Code\":2001,\"Session-Id\":\"s13\"}\n{\"CC-Request-Number\":1,\"CC-Request-Type\":2,\"Result-Code\":5002,\"Session-Id\":\"s13\"}\n";
 
 fn tariff() -> Option<FlatTariff> {
     FlatTariff::new(10, UnitKind::Time, 60, 600, 3_600, 100_000, 3_600)
@@ -39,6 +57,59 @@ fn a_session_from_line_to_line(rt: HostRuntime) -> Result<(), Fail> {
     assert_eq!(rt; bucket.reserved(), 0);
     assert_eq!(rt; bucket.charged(), 250_000);
     assert_eq!(rt; bucket.expired(), 0);
+    Ok(())
+}
+
+/// A repeat has the first answer; another content under its number is refused.
+#[test]
+fn a_repeat_has_the_first_answer(rt: HostRuntime) -> Result<(), Fail> {
+    let alloc = rt.alloc();
+    let tariff = tariff().ok_or("a tariff")?;
+    let credit = Money::new(1_000_000).ok_or("an amount")?;
+    let mut input = REPEATED;
+    let mut output = Vec::new(alloc);
+    let account = lines(alloc, &mut input, &mut output, &tariff, credit)?.ok_or("an account")?;
+    assert_eq!(rt; output.as_slice(), ANSWERED_ALIKE);
+    let buckets = account.purse().buckets();
+    assert_eq!(rt; buckets.len(), 1);
+    assert_eq!(rt; buckets[0].available(), 800_000);
+    assert_eq!(rt; buckets[0].reserved(), 100_000);
+    assert_eq!(rt; buckets[0].charged(), 100_000);
+    Ok(())
+}
+
+/// A session is open until two validity times after its last accepted request.
+#[test]
+fn a_session_in_time(rt: HostRuntime) -> Result<(), Fail> {
+    let alloc = rt.alloc();
+    let tariff = tariff().ok_or("a tariff")?;
+    let credit = Money::new(1_000_000).ok_or("an amount")?;
+    let mut input = IN_TIME;
+    let mut output = Vec::new(alloc);
+    let _account = lines(alloc, &mut input, &mut output, &tariff, credit)?;
+    assert_eq!(rt; output.as_slice(), LIVE);
+    Ok(())
+}
+
+/// Then it is unknown, and time that goes on gives back what it held.
+#[test]
+fn a_session_that_ended_by_itself(rt: HostRuntime) -> Result<(), Fail> {
+    let alloc = rt.alloc();
+    let tariff = tariff().ok_or("a tariff")?;
+    let credit = Money::new(1_000_000).ok_or("an amount")?;
+    let mut input = TOO_LATE;
+    let mut output = Vec::new(alloc);
+    let mut account = lines(alloc, &mut input, &mut output, &tariff, credit)?.ok_or("an account")?;
+    assert_eq!(rt; output.as_slice(), OVER);
+    assert_eq!(rt; account.purse().buckets().len(), 1);
+    assert_eq!(rt; account.purse().buckets()[0].reserved(), 1_000_000);
+    let moment = Moment::of_command(1_767_614_400).ok_or("a moment")?;
+    if account.as_of() <= moment {
+        account.advance(moment);
+    }
+    assert_eq!(rt; account.purse().buckets().len(), 1);
+    assert_eq!(rt; account.purse().buckets()[0].reserved(), 0);
+    assert_eq!(rt; account.purse().buckets()[0].available(), 1_000_000);
     Ok(())
 }
 
