@@ -2,3 +2,4 @@ pub mod SharesAlong
 pub mod Kept
 pub mod Settling
 pub mod Parts
+pub mod Short

@@ -1,12 +1,12 @@
 -- A charge, and then a release of what it leaves of the holds, is a settlement.
-use Rattle.std.proofs.Common.{◌≡◌, ℕ, ◌+◌, ◌-◌, ◌≤◌, Bool, true, false, List, [], ◌∷◌, map, refl, sym, ap, ◌∙◌, arith}
-use Rattle.std.specs.Prelude.{sum_by, if◌then◌else◌, nat_lt, min}
+use Rattle.std.proofs.Common.{◌≡◌, ℕ, ◌+◌, ◌-◌, ◌≤◌, List, [], ◌∷◌, map, refl, sym, ap, ◌∙◌, arith}
+use Rattle.std.specs.Prelude.{if◌then◌else◌, min}
 use Rattle.std.proofs.lemmas.List.Sums.{sum_by-cons}
 use Rattle.buckets.specs.declared.holds.Hold.{Hold}
 use Rattle.buckets.specs.Row.{Row, IsBalanced, precedes, eligible_amount, with_charge, with_charge_of_hold, with_release}
 use Rattle.buckets.specs.Share.{sum_before, share, by_shares, along}
 use Rattle.buckets.specs.Spend.{Each, IsInOrder, IsSound}
-use Rattle.buckets.specs.Holding.{held_in, held_sum, IsWithin, IsLeftWithin, with_rest_released, charged_rows, settled_row, settled_rows}
+use Rattle.buckets.specs.Holding.{held_in, held_sum, IsWithin, IsLeftWithin, with_rest_released, settled_row, settled_rows}
 use Rattle.buckets.proofs.SharesAlong.{KeepsPlaces, with_release_number, with_release_until, by_shares-along, charged_rows-along, IsInOrder-along, with_charge_keeps, with_charge_of_hold_keeps}
 use Rattle.buckets.proofs.Kept.{AreDistinct-along, balanced_release}
 

@@ -1,8 +1,8 @@
 -- The shares of an amount, by one along along the buckets in order.
-use Rattle.std.proofs.Common.{length, get_or, set, take, drop, append_assoc, ◌≡◌, ℕ, ◌+◌, ◌-◌, ◌<◌, ◌≤◌, Bool, true, false, cond, eqb, ltb, List, [], ◌∷◌, ◌++◌, map, refl, sym, ap, ◌∙◌, add-one, arith}
-use Rattle.std.specs.Prelude.{insert, sum_by, if◌then◌else◌, ◌==◌, ◌&&◌, ◌||◌, nat_lt, min}
+use Rattle.std.proofs.Common.{length, get_or, drop, ◌≡◌, ℕ, ◌+◌, ◌-◌, ◌<◌, ◌≤◌, Bool, true, false, List, [], ◌∷◌, map, refl, sym, ap, ◌∙◌, add-one, arith}
+use Rattle.std.specs.Prelude.{insert, if◌then◌else◌, nat_lt, min}
 use Rattle.std.proofs.lemmas.Bool.Decides.{nat_tests}
-use Rattle.std.proofs.lemmas.List.{take_more_set, drop-set-lt, drop_more}
+use Rattle.std.proofs.lemmas.List.{drop_more}
 use Rattle.std.proofs.lemmas.List.Sums.{sum_by-cons}
 use Rattle.buckets.specs.Row.{Row, precedes, with_hold, with_charge, with_charge_of_hold, with_end, with_release, eligible_amount}
 use Rattle.buckets.specs.Share.{sum_before, share, by_shares, along, parts, parts_along}

@@ -5,8 +5,10 @@
 mod along;
 mod bucket;
 mod holds;
+mod laws;
 mod purse;
 
 pub use crate::bucket::Bucket;
 pub use crate::holds::{Hold, HoldRoom, Holds};
+pub use crate::laws::nothing_left_where_short;
 pub use crate::purse::{Charged, Purse, PurseFault};

@@ -1,4 +1,4 @@
-use Rattle.std.proofs.Common.{◌≡◌, ℕ, ◌-◌, ◌++◌, take, drop}
+use Rattle.std.proofs.Common.{◌≡◌, ◌-◌, ◌++◌, take, drop}
 use Rattle.buckets.specs.Row.{eligible_amount, with_charge}
 use Rattle.buckets.specs.Share.{along}
 use Rattle.buckets.specs.Spend.{funds}

@@ -1,7 +1,6 @@
-use Rattle.std.proofs.Common.{◌≡◌, ℕ, ◌-◌, ◌++◌, take, drop}
+use Rattle.std.proofs.Common.{◌≡◌, ◌++◌, take, drop}
 use Rattle.buckets.specs.Row.{eligible_amount, with_hold}
 use Rattle.buckets.specs.Share.{along}
-use Rattle.buckets.specs.Spend.{funds}
 use Rattle.buckets.proofs.along.hold_along.Given as goal
 
 abbrev pub invariant-loop-bucket : goal.invariant-loop-bucket

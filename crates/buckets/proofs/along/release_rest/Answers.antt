@@ -1,6 +1,4 @@
-use Rattle.std.proofs.Common.{ℕ, ◌-◌, ◌≤◌, arith}
-use Rattle.std.specs.Prelude.{min}
-use Rattle.buckets.specs.Holding.{held_in}
+use Rattle.std.proofs.Common.{arith}
 use Rattle.buckets.proofs.SharesAlong.{left_within_at}
 use Rattle.buckets.proofs.along.release_rest.Goals as goal
 

@@ -1,7 +1,5 @@
-use Rattle.std.proofs.Common.{refl, sym, ◌∙◌, ◌-◌}
-use Rattle.buckets.specs.Row.{with_charge, with_charge_of_hold, eligible_amount}
-use Rattle.buckets.specs.Holding.{held_in, held_sum, IsWithin}
-use Rattle.buckets.specs.Share.{along}
+use Rattle.std.proofs.Common.{refl, sym, ◌-◌}
+use Rattle.buckets.specs.Holding.{held_in, IsWithin}
 use Rattle.buckets.proofs.SharesAlong.{charged_rows-along, parts-along, funds-charged}
 use Rattle.buckets.proofs.Kept.{IsSound-charge, IsSound-charge_of_hold}
 use Rattle.buckets.proofs.Parts.{IsWithin-rest_of_holds}

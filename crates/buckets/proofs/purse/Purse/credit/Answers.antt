@@ -1,5 +1,4 @@
-use Rattle.std.proofs.Common.{ℕ, List, ◌≡◌, ◌∙◌, sym, ap, rules, arith}
-use Rattle.std.specs.Prelude.{insert}
+use Rattle.std.proofs.Common.{◌≡◌}
 use Rattle.buckets.specs.Row.{Row, new_row, IsBalanced}
 use Rattle.buckets.specs.Spend.{inserted, IsBelow}
 use Rattle.buckets.proofs.SharesAlong.{insert-place}

@@ -1,5 +1,3 @@
-use Rattle.std.proofs.Common.{map}
-use Rattle.buckets.specs.Row.{with_end}
 use Rattle.buckets.proofs.Kept.{IsSound-end}
 use Rattle.buckets.proofs.purse.Purse.expire.Goals as goal
 

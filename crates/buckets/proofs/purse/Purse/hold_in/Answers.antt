@@ -1,7 +1,5 @@
-use Rattle.std.proofs.Common.{sym, ◌∙◌}
+use Rattle.std.proofs.Common.{sym}
 use Rattle.buckets.specs.Row.{with_hold, eligible_amount}
-use Rattle.buckets.specs.Spend.{held_rows}
-use Rattle.buckets.specs.Holding.{holds_of}
 use Rattle.buckets.proofs.SharesAlong.{by_shares-along, parts-along}
 use Rattle.buckets.proofs.Kept.{IsSound-hold}
 use Rattle.buckets.proofs.Parts.{IsWithin-holds_of}

@@ -1,4 +1,3 @@
-use Rattle.std.proofs.Common.{sym, ◌∙◌}
 use Rattle.buckets.specs.Holding.{IsWithin}
 use Rattle.buckets.proofs.Kept.{IsSound-release}
 use Rattle.buckets.proofs.purse.Purse.release.Goals as goal

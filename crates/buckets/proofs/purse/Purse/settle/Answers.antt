@@ -1,8 +1,5 @@
-use Rattle.std.proofs.Common.{ℕ, ◌-◌, List, refl}
-use Rattle.buckets.specs.Row.{Row, with_charge, with_charge_of_hold, eligible_amount}
-use Rattle.buckets.specs.Holding.{held_in, held_sum, IsWithin, IsLeftWithin}
-use Rattle.buckets.specs.Share.{along}
-use Rattle.buckets.specs.Spend.{IsSound}
+use Rattle.std.proofs.Common.{refl}
+use Rattle.buckets.specs.Holding.{IsWithin}
 use Rattle.buckets.proofs.SharesAlong.{funds-charged}
 use Rattle.buckets.proofs.Kept.{IsSound-charge, IsSound-charge_of_hold}
 use Rattle.buckets.proofs.Settling.{left_within, settled_rows-along, IsSound-release_rest}
