@@ -1,4 +1,5 @@
 -- The faults of a book, and what it is to read with the first one.
+-- Source: profile.
 use Rattle.std.specs.Prelude.{◌≡◌, ℕ, Bool, Option, Some, None, Result, Ok, Err, if◌then◌else◌}
 use Rattle.book_fields.specs.declared.fault.BookFault.{BookFault}
 use Rattle.book_fields.specs.declared.fault.BookFault.TheVariants.{NotToml, Missing, WrongKind, OutOfRange, UnknownPeriod, WeekNotCovered, TiersNotRising, TooMany, Memory}

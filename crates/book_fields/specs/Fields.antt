@@ -1,5 +1,6 @@
 -- A value under a key of a table, by its kind and its range. Faults come in the order missing, wrong kind,
 -- too many entries, out of range.
+-- Source: TOML 1.0; the faults: profile.
 use Rattle.std.specs.Prelude.{ℕ, suc, ◌&&◌, List, [], ◌∷◌, ◌++◌, Result, Ok, Err, nat_le, pos, int_le, unsigned_abs}
 use Rattle.toml.specs.Data.{Data, Items, no_items, item, Members, get_member, as_str, as_integer, as_array, as_table}
 use Rattle.book_fields.specs.declared.fault.BookFault.{BookFault}

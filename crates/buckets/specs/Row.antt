@@ -1,4 +1,5 @@
 -- A bucket as a caller sees it.
+-- Source: TS 32.296, account balance management function; the four columns, scopes and the order of use: profile.
 use Rattle.std.specs.Prelude.{◌≡◌, ℕ, ◌+◌, ◌-◌, ◌≤◌, Option, Some, None, Bool, true, ◌==◌, ◌&&◌, ◌||◌, nat_lt, nat_le, if◌then◌else◌}
 
 pub record Row : Type 0 where

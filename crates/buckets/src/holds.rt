@@ -73,7 +73,7 @@ impl Model for HoldRoom {
 }
 
 impl HoldRoom {
-    /// Memory for holds in this many buckets.
+    /// Memory for holds in this many buckets; its error is want of memory.
     pub fn new(alloc: Global, buckets: usize) -> Result<Self, AllocError>
         ensures { IfOk result (λ room. buckets ≤ room) }
     {

@@ -80,7 +80,8 @@ impl Purse {
         self.buckets.as_slice()
     }
 
-    /// Adds a bucket, all of it available, under a number above all others.
+    /// Adds a bucket, all of it available, under a number above all others (TS 32.296, account balance management
+    /// function). The purse is unchanged at a fault, which is want of memory.
     pub fn credit(
         &mut self,
         number: u32,
@@ -110,7 +111,9 @@ impl Purse {
         Amount(along::sum_of(&self.buckets, group, at))
     }
 
-    /// Holds the amount in the eligible buckets, in their order. The purse is unchanged at a fault.
+    /// Holds the amount in the eligible buckets, in their order (TS 32.299, session charging with unit
+    /// reservation). The purse is unchanged at a fault: `NotCovered` where the amount exceeds the funds, else
+    /// `Memory`.
     pub fn hold(&mut self, group: u32, at: Moment, amount: Amount) -> Result<Holds, PurseFault>
         ensures rows { OnOk result (self.new ≡ held_rows group at amount.0 self.old) }
         ensures holds { IfOk result (λ h. h ≡ holds_of group at amount.0 self.old) }
@@ -125,7 +128,7 @@ impl Purse {
         Ok(self.hold_in(room, group, at, amount))
     }
 
-    /// Memory for the holds that a later `hold_in` makes.
+    /// Memory for the holds that a later `hold_in` makes; its error is want of memory.
     pub fn room(&self, group: u32, at: Moment) -> Result<HoldRoom, AllocError>
         ensures { IfOk result (λ room. length self.now ≤ room) }
     {

@@ -1,4 +1,5 @@
 -- Civil time: what the clock of a zone shows, reckoned from 1969-12-31 00:00 on that clock.
+-- Source: profile; the Gregorian calendar.
 use Rattle.std.specs.Prelude.{ℕ, ℤ, ◌+◌, ◌/◌, ◌%◌, pos, ◌+ℤ◌, ◌*ℤ◌, unsigned_abs}
 
 -- a zone: how far its clock is ahead of UTC, in seconds

@@ -1,4 +1,5 @@
 -- What the definitions of periods and day ends say in other words.
+-- Source: profile.
 use Rattle.std.specs.Prelude.{◌≡◌, ℕ, ◌+◌, ◌*◌, IsTrue, Contains}
 use Rattle.jiff.specs.Words.{IsWithin}
 use Rattle.calendar.specs.declared.week.Entry.{Entry}

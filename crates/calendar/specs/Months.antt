@@ -1,4 +1,5 @@
 -- Civil months, counted from January 1969, by the Gregorian calendar.
+-- Source: profile.
 use Rattle.std.specs.Prelude.{ℕ, zero, suc, ℤ, ◌+◌, ◌-◌, ◌*◌, pos, ◌-ℤ◌, unsigned_abs, int_le, if◌then◌else◌}
 use Rattle.jiff_core.specs.Calendar.{days_from_civil}
 use Rattle.jiff_tz.specs.Year.{year_of_day}

@@ -1,4 +1,5 @@
 -- How a zone is kept: as a zone of jiff with one offset.
+-- Source: profile.
 use Rattle.std.specs.Prelude.{◌≡◌, ℤ, ◌%◌, ◌-ℤ◌, pos, unsigned_abs}
 use Rattle.jiff.specs.Types.{TimeZone, DateTime}
 use Rattle.jiff.specs.Words.{offset_at, picked_instant, civil_nanos, nanos_of_seconds, IsWithin}

@@ -1,4 +1,5 @@
 -- Tariff periods, switches, validity times, cycles and day ends in the zone and the week of a book.
+-- Source: RFC 8506 sections 5.1.1 (Tariff-Time-Change) and 8.33 (Validity-Time); cycles and days: profile.
 use Rattle.std.specs.Prelude.{◌≡◌, ◌≢◌, ℕ, zero, suc, pos, ◌+◌, ◌-◌, ◌*◌, ◌/◌, ◌%◌, ◌<◌, ◌≤◌, ◌==◌, ◌-ℤ◌, unsigned_abs, Bool, not, nat_lt, List, [], ◌∷◌, if◌then◌else◌, find, All, Option, Some, None, unwrap_or}
 use Rattle.std.specs.Option.{option_map}
 use Rattle.calendar.specs.declared.week.Entry.{Entry}

@@ -65,7 +65,8 @@ impl Calendar {
     }
 
     /// The tariff switch (Tariff-Time-Change, RFC 8506 section 8.20): the least whole minute after the moment, and
-    /// less than so many seconds later, whose period is another than that at the moment.
+    /// less than so many seconds later, whose period is another than that at the moment. At most 43,200 seconds are
+    /// asked for, up to the last moment that the type has: each moment of a command has that many after it.
     pub fn next_switch(&self, moment: Moment, seconds: u32) -> Option<Moment>
         requires seconds { seconds ≤ 43_200 }
         requires in_range { moment + seconds ≤ 4_102_488_000 }
@@ -88,7 +89,7 @@ impl Calendar {
     }
 
     /// The granted Validity-Time (RFC 8506 section 8.33), in seconds: the book's validity, cut at the next later
-    /// change of period after the switch that lies within it.
+    /// change of period after the switch that lies within it. It is asked as `next_switch` is.
     pub fn validity_from(&self, moment: Moment, validity: u32) -> u32
         requires validity { validity ≤ 43_200 }
         requires in_range { moment + validity ≤ 4_102_488_000 }

@@ -1,4 +1,5 @@
 -- What the services of a request are answered, by what is granted of the tariff's group.
+-- Source: RFC 8506 sections 8.16 and 9.
 use Rattle.std.specs.Prelude.{◌==◌, if◌then◌else◌, Some, None}
 use Rattle.commands.specs.declared.service.Service.{Service}
 use Rattle.commands.specs.declared.answer.FinalUnit.TheVariants.{Terminate}

@@ -1,4 +1,5 @@
 -- What a call on an account comes to, for each ledger whose rows the account is.
+-- Source: profile.
 use Rattle.std.specs.Prelude.{◌≡◌, ℕ, true, false, List, Option, Some, None, Result, Ok, Err}
 use Rattle.commands.specs.declared.service.Service.{Service}
 use Rattle.commands.specs.declared.answer.Outcome.{Outcome}

@@ -1,4 +1,5 @@
 -- Reservations in the rows of sessions' groups.
+-- Source: profile.
 use Rattle.std.specs.Prelude.{◌≡◌, ℕ, Bool, false, List, Option, Some, None, is_some}
 use Rattle.commands.specs.declared.service.Service.{Service}
 use Rattle.reserving.specs.declared.session.SessionGroup.{SessionGroup}

@@ -1,4 +1,4 @@
--- The grants of a request, service by service (RFC 8506 section 5.1.1; TS 32.299, session charging with unit
+-- The grants of a request, service by service (RFC 8506 sections 5.2 and 5.3; TS 32.299, session charging with unit
 -- reservation).
 use Rattle.std.specs.Prelude.{ℕ, ◌*◌, Bool, ◌==◌, ◌&&◌, nat_lt, if◌then◌else◌, List, [], ◌∷◌, Option, Some, None}
 use Rattle.std.specs.List.{list_any}

@@ -1,4 +1,5 @@
 -- The services of a request that name a rating group: no group stands twice in a request, so at most one does.
+-- Source: RFC 8506 section 8.16; that no group stands twice: profile.
 use Rattle.std.specs.Prelude.{ℕ, ◌==◌, Bool, List, Option}
 use Rattle.std.specs.List.{find}
 use Rattle.commands.specs.declared.service.Service.{Service}

@@ -72,8 +72,7 @@ impl Eq for Credit {
     ghost laws = { decided same_credit credit_exact };
 }
 
-/// Whether two credits are the same.
-
+/// Whether two credits are the same: a credit that comes again with the same content is a repeat (profile).
 pub fn same_credit(a: &Credit, b: &Credit) -> bool
     ensures { IsTrue result ↔ (a.now ≡ b.now) }
 {

@@ -256,8 +256,7 @@ impl Eq for Request {
     ghost laws = { decided same_request request_exact };
 }
 
-/// Whether two requests are the same: a request that comes again with the same content is a repeat.
-
+/// Whether two requests are the same: a request that comes again with the same content is a repeat (profile).
 pub fn same_request(a: &Request, b: &Request) -> bool
     ensures { IsTrue result ↔ (a.now ≡ b.now) }
 {

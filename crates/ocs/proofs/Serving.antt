@@ -1,5 +1,5 @@
 -- The account that serves a subscriber, after a request.
-use Rattle.std.proofs.Common.{◌≡◌, ℕ, true, List, ◌++◌, sym, ap, subst, ◌∙◌, Option, Some, None}
+use Rattle.std.proofs.Common.{◌≡◌, ℕ, true, List, ◌++◌, sym, ap, subst, ◌∙◌, Some, None}
 use Rattle.std.specs.Prelude.{if◌then◌else◌, max}
 use Rattle.std.specs.List.{find}
 use Rattle.commands.specs.declared.answer.Answer.TheVariants.{Request as Answered}
@@ -13,9 +13,8 @@ use Rattle.charging.specs.Decisions.{Decision, decision, answer_of, is_accepted}
 use Rattle.ocs.specs.declared.account.Kept.{Kept}
 use Rattle.ocs.specs.declared.account.Opened.{Opened}
 use Rattle.ocs.specs.declared.reading.DatedRequest.{DatedRequest}
-use Rattle.ocs.specs.Served.{Subscriber, subscriber_of, served_request, is_kept_for, keeping, answer_again, new_turn, own_turn, turn}
+use Rattle.ocs.specs.Served.{Subscriber, Turn, told, is_kept_for, keeping, answer_again, new_turn, own_turn, turn}
 use Rattle.ocs.specs.Office.{IsOpenedFor, IsTurned, IsServed}
-use Rattle.json_fields.specs.declared.fault.WireFault.{WireFault}
 
 -- what a decision leaves of the account
 pub record IsDecided (r : Request) (at : ℕ) (answer : RequestAnswer) (old new : AccountRows) : Type 0 where
@@ -71,7 +70,6 @@ mine_turned f d x old new text e h turned =
     let same : is_same d.request.account x.number ≡ true = ap (is_same d.request.account) (sym h.number) ∙ e in
     rw same turned
 
--- a request that is served
-pub told_served : (f : Flat) (credit : ℕ) (d : DatedRequest) (y : Option Subscriber) (fault : Option WireFault) (text : List ℕ) (new : Opened) → fault ≡ None →
-    IsTurned f (turn f d (subscriber_of credit d.request y)) text new → IsServed f (served_request fault f credit d y) text (Some new)
-told_served f credit d y fault text new e turned = rw e (record { same = turned.same; account = turned.account })
+-- a request's answer is its line's
+pub told_served : (f : Flat) (turned : Turn) (text : List ℕ) (new : Opened) → IsTurned f turned text new → IsServed f (told turned) text (Some new)
+told_served f turned text new h = record { same = h.same; account = h.account }

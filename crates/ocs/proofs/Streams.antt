@@ -1,7 +1,7 @@
 -- Two lines, one after the other, and beginnings of what is written.
-use Rattle.std.proofs.Common.{◌≡◌, ℕ, Bool, true, false, List, [], ◌∷◌, ◌++◌, refl, sym, ap, subst, ◌∙◌, Option, Some, None, append_assoc, take, drop, take-append-drop, IfSome, Result, Ok, Err}
+use Rattle.std.proofs.Common.{append-nil, ◌≡◌, ℕ, Bool, true, false, List, [], ◌∷◌, ◌++◌, refl, sym, ap, subst, ◌∙◌, Option, Some, None, append_assoc, take, drop, take-append-drop, IfSome, Result, Ok, Err}
 use Rattle.std.proofs.KnownBytes.{Appends-nil, Appends-trans}
-use Rattle.std.specs.Prelude.{OnErr, option_map, if◌then◌else◌, ◌==◌}
+use Rattle.std.specs.Prelude.{OnOk, OnErr, option_map, if◌then◌else◌, ◌==◌}
 use Rattle.std.specs.Io.KnownBytes.{Appends}
 use Rattle.std.specs.Prelude.{Vec}
 use Rattle.std.specs.Global.{Global}
@@ -34,6 +34,11 @@ beginning_after a b c first text h k =
 pub on_err : {A E P : Type 0} (r : Result A E) → P → OnErr r P
 on_err (Ok x) h = tt
 on_err (Err e) h = h
+
+-- all of a text is written, or a beginning
+pub whole_or_part : {A E : Type 0} (r : Result A E) (a b : Option (List ℕ)) (text : List ℕ) → OnOk r (Appends a b text) → OnErr r ((n : ℕ) × Appends a b (take n text)) → WritesBeginning a b text
+whole_or_part (Ok x) a b text h k = record { part = text; rest = []; written = h; whole = sym (append-nil text) }
+whole_or_part (Err e) a b text h k = some_written a b text k.0 k.1
 
 -- ---- an answer's text and its line feed
 

@@ -1,4 +1,5 @@
 -- The program's account, and the subscriber whose ledger it stands for.
+-- Source: profile.
 use Rattle.std.specs.Prelude.{◌≡◌, ℕ, Bool, false, List, [], ◌∷◌, ◌++◌, Option, Some, None}
 use Rattle.std.specs.Io.KnownBytes.{Appends}
 use Rattle.byte_streams.specs.Lines.{line_of, after_line}

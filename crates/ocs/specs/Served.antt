@@ -4,17 +4,14 @@
 use Rattle.std.specs.Prelude.{ℕ, Bool, ◌==◌, ◌&&◌, if◌then◌else◌, List, [], ◌∷◌, ◌++◌, Option, Some, None, Result, Ok, Err, max}
 use Rattle.std.specs.List.{find}
 use Rattle.commands.specs.Alike.{same_request}
-use Rattle.commands.specs.declared.avp.Avp.TheVariants.{RequestType, RequestNumber}
+use Rattle.commands.specs.declared.avp.Avp.TheVariants.{RequestNumber}
 use Rattle.commands.specs.declared.answer.Answer.{Answer}
 use Rattle.commands.specs.declared.answer.Answer.TheVariants.{Request as Answered}
 use Rattle.commands.specs.declared.answer.Failure.TheVariants.{UserUnknown, InvalidAvpValue}
 use Rattle.commands.specs.declared.answer.Outcome.{Outcome}
 use Rattle.commands.specs.declared.answer.Outcome.TheVariants.{Failed}
-use Rattle.commands.specs.declared.request.Ask.{Ask}
-use Rattle.commands.specs.declared.request.Ask.TheVariants.{Initial, Update, Termination, Event, Refund}
 use Rattle.commands.specs.declared.request.Request.{Request}
 use Rattle.json_fields.specs.declared.fault.WireFault.{WireFault}
-use Rattle.json_fields.specs.declared.fault.WireFault.TheVariants.{Invalid}
 use Rattle.wire_answers.specs.Spelled.{answer_text, fault_text}
 use Rattle.reserving.specs.Ledger.{Ledger, is_same}
 use Rattle.reserving.specs.FlatTariff.{Flat}
@@ -96,26 +93,14 @@ turn f d x = if is_same d.request.account x.number then own_turn f d x else reco
 
 -- ---- a line
 
--- events aren't served
-abbrev pub unserved : Ask → Option WireFault
-unserved (Initial services) = None
-unserved (Update services) = None
-unserved (Termination services) = None
-unserved (Event event) = Some (Invalid RequestType)
-unserved (Refund refund) = Some (Invalid RequestType)
-
 abbrev pub faulted : WireFault → Option Subscriber → Served
 faulted fault x = record { text = fault_text fault; after = x }
 
 abbrev pub told : Turn → Served
 told turn = record { text = answer_text turn.answer; after = Some turn.after }
 
-abbrev pub served_request : Option WireFault → Flat → ℕ → DatedRequest → Option Subscriber → Served
-served_request (Some fault) f credit d x = faulted fault x
-served_request None f credit d x = told (turn f d (subscriber_of credit d.request x))
-
 abbrev pub served : Result DatedRequest WireFault → Flat → ℕ → Option Subscriber → Served
-served (Ok d) f credit x = served_request (unserved d.request.ask) f credit d x
+served (Ok d) f credit x = told (turn f d (subscriber_of credit d.request x))
 served (Err fault) f credit x = faulted fault x
 
 -- a line is answered

@@ -1,9 +1,14 @@
 -- The program's words: `once --credit AMOUNT --price PRICE --block SIZE` after its name.
-use Rattle.std.specs.Prelude.{◌≡◌, ℕ, ◌&&◌, nat_le, if◌then◌else◌, List, [], length, Option, Some, None, codes, slice_index_or}
+-- Source: profile.
+use Rattle.std.specs.Prelude.{◌++◌, ◌∷◌, ◌≡◌, ◌≢◌, ℕ, ◌&&◌, nat_le, if◌then◌else◌, List, [], length, Option, Some, None, codes, slice_index_or}
 use Rattle.std.specs.Borrow.{Bor}
 use Rattle.units.specs.declared.blocks.UnitKind.TheVariants.{Time}
 use Rattle.operator.specs.Numbers.{number_of}
 use Rattle.reserving.specs.FlatTariff.{Flat}
+use Rattle.ocs.specs.declared.fault.LinesFault.{LinesFault}
+use Rattle.ocs.specs.declared.fault.LinesFault.TheVariants.{Memory, File}
+use Rattle.std.specs.Io.KnownBytes.{Keeps}
+use Rattle.ocs.specs.Office.{WritesBeginning}
 use Rattle.ocs.specs.declared.words.OnceWords.{OnceWords}
 
 abbrev pub Words : Type 0
@@ -50,3 +55,15 @@ opened_with (Some amount) = opening_of amount
 -- what the words say
 abbrev pub once_of : Words → Option OnceWords
 once_of words = paired (opened_with (number_of (word words 3))) (priced (number_of (word words 5)) (number_of (word words 7)))
+
+-- ---- faults
+
+-- a fault is one line
+abbrev pub fault_line : LinesFault → List ℕ
+fault_line Memory = codes "ocs: memory fault" ++ 10 ∷ []
+fault_line File = codes "ocs: file fault" ++ 10 ∷ []
+
+-- the line of a fault is written at status 1, as far as it can be, and else nothing
+pub record IsToldFault (status : ℕ) (old new : Option (List ℕ)) : Type 0 where
+  pub fault : status ≡ 1 → (e : LinesFault) × WritesBeginning old new (fault_line e)
+  pub none : status ≢ 1 → Keeps old new

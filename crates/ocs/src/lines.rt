@@ -13,7 +13,8 @@ use units::Money;
 
 /// Answers lines `MOMENT JSON` of initial, update and termination requests, a line each, to the end of the input,
 /// and gives back the account: none where no line was read as a request. The first request's account is opened
-/// before it with one bucket of this amount in micro-units, from the beginning and without end.
+/// before it with one bucket of this amount in micro-units, from the beginning and without end (profile; the requests:
+/// RFC 8506 sections 5.2 to 5.4).
 ///
 /// # Errors
 /// Want of memory, or a fault of the reader or the writer. Then a beginning of the answers is written.

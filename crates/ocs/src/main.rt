@@ -11,7 +11,8 @@ mod words;
 ghost use Rattle.std.specs.Prelude.{◌≡◌, ◌≤◌, IfSome, Some, None};
 ghost use Rattle.std.specs.Io.KnownBytes.{Appends, Keeps};
 ghost use Rattle.ocs.specs.declared.words.OnceWords.{OnceWords};
-ghost use Rattle.ocs.specs.Words.{IsOnce, once_of};
+ghost use Rattle.ocs.specs.declared.fault.LinesFault.{LinesFault};
+ghost use Rattle.ocs.specs.Words.{IsOnce, once_of, fault_line, IsToldFault};
 ghost use Rattle.ocs.specs.Served.{run};
 ghost use Rattle.ocs.specs.Office.{WritesBeginning};
 
@@ -54,6 +55,7 @@ pub fn run_words<R: AllocGlobal, I: Read, O: Write, E: Write>(
         IfSome (I.remaining input.old) (λ stream. Appends (O.contents output.old) (O.contents output.new) (run once.tariff once.credit stream).text) }
     ensures fault { (once : OnceWords) → IsOnce words.now → once_of words.now ≡ Some once → result ≡ 1 →
         IfSome (I.remaining input.old) (λ stream. WritesBeginning (O.contents output.old) (O.contents output.new) (run once.tariff once.credit stream).text) }
+    ensures told { IsToldFault result (E.contents errors.old) (E.contents errors.new) }
 {
     let Some(once) = once_words(words) else {
         return 2;
@@ -67,9 +69,14 @@ pub fn run_words<R: AllocGlobal, I: Read, O: Write, E: Write>(
     }
 }
 
-fn fault_line(fault: LinesFault) -> &'static [u8] {
+fn fault_line(fault: LinesFault) -> &'static [u8]
+    ensures { result.now ≡ fault_line fault }
+{
     match fault {
         LinesFault::Memory => b"ocs: memory fault\n",
         LinesFault::File => b"ocs: file fault\n",
     }
 }
+
+#[cfg(test)]
+mod tests;

@@ -1,11 +1,11 @@
 ghost use Rattle.std.specs.Prelude.{◌≡◌, Option, IfOk, string_bytes};
-ghost use Rattle.ocs.specs.Served.{Subscriber, unserved, served_request, served_line, subscriber_of};
+ghost use Rattle.ocs.specs.Served.{Subscriber, told, turn, served_line, subscriber_of};
 ghost use Rattle.ocs.specs.Office.{IsServing, IsOpenedFor, IsServed};
 
 use crate::account::Opened;
 use crate::fault::LinesFault;
 use crate::reading::{DatedRequest, read_line};
-use commands::{Ask, Avp, Request};
+use commands::Request;
 use json_fields::WireFault;
 use reserving::FlatTariff;
 use std::alloc::Global;
@@ -43,11 +43,8 @@ impl<'b> Office<'b> {
         dated: DatedRequest,
     ) -> Result<String, LinesFault>
         ensures { IfOk result (λ text. (x : Option Subscriber) → IsServing self.now.tariff.now x opened.old →
-            IsServed self.now.tariff.now (served_request (unserved dated.request.ask) self.now.tariff.now self.now.credit dated x) (string_bytes text) opened.new) }
+            IsServed self.now.tariff.now (told (turn self.now.tariff.now dated (subscriber_of self.now.credit dated.request x))) (string_bytes text) opened.new) }
     {
-        if let Some(fault) = unserved(&dated.request.ask) {
-            return Ok(write_fault(self.alloc, fault)?);
-        }
         let mut account = self.opened_for(opened.take(), &dated.request)?;
         let text = account.answer(self.alloc, dated)?;
         *opened = Some(account);
@@ -67,18 +64,5 @@ impl<'b> Office<'b> {
             Some(opened) => Ok(opened),
             None => Opened::new(self.alloc, self.tariff, self.credit, &request.account),
         }
-    }
-}
-
-/// Why a request isn't served: events aren't.
-fn unserved(ask: &Ask) -> Option<WireFault>
-    ensures { result ≡ unserved ask.now }
-{
-    match ask {
-        Ask::Initial(_) => None,
-        Ask::Update(_) => None,
-        Ask::Termination(_) => None,
-        Ask::Event(_) => Some(WireFault::Invalid(Avp::RequestType)),
-        Ask::Refund(_) => Some(WireFault::Invalid(Avp::RequestType)),
     }
 }

@@ -9,12 +9,14 @@ use units::{Money, UnitKind};
 /// What the words of `once` say: an account's opening credit in micro-units, and the tariff of its one rating group.
 #[derive(Debug, Drop)]
 pub struct OnceWords {
+    /// What the account's bucket is opened with.
     pub credit: Money,
+    /// What its requests are priced by.
     pub tariff: FlatTariff,
 }
 
 /// Reads `once --credit AMOUNT --price PRICE --block SIZE` after the program's name: 1 to 10^15 micro-units, 0 to
-/// 10^9 micro-units a block, and 1 to 10^15 seconds a block, each of 1 to 16 digits. None for any other words.
+/// 10^9 micro-units a block, and 1 to 10^15 seconds a block, each of 1 to 16 digits (profile). None for any other words.
 pub fn once_words(words: &[&str]) -> Option<OnceWords>
     ensures once { IsOnce words.now → result ≡ once_of words.now }
     ensures form { IfSome result (λ _. IsOnce words.now) }

@@ -1,4 +1,5 @@
 -- Lines of dated requests: a moment, one space, and the request's text.
+-- Source: profile.
 use Rattle.std.specs.Prelude.{◌≡◌, ℕ, ◌<◌, ◌==◌, List, length, Option, Some, None, nat_le, nat_lt, if◌then◌else◌, option_and_then}
 use Rattle.std.specs.List.{before_first, after_first, position_or_len}
 use Rattle.operator.specs.Numbers.{number_of}

@@ -1,4 +1,5 @@
 -- The balance: each bucket at a moment, as sums over the ledger.
+-- Source: TS 32.296, account balance management function; the ledger: profile.
 use Rattle.std.specs.Prelude.{ℕ, ◌-◌, nat_lt, if◌then◌else◌, List, [], ◌∷◌, map}
 use Rattle.buckets.specs.Row.{Row, new_row}
 use Rattle.buckets.specs.Spend.{inserted}

@@ -1,4 +1,5 @@
 -- Lists of rows that are known by a key: a key is a test that one row of the list at most passes.
+-- Source: profile.
 use Rattle.std.specs.Prelude.{Bool, List, [], ◌∷◌, if◌then◌else◌}
 
 -- the list with a row put in the place of the first that passes, or at its end

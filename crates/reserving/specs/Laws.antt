@@ -1,4 +1,5 @@
 -- Laws over the definitions alone.
+-- Source: profile.
 use Rattle.std.specs.Prelude.{◌≡◌, ℕ, ◌≤◌, ◌&&◌, Bool, not, List}
 use Rattle.buckets.specs.Row.{Row, IsBalanced, with_end, with_release}
 use Rattle.reserving.specs.Ledger.{Ledger, is_live, held}

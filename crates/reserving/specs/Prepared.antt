@@ -1,4 +1,5 @@
 -- Rows without facts: the rows that a call writes to are made before it, while memory can still be refused.
+-- Source: profile.
 use Rattle.std.specs.Prelude.{ℕ, List, Option, unwrap_or}
 use Rattle.reserving.specs.declared.session.SessionGroup.{SessionGroup}
 use Rattle.reserving.specs.declared.session.Reservation.{Reservation}

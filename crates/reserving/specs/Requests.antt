@@ -1,4 +1,5 @@
 -- What accepted requests and credits add to the ledger, beside what their services add.
+-- Source: RFC 8506 sections 5.2 to 5.4 and 8.2.
 use Rattle.std.specs.Prelude.{ℕ, List, ◌∷◌, Option}
 use Rattle.reserving.specs.Ledger.{Ledger, next_bucket}
 use Rattle.reserving.specs.Ledger.Fact.{Credit, Touch, Close, Recorded}

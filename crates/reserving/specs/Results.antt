@@ -1,4 +1,5 @@
 -- What settlements and grants answer, as a ledger tells it.
+-- Source: RFC 8506 sections 5.2 to 5.4; TS 32.299, session charging with unit reservation.
 use Rattle.std.specs.Prelude.{◌≡◌, ℕ, ◌+◌, ◌*◌, ◌<◌, ◌≤◌, Bool, nat_lt, List, Option, None}
 use Rattle.units.specs.Blocks.{started}
 use Rattle.buckets.specs.Spend.{funds}

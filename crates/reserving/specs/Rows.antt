@@ -1,4 +1,5 @@
 -- An account's rows, and the ledger that they are the sums of.
+-- Source: profile.
 use Rattle.std.specs.Prelude.{◌≡◌, ℕ, ◌≤◌, List, [], ◌∷◌, Bool, true, false, Some, None, option_map}
 use Rattle.buckets.specs.Row.{Row}
 use Rattle.buckets.specs.Spend.{Each, IsSound, IsBelow}

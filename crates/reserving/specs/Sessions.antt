@@ -1,4 +1,5 @@
 -- The rows of sessions, of their groups, and of counters: found in a list, and told by a ledger.
+-- Source: RFC 8506 sections 5.1 and 8.2; TS 32.299, session charging with unit reservation; rows and counters: profile.
 use Rattle.std.specs.Prelude.{ℕ, ◌+◌, ◌*◌, Bool, true, false, ◌==◌, ◌&&◌, nat_lt, if◌then◌else◌, List, [], ◌∷◌, Option, Some, None, is_some}
 use Rattle.std.specs.List.{find}
 use Rattle.buckets.specs.declared.holds.Hold.{Hold}

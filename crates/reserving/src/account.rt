@@ -91,7 +91,8 @@ impl<'b> Account<'b> {
     }
 
     /// Whether the session is live at the moment: opened and not closed, and its supervision time, two validity
-    /// times after its last accepted request, isn't over.
+    /// times after its last accepted request, isn't over (profile, in the place of the supervision timer of RFC 8506
+    /// section 13).
     pub fn is_live(&self, session: &SessionId, moment: Moment) -> bool
         ensures { result ≡ is_live_in self.now.tariff.validity moment self.now.sessions session.now }
     {

@@ -14,7 +14,7 @@ use units::Moment;
 impl<'b> Account<'b> {
     /// Brings the account to a moment: sessions whose supervision time is over end, what their reservations
     /// held is given up, and what is left of buckets that ended is expired. It takes no memory, and the ledger
-    /// stays as it is.
+    /// stays as it is (profile; TS 32.296, account balance management function).
     pub fn advance(&mut self, moment: Moment)
         requires { self.old.as_of ≤ moment }
         ensures rows { self.new ≡ advanced moment self.old }

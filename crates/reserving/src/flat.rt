@@ -74,14 +74,14 @@ impl FlatTariff {
         self.group
     }
 
-    /// What the group counts.
+    /// What the group counts (CC-Time, CC-Total-Octets or CC-Service-Specific-Units, RFC 8506 section 8.17).
     pub fn kind(&self) -> UnitKind
         ensures { result ≡ self.now.kind }
     {
         self.kind
     }
 
-    /// The units of a block.
+    /// The units of a block (profile).
     pub fn block(&self) -> u64
         ensures value { result ≡ self.now.block }
         ensures ranges { IsFlat self.now }
@@ -89,14 +89,14 @@ impl FlatTariff {
         self.block
     }
 
-    /// The units that are wanted where none are requested.
+    /// The units that are wanted where none are requested (profile).
     pub fn slice(&self) -> u64
         ensures { result ≡ self.now.slice }
     {
         self.slice
     }
 
-    /// The most units that are granted at once.
+    /// The most units that are granted at once (profile).
     pub fn max_grant(&self) -> u64
         ensures value { result ≡ self.now.max_grant }
         ensures ranges { IsFlat self.now }
@@ -104,7 +104,7 @@ impl FlatTariff {
         self.max_grant
     }
 
-    /// Micro-units a block.
+    /// Micro-units a block (TS 32.296, rating function).
     pub fn price(&self) -> u64
         ensures value { result ≡ self.now.price }
         ensures ranges { IsFlat self.now }

@@ -15,7 +15,7 @@ use units::{Amount, Moment};
 
 impl<'b> Account<'b> {
     /// What the buckets that are eligible for the rating group at the moment have available then, in
-    /// micro-units. It takes no memory and changes nothing.
+    /// micro-units (TS 32.296, account balance management function). It takes no memory and changes nothing.
     pub fn funds(&self, group: u32, moment: Moment) -> Amount
         requires { self.now.as_of ≤ moment }
         ensures rows { result.0 ≡ funds group moment (advanced moment self.now).buckets }

@@ -26,6 +26,7 @@ pub enum Granted {
     Nothing,
     /// Units, and what the answer says of them.
     Units {
+        /// How many.
         units: Units,
         /// The moment of a tariff switch within the validity (Tariff-Time-Change, RFC 8506 section 8.20).
         switch: Option<Moment>,
@@ -80,8 +81,8 @@ impl<'b> Account<'b> {
         })
     }
 
-    /// Whether a session that used nothing of the rating group yet would be granted units. It takes no memory and
-    /// changes nothing.
+    /// Whether a session that used nothing of the rating group yet would be granted units (RFC 8506 section 5.2). It
+    /// takes no memory and changes nothing.
     pub fn would_grant(&self, group: u32, requested: Option<Units>, moment: Moment) -> bool
         requires { self.now.as_of ≤ moment }
         ensures { (ledger : Ledger) → IsRowsOf ledger self.now →

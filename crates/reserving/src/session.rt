@@ -17,11 +17,13 @@ pub enum SessionState {
 /// A session of an account, or a recorded event.
 #[derive(Debug, Drop)]
 pub struct Session {
+    /// Its name (Session-Id, RFC 6733 section 8.8).
     pub id: SessionId,
     /// The number of its last accepted request.
     pub last_number: u32,
     /// The moment of its last accepted request.
     pub touched: Moment,
+    /// Whether it is open.
     pub state: SessionState,
 }
 
@@ -32,23 +34,30 @@ pub struct Reservation {
     pub before: Period,
     /// The period at the tariff switch within the grant's validity; the same without one.
     pub after: Period,
+    /// What it holds, bucket by bucket.
     pub holds: Holds,
 }
 
 /// What a session has of a rating group, from its first grant or use on.
 #[derive(Debug, Drop)]
 pub struct SessionGroup {
+    /// The session's name.
     pub session: SessionId,
+    /// Rating-Group (RFC 8506 section 8.29).
     pub group: u32,
     /// The units used so far: at most 10^18.
     pub used: u64,
+    /// What it has reserved now.
     pub reservation: Option<Reservation>,
 }
 
 /// The blocks that an account started in a rating group and a cycle: at most 4 * 10^18.
 #[derive(Clone, Copy, Debug, PartialEq, Eq)]
 pub struct Counter {
+    /// Rating-Group (RFC 8506 section 8.29).
     pub group: u32,
+    /// The number of the cycle.
     pub cycle: u32,
+    /// The blocks started in it.
     pub blocks: u64,
 }

@@ -37,8 +37,8 @@ impl<'b> Account<'b> {
         Ok(())
     }
 
-    /// Records a request of a session that isn't open: a denied initial request or an event. The account is
-    /// unchanged at a fault, which is want of memory.
+    /// Records a request of a session that isn't open: a denied initial request or an event (RFC 8506 sections 5.2 and
+    /// 6). The account is unchanged at a fault, which is want of memory.
     pub fn deny(
         &mut self,
         session: &SessionId,
@@ -57,7 +57,8 @@ impl<'b> Account<'b> {
         Ok(())
     }
 
-    /// Touches a live session: a request of it, of this number, is accepted. It takes no memory.
+    /// Touches a live session: a request of it, of this number, is accepted (RFC 8506 section 5.3). It takes no
+    /// memory.
     pub fn touch(&mut self, session: &SessionId, number: u32, moment: Moment)
         requires later { self.old.as_of ≤ moment }
         requires live { is_live_in self.old.tariff.validity moment self.old.sessions session.now ≡ true }
@@ -68,7 +69,8 @@ impl<'b> Account<'b> {
         touch_session(&mut self.sessions, session, number, moment);
     }
 
-    /// Closes a live session: its reservations are over, and what they held is given up. It takes no memory.
+    /// Closes a live session: its reservations are over, and what they held is given up (RFC 8506 section 5.4). It
+    /// takes no memory.
     pub fn close(&mut self, session: &SessionId, moment: Moment)
         requires later { self.old.as_of ≤ moment }
         requires live { is_live_in self.old.tariff.validity moment self.old.sessions session.now ≡ true }

@@ -1,4 +1,5 @@
 -- The prices of a group in a book's document.
+-- Source: TS 32.296, rating function; the keys: profile.
 use Rattle.std.specs.Prelude.{ℕ, ◌+◌, ◌-◌, ◌==◌, Bool, true, false, not, List, [], length, replicate, slice_get, slice_index_or, slice_set, Option, Some, None, Result, Ok, nat_lt, unwrap_or, option_and_then, codes}
 use Rattle.std.specs.List.{list_all}
 use Rattle.toml.specs.Data.{Data, Members}

@@ -32,7 +32,7 @@ impl Model for RedirectAddress {
 }
 
 impl RedirectAddress {
-    /// The address that a text is; None where it isn't 1 to 200 bytes from 0x21 to 0x7E.
+    /// The address that a text is; None where it isn't 1 to 200 bytes from 0x21 to 0x7E. Its error is want of memory.
     pub fn new(alloc: Global, text: &str) -> Result<Option<RedirectAddress>, AllocError>
         ensures in_range { IfOk result (λ o. IsSome o ↔ IsTrue (is_address text.now)) }
         ensures value { IfOk result (λ o. IfSome o (λ a. a ≡ text.now)) }

@@ -1,4 +1,5 @@
 -- Blocks of units.
+-- Source: RFC 8506 section 8.17 (granted and used units); TS 32.296, rating function; that a started block is priced once: profile.
 use Rattle.std.specs.Prelude.{◌≡◌, ℕ, ◌+◌, ◌%◌, ◌<◌, ◌==◌, if◌then◌else◌}
 use Prim.Native.Nat.{zero, suc}
 

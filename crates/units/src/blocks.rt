@@ -30,7 +30,9 @@ pub enum TariffChangeUsage {
 /// One part of a report of used units (Used-Service-Unit, RFC 8506 section 8.19).
 #[derive(Clone, Copy, Debug, PartialEq, Eq)]
 pub struct UsedPart {
+    /// How many.
     pub units: Units,
+    /// Where they stand to a tariff switch; None: the part doesn't say.
     pub change: Option<TariffChangeUsage>,
 }
 

@@ -35,6 +35,11 @@ const TOO_LATE: &[u8] =
 const OVER: &[u8] =
     b"{\"CC-Request-Number\":0,\"CC-Request-Type\":1,\"Multiple-Services-Credit-Control\":[{\"Granted-Service-Unit\":{\"CC-Time\":600},\"Rating-Group\":10,\"Result-Code\":2001,\"Validity-Time\":3600}],\"Result-Code\":2001,\"Session-Id\":\"s13\"}\n{\"CC-Request-Number\":1,\"CC-Request-Type\":2,\"Result-Code\":5002,\"Session-Id\":\"s13\"}\n";
 
+const UNREAD: &[u8] = b"0 {}\n1 {\"Session-Id\":\"s\",\"CC-Request-Type\":4}\n{}\n";
+
+const REFUSED: &[u8] =
+    b"{\"Failed-AVP\":\"Session-Id\",\"Result-Code\":5005}\n{\"Failed-AVP\":\"CC-Request-Type\",\"Result-Code\":5004}\n{\"Result-Code\":5012}\n";
+
 fn tariff() -> Option<FlatTariff> {
     FlatTariff::new(10, UnitKind::Time, 60, 600, 3_600, 100_000, 3_600)
 }
@@ -110,6 +115,20 @@ fn a_session_that_ended_by_itself(rt: HostRuntime) -> Result<(), Fail> {
     assert_eq!(rt; account.purse().buckets().len(), 1);
     assert_eq!(rt; account.purse().buckets()[0].reserved(), 0);
     assert_eq!(rt; account.purse().buckets()[0].available(), 1_000_000);
+    Ok(())
+}
+
+/// Events aren't served, whatever else is wrong with them; a line without a moment isn't read.
+#[test]
+fn lines_that_are_no_requests(rt: HostRuntime) -> Result<(), Fail> {
+    let alloc = rt.alloc();
+    let tariff = tariff().ok_or("a tariff")?;
+    let credit = Money::new(1).ok_or("an amount")?;
+    let mut input = UNREAD;
+    let mut output = Vec::new(alloc);
+    let account = lines(alloc, &mut input, &mut output, &tariff, credit)?;
+    assert!(rt; account.is_none());
+    assert_eq!(rt; output.as_slice(), REFUSED);
     Ok(())
 }
 
