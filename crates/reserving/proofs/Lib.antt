@@ -25,3 +25,4 @@ pub mod SettledFree
 pub mod Reported
 pub mod Reserved
 pub mod ReservedCall
+pub mod StillFree

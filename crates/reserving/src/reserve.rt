@@ -1,4 +1,4 @@
-ghost use Rattle.std.specs.Prelude.{◌≡◌, ℕ, ◌+◌, ◌*◌, ◌≤◌, ◌<◌, None, true, is_some, nat_lt, length, option_map, OnOk, OnErr, IfOk};
+ghost use Rattle.std.specs.Prelude.{◌≡◌, ℕ, ◌+◌, ◌*◌, ◌≤◌, ◌<◌, ◌==◌, None, true, false, is_some, nat_lt, length, option_map, OnOk, OnErr, IfOk};
 ghost use Rattle.buckets.specs.Spend.{funds};
 ghost use Rattle.reserving.specs.Ledger.{Ledger};
 ghost use Rattle.reserving.specs.Sessions.{group_in, is_live_in};
@@ -68,6 +68,7 @@ impl<'b> Account<'b> {
         ensures as_of { OnOk result (self.new.as_of ≡ moment) }
         ensures tariff { self.new.book ≡ self.old.book }
         ensures within { IfOk result (IsWithinGrant (tariff_of self.old.book group)) }
+        ensures others { OnOk result ((g : ℕ) → (g == group) ≡ false → reservation_in session.now g self.old.groups ≡ None → reservation_in session.now g self.new.groups ≡ None) }
         ensures memory { OnErr result (result ≡ Err AccountFault.Memory) }
         ensures err { OnErr result (self.new ≡ self.old) }
     {

@@ -80,6 +80,7 @@ impl<'b> Account<'b> {
         ensures limit { result ≡ Err AccountFault.Limit → (ledger : Ledger) → IsRowsOf ledger self.old →
             passes_limit self.old.book moment session.now group parts.now ledger ≡ true }
         ensures free { OnOk result (reservation_in session.now group self.new.groups ≡ None) }
+        ensures others { OnOk result ((s : List ℕ) (g : ℕ) → reservation_in s g self.old.groups ≡ None → reservation_in s g self.new.groups ≡ None) }
         ensures err { OnErr result (self.new ≡ self.old) }
     {
         if parts.is_empty() {

@@ -9,6 +9,7 @@ use Rattle.reserving.specs.Quotas.{IsQuota}
 use Rattle.reserving.specs.Changes.{advanced, used_in, count_in}
 use Rattle.reserving.specs.Rows.{AccountRows}
 use Rattle.reserving.proofs.ReservedCall.{group_there, free_middle, covered_middle, QuotaOf, grant_told, quota_covered, grant_is, within_grant}
+use Rattle.reserving.proofs.StillFree.{others_advanced, others_reserved}
 use Rattle.reserving.proofs.account.Account.reserve.Goals as goal
 
 -- the quota that was reckoned with the window's periods
@@ -60,3 +61,11 @@ pub returns-clause-within : goal.returns-clause-within
 returns-clause-within c =
     let some : 0 < c.quota-quota.result.grant.units.0 = omega (arith, c.if-quota-eq0.false) in
     within_grant c.args.self.now.book (used_in c.args.session.now c.args.group c.args.self.now.groups) c.args.group (option_map (λ (u : Units). u.0) c.args.requested) c.window_at-window.result.periods _ _ c.quota-quota.result.wanted c.quota-quota.result.grant c.quota-quota.ensures.quota some
+
+pub returns-clause-others : goal.returns-clause-others
+returns-clause-others c = λ g n h.
+    others_reserved c.args.self.now c.advance-2.new.self c.hold_quota.new.self c.args.session.now g c.args.group c.args.moment c.quota-quota.result.grant.amount.0
+    (c.advance-2.ensures.rows ∙ ap (advanced c.args.moment) c.in_ok-room.ensures.ok) c.hold_quota.ensures n h
+
+pub returns-then-quota-eq0-clause-others : goal.returns-then-quota-eq0-clause-others
+returns-then-quota-eq0-clause-others c = λ g n h. others_advanced c.args.self.now c.advance.new.self c.args.session.now g c.args.moment c.advance.ensures.rows h
