@@ -26,3 +26,4 @@ pub mod Reported
 pub mod Reserved
 pub mod ReservedCall
 pub mod StillFree
+mod WorkedRows
