@@ -1,3 +1,4 @@
 pub mod Sums
+pub mod RunFacts
 pub mod Reports
 pub mod Grants

@@ -1,5 +1,5 @@
 -- Sums of block prices, block by block.
-use Rattle.std.proofs.Common.{◌≡◌, ℕ, zero, suc, ◌+◌, ◌-◌, ◌≤◌, ◌<◌, max, List, [], ◌∷◌, refl, ap, sym, ◌∙◌, arith, add-one, inl, inr}
+use Rattle.std.proofs.Common.{◌≡◌, ℕ, zero, suc, ◌+◌, ◌-◌, ◌≤◌, ◌<◌, max, List, [], ◌∷◌, refl, ap, ◌∙◌, arith, add-one, inl, inr}
 use Rattle.std.proofs.lemmas.Bool.{cases_Bool, cases_lt}
 use Rattle.tariffs.specs.declared.tiers.Tier.{Tier}
 use Rattle.tariffs.specs.Prices.{reaches, block_price, ArePriced}
@@ -39,10 +39,6 @@ dearer_none bs as' place = refl
 pub dearer_more : (bs as' : List Tier) (place n : ℕ) → dearer bs as' place (n + 1) ≡ dearer bs as' place n + max (block_price bs (place + n + 1)) (block_price as' (place + n + 1))
 unfolding dearer
 dearer_more bs as' place n = rw (add-one n) (ap (λ k. dearer bs as' place n + max (block_price bs k) (block_price as' k)) (omega arith))
-
-pub dearer_step : (bs as' : List Tier) (place n k p q : ℕ) → k ≡ place + n + 1 → p ≡ block_price bs k → q ≡ block_price as' k → dearer bs as' place (n + 1) ≡ dearer bs as' place n + max p q
-dearer_step bs as' place n k p q at p_is q_is =
-    dearer_more bs as' place n ∙ (λ i. dearer bs as' place n + max ((ap (block_price bs) (sym at) ∙ sym p_is) i) ((ap (block_price as') (sym at) ∙ sym q_is) i))
 
 -- more blocks cost no less
 pub dearer_grows : (bs as' : List Tier) (place n m : ℕ) → dearer bs as' place n ≤ dearer bs as' place (n + m)

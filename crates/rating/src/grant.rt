@@ -2,11 +2,10 @@
 
 ghost use Rattle.std.specs.Prelude.{◌≡◌, ◌≤◌, ◌<◌, ◌+◌, ◌-◌, ◌*◌, ◌^◌};
 ghost use Rattle.units.specs.Blocks.{started};
-ghost use Rattle.tariffs.specs.Prices.{ArePriced};
 ghost use Rattle.tariffs.specs.Tariffs.{tiers_at};
 ghost use Rattle.rating.specs.Granted.{dearer, greatest_covered, IsGreatest, block_start, grant_of};
 
-use crate::price::block_price;
+use crate::runs::{Run, dearer_run};
 use calendar::Period;
 use tariffs::{Tariff, Tier};
 use units::{Amount, Blocks, Units, blocks_started};
@@ -31,23 +30,39 @@ pub struct Grant {
     pub amount: Amount,
 }
 
+/// How many blocks of a run the funds cover.
+fn covered_in(run: Run, funds: u128) -> u64
+    ensures most { result ≤ run.blocks }
+    ensures covered { result * run.price ≤ funds }
+    ensures greatest { result < run.blocks → funds < (result + 1) * run.price }
+{
+    if run.price == 0 {
+        return run.blocks;
+    }
+    let covered = funds / run.price as u128;
+    if covered < run.blocks as u128 {
+        covered as u64
+    } else {
+        run.blocks
+    }
+}
+
 /// The greatest of the first blocks wanted whose dearer prices the funds cover, with their sum.
 fn covered(before: &[Tier], after: &[Tier], place: u64, wanted: u64, funds: u128) -> (u64, u128)
-    requires before { ArePriced before.now }
-    requires after { ArePriced after.now }
     ensures greatest { IsGreatest before.now after.now place wanted funds result.0 }
     ensures amount { result.1 ≡ dearer before.now after.now place result.0 }
 {
     let mut blocks = 0;
-    let mut total: u128 = 0;
+    let mut total = 0;
     while blocks < wanted {
-        let next = u128::from(place) + u128::from(blocks) + 1;
-        let price = u128::from(block_price(before, next).max(block_price(after, next)));
-        if total + price > funds {
+        let next = place as u128 + blocks as u128 + 1;
+        let run = dearer_run(before, after, next, wanted - blocks);
+        let more = covered_in(run, funds - total);
+        blocks += more;
+        total += more as u128 * run.price as u128;
+        if more < run.blocks {
             return (blocks, total);
         }
-        total += price;
-        blocks += 1;
     }
     (blocks, total)
 }

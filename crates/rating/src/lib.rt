@@ -4,6 +4,7 @@
 mod grant;
 mod price;
 mod report;
+mod runs;
 
 pub use crate::grant::{Grant, Periods, greatest_grant};
 pub use crate::price::rate;

@@ -1,6 +1,7 @@
 //! Prices and grants of worked sessions. The expected values are reckoned by hand from the book's prices: seconds in
-//! blocks of 60 at 50000 or 100000 micro-units a block, and octets in blocks of 1048576, of which the first 100 of a
-//! month are free and the others cost 10000.
+//! blocks of 60 at 50000 or 100000 micro-units a block; octets in blocks of 1048576, of which the first 100 of a
+//! month are free and the others cost 10000; and octets in blocks of one, the first 400000000 at 2 and the others at 3,
+//! or in the dearer period the first 600000000 at 1 and the others at 7.
 
 use crate::{Grant, Part, Periods, Rated, greatest_grant, rate, rate_report};
 use calendar::Period;
@@ -64,6 +65,15 @@ max_grant = 100
 cycle = "none"
 final = "terminate"
 price = [{period = "off", tiers = [{price = 90000}]}, {period = "peak", tiers = [{price = 90000}]}]
+[[group]]
+id = 40
+unit = "octets"
+block = 1
+slice = 1
+max_grant = 999999999
+cycle = "none"
+final = "terminate"
+price = [{period = "off", tiers = [{upto = 400000000, price = 2}, {price = 3}]}, {period = "peak", tiers = [{upto = 600000000, price = 1}, {price = 7}]}]
 "#;
 
 fn grant_of(blocks: u64, units: u64, amount: u128) -> Grant {
@@ -132,6 +142,59 @@ fn blocks_are_rated(rt: HostRuntime) -> Result<(), Fail> {
     let tariff = book.tariff(20).ok_or("no group 20")?;
     assert_eq!(rt; rate(tariff, OFF, 99, Blocks(2)), Amount(10_000));
     assert_eq!(rt; rate(tariff, OFF, u64::MAX, Blocks(2)), Amount(20_000));
+    Ok(())
+}
+
+fn rated_in(tariff: &Tariff, period: Period, place: u64, blocks: u64) -> Amount {
+    rate(tariff, period, place, Blocks(blocks))
+}
+
+#[test]
+fn a_billion_blocks_are_rated(rt: HostRuntime) -> Result<(), Fail> {
+    let book = TariffBook::read(rt.alloc(), BOOK.as_bytes())?;
+    let tariff = book.tariff(40).ok_or("no group 40")?;
+    let cases = [
+        (OFF, 0, 1_000_000_000, 2_600_000_000),
+        (PEAK, 0, 1_000_000_000, 3_400_000_000),
+        (OFF, 399_999_999, 1_000_000_000, 2_999_999_999),
+        (PEAK, 600_000_000, 1_000_000_000, 7_000_000_000),
+    ];
+    for (period, place, blocks, amount) in cases {
+        let found = rated_in(tariff, period, place, blocks);
+        assert_eq!(rt; found, Amount(amount), "{blocks} blocks after {place}");
+    }
+    Ok(())
+}
+
+/// The grant of a session's first units, with a switch to the dearer period.
+fn granted_over_switch(tariff: &Tariff, wanted: u64, funds: u128) -> Grant {
+    let periods = Periods {
+        before: OFF,
+        after: PEAK,
+    };
+    greatest_grant(tariff, periods, Units(0), 0, Units(wanted), Amount(funds))
+}
+
+#[test]
+fn a_billion_blocks_are_granted(rt: HostRuntime) -> Result<(), Fail> {
+    let book = TariffBook::read(rt.alloc(), BOOK.as_bytes())?;
+    let tariff = book.tariff(40).ok_or("no group 40")?;
+    // The dearer prices are 2 up to 400000000, 3 up to 600000000, and then 7.
+    let cases = [
+        (
+            4_200_000_000,
+            grant_of(1_000_000_000, 1_000_000_000, 4_200_000_000),
+        ),
+        (
+            4_199_999_999,
+            grant_of(999_999_999, 999_999_999, 4_199_999_993),
+        ),
+        (800_000_002, grant_of(400_000_000, 400_000_000, 800_000_000)),
+    ];
+    for (funds, grant) in cases {
+        let found = granted_over_switch(tariff, 1_000_000_000, funds);
+        assert_eq!(rt; found, grant, "{funds}");
+    }
     Ok(())
 }
 

@@ -1,4 +1,4 @@
-use Rattle.std.proofs.Common.{◌≡◌, ◌≤◌, ◌*◌, ◌-◌}
+use Rattle.std.proofs.Common.{◌≡◌, ◌≤◌, ◌-◌}
 use Rattle.rating.specs.Granted.{dearer}
 use Rattle.rating.proofs.grant.covered.Given as goal
 
@@ -7,7 +7,6 @@ invariant-loop-blocks l = record {
   sum : l.total ≡ dearer l.before l.after l.place l.blocks;
   wanted : l.blocks ≤ l.wanted;
   covered : l.total ≤ l.funds;
-  bound : l.total ≤ l.blocks * 1_000_000_000;
 }
 
 abbrev pub decreases-loop-blocks : goal.decreases-loop-blocks
