@@ -10,10 +10,11 @@ ghost use Rattle.reserving.specs.Prepared.{reservation_in};
 mod books;
 mod sessions;
 
-use crate::{Granted, Session, SessionGroup, Settled};
+use crate::{Account, Granted, Session, SessionGroup, Settled};
 use buckets::Bucket;
 use identifiers::SessionId;
 use std::alloc::Global;
+use std::process::Abort;
 use std::test::Fail;
 use tariffs::TariffBook;
 use units::{Amount, Blocks, Moment, Money, Units, UsedPart};
@@ -146,6 +147,102 @@ fn is_free(groups: &[SessionGroup], id: &SessionId, group: u32) -> bool
     for row in groups {
         if row.session == *id && row.group == group {
             return row.reservation.is_none();
+        }
+    }
+    true
+}
+
+/// The bucket's number of a credit at a moment.
+fn credit(
+    rt: &impl Abort,
+    account: &mut Account,
+    until: Moment,
+    micros: u64,
+    at: Moment,
+) -> Result<u32, Fail> {
+    assert!(rt; account.as_of() <= at);
+    Ok(account.credit(at, until, None, money(micros)?, at)?)
+}
+
+fn open(
+    rt: &impl Abort,
+    account: &mut Account,
+    session: &SessionId,
+    at: Moment,
+) -> Result<(), Fail> {
+    assert!(rt; account.as_of() <= at && is_new(account.sessions(), session));
+    Ok(account.open(session, 0, at)?)
+}
+
+fn deny(
+    rt: &impl Abort,
+    account: &mut Account,
+    session: &SessionId,
+    at: Moment,
+) -> Result<(), Fail> {
+    assert!(rt; account.as_of() <= at && is_new(account.sessions(), session));
+    Ok(account.deny(session, 0, at)?)
+}
+
+fn reserve(
+    rt: &impl Abort,
+    account: &mut Account,
+    session: &SessionId,
+    group: u32,
+    units: u64,
+    at: Moment,
+) -> Result<Granted, Fail> {
+    assert!(rt; account.as_of() <= at && account.is_live(session, at));
+    assert!(rt; is_free(account.groups(), session, group));
+    Ok(account.reserve(session, group, Some(Units(units)), at)?)
+}
+
+fn settle(
+    rt: &impl Abort,
+    account: &mut Account,
+    session: &SessionId,
+    group: u32,
+    parts: &[UsedPart],
+    at: Moment,
+) -> Result<Settled, Fail> {
+    assert!(rt; account.as_of() <= at && account.is_live(session, at));
+    Ok(account.settle(session, group, parts, at)?)
+}
+
+fn touch(rt: &impl Abort, account: &mut Account, session: &SessionId, number: u32, at: Moment) {
+    assert!(rt; account.as_of() <= at && account.is_live(session, at));
+    account.touch(session, number, at);
+}
+
+fn close(rt: &impl Abort, account: &mut Account, session: &SessionId, at: Moment) {
+    assert!(rt; account.as_of() <= at && account.is_live(session, at));
+    account.close(session, at);
+}
+
+fn advance(rt: &impl Abort, account: &mut Account, at: Moment) {
+    assert!(rt; account.as_of() <= at);
+    account.advance(at);
+}
+
+fn would_grant(rt: &impl Abort, account: &Account, group: u32, units: u64, at: Moment) -> bool {
+    assert!(rt; account.as_of() <= at);
+    account.would_grant(group, Some(Units(units)), at)
+}
+
+fn funds(rt: &impl Abort, account: &Account, group: u32, at: Moment) -> Amount {
+    assert!(rt; account.as_of() <= at);
+    account.funds(group, at)
+}
+
+/// Whether the account has these buckets.
+fn has_buckets(account: &Account, expected: &[[u64; 5]]) -> bool {
+    let buckets = account.purse().buckets();
+    if buckets.len() != expected.len() {
+        return false;
+    }
+    for (bucket, expected) in buckets.iter().zip(expected) {
+        if columns(bucket) != *expected {
+            return false;
         }
     }
     true
