@@ -25,4 +25,5 @@ pub mod SettledFree
 pub mod Reserved
 pub mod Granting
 pub mod ReservedCall
+pub mod StillFree
 mod WorkedRows

@@ -56,7 +56,7 @@ lapsed_free : (t : Bool) (r : SessionGroup) → r.reservation ≡ None → (if t
 lapsed_free true r h = h
 lapsed_free false r h = refl
 
-free_later : (keeps : List ℕ → Bool) (s : List ℕ) (g : ℕ) (rows : List SessionGroup) → reservation_in s g rows ≡ None → reservation_in s g (map (lapse_group keeps) rows) ≡ None
+pub free_later : (keeps : List ℕ → Bool) (s : List ℕ) (g : ℕ) (rows : List SessionGroup) → reservation_in s g rows ≡ None → reservation_in s g (map (lapse_group keeps) rows) ≡ None
 free_later keeps s g rows h =
     ap (λ o. (unwrap_or o (new_group s g)).reservation) (find-map (is_of s g) (lapse_group keeps) rows (key_kept keeps s g))
     ∙ by_row (group_in s g rows) h

@@ -1,5 +1,5 @@
 -- A flat tariff: one rating group with one price, in one tariff period without a switch.
-use Rattle.std.specs.Prelude.{ℕ, ◌≤◌, ◌/◌}
+use Rattle.std.specs.Prelude.{ℕ, ◌≤◌, ◌/◌, ◌==◌, if◌then◌else◌, Option, Some, None}
 use Rattle.units.specs.declared.blocks.UnitKind.{UnitKind}
 use Rattle.units.specs.declared.blocks.UnitKind.TheVariants.{Time, TotalOctets, ServiceSpecific}
 
@@ -30,6 +30,10 @@ pub record IsFlat (f : Flat) : Type 0 where
   pub price : f.price ≤ 1000000000
   pub validity : 60 ≤ f.validity
   pub validity_most : f.validity ≤ 43200
+
+-- the tariff of a rating group; none of another group
+abbrev pub tariff_of : Flat → ℕ → Option Flat
+tariff_of f g = if f.group == g then Some f else None
 
 -- the period at a moment, and the cycle of the group's counter: there is one
 abbrev pub period_at : Flat → ℕ → ℕ

@@ -1,5 +1,5 @@
-ghost use Rattle.std.specs.Prelude.{◌≡◌, ◌↔◌, ◌≤◌, IsTrue, IsSome, IfSome};
-ghost use Rattle.reserving.specs.FlatTariff.{Flat, IsFlat, IsGrantable};
+ghost use Rattle.std.specs.Prelude.{◌≡◌, ◌↔◌, ◌≤◌, IsTrue, IsSome, IfSome, option_copied};
+ghost use Rattle.reserving.specs.FlatTariff.{Flat, IsFlat, IsGrantable, tariff_of};
 
 use std::marker::Model;
 use units::UnitKind;
@@ -62,6 +62,17 @@ impl FlatTariff {
                 price,
                 validity,
             })
+        } else {
+            None
+        }
+    }
+
+    /// The tariff of a rating group; none of another group.
+    pub fn tariff(&self, group: u32) -> Option<&FlatTariff>
+        ensures { option_copied result ≡ tariff_of self.now group }
+    {
+        if self.group == group {
+            Some(self)
         } else {
             None
         }

@@ -3,6 +3,7 @@
 
 mod account;
 mod advance;
+mod copy;
 mod credit;
 mod fault;
 mod flat;

@@ -1,4 +1,4 @@
-ghost use Rattle.std.specs.Prelude.{◌≡◌, ℕ, ◌+◌, ◌*◌, ◌≤◌, ◌<◌, None, true, is_some, nat_lt, length, option_map, OnOk, OnErr, IfOk};
+ghost use Rattle.std.specs.Prelude.{◌≡◌, ℕ, ◌+◌, ◌*◌, ◌≤◌, ◌<◌, ◌==◌, None, true, false, is_some, nat_lt, length, option_map, OnOk, OnErr, IfOk};
 ghost use Rattle.units.specs.Blocks.{started};
 ghost use Rattle.buckets.specs.Spend.{funds};
 ghost use Rattle.reserving.specs.Ledger.{Ledger};
@@ -61,6 +61,7 @@ impl<'b> Account<'b> {
         ensures as_of { OnOk result (self.new.as_of ≡ moment) }
         ensures tariff { self.new.tariff ≡ self.old.tariff }
         ensures within { IfOk result (IsWithinGrant self.old.tariff) }
+        ensures others { OnOk result ((g : ℕ) → (g == group) ≡ false → reservation_in session.now g self.old.groups ≡ None → reservation_in session.now g self.new.groups ≡ None) }
         ensures memory { OnErr result (result ≡ Err AccountFault.Memory) }
         ensures err { OnErr result (self.new ≡ self.old) }
     {

@@ -1,4 +1,4 @@
-ghost use Rattle.std.specs.Prelude.{◌≡◌, ℕ, ◌+◌, ◌≤◌, ◌<◌, ◌^◌, true, false, None, is_some, OnOk, OnErr, IfOk, IfSome, IsNone};
+ghost use Rattle.std.specs.Prelude.{◌≡◌, ℕ, ◌+◌, ◌≤◌, ◌<◌, ◌^◌, true, false, None, is_some, List, OnOk, OnErr, IfOk, IfSome, IsNone};
 ghost use Rattle.reserving.specs.Ledger.{Ledger};
 ghost use Rattle.reserving.specs.Sessions.{is_live_in};
 ghost use Rattle.reserving.specs.Settlement.{reported, rated_blocks, rated_amount, passes, passes_limit, settled_by};
@@ -78,6 +78,7 @@ impl<'b> Account<'b> {
         ensures limit { result ≡ Err AccountFault.Limit → (ledger : Ledger) → IsRowsOf ledger self.old →
             passes_limit self.old.tariff moment session.now group parts.now ledger ≡ true }
         ensures free { OnOk result (reservation_in session.now group self.new.groups ≡ None) }
+        ensures others { OnOk result ((s : List ℕ) (g : ℕ) → reservation_in s g self.old.groups ≡ None → reservation_in s g self.new.groups ≡ None) }
         ensures err { OnErr result (self.new ≡ self.old) }
     {
         if parts.is_empty() {

@@ -4,6 +4,7 @@ use Rattle.units.specs.declared.blocks.Units.{Units}
 use Rattle.reserving.specs.Changes.{advanced}
 use Rattle.reserving.specs.Rows.{AccountRows}
 use Rattle.reserving.proofs.ReservedCall.{group_there, free_middle, covered_middle, IsQuota, units_told, grant_is, wanted_le}
+use Rattle.reserving.proofs.StillFree.{others_advanced, others_reserved}
 use Rattle.reserving.proofs.account.Account.reserve.Goals as goal
 
 pub returns-then-quota-eq0-clause-rows : goal.returns-then-quota-eq0-clause-rows
@@ -51,3 +52,11 @@ returns-clause-within c =
     let wanted : c.quota-quota.result.wanted ≤ c.args.self.now.tariff.max_grant =
     wanted_le c.args.self.now.tariff (option_map (λ (u : Units). u.0) c.args.requested) c.quota-quota.result.wanted c.quota-quota.ensures.wanted in
     (some, omega (arith, c.quota-quota.ensures.within, wanted))
+
+pub returns-clause-others : goal.returns-clause-others
+returns-clause-others c = λ g n h.
+    others_reserved c.args.self.now c.advance-2.new.self c.hold_quota.new.self c.args.session.now g c.args.group c.args.moment c.quota-quota.result.amount
+    (c.advance-2.ensures.rows ∙ ap (advanced c.args.moment) c.in_ok-room.ensures.ok) c.hold_quota.ensures n h
+
+pub returns-then-quota-eq0-clause-others : goal.returns-then-quota-eq0-clause-others
+returns-then-quota-eq0-clause-others c = λ g n h. others_advanced c.args.self.now c.advance.new.self c.args.session.now g c.args.moment c.advance.ensures.rows h

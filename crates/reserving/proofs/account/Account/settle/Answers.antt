@@ -7,6 +7,7 @@ use Rattle.reserving.specs.Rows.{AccountRows}
 use Rattle.reserving.specs.Settlement.{passes}
 use Rattle.reserving.proofs.SettledCall.{rows_ended, nothing_settled, within_used, within_counted, passes_is, there_later, counter_there, used_middle, count_middle, rows_settled, settlement_is}
 use Rattle.reserving.proofs.SettledFree.{ended_free, settled_free}
+use Rattle.reserving.proofs.StillFree.{others_ended, others_settled}
 use Rattle.reserving.proofs.account.Account.settle.Goals as goal
 
 is_nothing : (ps : List UsedPart) → (length ps == 0) ≡ true → ps ≡ []
@@ -80,3 +81,12 @@ returns-clause-free c = settled_free c.args.session.now c.args.group c.in-Some.r
 
 pub returns-then-is_empty-clause-free : goal.returns-then-is_empty-clause-free
 returns-then-is_empty-clause-free c = ended_free c.args.session.now c.args.group c.advance.new.self c.end_reservation.new.self c.end_reservation.ensures.rows
+
+pub returns-clause-others : goal.returns-clause-others
+returns-clause-others c = λ s g h.
+    others_settled c.args.self.now c.advance-2.new.self c.settle_use-charged.new.self s g c.args.session.now c.args.group _ c.args.moment c.in-Some.rated.units.0 c.in-Some.rated.blocks.0 c.in-Some.rated.amount.0
+    (c.advance-2.ensures.rows ∙ ap (advanced c.args.moment) c.in_ok-make_rows.ensures.ok) c.settle_use-charged.ensures.rows h
+
+pub returns-then-is_empty-clause-others : goal.returns-then-is_empty-clause-others
+returns-then-is_empty-clause-others c = λ s g h.
+    others_ended c.args.self.now c.advance.new.self c.end_reservation.new.self s g c.args.session.now c.args.group c.args.moment c.advance.ensures.rows c.end_reservation.ensures.rows h
