@@ -1,14 +1,19 @@
 -- What the rows of an account tell of its ledger.
 use Rattle.std.proofs.Common.{◌≡◌, ℕ, ◌+◌, Bool, true, false, List, [], ◌∷◌, refl, sym, ap, ◌∙◌, Option, Some, None, arith}
-use Rattle.std.specs.Prelude.{if◌then◌else◌, ◌||◌, ◌&&◌, ◌==◌, unwrap_or}
+use Rattle.std.specs.Prelude.{if◌then◌else◌, ◌||◌, ◌&&◌, ◌==◌, is_some, unwrap_or}
 use Rattle.reserving.specs.declared.session.SessionState.{SessionState}
 use Rattle.reserving.specs.declared.session.SessionGroup.{SessionGroup}
-use Rattle.reserving.specs.Ledger.{Fact, Ledger, Recording, is_same, used, units_in, names_group, has_group, last_recording}
+use Rattle.reserving.specs.Ledger.{Fact, Ledger, Recording, is_same, used, units_in, names_group, has_group, open_grant, is_live, last_recording}
 use Rattle.reserving.specs.Ledger.Fact.{Credit, Grant, Hold, End, Use, Charge, Touch, Close, Recorded}
 use Rattle.reserving.specs.Sessions.{session_in, session_row, state_at, group_in, group_at, reservation_at}
 use Rattle.reserving.specs.Rows.{AccountRows, IsRowsOf}
 use Rattle.reserving.specs.Changes.{used_in, new_group}
-use Rattle.charging.specs.Recorded.{is_late, is_late_row}
+use Rattle.reserving.specs.Prepared.{reservation_in}
+use Rattle.reserving.specs.FlatTariff.{Flat}
+use Rattle.reserving.proofs.KeysFound.{is_none_is}
+use Rattle.commands.specs.declared.service.Service.{Service}
+use Rattle.charging.specs.Free.{any_reserved, AreFree}
+use Rattle.charging.specs.Recorded.{has_record, is_late, is_late_row}
 
 abbrev used_by : Option SessionGroup → ℕ
 used_by None = 0
@@ -62,3 +67,41 @@ by_row s g (Some r) = refl
 pub used_in-is : (ledger : Ledger) (a : AccountRows) (s : List ℕ) (g : ℕ) → IsRowsOf ledger a → used_in s g a.groups ≡ used s g ledger
 used_in-is ledger a s g rows =
     by_row s g (group_in s g a.groups) ∙ used_row a.tariff.validity a.as_of ledger s g (group_in s g a.groups) (rows.groups s g)
+
+-- ---- reservations
+
+neither : (a b : Bool) → (a || b) ≡ false → (a ≡ false) × (b ≡ false)
+neither false b h = (refl, h)
+neither true b h = absurd (let no : true ≡ false = h in cc)
+
+-- where none is reserved, all are free
+pub none_reserved : (f : Flat) (s : List ℕ) (services : List Service) (groups : List SessionGroup) → any_reserved s services groups ≡ false → AreFree f s services groups
+none_reserved f s [] groups h = tt
+none_reserved f s (x ∷ xs) groups h =
+    let each : (is_some (reservation_in s x.group groups) ≡ false) × (any_reserved s xs groups ≡ false) = neither (is_some (reservation_in s x.group groups)) (any_reserved s xs groups) h in
+    ((λ known. is_none_is (reservation_in s x.group groups) each.0), none_reserved f s xs groups each.1)
+
+row_reservation : (v t : ℕ) (ledger : Ledger) (s : List ℕ) (g : ℕ) (o : Option SessionGroup) → o ≡ group_at v t ledger s g → open_grant s g ledger ≡ None → (unwrap_or o (new_group s g)).reservation ≡ None
+row_reservation v t ledger s g o e none = ap (λ x. (unwrap_or x (new_group s g)).reservation) e ∙ at (has_group s g ledger) (is_live v t ledger s) refl refl
+  where
+    at : (b l : Bool) → has_group s g ledger ≡ b → is_live v t ledger s ≡ l → (unwrap_or (group_at v t ledger s g) (new_group s g)).reservation ≡ None
+    at false l h k = rw h refl
+    at true true h k = rw (h, k, none) refl
+    at true false h k = rw (h, k) refl
+
+unreserved : (ledger : Ledger) (a : AccountRows) (s : List ℕ) (services : List Service) → IsRowsOf ledger a → last_recording s ledger ≡ None → any_reserved s services a.groups ≡ false
+unreserved ledger a s [] rows none = refl
+unreserved ledger a s (x ∷ xs) rows none =
+    (λ i. is_some (row_reservation a.tariff.validity a.as_of ledger s x.group (group_in s x.group a.groups) (rows.groups s x.group) ((rows.unknown s none).granted x.group) i) || any_reserved s xs a.groups)
+    ∙ unreserved ledger a s xs rows none
+
+recorded_row : (s : List ℕ) (state : SessionState) (o : Option Recording) → is_some (session_row s state o) ≡ is_some o
+recorded_row s state None = refl
+recorded_row s state (Some r) = refl
+
+-- a session without a row has neither a record nor a reservation
+pub unrecorded : (ledger : Ledger) (a : AccountRows) (s : List ℕ) (services : List Service) → IsRowsOf ledger a → is_some (session_in s a.sessions) ≡ false → any_reserved s services a.groups ≡ has_record s ledger
+unrecorded ledger a s services rows new =
+    let none : has_record s ledger ≡ false =
+    sym (recorded_row s (state_at a.tariff.validity a.as_of ledger s) (last_recording s ledger)) ∙ ap is_some (sym (rows.sessions s)) ∙ new in
+    unreserved ledger a s services rows (is_none_is (last_recording s ledger) none) ∙ sym none

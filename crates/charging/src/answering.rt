@@ -1,7 +1,9 @@
 //! What the services of a request are answered.
 
-ghost use Rattle.std.specs.Prelude.{◌≡◌, map, IfOk};
-ghost use Rattle.charging.specs.Answers.{outcome_of, service_answer};
+ghost use Rattle.std.specs.Prelude.{◌≡◌, ◌<◌, ◌≤◌, IfOk, None};
+ghost use Rattle.commands.specs.declared.answer.ServiceOutcome.TheVariants as service;
+ghost use Rattle.charging.specs.Settling.{settled_answer, settled_answers};
+ghost use Rattle.charging.specs.Granting.{final_unit};
 
 use commands::{
     FinalUnit, Granted, Quantity, Service, ServiceAnswer, ServiceAnswers, ServiceFailure,
@@ -9,54 +11,45 @@ use commands::{
 };
 use reserving::FlatTariff;
 use std::alloc::{AllocError, Global};
+use units::Units;
 
-/// What a request is granted of the tariff's group.
-#[derive(Clone, Copy)]
-pub(crate) enum Quota {
-    /// It asks for nothing.
-    Settled,
-    /// The account doesn't cover one unit.
-    Nothing,
-    /// Units, the seconds for which they are valid, and whether they are fewer than wanted.
-    Units {
-        quantity: Quantity,
-        validity: u32,
-        fewer: bool,
-    },
-}
-
-fn outcome_of(quota: Quota) -> ServiceOutcome
-    ensures { result ≡ outcome_of quota }
+/// What happens when the granted units are used up.
+fn final_unit(tariff: &FlatTariff, fewer: bool) -> Option<FinalUnit>
+    ensures { result ≡ final_unit tariff.now fewer }
 {
-    match quota {
-        Quota::Settled => ServiceOutcome::Settled,
-        Quota::Nothing => ServiceOutcome::Failed(ServiceFailure::CreditLimitReached),
-        Quota::Units {
-            quantity,
-            validity,
-            fewer,
-        } => {
-            let last = if fewer {
-                Some(FinalUnit::Terminate)
-            } else {
-                None
-            };
-            ServiceOutcome::Granted(Granted {
-                quantity,
-                switch: None,
-                validity,
-                last,
-            })
-        }
+    if fewer {
+        Some(FinalUnit::Terminate)
+    } else {
+        None
     }
 }
 
-/// The answer to a service; a rating group without a tariff is 5031.
-fn service_answer(tariff: &FlatTariff, quota: Quota, service: &Service) -> ServiceAnswer
-    ensures { result ≡ service_answer tariff.now quota service.now }
+/// Units of a group with this tariff, as they are granted.
+pub(crate) fn granted_outcome(
+    tariff: &FlatTariff,
+    units: Units,
+    validity: u32,
+    fewer: bool,
+) -> ServiceOutcome
+    requires some { 0 < units.0 }
+    requires most { units.0 ≤ tariff.now.max_grant }
+    ensures { result ≡ service.Granted (record { quantity = record { kind = tariff.now.kind; units = units.0 }; switch = None; validity = validity; last = final_unit tariff.now fewer }) }
 {
-    let outcome = if service.group == tariff.group() {
-        outcome_of(quota)
+    let _ranges = tariff.max_grant();
+    ServiceOutcome::Granted(Granted {
+        quantity: Quantity::new(tariff.kind(), units.0),
+        switch: None,
+        validity,
+        last: final_unit(tariff, fewer),
+    })
+}
+
+/// The answer to a service that asks for nothing; a rating group without a tariff is 5031.
+fn settled_answer(book: &FlatTariff, service: &Service) -> ServiceAnswer
+    ensures { result ≡ settled_answer book.now service.now }
+{
+    let outcome = if book.tariff(service.group).is_some() {
+        ServiceOutcome::Settled
     } else {
         ServiceOutcome::Failed(ServiceFailure::RatingFailed)
     };
@@ -66,28 +59,26 @@ fn service_answer(tariff: &FlatTariff, quota: Quota, service: &Service) -> Servi
     }
 }
 
-fn answer_list(
+fn settled_list(
     alloc: Global,
-    tariff: &FlatTariff,
-    quota: Quota,
+    book: &FlatTariff,
     services: &[Service],
 ) -> Result<Vec<ServiceAnswer>, AllocError>
-    ensures { IfOk result (λ v. v.items ≡ map (service_answer tariff.now quota) services.now) }
+    ensures { IfOk result (λ v. v.items ≡ settled_answers book.now services.now) }
 {
     services
         .iter()
-        .map(|service| service_answer(tariff, quota, service))
+        .map(|service| settled_answer(book, service))
         .collect(alloc)
 }
 
-/// The answers to the services of a request.
-pub(crate) fn service_answers(
+/// The answers to services that ask for nothing.
+pub(crate) fn settled_answers(
     alloc: Global,
-    tariff: &FlatTariff,
-    quota: Quota,
+    book: &FlatTariff,
     services: &[Service],
 ) -> Result<ServiceAnswers, AllocError>
-    ensures { IfOk result (λ answers. answers ≡ map (service_answer tariff.now quota) services.now) }
+    ensures { IfOk result (λ answers. answers ≡ settled_answers book.now services.now) }
 {
-    Ok(ServiceAnswers::new(answer_list(alloc, tariff, quota, services)?))
+    Ok(ServiceAnswers::new(settled_list(alloc, book, services)?))
 }

@@ -3,12 +3,11 @@ ghost use Rattle.reserving.specs.Ledger.{Ledger};
 ghost use Rattle.reserving.specs.Rows.{IsRowsOf};
 ghost use Rattle.reserving.specs.Sessions.{is_live_in};
 ghost use Rattle.commands.specs.Services.{groups_differ};
-ghost use Rattle.charging.specs.Named.{named};
-ghost use Rattle.charging.specs.Free.{IsFreeFor};
+ghost use Rattle.charging.specs.Free.{AreFree};
 ghost use Rattle.charging.specs.Follows.{Follows, Settles};
 ghost use Rattle.charging.specs.Decisions.{decision, decided, initial_decision, update_decision, termination_decision, answer_of, is_accepted, is_accepted_failure};
 
-use crate::answering::{Quota, service_answers};
+use crate::answering::settled_answers;
 use crate::granting::{open, renew};
 use crate::refusing::{early_refusal, initial_refusal};
 use crate::settling::{end, settle_services};
@@ -68,13 +67,12 @@ fn settle_or_refuse(
     services: &[Service],
     moment: Moment,
 ) -> Result<Option<Failure>, AllocError>
-    requires apart { groups_differ services.now ≡ true }
     requires later { account.old.as_of ≤ moment }
     ensures settles { IfOk result (λ refusal. Settles refusal account.old account.new moment session.now number services.now) }
     ensures refusal { IfOk result (λ refusal. IfSome refusal (λ failure. is_accepted_failure failure ≡ false)) }
     ensures same { IfOk result (λ refusal. IfSome refusal (λ failure. account.new ≡ account.old)) }
     ensures live { IfOk result (λ refusal. refusal ≡ None → is_live_in account.new.tariff.validity moment account.new.sessions session.now ≡ true) }
-    ensures free { IfOk result (λ refusal. refusal ≡ None → IsFreeFor (named account.old.tariff.group services.now) session.now account.new.groups) }
+    ensures free { IfOk result (λ refusal. refusal ≡ None → AreFree account.old.tariff session.now services.now account.new.groups) }
     ensures later { account.new.as_of ≤ moment }
     ensures tariff { account.new.tariff ≡ account.old.tariff }
 {
@@ -118,7 +116,6 @@ fn terminate(
     services: &[Service],
     moment: Moment,
 ) -> Result<Outcome, AllocError>
-    requires apart { groups_differ services.now ≡ true }
     requires later { account.old.as_of ≤ moment }
     ensures follows { IfOk result (λ outcome. Follows account.old account.new outcome (termination_decision account.old.tariff moment session.now number services.now)) }
     ensures moment { IfOk result (λ outcome. account.new.as_of ≡ if is_accepted outcome then moment else account.old.as_of) }
@@ -128,7 +125,7 @@ fn terminate(
     if let Some(failure) = settle_or_refuse(alloc, account, session, number, services, moment)? {
         return Ok(refused(failure));
     }
-    let answers = service_answers(alloc, account.tariff(), Quota::Settled, services)?;
+    let answers = settled_answers(alloc, account.tariff(), services)?;
     end(account, session, number, moment);
     Ok(Outcome::Services(answers))
 }

@@ -1,6 +1,6 @@
 ghost use Rattle.std.specs.Prelude.{◌≡◌, ◌<◌, ◌≤◌, ◌^◌, IfOk, map, option_map, sum_by, Some, None};
 ghost use Rattle.reserving.specs.FlatTariff.{IsFlat};
-ghost use Rattle.reserving.specs.Settlement.{reported, rated_blocks};
+ghost use Rattle.reserving.specs.Settlement.{reported};
 ghost use Rattle.charging.specs.Reports.{is_kind, units_of, asked_units, change_of, part_of, parts_of, asks_other, reports_other, wrong_units};
 
 use commands::{Avp, Requested, Service, UsedParts};
@@ -117,14 +117,11 @@ fn reports_other(tariff: &FlatTariff, before: u64, used: &UsedParts) -> bool
         || MOST_BLOCKS < blocks_started(Units(before), units, block).0
 }
 
-/// What is wrong with the units of a service of a known group, what it asks for first; `before` is the session's
+/// What is wrong with the units of a service by its group's tariff, what it asks for first; `before` is the session's
 /// use of the group so far.
 pub(crate) fn wrong_units(tariff: &FlatTariff, before: u64, service: &Service) -> Option<Avp>
-    ensures { result ≡ wrong_units tariff.now before service.now }
+    ensures { result ≡ wrong_units (Some tariff.now) before service.now }
 {
-    if service.group != tariff.group() {
-        return None;
-    }
     if asks_other(tariff.kind(), &service.requested) {
         return Some(Avp::RequestedUnit);
     }

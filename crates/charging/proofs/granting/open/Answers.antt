@@ -4,9 +4,8 @@ use Rattle.reserving.specs.Sessions.{is_live_in}
 use Rattle.reserving.specs.FlatTariff.{Flat, IsFlat}
 use Rattle.reserving.specs.Rows.{AccountRows}
 use Rattle.reserving.specs.Changes.{session_put}
-use Rattle.charging.specs.Named.{named}
-use Rattle.charging.specs.Free.{IsFreeFor}
-use Rattle.charging.proofs.Alive.{live_opened, free_opened, free_for_named}
+use Rattle.charging.specs.Free.{AreFree}
+use Rattle.charging.proofs.Alive.{live_opened, free_lapsed}
 use Rattle.charging.proofs.granting.open.Goals as goal
 
 pub grant_services-requires-clause-live : goal.grant_services-requires-clause-live
@@ -21,6 +20,5 @@ grant_services-requires-clause-live c =
 pub grant_services-requires-clause-free : goal.grant_services-requires-clause-free
 grant_services-requires-clause-free c =
     let a : AccountRows = c.args.account.now in
-    subst (λ (r : AccountRows). IsFreeFor (named r.tariff.group c.args.services.now) c.args.session.now r.groups) (sym c.in-Ok-open.ensures.rows)
-    (free_for_named a.tariff.group c.args.session.now c.args.services.now _
-    (free_opened (is_live_in a.tariff.validity c.args.moment (session_put c.args.session.now c.args.number c.args.moment Open a.sessions)) c.args.session.now a.tariff.group a.groups c.requires.free))
+    subst (λ (r : AccountRows). AreFree r.tariff c.args.session.now c.args.services.now r.groups) (sym c.in-Ok-open.ensures.rows)
+    (free_lapsed (is_live_in a.tariff.validity c.args.moment (session_put c.args.session.now c.args.number c.args.moment Open a.sessions)) a.tariff c.args.session.now c.args.services.now a.groups c.requires.free)

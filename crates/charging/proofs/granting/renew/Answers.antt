@@ -3,9 +3,8 @@ use Rattle.reserving.specs.Sessions.{is_live_in}
 use Rattle.reserving.specs.FlatTariff.{Flat, IsFlat}
 use Rattle.reserving.specs.Rows.{AccountRows}
 use Rattle.reserving.specs.Changes.{lapse}
-use Rattle.charging.specs.Named.{named}
-use Rattle.charging.specs.Free.{IsFreeFor}
-use Rattle.charging.proofs.Alive.{live_lapsed, live_touched, free_for_opened}
+use Rattle.charging.specs.Free.{AreFree}
+use Rattle.charging.proofs.Alive.{live_lapsed, live_touched, free_lapsed}
 use Rattle.charging.proofs.granting.renew.Goals as goal
 
 pub grant_services-requires-clause-live : goal.grant_services-requires-clause-live
@@ -21,5 +20,5 @@ grant_services-requires-clause-live c =
 pub grant_services-requires-clause-free : goal.grant_services-requires-clause-free
 grant_services-requires-clause-free c =
     let a : AccountRows = c.args.account.now in
-    subst (λ (r : AccountRows). IsFreeFor (named r.tariff.group c.args.services.now) c.args.session.now r.groups) (sym c.touch.ensures.rows)
-    (free_for_opened (is_live_in a.tariff.validity c.args.moment a.sessions) c.args.session.now (named a.tariff.group c.args.services.now) a.groups c.requires.free)
+    subst (λ (r : AccountRows). AreFree r.tariff c.args.session.now c.args.services.now r.groups) (sym c.touch.ensures.rows)
+    (free_lapsed (is_live_in a.tariff.validity c.args.moment a.sessions) a.tariff c.args.session.now c.args.services.now a.groups c.requires.free)

@@ -1,7 +1,7 @@
 use Rattle.std.proofs.Common.{◌≤◌, ◌<◌, sym, ap, ◌∙◌, arith, refl}
 use Rattle.std.specs.Prelude.{option_map, nat_lt}
 use Rattle.units.specs.declared.blocks.Units.{Units}
-use Rattle.reserving.specs.Changes.{advanced}
+use Rattle.reserving.specs.Changes.{advanced, reserved_account}
 use Rattle.reserving.specs.Rows.{AccountRows}
 use Rattle.reserving.proofs.ReservedCall.{group_there, free_middle, covered_middle, IsQuota, units_told, grant_is, wanted_le}
 use Rattle.reserving.proofs.StillFree.{others_advanced, others_reserved}
@@ -60,3 +60,11 @@ returns-clause-others c = λ g n h.
 
 pub returns-then-quota-eq0-clause-others : goal.returns-then-quota-eq0-clause-others
 returns-then-quota-eq0-clause-others c = λ g n h. others_advanced c.args.self.now c.advance.new.self c.args.session.now g c.args.moment c.advance.ensures.rows h
+
+pub returns-clause-sessions : goal.returns-clause-sessions
+returns-clause-sessions c =
+    ap (λ (x : AccountRows). x.sessions) (c.hold_quota.ensures ∙ ap (reserved_account c.args.session.now c.args.group c.quota-quota.result.amount)
+    (c.advance-2.ensures.rows ∙ ap (advanced c.args.moment) c.in_ok-room.ensures.ok))
+
+pub returns-then-quota-eq0-clause-sessions : goal.returns-then-quota-eq0-clause-sessions
+returns-then-quota-eq0-clause-sessions c = ap (λ (x : AccountRows). x.sessions) c.advance.ensures.rows
