@@ -12,7 +12,7 @@ impl<'b> Account<'b> {
         ensures { IfOk result (λ copy. copy ≡ self.now) }
     {
         Ok(Account {
-            tariff: self.tariff,
+            book: self.book,
             as_of: self.as_of,
             purse: copy_of_purse(&self.purse)?,
             counters: copy_of_counters(&self.counters)?,

@@ -1,6 +1,6 @@
-use crate::flat::Period;
 use buckets::Holds;
 use identifiers::SessionId;
+use rating::Periods;
 use units::Moment;
 
 /// What became of a session.
@@ -30,10 +30,8 @@ pub struct Session {
 /// What a grant reserved: the tariff periods that price its units, and the money that is held for them.
 #[derive(Clone, Debug, Drop)]
 pub struct Reservation {
-    /// The period at the grant.
-    pub before: Period,
-    /// The period at the tariff switch within the grant's validity; the same without one.
-    pub after: Period,
+    /// The periods at the grant and at the tariff switch within its validity.
+    pub periods: Periods,
     /// What it holds, bucket by bucket.
     pub holds: Holds,
 }
