@@ -11,7 +11,7 @@ use Rattle.reserving.specs.Changes.{advanced, lapse, lapse_group, session_put, t
 use Rattle.reserving.proofs.Lists.{find-map, find-put, find-passes}
 use Rattle.reserving.proofs.Holds.{same_itself}
 use Rattle.commands.specs.declared.service.Service.{Service}
-use Rattle.reserving.specs.FlatTariff.{Flat}
+use Rattle.tariffs.specs.Books.{Book}
 use Rattle.reserving.proofs.ReservedCall.{free_later}
 use Rattle.charging.specs.Free.{AreFree}
 use Rattle.charging.proofs.Services.{free_kept}
@@ -53,10 +53,10 @@ live_touched v t n s rows h live = ap (is_live_row v t) (find-map (is_session s)
     at (Some r) e k = rw (find-passes (is_session s) rows r e) (later v t h)
 
 -- a session stays live in a call that only lets time go on for it
-pub live_after : (old new : AccountRows) (s : List ℕ) (t : ℕ) → new.tariff ≡ old.tariff → new.sessions ≡ (advanced t old).sessions → is_live_in old.tariff.validity t old.sessions s ≡ true → is_live_in new.tariff.validity t new.sessions s ≡ true
-live_after old new s t tariff sessions live =
-    (λ i. is_live_in (tariff i).validity t (sessions i) s) ∙ live_lapsed old.tariff.validity t old.sessions s live
+pub live_after : (old new : AccountRows) (s : List ℕ) (t : ℕ) → new.book ≡ old.book → new.sessions ≡ (advanced t old).sessions → is_live_in old.book.validity t old.sessions s ≡ true → is_live_in new.book.validity t new.sessions s ≡ true
+live_after old new s t book sessions live =
+    (λ i. is_live_in (book i).validity t (sessions i) s) ∙ live_lapsed old.book.validity t old.sessions s live
 
 -- services' groups stay free as time goes on
-pub free_lapsed : (keeps : List ℕ → Bool) (f : Flat) (s : List ℕ) (services : List Service) (rows : List SessionGroup) → AreFree f s services rows → AreFree f s services (map (lapse_group keeps) rows)
+pub free_lapsed : (keeps : List ℕ → Bool) (f : Book) (s : List ℕ) (services : List Service) (rows : List SessionGroup) → AreFree f s services rows → AreFree f s services (map (lapse_group keeps) rows)
 free_lapsed keeps f s services rows free = free_kept f s services rows (map (lapse_group keeps) rows) (λ g none. free_later keeps s g rows none) free

@@ -5,7 +5,7 @@ use Rattle.std.specs.List.{list_any}
 use Rattle.commands.specs.declared.service.Service.{Service}
 use Rattle.reserving.specs.declared.session.SessionGroup.{SessionGroup}
 use Rattle.reserving.specs.Prepared.{reservation_in}
-use Rattle.reserving.specs.FlatTariff.{Flat}
+use Rattle.tariffs.specs.Books.{Book}
 use Rattle.charging.specs.Known.{is_known}
 
 -- the session has a reservation of some service's group
@@ -13,9 +13,9 @@ abbrev pub any_reserved : List ℕ → List Service → List SessionGroup → Bo
 any_reserved s services groups = list_any (λ x. is_some (reservation_in s x.group groups)) services
 
 -- no known group of the services has a reservation
-abbrev pub AreFree : Flat → List ℕ → List Service → List SessionGroup → Type 0
-AreFree f s [] groups = Unit {0}
-AreFree f s (x ∷ xs) groups = (is_known f x.group ≡ true → reservation_in s x.group groups ≡ None) × AreFree f s xs groups
+abbrev pub AreFree : Book → List ℕ → List Service → List SessionGroup → Type 0
+AreFree b s [] groups = Unit {0}
+AreFree b s (x ∷ xs) groups = (is_known b x.group ≡ true → reservation_in s x.group groups ≡ None) × AreFree b s xs groups
 
 -- a group of the session that had no reservation has none
 abbrev pub AreKept : List ℕ → List SessionGroup → List SessionGroup → Type 0

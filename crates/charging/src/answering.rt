@@ -1,51 +1,64 @@
 //! What the services of a request are answered.
 
-ghost use Rattle.std.specs.Prelude.{◌≡◌, ◌<◌, ◌≤◌, IfOk, None};
+ghost use Rattle.std.specs.Prelude.{◌≡◌, ◌<◌, ◌≤◌, IfOk};
 ghost use Rattle.commands.specs.declared.answer.ServiceOutcome.TheVariants as service;
 ghost use Rattle.charging.specs.Settling.{settled_answer, settled_answers};
-ghost use Rattle.charging.specs.Granting.{final_unit};
+ghost use Rattle.charging.specs.Granting.{last_unit, final_unit};
 
 use commands::{
     FinalUnit, Granted, Quantity, Service, ServiceAnswer, ServiceAnswers, ServiceFailure,
     ServiceOutcome,
 };
-use reserving::FlatTariff;
 use std::alloc::{AllocError, Global};
-use units::Units;
+use tariffs::{FinalAction, Tariff, TariffBook};
+use units::{Moment, Units};
 
-/// What happens when the granted units are used up.
-fn final_unit(tariff: &FlatTariff, fewer: bool) -> Option<FinalUnit>
-    ensures { result ≡ final_unit tariff.now fewer }
+/// What follows the last units.
+fn last_unit(action: &FinalAction) -> Result<FinalUnit, AllocError>
+    ensures { IfOk result (λ unit. unit ≡ last_unit action.now) }
+{
+    match action {
+        FinalAction::Terminate => Ok(FinalUnit::Terminate),
+        FinalAction::Redirect(address) => Ok(FinalUnit::Redirect(address.clone()?)),
+    }
+}
+
+/// What is said of units that are fewer than wanted.
+fn final_unit(tariff: &Tariff, fewer: bool) -> Result<Option<FinalUnit>, AllocError>
+    ensures { IfOk result (λ last. last ≡ final_unit tariff.now fewer) }
 {
     if fewer {
-        Some(FinalUnit::Terminate)
+        Ok(Some(last_unit(tariff.final_action())?))
     } else {
-        None
+        Ok(None)
     }
 }
 
 /// Units of a group with this tariff, as they are granted.
 pub(crate) fn granted_outcome(
-    tariff: &FlatTariff,
+    tariff: &Tariff,
     units: Units,
+    switch: Option<Moment>,
     validity: u32,
     fewer: bool,
-) -> ServiceOutcome
+) -> Result<ServiceOutcome, AllocError>
     requires some { 0 < units.0 }
     requires most { units.0 ≤ tariff.now.max_grant }
-    ensures { result ≡ service.Granted (record { quantity = record { kind = tariff.now.kind; units = units.0 }; switch = None; validity = validity; last = final_unit tariff.now fewer }) }
+    ensures { IfOk result (λ outcome. outcome ≡ service.Granted (record { quantity = record { kind = tariff.now.unit; units = units.0 }; switch = switch; validity = validity; last = final_unit tariff.now fewer })) }
 {
     let _ranges = tariff.max_grant();
-    ServiceOutcome::Granted(Granted {
-        quantity: Quantity::new(tariff.kind(), units.0),
-        switch: None,
+    let last = final_unit(tariff, fewer)?;
+    let quantity = Quantity::new(tariff.unit(), units.0);
+    Ok(ServiceOutcome::Granted(Granted {
+        quantity,
+        switch,
         validity,
-        last: final_unit(tariff, fewer),
-    })
+        last,
+    }))
 }
 
 /// The answer to a service that asks for nothing; a rating group without a tariff is 5031.
-fn settled_answer(book: &FlatTariff, service: &Service) -> ServiceAnswer
+fn settled_answer(book: &TariffBook, service: &Service) -> ServiceAnswer
     ensures { result ≡ settled_answer book.now service.now }
 {
     let outcome = if book.tariff(service.group).is_some() {
@@ -61,7 +74,7 @@ fn settled_answer(book: &FlatTariff, service: &Service) -> ServiceAnswer
 
 fn settled_list(
     alloc: Global,
-    book: &FlatTariff,
+    book: &TariffBook,
     services: &[Service],
 ) -> Result<Vec<ServiceAnswer>, AllocError>
     ensures { IfOk result (λ v. v.items ≡ settled_answers book.now services.now) }
@@ -75,7 +88,7 @@ fn settled_list(
 /// The answers to services that ask for nothing.
 pub(crate) fn settled_answers(
     alloc: Global,
-    book: &FlatTariff,
+    book: &TariffBook,
     services: &[Service],
 ) -> Result<ServiceAnswers, AllocError>
     ensures { IfOk result (λ answers. answers ≡ settled_answers book.now services.now) }

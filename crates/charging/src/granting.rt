@@ -17,12 +17,13 @@ use commands::{
     Failure, Outcome, Service, ServiceAnswer, ServiceAnswers, ServiceFailure, ServiceOutcome,
 };
 use identifiers::SessionId;
-use reserving::{Account, FlatTariff, Granted};
+use reserving::{Account, Granted};
 use std::alloc::{AllocError, Global};
+use tariffs::TariffBook;
 use units::Moment;
 
 /// Why a service that would grant nothing doesn't.
-fn denial(book: &FlatTariff, service: &Service) -> ServiceFailure
+fn denial(book: &TariffBook, service: &Service) -> ServiceFailure
     ensures { result ≡ denial book.now service.now }
 {
     if book.tariff(service.group).is_some() {
@@ -33,7 +34,7 @@ fn denial(book: &FlatTariff, service: &Service) -> ServiceFailure
 }
 
 /// Why a request that would grant nothing is denied: its first service tells.
-fn first_denial(book: &FlatTariff, services: &[Service]) -> ServiceFailure
+fn first_denial(book: &TariffBook, services: &[Service]) -> ServiceFailure
     ensures { result ≡ first_denial book.now services.now }
 {
     match services {
@@ -45,17 +46,16 @@ fn first_denial(book: &FlatTariff, services: &[Service]) -> ServiceFailure
 /// Whether the service of a new session would be granted a unit.
 fn grants_new(account: &Account, service: &Service, moment: Moment) -> bool
     requires { account.now.as_of ≤ moment }
-    ensures { (ledger : Ledger) → IsRowsOf ledger account.now → result ≡ grants_new account.now.tariff moment ledger service.now }
+    ensures { (ledger : Ledger) → IsRowsOf ledger account.now → result ≡ grants_new account.now.book moment ledger service.now }
 {
     let requested = asked_units(&service.requested);
-    account.tariff().tariff(service.group).is_some()
-        && account.would_grant(service.group, requested, moment)
+    account.would_grant(service.group, requested, moment)
 }
 
 /// Whether some service of a new session would be granted a unit.
 fn any_grants(account: &Account, services: &[Service], moment: Moment) -> bool
     requires { account.now.as_of ≤ moment }
-    ensures { (ledger : Ledger) → IsRowsOf ledger account.now → result ≡ any_grants account.now.tariff moment ledger services.now }
+    ensures { (ledger : Ledger) → IsRowsOf ledger account.now → result ≡ any_grants account.now.book moment ledger services.now }
 {
     for service in services {
         if grants_new(account, service, moment) {
@@ -73,16 +73,16 @@ fn grant(
     moment: Moment,
 ) -> Result<ServiceOutcome, AllocError>
     requires later { account.old.as_of ≡ moment }
-    requires live { is_live_in account.old.tariff.validity moment account.old.sessions session.now ≡ true }
-    requires free { is_known account.old.tariff service.now.group ≡ true → reservation_in session.now service.now.group account.old.groups ≡ None }
+    requires live { is_live_in account.old.book.validity moment account.old.sessions session.now ≡ true }
+    requires free { is_known account.old.book service.now.group ≡ true → reservation_in session.now service.now.group account.old.groups ≡ None }
     ensures grants { IfOk result (λ outcome. (ledger : Ledger) → IsRowsOf ledger account.old →
-        Grants outcome (granted account.old.tariff moment session.now service.now ledger) account.new) }
+        Grants outcome (granted account.old.book moment session.now service.now ledger) account.new) }
     ensures moment { OnOk result (account.new.as_of ≡ moment) }
-    ensures live { OnOk result (is_live_in account.new.tariff.validity moment account.new.sessions session.now ≡ true) }
+    ensures live { OnOk result (is_live_in account.new.book.validity moment account.new.sessions session.now ≡ true) }
     ensures others { OnOk result (OthersKept session.now service.now.group account.old.groups account.new.groups) }
-    ensures tariff { account.new.tariff ≡ account.old.tariff }
+    ensures tariff { account.new.book ≡ account.old.book }
 {
-    let Some(tariff) = account.tariff().tariff(service.group) else {
+    let Some(tariff) = account.book().tariff(service.group) else {
         return Ok(ServiceOutcome::Failed(ServiceFailure::RatingFailed));
     };
     let Some(requested) = &service.requested else {
@@ -93,11 +93,11 @@ fn grant(
         Ok(
             Granted::Units {
                 units,
+                switch,
                 validity,
                 fewer,
-                switch: _,
             },
-        ) => Ok(granted_outcome(tariff, units, validity, fewer)),
+        ) => granted_outcome(tariff, units, switch, validity, fewer),
         Err(_) => Err(AllocError),
     }
 }
@@ -112,12 +112,12 @@ fn grant_each(
 ) -> Result<Vec<ServiceAnswer>, AllocError>
     requires apart { groups_differ services.now ≡ true }
     requires later { account.old.as_of ≡ moment }
-    requires live { is_live_in account.old.tariff.validity moment account.old.sessions session.now ≡ true }
-    requires free { AreFree account.old.tariff session.now services.now account.old.groups }
+    requires live { is_live_in account.old.book.validity moment account.old.sessions session.now ≡ true }
+    requires free { AreFree account.old.book session.now services.now account.old.groups }
     ensures grants { IfOk result (λ answers. (ledger : Ledger) → IsRowsOf ledger account.old →
-        GrantsAll answers.items account.old.tariff moment session.now services.now ledger account.new) }
+        GrantsAll answers.items account.old.book moment session.now services.now ledger account.new) }
     ensures moment { OnOk result (account.new.as_of ≡ moment) }
-    ensures tariff { account.new.tariff ≡ account.old.tariff }
+    ensures tariff { account.new.book ≡ account.old.book }
 {
     let mut answers = Vec::new(alloc);
     for service in services {
@@ -137,12 +137,12 @@ fn grant_services(
 ) -> Result<ServiceAnswers, AllocError>
     requires apart { groups_differ services.now ≡ true }
     requires later { account.old.as_of ≡ moment }
-    requires live { is_live_in account.old.tariff.validity moment account.old.sessions session.now ≡ true }
-    requires free { AreFree account.old.tariff session.now services.now account.old.groups }
+    requires live { is_live_in account.old.book.validity moment account.old.sessions session.now ≡ true }
+    requires free { AreFree account.old.book session.now services.now account.old.groups }
     ensures grants { IfOk result (λ answers. (ledger : Ledger) → IsRowsOf ledger account.old →
-        GrantsAll answers account.old.tariff moment session.now services.now ledger account.new) }
+        GrantsAll answers account.old.book moment session.now services.now ledger account.new) }
     ensures moment { OnOk result (account.new.as_of ≡ moment) }
-    ensures tariff { account.new.tariff ≡ account.old.tariff }
+    ensures tariff { account.new.book ≡ account.old.book }
 {
     let answers = grant_each(alloc, account, session, services, moment)?;
     Ok(ServiceAnswers::new(answers))
@@ -160,15 +160,15 @@ pub(crate) fn open(
     requires apart { groups_differ services.now ≡ true }
     requires later { account.old.as_of ≤ moment }
     requires new { is_some (session_in session.now account.old.sessions) ≡ false }
-    requires free { AreFree account.old.tariff session.now services.now account.old.groups }
-    ensures follows { IfOk result (λ outcome. Follows account.old account.new outcome (opened account.old.tariff moment session.now number services.now)) }
+    requires free { AreFree account.old.book session.now services.now account.old.groups }
+    ensures follows { IfOk result (λ outcome. Follows account.old account.new outcome (opened account.old.book moment session.now number services.now)) }
     ensures accepted { IfOk result (λ outcome. is_accepted outcome ≡ true) }
     ensures moment { OnOk result (account.new.as_of ≡ moment) }
-    ensures tariff { account.new.tariff ≡ account.old.tariff }
+    ensures tariff { account.new.book ≡ account.old.book }
 {
-    let _ranges = account.tariff().validity();
+    let _ranges = account.book().validity();
     if !any_grants(account, services, moment) {
-        let failure = first_denial(account.tariff(), services);
+        let failure = first_denial(account.book(), services);
         return match account.deny(session, number, moment) {
             Ok(()) => Ok(Outcome::Failed(Failure::Denied(failure))),
             Err(_) => Err(AllocError),
@@ -192,14 +192,14 @@ pub(crate) fn renew(
 ) -> Result<ServiceAnswers, AllocError>
     requires apart { groups_differ services.now ≡ true }
     requires later { account.old.as_of ≤ moment }
-    requires live { is_live_in account.old.tariff.validity moment account.old.sessions session.now ≡ true }
-    requires free { AreFree account.old.tariff session.now services.now account.old.groups }
+    requires live { is_live_in account.old.book.validity moment account.old.sessions session.now ≡ true }
+    requires free { AreFree account.old.book session.now services.now account.old.groups }
     ensures grants { IfOk result (λ answers. (ledger : Ledger) → IsRowsOf ledger account.old →
-        GrantsAll answers account.old.tariff moment session.now services.now (touched moment session.now number ledger) account.new) }
+        GrantsAll answers account.old.book moment session.now services.now (touched moment session.now number ledger) account.new) }
     ensures moment { OnOk result (account.new.as_of ≡ moment) }
-    ensures tariff { account.new.tariff ≡ account.old.tariff }
+    ensures tariff { account.new.book ≡ account.old.book }
 {
-    let _ranges = account.tariff().validity();
+    let _ranges = account.book().validity();
     account.touch(session, number, moment);
     grant_services(alloc, account, session, services, moment)
 }

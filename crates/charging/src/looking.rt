@@ -83,7 +83,7 @@ fn has_row(sessions: &[Session], id: &SessionId) -> bool
 /// groups.
 pub(crate) fn is_recorded(account: &Account, id: &SessionId, services: &[Service]) -> bool
     ensures new { result ≡ false → is_some (session_in id.now account.now.sessions) ≡ false }
-    ensures free { result ≡ false → AreFree account.now.tariff id.now services.now account.now.groups }
+    ensures free { result ≡ false → AreFree account.now.book id.now services.now account.now.groups }
     ensures ledger { (ledger : Ledger) → IsRowsOf ledger account.now → result ≡ has_record id.now ledger }
 {
     has_row(account.sessions(), id) || any_reserved(account.groups(), id, services)

@@ -4,7 +4,7 @@ ghost use Rattle.std.specs.Prelude.{◌≡◌, ◌≤◌, true, false, None, is_
 ghost use Rattle.reserving.specs.Ledger.{Ledger, used};
 ghost use Rattle.reserving.specs.Sessions.{is_live_in, session_in};
 ghost use Rattle.reserving.specs.Rows.{IsRowsOf};
-ghost use Rattle.reserving.specs.FlatTariff.{tariff_of};
+ghost use Rattle.reserving.specs.Pricing.{tariff_of};
 ghost use Rattle.charging.specs.Free.{AreFree};
 ghost use Rattle.charging.specs.Reports.{wrong_units, units_fault};
 ghost use Rattle.charging.specs.Decisions.{invalid, initial_refusal, early_refusal, is_accepted_failure};
@@ -19,16 +19,16 @@ use units::Moment;
 /// What is wrong with the units of a service, where its group has a tariff.
 fn service_fault(account: &Account, session: &SessionId, service: &Service) -> Option<Avp>
     ensures { (ledger : Ledger) → IsRowsOf ledger account.now →
-        result ≡ wrong_units (tariff_of account.now.tariff service.now.group) (used session.now service.now.group ledger) service.now }
+        result ≡ wrong_units (tariff_of account.now.book service.now.group) (used session.now service.now.group ledger) service.now }
 {
-    let tariff = account.tariff().tariff(service.group)?;
+    let tariff = account.book().tariff(service.group)?;
     let used = used_of(account, session, service.group);
     wrong_units(tariff, used, service)
 }
 
 /// What is wrong with the units of a request's services: the first fault is told.
 fn wrong_report(account: &Account, session: &SessionId, services: &[Service]) -> Option<Avp>
-    ensures { (ledger : Ledger) → IsRowsOf ledger account.now → result ≡ units_fault account.now.tariff session.now ledger services.now }
+    ensures { (ledger : Ledger) → IsRowsOf ledger account.now → result ≡ units_fault account.now.book session.now ledger services.now }
 {
     for service in services {
         if let Some(avp) = service_fault(account, session, service) {
@@ -40,7 +40,7 @@ fn wrong_report(account: &Account, session: &SessionId, services: &[Service]) ->
 
 fn invalid_report(account: &Account, session: &SessionId, services: &[Service]) -> Option<Failure>
     ensures refusal { IfSome result (λ failure. is_accepted_failure failure ≡ false) }
-    ensures ledger { (ledger : Ledger) → IsRowsOf ledger account.now → result ≡ option_map invalid (units_fault account.now.tariff session.now ledger services.now) }
+    ensures ledger { (ledger : Ledger) → IsRowsOf ledger account.now → result ≡ option_map invalid (units_fault account.now.book session.now ledger services.now) }
 {
     match wrong_report(account, session, services) {
         Some(avp) => Some(Failure::InvalidAvpValue(avp)),
@@ -54,10 +54,10 @@ pub(crate) fn initial_refusal(
     session: &SessionId,
     services: &[Service],
 ) -> Option<Failure>
-    ensures ledger { (ledger : Ledger) → IsRowsOf ledger account.now → result ≡ initial_refusal account.now.tariff session.now services.now ledger }
+    ensures ledger { (ledger : Ledger) → IsRowsOf ledger account.now → result ≡ initial_refusal account.now.book session.now services.now ledger }
     ensures refusal { IfSome result (λ failure. is_accepted_failure failure ≡ false) }
     ensures new { result ≡ None → is_some (session_in session.now account.now.sessions) ≡ false }
-    ensures free { result ≡ None → AreFree account.now.tariff session.now services.now account.now.groups }
+    ensures free { result ≡ None → AreFree account.now.book session.now services.now account.now.groups }
 {
     if is_recorded(account, session, services) {
         return Some(Failure::InvalidAvpValue(Avp::SessionId));
@@ -74,9 +74,9 @@ pub(crate) fn early_refusal(
     moment: Moment,
 ) -> Option<Failure>
     requires later { account.now.as_of ≤ moment }
-    ensures ledger { (ledger : Ledger) → IsRowsOf ledger account.now → result ≡ early_refusal account.now.tariff moment session.now number services.now ledger }
+    ensures ledger { (ledger : Ledger) → IsRowsOf ledger account.now → result ≡ early_refusal account.now.book moment session.now number services.now ledger }
     ensures refusal { IfSome result (λ failure. is_accepted_failure failure ≡ false) }
-    ensures live { result ≡ None → is_live_in account.now.tariff.validity moment account.now.sessions session.now ≡ true }
+    ensures live { result ≡ None → is_live_in account.now.book.validity moment account.now.sessions session.now ≡ true }
 {
     if !account.is_live(session, moment) {
         return Some(Failure::UnknownSessionId);

@@ -23,16 +23,16 @@ fn settle(
     moment: Moment,
 ) -> Result<(), AccountFault>
     requires later { account.old.as_of ≤ moment }
-    requires live { is_live_in account.old.tariff.validity moment account.old.sessions session.now ≡ true }
+    requires live { is_live_in account.old.book.validity moment account.old.sessions session.now ≡ true }
     ensures settles { SettlesAll result account.old account.new moment session.now (service.now ∷ []) }
-    ensures live { is_live_in account.new.tariff.validity moment account.new.sessions session.now ≡ true }
+    ensures live { is_live_in account.new.book.validity moment account.new.sessions session.now ≡ true }
     ensures later { account.new.as_of ≤ moment }
-    ensures free { OnOk result (AreFree account.old.tariff session.now (service.now ∷ []) account.new.groups) }
+    ensures free { OnOk result (AreFree account.old.book session.now (service.now ∷ []) account.new.groups) }
     ensures kept { OnOk result (AreKept session.now account.old.groups account.new.groups) }
-    ensures tariff { account.new.tariff ≡ account.old.tariff }
+    ensures tariff { account.new.book ≡ account.old.book }
     ensures err { OnErr result (account.new ≡ account.old) }
 {
-    if account.tariff().tariff(service.group).is_none() {
+    if account.book().tariff(service.group).is_none() {
         return Ok(());
     }
     let parts = parts_of(alloc, service)?;
@@ -49,12 +49,12 @@ fn settle_each(
     moment: Moment,
 ) -> Result<(), AccountFault>
     requires later { account.old.as_of ≤ moment }
-    requires live { is_live_in account.old.tariff.validity moment account.old.sessions session.now ≡ true }
+    requires live { is_live_in account.old.book.validity moment account.old.sessions session.now ≡ true }
     ensures settles { SettlesAll result account.old account.new moment session.now services.now }
-    ensures live { is_live_in account.new.tariff.validity moment account.new.sessions session.now ≡ true }
+    ensures live { is_live_in account.new.book.validity moment account.new.sessions session.now ≡ true }
     ensures later { account.new.as_of ≤ moment }
-    ensures free { OnOk result (AreFree account.old.tariff session.now services.now account.new.groups) }
-    ensures tariff { account.new.tariff ≡ account.old.tariff }
+    ensures free { OnOk result (AreFree account.old.book session.now services.now account.new.groups) }
+    ensures tariff { account.new.book ≡ account.old.book }
 {
     for service in services {
         settle(alloc, account, session, service, moment)?;
@@ -71,12 +71,12 @@ fn settle_several(
     moment: Moment,
 ) -> Result<(), AccountFault>
     requires later { account.old.as_of ≤ moment }
-    requires live { is_live_in account.old.tariff.validity moment account.old.sessions session.now ≡ true }
+    requires live { is_live_in account.old.book.validity moment account.old.sessions session.now ≡ true }
     ensures settles { SettlesAll result account.old account.new moment session.now services.now }
-    ensures live { is_live_in account.new.tariff.validity moment account.new.sessions session.now ≡ true }
+    ensures live { is_live_in account.new.book.validity moment account.new.sessions session.now ≡ true }
     ensures later { account.new.as_of ≤ moment }
-    ensures free { OnOk result (AreFree account.old.tariff session.now services.now account.new.groups) }
-    ensures tariff { account.new.tariff ≡ account.old.tariff }
+    ensures free { OnOk result (AreFree account.old.book session.now services.now account.new.groups) }
+    ensures tariff { account.new.book ≡ account.old.book }
     ensures err { OnErr result (account.new ≡ account.old) }
 {
     let mut settled = account.copy()?;
@@ -94,12 +94,12 @@ pub(crate) fn settle_services(
     moment: Moment,
 ) -> Result<(), AccountFault>
     requires later { account.old.as_of ≤ moment }
-    requires live { is_live_in account.old.tariff.validity moment account.old.sessions session.now ≡ true }
+    requires live { is_live_in account.old.book.validity moment account.old.sessions session.now ≡ true }
     ensures settles { SettlesAll result account.old account.new moment session.now services.now }
-    ensures live { is_live_in account.new.tariff.validity moment account.new.sessions session.now ≡ true }
+    ensures live { is_live_in account.new.book.validity moment account.new.sessions session.now ≡ true }
     ensures later { account.new.as_of ≤ moment }
-    ensures free { OnOk result (AreFree account.old.tariff session.now services.now account.new.groups) }
-    ensures tariff { account.new.tariff ≡ account.old.tariff }
+    ensures free { OnOk result (AreFree account.old.book session.now services.now account.new.groups) }
+    ensures tariff { account.new.book ≡ account.old.book }
     ensures err { OnErr result (account.new ≡ account.old) }
 {
     match services {
@@ -112,12 +112,12 @@ pub(crate) fn settle_services(
 /// Ends a live session with its last request.
 pub(crate) fn end(account: &mut Account, session: &SessionId, number: u32, moment: Moment)
     requires later { account.old.as_of ≤ moment }
-    requires live { is_live_in account.old.tariff.validity moment account.old.sessions session.now ≡ true }
+    requires live { is_live_in account.old.book.validity moment account.old.sessions session.now ≡ true }
     ensures ledger { (ledger : Ledger) → IsRowsOf ledger account.old → IsRowsOf (closed moment session.now (touched moment session.now number ledger)) account.new }
     ensures moment { account.new.as_of ≡ moment }
-    ensures tariff { account.new.tariff ≡ account.old.tariff }
+    ensures tariff { account.new.book ≡ account.old.book }
 {
-    let _ranges = account.tariff().validity();
+    let _ranges = account.book().validity();
     account.touch(session, number, moment);
     account.close(session, moment);
 }

@@ -2,14 +2,14 @@ use Rattle.std.proofs.Common.{◌≡◌, ◌+◌, ◌++◌, [], drop, List, ◌�
 use Rattle.std.proofs.lemmas.List.{at_drop_more}
 use Rattle.commands.specs.Services.{groups_differ}
 use Rattle.commands.specs.declared.service.Service.{Service}
-use Rattle.reserving.specs.FlatTariff.{Flat}
+use Rattle.tariffs.specs.Books.{Book}
 use Rattle.charging.specs.Free.{AreFree}
 use Rattle.charging.proofs.Services.{GrantsTo, grants_one, answer_with, differs_first, differs_rest, free_others}
 use Rattle.charging.proofs.granting.grant_each.Goals as goal
 
 pub loop-service-preserved : goal.loop-service-preserved
 loop-service-preserved c =
-    let f : Flat = c.args.account.now.tariff in
+    let f : Book = c.args.account.now.book in
     let x : Service = c.service-item.result in
     let rest : List Service = drop (c.loop-service.service-index + 1) c.args.services.now in
     let left : drop c.loop-service.service-index c.args.services.now ≡ x ∷ rest =

@@ -8,9 +8,9 @@ use Rattle.charging.proofs.granting.grant_each.Given as goal
 abbrev pub invariant-loop-service : goal.invariant-loop-service
 invariant-loop-service l = record {
   grants : GrantsTo l.fn.account l.account l.moment l.session l.services (drop l.service-index l.services) l.answers.items;
-  free : AreFree l.fn.account.tariff l.session (drop l.service-index l.services) l.account.groups;
+  free : AreFree l.fn.account.book l.session (drop l.service-index l.services) l.account.groups;
   apart : groups_differ (drop l.service-index l.services) ≡ true;
-  live : is_live_in l.account.tariff.validity l.moment l.account.sessions l.session ≡ true;
+  live : is_live_in l.account.book.validity l.moment l.account.sessions l.session ≡ true;
   later : l.account.as_of ≡ l.moment;
-  tariff : l.account.tariff ≡ l.fn.account.tariff;
+  tariff : l.account.book ≡ l.fn.account.book;
 }

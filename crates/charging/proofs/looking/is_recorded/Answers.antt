@@ -7,7 +7,7 @@ use Rattle.charging.proofs.looking.is_recorded.Goals as goal
 
 pub returns-else-has_row-clause-free : goal.returns-else-has_row-clause-free
 returns-else-has_row-clause-free c = λ none.
-    none_reserved c.args.account.now.tariff c.args.id.now c.args.services.now c.args.account.now.groups
+    none_reserved c.args.account.now.book c.args.id.now c.args.services.now c.args.account.now.groups
     (ap (any_reserved c.args.id.now c.args.services.now) (sym c.groups.ensures) ∙ sym c.any_reserved.ensures ∙ none)
 
 pub returns-else-has_row-clause-ledger : goal.returns-else-has_row-clause-ledger

@@ -1,7 +1,7 @@
 use Rattle.std.proofs.Common.{rules, ◌≡◌, ◌+◌, [], drop, List, ◌∷◌, subst, sym, ap, ◌∙◌, arith}
 use Rattle.std.proofs.lemmas.List.{at_drop_more}
 use Rattle.commands.specs.declared.service.Service.{Service}
-use Rattle.reserving.specs.FlatTariff.{Flat}
+use Rattle.tariffs.specs.Books.{Book}
 use Rattle.charging.specs.Free.{AreFree}
 use Rattle.charging.proofs.Services.{SettlesTo, FreesTo, settles_one, settles_fault, frees_one}
 use Rattle.charging.proofs.settling.settle_each.Goals as goal
@@ -19,7 +19,7 @@ returns-in_err-settle-clause-settles c =
 
 pub loop-service-preserved : goal.loop-service-preserved
 loop-service-preserved c =
-    let f : Flat = c.args.account.now.tariff in
+    let f : Book = c.args.account.now.book in
     let x : Service = c.service-item.result in
     let rest : List Service = drop (c.loop-service.service-index + 1) c.args.services.now in
     let left : drop c.loop-service.service-index c.args.services.now ≡ x ∷ rest =
