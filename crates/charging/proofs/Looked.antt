@@ -1,13 +1,12 @@
 -- What the rows of an account tell of its ledger.
-use Rattle.std.proofs.Common.{◌≡◌, ℕ, ◌+◌, Bool, true, false, List, [], ◌∷◌, refl, sym, ap, ◌∙◌, Option, Some, None, arith}
-use Rattle.std.specs.Prelude.{if◌then◌else◌, ◌||◌, ◌&&◌, ◌==◌, is_some, unwrap_or}
+use Rattle.std.proofs.Common.{◌≡◌, ℕ, Bool, true, false, List, [], ◌∷◌, refl, sym, ap, ◌∙◌, Option, Some, None}
+use Rattle.std.specs.Prelude.{◌||◌, is_some, unwrap_or}
 use Rattle.reserving.specs.declared.session.SessionState.{SessionState}
 use Rattle.reserving.specs.declared.session.SessionGroup.{SessionGroup}
-use Rattle.reserving.specs.Ledger.{Fact, Ledger, Recording, is_same, used, units_in, names_group, has_group, open_grant, is_live, last_recording}
-use Rattle.reserving.specs.Ledger.Fact.{Credit, Grant, Hold, End, Use, Charge, Touch, Close, Recorded}
-use Rattle.reserving.specs.Sessions.{session_in, session_row, state_at, group_in, group_at, reservation_at}
+use Rattle.reserving.specs.Ledger.{Ledger, Recording, has_group, open_grant, is_live, last_recording}
+use Rattle.reserving.specs.Sessions.{session_in, session_row, state_at, group_in, group_at}
 use Rattle.reserving.specs.Rows.{AccountRows, IsRowsOf}
-use Rattle.reserving.specs.Changes.{used_in, new_group}
+use Rattle.reserving.specs.Changes.{new_group}
 use Rattle.reserving.specs.Prepared.{reservation_in}
 use Rattle.tariffs.specs.Books.{Book}
 use Rattle.reserving.proofs.KeysFound.{is_none_is}

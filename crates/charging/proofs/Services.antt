@@ -1,5 +1,5 @@
 -- The services of a request, one after another: what the first of them came to, and what is left.
-use Rattle.std.proofs.Common.{◌≡◌, ℕ, ◌≤◌, Bool, true, false, List, [], ◌∷◌, ◌++◌, refl, sym, ap, ◌∙◌, subst, Result, Ok, Err, arith}
+use Rattle.std.proofs.Common.{◌≡◌, ℕ, Bool, true, false, List, [], ◌∷◌, ◌++◌, refl, sym, ap, ◌∙◌, subst, Result, Ok, Err, arith}
 use Rattle.std.specs.Prelude.{◌==◌, ◌&&◌, ◌||◌, not}
 use Rattle.std.specs.List.{list_all}
 use Rattle.std.proofs.lemmas.Bool.{and_parts}
@@ -14,8 +14,6 @@ use Rattle.reserving.specs.declared.fault.AccountFault.TheVariants.{Memory, Limi
 use Rattle.reserving.specs.declared.session.SessionGroup.{SessionGroup}
 use Rattle.reserving.specs.Ledger.{Ledger}
 use Rattle.tariffs.specs.Books.{Book}
-use Rattle.tariffs.specs.Tariffs.{GroupTariff}
-use Rattle.reserving.specs.Results.{IsWithin}
 use Rattle.reserving.specs.Settlement.{passes_limit, settled_by}
 use Rattle.reserving.specs.Rows.{AccountRows, IsRowsOf}
 use Rattle.charging.specs.Known.{is_known}
@@ -178,10 +176,3 @@ pub grants_end : (old now : AccountRows) (t : ℕ) (s : List ℕ) (services : Li
 grants_end old now t s services answers so = λ ledger rows.
     let to : IsGrantedTo old.book t s services [] ledger answers now = so ledger rows in
     record { same = sym (append_none answers) ∙ to.same; rows = subst (λ l. IsRowsOf l now) (sym to.after) to.rows }
-
-some_same : (x y : GroupTariff) → Some x ≡ Some y → x ≡ y
-some_same x y h = cc
-
--- units that are granted are no more than the greatest grant of the group's tariff
-pub within_most : (t : Option GroupTariff) (x : GroupTariff) (units : ℕ) → t ≡ Some x → IsWithin t units → units ≤ x.max_grant
-within_most t x units e within = subst (λ (y : GroupTariff). units ≤ y.max_grant) (some_same within.tariff x (sym within.known ∙ e)) within.most
