@@ -67,6 +67,7 @@ impl<'b> Account<'b> {
             GivesGrant self.old.book moment session.now group (option_map (λ u. u.0) requested) ledger self.new granted) }
         ensures as_of { OnOk result (self.new.as_of ≡ moment) }
         ensures tariff { self.new.book ≡ self.old.book }
+        ensures sessions { OnOk result (self.new.sessions ≡ (advanced moment self.old).sessions) }
         ensures within { IfOk result (IsWithinGrant (tariff_of self.old.book group)) }
         ensures others { OnOk result ((g : ℕ) → (g == group) ≡ false → reservation_in session.now g self.old.groups ≡ None → reservation_in session.now g self.new.groups ≡ None) }
         ensures memory { OnErr result (result ≡ Err AccountFault.Memory) }

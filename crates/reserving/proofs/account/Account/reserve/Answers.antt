@@ -6,7 +6,7 @@ use Rattle.rating.specs.declared.grant.Periods.{Periods}
 use Rattle.buckets.specs.Spend.{funds}
 use Rattle.reserving.specs.Pricing.{periods_at, switch_at, validity_at, cycle_at}
 use Rattle.reserving.specs.Quotas.{IsQuota}
-use Rattle.reserving.specs.Changes.{advanced, used_in, count_in}
+use Rattle.reserving.specs.Changes.{advanced, used_in, count_in, reserved_account}
 use Rattle.reserving.specs.Rows.{AccountRows}
 use Rattle.reserving.proofs.ReservedCall.{group_there, free_middle, covered_middle, QuotaOf, grant_told, quota_covered, grant_is, within_grant}
 use Rattle.reserving.proofs.StillFree.{others_advanced, others_reserved}
@@ -69,3 +69,11 @@ returns-clause-others c = λ g n h.
 
 pub returns-then-quota-eq0-clause-others : goal.returns-then-quota-eq0-clause-others
 returns-then-quota-eq0-clause-others c = λ g n h. others_advanced c.args.self.now c.advance.new.self c.args.session.now g c.args.moment c.advance.ensures.rows h
+
+pub returns-clause-sessions : goal.returns-clause-sessions
+returns-clause-sessions c =
+    ap (λ (x : AccountRows). x.sessions) (c.hold_quota.ensures ∙ ap (reserved_account c.args.session.now c.args.group c.quota-quota.result.grant.amount.0)
+    (c.advance-2.ensures.rows ∙ ap (advanced c.args.moment) c.in_ok-room.ensures.ok))
+
+pub returns-then-quota-eq0-clause-sessions : goal.returns-then-quota-eq0-clause-sessions
+returns-then-quota-eq0-clause-sessions c = ap (λ (x : AccountRows). x.sessions) c.advance.ensures.rows
