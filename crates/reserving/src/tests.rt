@@ -1,23 +1,22 @@
-//! Sessions over a tariff book of seconds, octets and events. The buckets' columns, settlements and grants are reckoned
-//! by hand from the book's prices: seconds in blocks of 60 at 100000 micro-units on weekdays from 08:00 to 20:00, else at
-//! 50000; octets in blocks of 1048576, of which the first 100 of a month are free and the others cost 10000; events at
-//! 90000.
+//! Scenarios of an account over a tariff book: what each call gives, and the account's buckets after it. They are
+//! reckoned by hand from the book's prices: seconds in blocks of 60 at 100000 micro-units on weekdays from 08:00 to
+//! 20:00, else at 50000; octets in blocks of 1048576, of which the first 100 of a month are free and the others cost
+//! 10000; events at 90000. 1767607200 is 10:00 of a Monday.
+//!
+//! A line is a moment, a call with its words, what it gives, and the buckets, each as its credited amount and what of it
+//! is available, reserved, charged and expired.
 
 ghost use Rattle.std.specs.Prelude.{◌≡◌, true, false, None};
 ghost use Rattle.reserving.specs.Sessions.{session_in};
 ghost use Rattle.reserving.specs.Prepared.{reservation_in};
 
-mod books;
-mod sessions;
-
-use crate::{Account, Granted, Session, SessionGroup, Settled};
-use buckets::Bucket;
+use crate::{Account, Granted, Session, SessionGroup};
 use identifiers::SessionId;
 use std::alloc::Global;
 use std::process::Abort;
 use std::test::Fail;
 use tariffs::TariffBook;
-use units::{Amount, Blocks, Moment, Money, Units, UsedPart};
+use units::{Moment, Money, TariffChangeUsage, Units, UsedPart};
 
 const BOOK: &str = r#"zone = "+00:00"
 currency = 978
@@ -73,59 +72,12 @@ final = "terminate"
 price = [{period = "off", tiers = [{price = 90000}]}, {period = "peak", tiers = [{price = 90000}]}]
 "#;
 
-const MIDNIGHT: u64 = 1_767_571_200;
-
-const TEN: u64 = 1_767_607_200;
-
-fn book(alloc: Global) -> Result<TariffBook, Fail> {
-    Ok(TariffBook::read(alloc, BOOK.as_bytes())?)
+fn moment(word: &str) -> Result<Moment, Fail> {
+    Ok(Moment::new(word.parse::<u64>()?).ok_or("a moment")?)
 }
 
-fn moment(seconds: u64) -> Result<Moment, Fail> {
-    Ok(Moment::new(seconds).ok_or("a moment")?)
-}
-
-fn money(micros: u64) -> Result<Money, Fail> {
-    Ok(Money::new(micros).ok_or("an amount")?)
-}
-
-fn name(alloc: Global, text: &str) -> Result<SessionId, Fail> {
-    Ok(SessionId::new(alloc, text)?.ok_or("a session")?)
-}
-
-fn report(units: u64) -> UsedPart {
-    UsedPart {
-        units: Units(units),
-        change: None,
-    }
-}
-
-fn granted(units: u64, fewer: bool) -> Granted {
-    Granted::Units {
-        units: Units(units),
-        switch: None,
-        validity: 3600,
-        fewer,
-    }
-}
-
-fn settled(blocks: u64, rated: u128, collected: u128, uncollected: u128) -> Settled {
-    Settled {
-        blocks: Blocks(blocks),
-        rated: Amount(rated),
-        collected: Amount(collected),
-        uncollected: Amount(uncollected),
-    }
-}
-
-fn columns(bucket: &Bucket) -> [u64; 5] {
-    [
-        bucket.credited(),
-        bucket.available(),
-        bucket.reserved(),
-        bucket.charged(),
-        bucket.expired(),
-    ]
+fn session(alloc: Global, word: &str) -> Result<SessionId, Fail> {
+    Ok(SessionId::new(alloc, word)?.ok_or("a session")?)
 }
 
 /// Whether no request of the session is recorded.
@@ -152,98 +104,369 @@ fn is_free(groups: &[SessionGroup], id: &SessionId, group: u32) -> bool
     true
 }
 
-/// The bucket's number of a credit at a moment.
+fn tag(word: &str) -> Result<TariffChangeUsage, Fail> {
+    match word {
+        "before" => Ok(TariffChangeUsage::UnitBeforeTariffChange),
+        "after" => Ok(TariffChangeUsage::UnitAfterTariffChange),
+        _ => Ok(TariffChangeUsage::UnitIndeterminate),
+    }
+}
+
+/// A part of a report: `300`, or `300:before`.
+fn part(word: &str) -> Result<UsedPart, Fail> {
+    let Some((units, change)) = word.split_once(":") else {
+        return Ok(UsedPart {
+            units: Units(word.parse::<u64>()?),
+            change: None,
+        });
+    };
+    Ok(UsedPart {
+        units: Units(units.parse::<u64>()?),
+        change: Some(tag(change)?),
+    })
+}
+
+fn report(alloc: Global, words: &str) -> Result<Vec<UsedPart>, Fail> {
+    let mut parts = Vec::new(alloc);
+    for word in words.split(" ") {
+        parts.push(part(word)?)?;
+    }
+    Ok(parts)
+}
+
+/// `credit UNTIL AMOUNT`: the bucket's number.
 fn credit(
     rt: &impl Abort,
+    alloc: Global,
     account: &mut Account,
-    until: Moment,
-    micros: u64,
+    words: &str,
     at: Moment,
-) -> Result<u32, Fail> {
+) -> Result<String, Fail> {
+    let (until, amount) = words.split_once(" ").ok_or("an end and an amount")?;
+    let amount = Money::new(amount.parse::<u64>()?).ok_or("an amount")?;
     assert!(rt; account.as_of() <= at);
-    Ok(account.credit(at, until, None, money(micros)?, at)?)
+    let number = account.credit(at, moment(until)?, None, amount, at)?;
+    Ok(format!(in alloc; "{number}")?)
 }
 
+/// `open SESSION`.
 fn open(
     rt: &impl Abort,
+    alloc: Global,
     account: &mut Account,
-    session: &SessionId,
+    word: &str,
     at: Moment,
-) -> Result<(), Fail> {
-    assert!(rt; account.as_of() <= at && is_new(account.sessions(), session));
-    Ok(account.open(session, 0, at)?)
+) -> Result<String, Fail> {
+    let id = session(alloc, word)?;
+    assert!(rt; account.as_of() <= at && is_new(account.sessions(), &id));
+    account.open(&id, 0, at)?;
+    Ok(String::from_str(alloc, "opened")?)
 }
 
+/// `deny SESSION`.
 fn deny(
     rt: &impl Abort,
+    alloc: Global,
     account: &mut Account,
-    session: &SessionId,
+    word: &str,
     at: Moment,
-) -> Result<(), Fail> {
-    assert!(rt; account.as_of() <= at && is_new(account.sessions(), session));
-    Ok(account.deny(session, 0, at)?)
+) -> Result<String, Fail> {
+    let id = session(alloc, word)?;
+    assert!(rt; account.as_of() <= at && is_new(account.sessions(), &id));
+    account.deny(&id, 0, at)?;
+    Ok(String::from_str(alloc, "denied")?)
 }
 
-fn reserve(
+/// `touch SESSION NUMBER`.
+fn touch(
     rt: &impl Abort,
+    alloc: Global,
     account: &mut Account,
-    session: &SessionId,
-    group: u32,
-    units: u64,
+    words: &str,
     at: Moment,
-) -> Result<Granted, Fail> {
-    assert!(rt; account.as_of() <= at && account.is_live(session, at));
-    assert!(rt; is_free(account.groups(), session, group));
-    Ok(account.reserve(session, group, Some(Units(units)), at)?)
+) -> Result<String, Fail> {
+    let (id, number) = words.split_once(" ").ok_or("a session and a number")?;
+    let (id, number) = (session(alloc, id)?, number.parse::<u32>()?);
+    assert!(rt; account.as_of() <= at && account.is_live(&id, at));
+    account.touch(&id, number, at);
+    Ok(String::from_str(alloc, "touched")?)
 }
 
-fn settle(
+/// `close SESSION`.
+fn close(
     rt: &impl Abort,
+    alloc: Global,
     account: &mut Account,
-    session: &SessionId,
-    group: u32,
-    parts: &[UsedPart],
+    word: &str,
     at: Moment,
-) -> Result<Settled, Fail> {
-    assert!(rt; account.as_of() <= at && account.is_live(session, at));
-    Ok(account.settle(session, group, parts, at)?)
+) -> Result<String, Fail> {
+    let id = session(alloc, word)?;
+    assert!(rt; account.as_of() <= at && account.is_live(&id, at));
+    account.close(&id, at);
+    Ok(String::from_str(alloc, "closed")?)
 }
 
-fn touch(rt: &impl Abort, account: &mut Account, session: &SessionId, number: u32, at: Moment) {
-    assert!(rt; account.as_of() <= at && account.is_live(session, at));
-    account.touch(session, number, at);
-}
-
-fn close(rt: &impl Abort, account: &mut Account, session: &SessionId, at: Moment) {
-    assert!(rt; account.as_of() <= at && account.is_live(session, at));
-    account.close(session, at);
-}
-
-fn advance(rt: &impl Abort, account: &mut Account, at: Moment) {
-    assert!(rt; account.as_of() <= at);
-    account.advance(at);
-}
-
-fn would_grant(rt: &impl Abort, account: &Account, group: u32, units: u64, at: Moment) -> bool {
-    assert!(rt; account.as_of() <= at);
-    account.would_grant(group, Some(Units(units)), at)
-}
-
-fn funds(rt: &impl Abort, account: &Account, group: u32, at: Moment) -> Amount {
-    assert!(rt; account.as_of() <= at);
-    account.funds(group, at)
-}
-
-/// Whether the account has these buckets.
-fn has_buckets(account: &Account, expected: &[[u64; 5]]) -> bool {
-    let buckets = account.purse().buckets();
-    if buckets.len() != expected.len() {
-        return false;
-    }
-    for (bucket, expected) in buckets.iter().zip(expected) {
-        if columns(bucket) != *expected {
-            return false;
+fn described(alloc: Global, granted: Granted) -> Result<String, Fail> {
+    match granted {
+        Granted::Nothing => Ok(String::from_str(alloc, "nothing")?),
+        Granted::Units {
+            units,
+            switch,
+            validity,
+            fewer,
+        } => {
+            let switch = switch.map(Moment::seconds);
+            let of = if fewer { "fewer" } else { "all" };
+            Ok(format!(in alloc; "{} {:?} {} {}", units.0, switch, validity, of)?)
         }
     }
-    true
+}
+
+/// `reserve SESSION GROUP UNITS`: the units granted, the switch, the validity, and whether they are fewer than wanted.
+fn reserve(
+    rt: &impl Abort,
+    alloc: Global,
+    account: &mut Account,
+    words: &str,
+    at: Moment,
+) -> Result<String, Fail> {
+    let (id, words) = words.split_once(" ").ok_or("a session")?;
+    let (group, units) = words.split_once(" ").ok_or("a group and units")?;
+    let (id, group) = (session(alloc, id)?, group.parse::<u32>()?);
+    let units = Units(units.parse::<u64>()?);
+    assert!(rt; account.as_of() <= at && account.is_live(&id, at));
+    assert!(rt; is_free(account.groups(), &id, group));
+    described(alloc, account.reserve(&id, group, Some(units), at)?)
+}
+
+/// `settle SESSION GROUP PARTS`: the blocks, their price, and what of it is collected and isn't.
+fn settle(
+    rt: &impl Abort,
+    alloc: Global,
+    account: &mut Account,
+    words: &str,
+    at: Moment,
+) -> Result<String, Fail> {
+    let (id, words) = words.split_once(" ").ok_or("a session")?;
+    let (group, words) = words.split_once(" ").ok_or("a group and parts")?;
+    let (id, group) = (session(alloc, id)?, group.parse::<u32>()?);
+    let parts = report(alloc, words)?;
+    assert!(rt; account.as_of() <= at && account.is_live(&id, at));
+    let settled = account.settle(&id, group, &parts, at)?;
+    let price = format!(in alloc; "{} {}", settled.blocks.0, settled.rated.0)?;
+    let (collected, uncollected) = (settled.collected.0, settled.uncollected.0);
+    Ok(format!(in alloc; "{} {} {}", price, collected, uncollected)?)
+}
+
+/// `funds GROUP`, and whether 600 units of it would be granted.
+fn funds(
+    rt: &impl Abort,
+    alloc: Global,
+    account: &Account,
+    word: &str,
+    at: Moment,
+) -> Result<String, Fail> {
+    let group = word.parse::<u32>()?;
+    assert!(rt; account.as_of() <= at);
+    let grants = account.would_grant(group, Some(Units(600)), at);
+    Ok(format!(in alloc; "{} {}", account.funds(group, at).0, grants)?)
+}
+
+/// `session SESSION`: its last number, its state, and whether it is live at the moment.
+fn told(alloc: Global, account: &Account, word: &str, at: Moment) -> Result<String, Fail> {
+    let id = session(alloc, word)?;
+    let live = account.is_live(&id, at);
+    for row in account.sessions() {
+        if row.id == id {
+            return Ok(format!(in alloc; "{} {:?} {}", row.last_number, row.state, live)?);
+        }
+    }
+    Ok(String::from_str(alloc, "unknown")?)
+}
+
+/// `counters of all`: each counter's group, cycle and blocks.
+fn counters(alloc: Global, account: &Account) -> Result<String, Fail> {
+    let mut text = String::new(alloc);
+    for counter in account.counters() {
+        let line = format!(in alloc; "{} {} {};", counter.group, counter.cycle, counter.blocks)?;
+        text.push_str(line.as_str())?;
+    }
+    Ok(text)
+}
+
+/// `advance to it`.
+fn advance(
+    rt: &impl Abort,
+    alloc: Global,
+    account: &mut Account,
+    at: Moment,
+) -> Result<String, Fail> {
+    assert!(rt; account.as_of() <= at);
+    account.advance(at);
+    Ok(String::from_str(alloc, "advanced")?)
+}
+
+/// What a call gives.
+fn outcome(
+    rt: &impl Abort,
+    alloc: Global,
+    account: &mut Account,
+    call: &str,
+    words: &str,
+    at: Moment,
+) -> Result<String, Fail> {
+    match call {
+        "credit" => credit(rt, alloc, account, words, at),
+        "open" => open(rt, alloc, account, words, at),
+        "deny" => deny(rt, alloc, account, words, at),
+        "touch" => touch(rt, alloc, account, words, at),
+        "close" => close(rt, alloc, account, words, at),
+        "reserve" => reserve(rt, alloc, account, words, at),
+        "settle" => settle(rt, alloc, account, words, at),
+        "funds" => funds(rt, alloc, account, words, at),
+        "session" => told(alloc, account, words, at),
+        "counters" => counters(alloc, account),
+        _ => advance(rt, alloc, account, at),
+    }
+}
+
+/// The account's buckets.
+fn buckets(alloc: Global, account: &Account) -> Result<String, Fail> {
+    let mut text = String::new(alloc);
+    for bucket in account.purse().buckets() {
+        let (credited, available) = (bucket.credited(), bucket.available());
+        let first = format!(in alloc; " ({}; {}", credited, available)?;
+        let (reserved, charged) = (bucket.reserved(), bucket.charged());
+        let rest = format!(in alloc; ", {}, {}, {})", reserved, charged, bucket.expired())?;
+        text.push_str(first.as_str())?;
+        text.push_str(rest.as_str())?;
+    }
+    Ok(text)
+}
+
+/// What a line's call gives, and the buckets of the account and of its copy after it.
+fn given(
+    rt: &impl Abort,
+    alloc: Global,
+    account: &mut Account,
+    line: &str,
+) -> Result<String, Fail> {
+    let (at, line) = line.split_once(" ").ok_or("a moment")?;
+    let (call, words) = line.split_once(" ").ok_or("a call and its words")?;
+    let outcome = outcome(rt, alloc, account, call, words, moment(at)?)?;
+    let copy = account.copy()?;
+    let buckets = buckets(alloc, &copy)?;
+    Ok(format!(in alloc; "{}{}", outcome.as_str(), buckets.as_str())?)
+}
+
+/// Tries the lines of a scenario on an account that begins empty.
+fn try_all(rt: &impl Abort, alloc: Global, lines: &str) -> Result<(), Fail> {
+    let book = TariffBook::read(alloc, BOOK.as_bytes())?;
+    let mut account = Account::new(alloc, &book);
+    for line in lines.lines() {
+        let (call, expected) = line.split_once(" -> ").ok_or("a line")?;
+        let given = given(rt, alloc, &mut account, call)?;
+        assert_eq!(rt; given.as_str(), expected, "{call}");
+    }
+    Ok(())
+}
+
+/// At 07:30 a grant is held at the price from 08:00 on. Five minutes are used before the switch, and two begun after it.
+const SWITCH: &str = "1767598200 credit 4102444800 1000000 -> 1 (1000000; 1000000, 0, 0, 0)
+1767598200 open s1 -> opened (1000000; 1000000, 0, 0, 0)
+1767598200 reserve s1 10 600 -> 600 Some(1767600000) 3600 all (1000000; 0, 1000000, 0, 0)
+1767600300 settle s1 10 300:before 90:after -> 7 450000 450000 0 (1000000; 550000, 0, 450000, 0)";
+
+#[test]
+fn a_switch_within_the_validity(rt: HostRuntime) -> Result<(), Fail> {
+    try_all(&rt, rt.alloc(), SWITCH)
+}
+
+/// 250,000 micro-units cover two minutes of ten. Five are used, and half their price isn't collected.
+const SHORT: &str = "1767571200 credit 4102444800 250000 -> 1 (250000; 250000, 0, 0, 0)
+1767607200 open s3 -> opened (250000; 250000, 0, 0, 0)
+1767607200 funds 10 -> 250000 true (250000; 250000, 0, 0, 0)
+1767607200 reserve s3 10 600 -> 120 None 3600 fewer (250000; 50000, 200000, 0, 0)
+1767607500 touch s3 1 -> touched (250000; 50000, 200000, 0, 0)
+1767607500 settle s3 10 300 -> 5 500000 250000 250000 (250000; 0, 0, 250000, 0)
+1767607500 close s3 -> closed (250000; 0, 0, 250000, 0)
+1767607500 session s3 -> 1 Ended false (250000; 0, 0, 250000, 0)";
+
+#[test]
+fn a_short_grant_and_its_settlement(rt: HostRuntime) -> Result<(), Fail> {
+    try_all(&rt, rt.alloc(), SHORT)
+}
+
+/// 61 of 600 seconds start two minutes, and the rest of the second is free in the next grant.
+const STARTED: &str = "1767607200 credit 4102444800 1000000 -> 1 (1000000; 1000000, 0, 0, 0)
+1767607200 open s5 -> opened (1000000; 1000000, 0, 0, 0)
+1767607200 reserve s5 10 600 -> 600 None 3600 all (1000000; 0, 1000000, 0, 0)
+1767607500 settle s5 10 61 -> 2 200000 200000 0 (1000000; 800000, 0, 200000, 0)
+1767607500 reserve s5 10 600 -> 539 None 3600 fewer (1000000; 0, 800000, 200000, 0)
+1767607560 settle s5 10 59 -> 0 0 0 0 (1000000; 800000, 0, 200000, 0)";
+
+#[test]
+fn a_started_minute_runs_on(rt: HostRuntime) -> Result<(), Fail> {
+    try_all(&rt, rt.alloc(), STARTED)
+}
+
+/// Two buckets are held in the order of their ends. What is given up after the first one's end is expired.
+const BUCKETS: &str = "1767607200 credit 1767607800 150000 -> 1 (150000; 150000, 0, 0, 0)
+1767607200 credit 4102444800 300000 -> 2 (150000; 150000, 0, 0, 0) (300000; 300000, 0, 0, 0)
+1767607200 open s6 -> opened (150000; 150000, 0, 0, 0) (300000; 300000, 0, 0, 0)
+1767607200 reserve s6 10 180 -> 180 None 3600 all (150000; 0, 150000, 0, 0) (300000; 150000, 150000, 0, 0)
+1767608100 settle s6 10 60 -> 1 100000 100000 0 (150000; 0, 0, 100000, 50000) (300000; 300000, 0, 0, 0)";
+
+#[test]
+fn two_buckets_of_one_reservation(rt: HostRuntime) -> Result<(), Fail> {
+    try_all(&rt, rt.alloc(), BUCKETS)
+}
+
+/// The first 100 blocks of the month are free: 99 are granted and used, and then two more. January 2026 is the 684th
+/// month after January 1969.
+const MONTH: &str = "1767607200 credit 4102444800 50000 -> 1 (50000; 50000, 0, 0, 0)
+1767607200 open s7 -> opened (50000; 50000, 0, 0, 0)
+1767607200 reserve s7 20 103809024 -> 103809024 None 3600 all (50000; 50000, 0, 0, 0)
+1767607500 settle s7 20 103809024 -> 99 0 0 0 (50000; 50000, 0, 0, 0)
+1767607500 reserve s7 20 2097152 -> 2097152 None 3600 all (50000; 40000, 10000, 0, 0)
+1767607800 settle s7 20 2097152 -> 2 10000 10000 0 (50000; 40000, 0, 10000, 0)
+1767607800 counters of all -> 20 684 101; (50000; 40000, 0, 10000, 0)";
+
+#[test]
+fn free_blocks_of_a_month(rt: HostRuntime) -> Result<(), Fail> {
+    try_all(&rt, rt.alloc(), MONTH)
+}
+
+/// 40,000 micro-units cover no minute: the request is recorded, and no session lives that could be ended. Two
+/// validity times after a session's last request what it holds is given up.
+const FORGOTTEN: &str = "1767607200 credit 4102444800 40000 -> 1 (40000; 40000, 0, 0, 0)
+1767607200 funds 10 -> 40000 false (40000; 40000, 0, 0, 0)
+1767607200 deny s12 -> denied (40000; 40000, 0, 0, 0)
+1767607200 session s12 -> 0 NeverOpened false (40000; 40000, 0, 0, 0)
+1767607260 credit 4102444800 1000000 -> 2 (40000; 40000, 0, 0, 0) (1000000; 1000000, 0, 0, 0)
+1767607320 open s12b -> opened (40000; 40000, 0, 0, 0) (1000000; 1000000, 0, 0, 0)
+1767607320 reserve s12b 10 600 -> 600 None 3600 all (40000; 0, 40000, 0, 0) (1000000; 40000, 960000, 0, 0)
+1767614519 session s12b -> 0 Open true (40000; 0, 40000, 0, 0) (1000000; 40000, 960000, 0, 0)
+1767614520 session s12b -> 0 Open false (40000; 0, 40000, 0, 0) (1000000; 40000, 960000, 0, 0)
+1767614520 funds 10 -> 1040000 true (40000; 0, 40000, 0, 0) (1000000; 40000, 960000, 0, 0)
+1767614520 advance to it -> advanced (40000; 40000, 0, 0, 0) (1000000; 1000000, 0, 0, 0)
+1767614520 session s12b -> 0 Ended false (40000; 40000, 0, 0, 0) (1000000; 1000000, 0, 0, 0)";
+
+#[test]
+fn a_denied_session_and_a_forgotten_one(rt: HostRuntime) -> Result<(), Fail> {
+    try_all(&rt, rt.alloc(), FORGOTTEN)
+}
+
+/// Both groups are settled before the grant of one: what the other gave up is there for it.
+const TWO_GROUPS: &str = "1767607200 credit 4102444800 500000 -> 1 (500000; 500000, 0, 0, 0)
+1767607200 open s17 -> opened (500000; 500000, 0, 0, 0)
+1767607200 reserve s17 10 180 -> 180 None 3600 all (500000; 200000, 300000, 0, 0)
+1767607200 reserve s17 30 2 -> 2 None 3600 all (500000; 20000, 480000, 0, 0)
+1767607500 settle s17 30 1 -> 1 90000 90000 0 (500000; 110000, 300000, 90000, 0)
+1767607500 settle s17 10 60 -> 1 100000 100000 0 (500000; 310000, 0, 190000, 0)
+1767607500 reserve s17 30 3 -> 3 None 3600 all (500000; 40000, 270000, 190000, 0)";
+
+#[test]
+fn services_of_two_groups(rt: HostRuntime) -> Result<(), Fail> {
+    try_all(&rt, rt.alloc(), TWO_GROUPS)
 }
