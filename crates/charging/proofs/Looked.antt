@@ -29,11 +29,11 @@ neither false b h = (refl, h)
 neither true b h = absurd (let no : true ≡ false = h in cc)
 
 -- where none is reserved, all are free
-pub none_reserved : (f : Book) (s : List ℕ) (services : List Service) (groups : List SessionGroup) → any_reserved s services groups ≡ false → AreFree f s services groups
-none_reserved f s [] groups h = tt
-none_reserved f s (x ∷ xs) groups h =
+pub none_reserved : (book : Book) (s : List ℕ) (services : List Service) (groups : List SessionGroup) → any_reserved s services groups ≡ false → AreFree book s services groups
+none_reserved book s [] groups h = tt
+none_reserved book s (x ∷ xs) groups h =
     let each : (is_some (reservation_in s x.group groups) ≡ false) × (any_reserved s xs groups ≡ false) = neither (is_some (reservation_in s x.group groups)) (any_reserved s xs groups) h in
-    ((λ known. is_none_is (reservation_in s x.group groups) each.0), none_reserved f s xs groups each.1)
+    ((λ known. is_none_is (reservation_in s x.group groups) each.0), none_reserved book s xs groups each.1)
 
 row_reservation : (v t : ℕ) (ledger : Ledger) (s : List ℕ) (g : ℕ) (o : Option SessionGroup) → o ≡ group_at v t ledger s g → open_grant s g ledger ≡ None → (unwrap_or o (new_group s g)).reservation ≡ None
 row_reservation v t ledger s g o e none = ap (λ x. (unwrap_or x (new_group s g)).reservation) e ∙ at (has_group s g ledger) (is_live v t ledger s) refl refl
