@@ -1,17 +1,21 @@
 -- The document of the book of one price is TOML with the members of that book.
-use Rattle.std.proofs.Common.{rules, ◌≡◌, ℕ, suc, ◌<◌, ◌^◌, List, [], ◌∷◌, ◌++◌, length, drop, codes, decimal, pos, Some, true, false, option_map, FitsSigned, append_assoc, append-nil, refl, sym, ap, ◌∙◌, subst, arith, lt-ltb}
+use Rattle.std.proofs.Common.{rules, ◌≤◌, String, Global, string_bytes, Result, Ok, ◌≡◌, ℕ, suc, ◌<◌, ◌^◌, List, [], ◌∷◌, ◌++◌, length, drop, codes, decimal, pos, Some, true, false, option_map, FitsSigned, append_assoc, append-nil, refl, sym, ap, ◌∙◌, subst, arith, lt-ltb}
 use Rattle.std.specs.Fmt.{digits}
 use Rattle.std.specs.Int.{w64}
+use Rattle.std.proofs.lemmas.Str.{IsUtf8-string_bytes}
 use Rattle.std.proofs.Math.Facts.{sfits_lit}
 use Rattle.std.proofs.lemmas.Float.{T_from_true}
 use Rattle.toml_writer.specs.Text.{string_text, key_text, dotted_text, encoding_of, escaped, needs_escape, quotes_after}
-use Rattle.toml.specs.Data.{Data, string, integer, array, no_items, item}
+use Rattle.toml.specs.Data.{Data, string, integer, array, no_items, item, Members}
 use Rattle.toml.specs.Tables.{no_nodes, close, key_value, array_table, Expression, define, along_header, along_dots, at_key}
 use Rattle.toml.specs.Parse.{lines, skip_bom, parse_document}
 use Rattle.toml.specs.Text.{IsValueText, IsLinesText}
 use Rattle.toml.proofs.ReadLines.{run, AllPrinted, read_lines}
-use Rattle.operator.specs.OnceBook.{to_the_block, to_the_price, once_document}
-use Rattle.operator.proofs.OnceMembers.{day_items, once_members}
+use Rattle.book_fields.specs.declared.fault.BookFault.{BookFault}
+use Rattle.book_fields.specs.Faults.{Gives}
+use Rattle.tariffs.specs.Books.{Book, IsDocument, book_of}
+use Rattle.operator.specs.OnceBook.{once_book, to_the_block, to_the_price, once_document}
+use Rattle.operator.proofs.OnceMembers.{book_read, day_items, once_members}
 
 -- ---- lines
 
@@ -61,11 +65,8 @@ fits n h = sfits_lit (T_from_true _ (lt-ltb n (2 ^ 63) h))
 abbrev IsValue : Data → List ℕ → Type 0
 IsValue = IsValueText false
 
-number_text : (n : ℕ) → n < 2 ^ 63 → IsValue (integer (pos n)) (decimal n)
-number_text n h = (refl, fits n h)
-
-literal_text : (n : ℕ) (text : List ℕ) → decimal n ≡ text → n < 2 ^ 63 → IsValue (integer (pos n)) text
-literal_text n text same h = (sym same, fits n h)
+number_text : (n : ℕ) (text : List ℕ) → decimal n ≡ text → n < 2 ^ 63 → IsValue (integer (pos n)) text
+number_text n text same h = (sym same, fits n h)
 
 always_text : IsValue (string (codes "always")) (codes "\"always\"")
 unfolding string_text encoding_of escaped needs_escape quotes_after
@@ -80,37 +81,37 @@ days_text = (
     codes "1",
     codes ", 2, 3, 4, 5, 6, 7]",
     refl,
-    literal_text 1 (codes "1") refl (omega arith),
+    number_text 1 (codes "1") refl (omega arith),
     (
       codes "2",
       codes ", 3, 4, 5, 6, 7]",
       refl,
-      literal_text 2 (codes "2") refl (omega arith),
+      number_text 2 (codes "2") refl (omega arith),
       (
         codes "3",
         codes ", 4, 5, 6, 7]",
         refl,
-        literal_text 3 (codes "3") refl (omega arith),
+        number_text 3 (codes "3") refl (omega arith),
         (
           codes "4",
           codes ", 5, 6, 7]",
           refl,
-          literal_text 4 (codes "4") refl (omega arith),
+          number_text 4 (codes "4") refl (omega arith),
           (
             codes "5",
             codes ", 6, 7]",
             refl,
-            literal_text 5 (codes "5") refl (omega arith),
+            number_text 5 (codes "5") refl (omega arith),
             (
               codes "6",
               codes ", 7]",
               refl,
-              literal_text 6 (codes "6") refl (omega arith),
+              number_text 6 (codes "6") refl (omega arith),
               (
                 codes "7",
                 codes "]",
                 refl,
-                literal_text 7 (codes "7") refl (omega arith),
+                number_text 7 (codes "7") refl (omega arith),
                 refl,
               ),
             ),
@@ -149,7 +150,7 @@ text_line key s bare plain more = pair_line key (string s) (34 ∷ (s ++ 34 ∷ 
 
 number_line : {es : List Expression} {rest : List ℕ} (key : List ℕ) (n : ℕ) (text : List ℕ) → key_text key ≡ key → decimal n ≡ text → n < 2 ^ 63 → IsWritten es rest
     → IsWritten (pair key (integer (pos n)) ∷ es) (pair_text key text ++ rest)
-number_line key n text bare same h more = pair_line key (integer (pos n)) text bare (literal_text n text same h) more
+number_line key n text bare same h more = pair_line key (integer (pos n)) text bare (number_text n text same h) more
 
 literals : (decimal 10 ≡ codes "10") × (decimal 600 ≡ codes "600") × (decimal 978 ≡ codes "978") × (decimal 3600 ≡ codes "3600")
 unfolding digits
@@ -197,8 +198,16 @@ no_mark : (price block : ℕ) → skip_bom (once_document price block) ≡ once_
 unfolding skip_bom
 no_mark price block = refl
 
-pub once_parsed : (price block : ℕ) → price < 2 ^ 63 → block < 2 ^ 63 → parse_document (once_document price block) ≡ Some (once_members price block)
+once_parsed : (price block : ℕ) → price < 2 ^ 63 → block < 2 ^ 63 → parse_document (once_document price block) ≡ Some (once_members price block)
 once_parsed price block cheap short =
     let text = once_document price block in
     let read = read_lines false false (once_lines price block) text text (no_nodes, []) (suc (length text)) (once_written price block cheap short) (all_printed price block) refl (omega arith) in
     as_read text (no_mark price block) ∙ ap (option_map (λ doc. close doc.0)) read ∙ lines_define price block
+
+-- reading the document gives the book
+pub document_read : (price block : ℕ) (text : String Global) (bytes : List ℕ) (r : Result Book BookFault) → price ≤ 1_000_000_000 → 1 ≤ block → block ≤ 1_000_000_000_000_000
+    → bytes ≡ string_bytes text → string_bytes text ≡ once_document price block → ((t : Members) → IsDocument bytes t → Gives (λ b. b) r (book_of t)) → Gives (λ b. b) r (Ok (once_book price block))
+document_read price block text bytes r cheap some few same written read =
+    let parsed = once_parsed price block (omega arith) (omega arith) in
+    let document : IsDocument bytes (once_members price block) = record { text = rw same (IsUtf8-string_bytes text); parsed = ap parse_document (same ∙ written) ∙ parsed } in
+    subst (Gives (λ b. b) r) (book_read price block cheap some few) (read (once_members price block) document)

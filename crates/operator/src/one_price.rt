@@ -1,24 +1,25 @@
-ghost use Rattle.std.specs.Prelude.{◌≡◌, ◌≤◌, IfOk, IfErr, string_bytes};
-ghost use Rattle.book_fields.specs.declared.fault.BookFault.TheVariants.{Memory};
+ghost use Rattle.std.specs.Prelude.{◌≡◌, ◌≤◌, IfOk, string_bytes};
 ghost use Rattle.operator.specs.OnceBook.{once_book, once_document};
 
 use std::alloc::{AllocError, Global};
 use tariffs::{BookFault, TariffBook};
 
 /// The book of one price (profile): rating group 10 in seconds, `price` micro-units a block of `block` seconds in
-/// every minute of the week.
-///
-/// # Errors
-/// Want of memory.
-pub fn once_book(alloc: Global, price: u64, block: u64) -> Result<TariffBook, BookFault>
+/// every minute of the week. Its document is a book's, so its error is want of memory.
+pub fn once_book(alloc: Global, price: u64, block: u64) -> Result<TariffBook, AllocError>
     requires price { price ≤ 1_000_000_000 }
     requires some_block { 1 ≤ block }
     requires block { block ≤ 1_000_000_000_000_000 }
-    ensures book { IfOk result (λ b. b ≡ once_book price block) }
-    ensures memory { IfErr result (λ fault. fault ≡ Memory) }
+    ensures { IfOk result (λ b. b ≡ once_book price block) }
 {
     let text = once_document(alloc, price, block)?;
-    TariffBook::read(alloc, text.as_bytes())
+    match TariffBook::read(alloc, text.as_bytes()) {
+        Ok(book) => Ok(book),
+        Err(fault) => {
+            prove!(matches!(fault, BookFault::Memory));
+            Err(AllocError)
+        }
+    }
 }
 
 /// The document's beginning, to the number of seconds in a block.
