@@ -1,19 +1,20 @@
 -- A session that is opened, touched, or only goes on in time is live.
-use Rattle.std.proofs.Common.{◌≡◌, ℕ, ◌+◌, ◌*◌, ◌<◌, Bool, true, false, List, map, refl, sym, ap, subst, ◌∙◌, Option, Some, None, arith}
-use Rattle.std.specs.Prelude.{if◌then◌else◌, ◌&&◌, not, nat_lt, option_map, unwrap_or}
+use Rattle.std.proofs.Common.{◌≡◌, ℕ, ◌+◌, ◌*◌, ◌<◌, Bool, true, false, List, map, refl, ap, ◌∙◌, Option, Some, None, arith}
+use Rattle.std.specs.Prelude.{if◌then◌else◌, ◌&&◌, not, nat_lt, option_map}
 use Rattle.std.proofs.lemmas.Bool.Decides.{nat_tests}
 use Rattle.reserving.specs.declared.session.Session.{Session}
 use Rattle.reserving.specs.declared.session.SessionState.TheVariants.{Open, Ended}
 use Rattle.reserving.specs.declared.session.SessionGroup.{SessionGroup}
-use Rattle.reserving.specs.Sessions.{is_session, session_in, is_of, group_in, is_open, is_live_in, is_live_row}
-use Rattle.reserving.specs.Changes.{lapse, lapse_group, session_put, touched_session}
+use Rattle.reserving.specs.Sessions.{is_session, session_in, is_open, is_live_in, is_live_row}
+use Rattle.reserving.specs.Rows.{AccountRows}
+use Rattle.reserving.specs.Changes.{advanced, lapse, lapse_group, session_put, touched_session}
 use Rattle.reserving.proofs.Lists.{find-map, find-put, find-passes}
 use Rattle.reserving.proofs.Holds.{same_itself}
 use Rattle.commands.specs.declared.service.Service.{Service}
-use Rattle.reserving.specs.Changes.{new_group}
-use Rattle.charging.specs.Named.{named}
-use Rattle.charging.specs.Free.{IsFree, IsFreeFor}
-use Rattle.charging.proofs.Services.{named_group}
+use Rattle.tariffs.specs.Books.{Book}
+use Rattle.reserving.proofs.ReservedCall.{free_later}
+use Rattle.charging.specs.Free.{AreFree}
+use Rattle.charging.proofs.Services.{free_kept}
 
 lapse_keeps : (v t : ℕ) (s : List ℕ) (r : Session) → is_session s (lapse v t r) ≡ is_session s r
 lapse_keeps v t s r = elim (is_open r.state && not (nat_lt t (r.touched + 2 * v))) as (λ l. is_session s (if l then record r { state = Ended } else r) ≡ is_session s r) [ true ↦ refl | false ↦ refl ]
@@ -51,34 +52,11 @@ live_touched v t n s rows h live = ap (is_live_row v t) (find-map (is_session s)
     at None e k = k
     at (Some r) e k = rw (find-passes (is_session s) rows r e) (later v t h)
 
--- a group without a reservation, after the session was opened
-pub free_opened : (keeps : List ℕ → Bool) (s : List ℕ) (g : ℕ) (rows : List SessionGroup) → IsFree (group_in s g rows) → IsFree (group_in s g (map (lapse_group keeps) rows))
-free_opened keeps s g rows h = rw (find-map (is_of s g) (lapse_group keeps) rows keep) (at (group_in s g rows) h)
-  where
-    keep : (r : SessionGroup) → is_of s g (lapse_group keeps r) ≡ is_of s g r
-    keep r = elim (keeps r.session) as (λ l. is_of s g (if l then r else record r { reservation = None }) ≡ is_of s g r) [ true ↦ refl | false ↦ refl ]
+-- a session stays live in a call that only lets time go on for it
+pub live_after : (old new : AccountRows) (s : List ℕ) (t : ℕ) → new.book ≡ old.book → new.sessions ≡ (advanced t old).sessions → is_live_in old.book.validity t old.sessions s ≡ true → is_live_in new.book.validity t new.sessions s ≡ true
+live_after old new s t book sessions live =
+    (λ i. is_live_in (book i).validity t (sessions i) s) ∙ live_lapsed old.book.validity t old.sessions s live
 
-    at : (o : Option SessionGroup) → IsFree o → IsFree (option_map (lapse_group keeps) o)
-    at None k = tt
-    at (Some r) k = by (keeps r.session) k
-      where
-        by : (l : Bool) → r.reservation ≡ None → (if l then r else record r { reservation = None }).reservation ≡ None
-        by true e = e
-        by false e = refl
-
-pub free_for_opened : (keeps : List ℕ → Bool) (s : List ℕ) (o : Option Service) (rows : List SessionGroup) → IsFreeFor o s rows → IsFreeFor o s (map (lapse_group keeps) rows)
-free_for_opened keeps s None rows h = h
-free_for_opened keeps s (Some x) rows h = free_opened keeps s x.group rows h
-
--- the group's reservation alone matters
-pub free_for_named : (g : ℕ) (s : List ℕ) (services : List Service) (rows : List SessionGroup) → IsFree (group_in s g rows) → IsFreeFor (named g services) s rows
-free_for_named g s services rows h = at (named g services) refl
-  where
-    at : (o : Option Service) → named g services ≡ o → IsFreeFor o s rows
-    at None e = tt
-    at (Some x) e = subst (λ n. IsFree (group_in s n rows)) (sym (named_group g services x e)) h
-
--- a row without a reservation
-pub free_again : (s : List ℕ) (g : ℕ) (o : Option SessionGroup) → (unwrap_or o (new_group s g)).reservation ≡ None → IsFree o
-free_again s g None h = tt
-free_again s g (Some r) h = h
+-- services' groups stay free as time goes on
+pub free_lapsed : (keeps : List ℕ → Bool) (f : Book) (s : List ℕ) (services : List Service) (rows : List SessionGroup) → AreFree f s services rows → AreFree f s services (map (lapse_group keeps) rows)
+free_lapsed keeps f s services rows free = free_kept f s services rows (map (lapse_group keeps) rows) (λ g none. free_later keeps s g rows none) free

@@ -14,7 +14,7 @@ use Rattle.commands.specs.declared.request.Ask.TheVariants.{Initial, Update, Ter
 use Rattle.commands.specs.declared.request.Request.{Request}
 use Rattle.commands.specs.Codes.{kind_of_ask}
 use Rattle.reserving.specs.Ledger.{Ledger, is_live, last_recording, or_else}
-use Rattle.reserving.specs.FlatTariff.{Flat}
+use Rattle.tariffs.specs.Books.{Book}
 use Rattle.reserving.specs.Requests.{recorded, touched, closed}
 use Rattle.charging.specs.Recorded.{has_record, is_late}
 use Rattle.charging.specs.Reports.{units_fault}
@@ -37,19 +37,19 @@ refused_or (Some failure) ledger accepted = record { outcome = Failed failure; a
 -- ---- an initial request
 
 -- a Session-Id names one session for good
-abbrev pub initial_refusal : Flat → List ℕ → List Service → Ledger → Option Failure
-initial_refusal f s services ledger =
-    if has_record s ledger then Some (invalid SessionId) else option_map invalid (units_fault f s ledger services)
+abbrev pub initial_refusal : Book → List ℕ → List Service → Ledger → Option Failure
+initial_refusal b s services ledger =
+    if has_record s ledger then Some (invalid SessionId) else option_map invalid (units_fault b s ledger services)
 
 -- where some service is granted units the session opens; else the request is denied for its first service's reason
-abbrev pub opened : Flat → ℕ → List ℕ → ℕ → List Service → Ledger → Decision
-opened f t s n services ledger =
-    if any_grants f t ledger services
-    then record { outcome = Services (grant_answers f t s services (touched t s n ledger)); after = after_grants f t s services (touched t s n ledger) }
-    else record { outcome = Failed (Denied (first_denial f services)); after = recorded t s n ledger }
+abbrev pub opened : Book → ℕ → List ℕ → ℕ → List Service → Ledger → Decision
+opened b t s n services ledger =
+    if any_grants b t ledger services
+    then record { outcome = Services (grant_answers b t s services (touched t s n ledger)); after = after_grants b t s services (touched t s n ledger) }
+    else record { outcome = Failed (Denied (first_denial b services)); after = recorded t s n ledger }
 
-abbrev pub initial_decision : Flat → ℕ → List ℕ → ℕ → List Service → Ledger → Decision
-initial_decision f t s n services ledger = refused_or (initial_refusal f s services ledger) ledger (opened f t s n services ledger)
+abbrev pub initial_decision : Book → ℕ → List ℕ → ℕ → List Service → Ledger → Decision
+initial_decision b t s n services ledger = refused_or (initial_refusal b s services ledger) ledger (opened b t s n services ledger)
 
 -- ---- a request of a session
 
@@ -58,60 +58,60 @@ limit_refusal passes = if passes then Some UnableToComply else None
 
 -- what is told before anything is settled: the session isn't live, the number isn't greater than that of its last
 -- accepted request, a service speaks of units that it can't
-abbrev pub early_refusal : Flat → ℕ → List ℕ → ℕ → List Service → Ledger → Option Failure
-early_refusal f t s n services ledger =
-    if not (is_live f.validity t ledger s) then Some UnknownSessionId
+abbrev pub early_refusal : Book → ℕ → List ℕ → ℕ → List Service → Ledger → Option Failure
+early_refusal b t s n services ledger =
+    if not (is_live b.validity t ledger s) then Some UnknownSessionId
     else (if is_late n (last_recording s ledger) then Some (invalid RequestNumber)
-    else option_map invalid (units_fault f s ledger services))
+    else option_map invalid (units_fault b s ledger services))
 
 -- of an update and of a termination alike
-abbrev pub session_refusal : Flat → ℕ → List ℕ → ℕ → List Service → Ledger → Option Failure
-session_refusal f t s n services ledger = or_else (early_refusal f t s n services ledger) (limit_refusal (any_passes f t s services ledger))
+abbrev pub session_refusal : Book → ℕ → List ℕ → ℕ → List Service → Ledger → Option Failure
+session_refusal b t s n services ledger = or_else (early_refusal b t s n services ledger) (limit_refusal (any_passes b t s services ledger))
 
 -- its services are settled, and the session is touched
-abbrev pub settled_touched : Flat → ℕ → List ℕ → ℕ → List Service → Ledger → Ledger
-settled_touched f t s n services ledger = touched t s n (settled_services f t s services ledger)
+abbrev pub settled_touched : Book → ℕ → List ℕ → ℕ → List Service → Ledger → Ledger
+settled_touched b t s n services ledger = touched t s n (settled_services b t s services ledger)
 
 -- ---- an update
 
 -- all its services are settled first; then each is granted what it asks for
-abbrev pub updated : Flat → ℕ → List ℕ → ℕ → List Service → Ledger → Decision
-updated f t s n services ledger = record {
-  outcome = Services (grant_answers f t s services (settled_touched f t s n services ledger));
-  after = after_grants f t s services (settled_touched f t s n services ledger);
+abbrev pub updated : Book → ℕ → List ℕ → ℕ → List Service → Ledger → Decision
+updated b t s n services ledger = record {
+  outcome = Services (grant_answers b t s services (settled_touched b t s n services ledger));
+  after = after_grants b t s services (settled_touched b t s n services ledger);
 }
 
-abbrev pub update_decision : Flat → ℕ → List ℕ → ℕ → List Service → Ledger → Decision
-update_decision f t s n services ledger = refused_or (session_refusal f t s n services ledger) ledger (updated f t s n services ledger)
+abbrev pub update_decision : Book → ℕ → List ℕ → ℕ → List Service → Ledger → Decision
+update_decision b t s n services ledger = refused_or (session_refusal b t s n services ledger) ledger (updated b t s n services ledger)
 
 -- ---- a termination
 
 -- its services are settled, and the session ends
-abbrev pub ended : Flat → ℕ → List ℕ → ℕ → List Service → Ledger → Decision
-ended f t s n services ledger = record {
-  outcome = Services (settled_answers f services);
-  after = closed t s (settled_touched f t s n services ledger);
+abbrev pub ended : Book → ℕ → List ℕ → ℕ → List Service → Ledger → Decision
+ended b t s n services ledger = record {
+  outcome = Services (settled_answers b services);
+  after = closed t s (settled_touched b t s n services ledger);
 }
 
-abbrev pub termination_decision : Flat → ℕ → List ℕ → ℕ → List Service → Ledger → Decision
-termination_decision f t s n services ledger = refused_or (session_refusal f t s n services ledger) ledger (ended f t s n services ledger)
+abbrev pub termination_decision : Book → ℕ → List ℕ → ℕ → List Service → Ledger → Decision
+termination_decision b t s n services ledger = refused_or (session_refusal b t s n services ledger) ledger (ended b t s n services ledger)
 
 -- ---- a request
 
 abbrev pub refused : Failure → Ledger → Decision
 refused failure ledger = record { outcome = Failed failure; after = ledger }
 
-abbrev pub decided : Flat → ℕ → List ℕ → ℕ → Ask → Ledger → Decision
-decided f t s n (Initial services) ledger = initial_decision f t s n services ledger
-decided f t s n (Update services) ledger = update_decision f t s n services ledger
-decided f t s n (Termination services) ledger = termination_decision f t s n services ledger
-decided f t s n (Event event) ledger = refused (invalid RequestType) ledger
-decided f t s n (Refund refund) ledger = refused (invalid RequestType) ledger
+abbrev pub decided : Book → ℕ → List ℕ → ℕ → Ask → Ledger → Decision
+decided b t s n (Initial services) ledger = initial_decision b t s n services ledger
+decided b t s n (Update services) ledger = update_decision b t s n services ledger
+decided b t s n (Termination services) ledger = termination_decision b t s n services ledger
+decided b t s n (Event event) ledger = refused (invalid RequestType) ledger
+decided b t s n (Refund refund) ledger = refused (invalid RequestType) ledger
 
 -- the answer of a request at a moment, and the ledger after it; a request whose number has a kept answer isn't
 -- decided
-abbrev pub decision : Flat → ℕ → Request → Ledger → Decision
-decision f t r ledger = decided f t r.session r.number r.ask ledger
+abbrev pub decision : Book → ℕ → Request → Ledger → Decision
+decision b t r ledger = decided b t r.session r.number r.ask ledger
 
 abbrev pub answer_of : Request → Outcome → RequestAnswer
 answer_of r outcome = record { session = r.session; kind = kind_of_ask r.ask; number = r.number; outcome = outcome }

@@ -6,7 +6,7 @@ use Rattle.commands.specs.declared.answer.Outcome.{Outcome}
 use Rattle.commands.specs.declared.answer.ServiceOutcome.{ServiceOutcome}
 use Rattle.commands.specs.declared.answer.ServiceAnswer.{ServiceAnswer}
 use Rattle.commands.specs.declared.answer.Failure.{Failure}
-use Rattle.reserving.specs.FlatTariff.{Flat}
+use Rattle.tariffs.specs.Books.{Book}
 use Rattle.reserving.specs.declared.fault.AccountFault.{AccountFault}
 use Rattle.reserving.specs.declared.fault.AccountFault.TheVariants.{Memory, Limit}
 use Rattle.reserving.specs.Ledger.{Ledger}
@@ -25,13 +25,13 @@ Follows old new outcome decision = (ledger : Ledger) → IsRowsOf ledger old →
 
 -- the same of a request that its ledgers refuse, or that is still to be answered
 abbrev pub Settles : Option Failure → AccountRows → AccountRows → ℕ → List ℕ → ℕ → List Service → Type 0
-Settles None old new t s n services = (ledger : Ledger) → IsRowsOf ledger old → (session_refusal old.tariff t s n services ledger ≡ None) × IsRowsOf (settled_services old.tariff t s services ledger) new
-Settles (Some failure) old new t s n services = (ledger : Ledger) → IsRowsOf ledger old → session_refusal old.tariff t s n services ledger ≡ Some failure
+Settles None old new t s n services = (ledger : Ledger) → IsRowsOf ledger old → (session_refusal old.book t s n services ledger ≡ None) × IsRowsOf (settled_services old.book t s services ledger) new
+Settles (Some failure) old new t s n services = (ledger : Ledger) → IsRowsOf ledger old → session_refusal old.book t s n services ledger ≡ Some failure
 
 -- the same of all grants of a request
-pub record GrantsAll (answers : List ServiceAnswer) (f : Flat) (t : ℕ) (s : List ℕ) (services : List Service) (ledger : Ledger) (new : AccountRows) : Type 0 where
-  pub same : answers ≡ grant_answers f t s services ledger
-  pub rows : IsRowsOf (after_grants f t s services ledger) new
+pub record GrantsAll (answers : List ServiceAnswer) (b : Book) (t : ℕ) (s : List ℕ) (services : List Service) (ledger : Ledger) (new : AccountRows) : Type 0 where
+  pub same : answers ≡ grant_answers b t s services ledger
+  pub rows : IsRowsOf (after_grants b t s services ledger) new
 
 -- the same of a service's grant
 pub record Grants (outcome : ServiceOutcome) (answered : Answered) (new : AccountRows) : Type 0 where
@@ -40,6 +40,6 @@ pub record Grants (outcome : ServiceOutcome) (answered : Answered) (new : Accoun
 
 -- a settlement of services passes a limit, or leaves the ledger with it
 abbrev pub SettlesAll : Result Unit AccountFault → AccountRows → AccountRows → ℕ → List ℕ → List Service → Type 0
-SettlesAll (Ok x) old new t s services = (ledger : Ledger) → IsRowsOf ledger old → (any_passes old.tariff t s services ledger ≡ false) × IsRowsOf (settled_services old.tariff t s services ledger) new
-SettlesAll (Err Limit) old new t s services = (ledger : Ledger) → IsRowsOf ledger old → any_passes old.tariff t s services ledger ≡ true
+SettlesAll (Ok x) old new t s services = (ledger : Ledger) → IsRowsOf ledger old → (any_passes old.book t s services ledger ≡ false) × IsRowsOf (settled_services old.book t s services ledger) new
+SettlesAll (Err Limit) old new t s services = (ledger : Ledger) → IsRowsOf ledger old → any_passes old.book t s services ledger ≡ true
 SettlesAll (Err Memory) old new t s services = Unit {0}

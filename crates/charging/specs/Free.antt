@@ -1,20 +1,26 @@
--- Reservations in the rows of sessions' groups.
+-- Reservations of the groups that a request names.
 -- Source: profile.
-use Rattle.std.specs.Prelude.{◌≡◌, ℕ, Bool, false, List, Option, Some, None, is_some}
+use Rattle.std.specs.Prelude.{◌≡◌, ℕ, Bool, true, false, ◌==◌, List, [], ◌∷◌, None, is_some}
+use Rattle.std.specs.List.{list_any}
 use Rattle.commands.specs.declared.service.Service.{Service}
 use Rattle.reserving.specs.declared.session.SessionGroup.{SessionGroup}
-use Rattle.reserving.specs.Sessions.{group_in}
+use Rattle.reserving.specs.Prepared.{reservation_in}
+use Rattle.tariffs.specs.Books.{Book}
+use Rattle.charging.specs.Known.{is_known}
 
-abbrev pub is_reserved : Option SessionGroup → Bool
-is_reserved None = false
-is_reserved (Some r) = is_some r.reservation
+-- the session has a reservation of some service's group
+abbrev pub any_reserved : List ℕ → List Service → List SessionGroup → Bool
+any_reserved s services groups = list_any (λ x. is_some (reservation_in s x.group groups)) services
 
--- a group of a session without a reservation
-abbrev pub IsFree : Option SessionGroup → Type 0
-IsFree None = Unit {0}
-IsFree (Some r) = r.reservation ≡ None
+-- no known group of the services has a reservation
+abbrev pub AreFree : Book → List ℕ → List Service → List SessionGroup → Type 0
+AreFree b s [] groups = Unit {0}
+AreFree b s (x ∷ xs) groups = (is_known b x.group ≡ true → reservation_in s x.group groups ≡ None) × AreFree b s xs groups
 
--- a service whose group has no reservation, where there is one
-abbrev pub IsFreeFor : Option Service → List ℕ → List SessionGroup → Type 0
-IsFreeFor None s groups = Unit {0}
-IsFreeFor (Some x) s groups = IsFree (group_in s x.group groups)
+-- a group of the session that had no reservation has none
+abbrev pub AreKept : List ℕ → List SessionGroup → List SessionGroup → Type 0
+AreKept s old new = (g : ℕ) → reservation_in s g old ≡ None → reservation_in s g new ≡ None
+
+-- the same of its other groups than one
+abbrev pub OthersKept : List ℕ → ℕ → List SessionGroup → List SessionGroup → Type 0
+OthersKept s group old new = (g : ℕ) → (g == group) ≡ false → reservation_in s g old ≡ None → reservation_in s g new ≡ None

@@ -5,5 +5,4 @@ pub mod Settling
 pub mod Decisions
 pub mod Free
 pub mod Follows
-pub mod Named
-pub mod Answers
+pub mod Known

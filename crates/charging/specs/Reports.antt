@@ -1,5 +1,5 @@
 -- The units that a service asks for and reports (RFC 8506 sections 8.17 to 8.19).
-use Rattle.std.specs.Prelude.{ℕ, Bool, true, false, not, ◌==◌, ◌||◌, nat_lt, if◌then◌else◌, List, [], ◌∷◌, Option, Some, None, map, option_map}
+use Rattle.std.specs.Prelude.{ℕ, Bool, true, false, not, ◌||◌, nat_lt, if◌then◌else◌, List, [], ◌∷◌, Option, Some, None, map, option_map}
 use Rattle.units.specs.declared.blocks.UnitKind.{UnitKind}
 use Rattle.units.specs.declared.blocks.UnitKind.TheVariants as unit
 use Rattle.units.specs.declared.blocks.UsedPart.{UsedPart}
@@ -15,8 +15,11 @@ use Rattle.commands.specs.declared.avp.Avp.{Avp}
 use Rattle.commands.specs.declared.avp.Avp.TheVariants.{RequestedUnit, UsedUnit}
 use Rattle.commands.specs.Used.{Used}
 use Rattle.reserving.specs.Ledger.{Ledger, or_else, used}
-use Rattle.reserving.specs.FlatTariff.{Flat}
-use Rattle.reserving.specs.Settlement.{rated_blocks}
+use Rattle.units.specs.Blocks.{started}
+use Rattle.tariffs.specs.Books.{Book}
+use Rattle.tariffs.specs.Tariffs.{GroupTariff}
+use Rattle.reserving.specs.Pricing.{tariff_of}
+use Rattle.reserving.specs.Settlement.{reported}
 
 abbrev pub is_kind : UnitKind → UnitKind → Bool
 is_kind unit.Time unit.Time = true
@@ -54,18 +57,17 @@ asks_other kind (Some Slice) = false
 asks_other kind (Some (Units q)) = not (is_kind q.kind kind)
 
 -- a use in other units than the group's, or one that starts more than 10^9 blocks
-abbrev pub reports_other : Flat → ℕ → Option Used → Bool
-reports_other f before None = false
-reports_other f before (Some u) = not (is_kind u.kind f.kind) || nat_lt 1000000000 (rated_blocks f before (map part_of u.parts))
+abbrev pub reports_other : GroupTariff → ℕ → Option Used → Bool
+reports_other tariff before None = false
+reports_other tariff before (Some u) = not (is_kind u.kind tariff.unit) || nat_lt 1000000000 (started before (reported (map part_of u.parts)) tariff.block)
 
--- what is wrong with the units of a service of a known group, what it asks for first
-abbrev pub wrong_units : Flat → ℕ → Service → Option Avp
-wrong_units f before x =
-    if x.group == f.group
-    then (if asks_other f.kind x.requested then Some RequestedUnit else (if reports_other f before x.used then Some UsedUnit else None))
-    else None
+-- what is wrong with the units of a service by its group's tariff, what it asks for first; of an unknown group nothing is
+abbrev pub wrong_units : Option GroupTariff → ℕ → Service → Option Avp
+wrong_units None before x = None
+wrong_units (Some tariff) before x =
+    if asks_other tariff.unit x.requested then Some RequestedUnit else (if reports_other tariff before x.used then Some UsedUnit else None)
 
 -- the first fault of the services' units, in their order
-abbrev pub units_fault : Flat → List ℕ → Ledger → List Service → Option Avp
-units_fault f s ledger [] = None
-units_fault f s ledger (x ∷ xs) = or_else (wrong_units f (used s x.group ledger) x) (units_fault f s ledger xs)
+abbrev pub units_fault : Book → List ℕ → Ledger → List Service → Option Avp
+units_fault b s ledger [] = None
+units_fault b s ledger (x ∷ xs) = or_else (wrong_units (tariff_of b x.group) (used s x.group ledger) x) (units_fault b s ledger xs)

@@ -1,62 +1,68 @@
 //! What the services of a request are answered.
 
-ghost use Rattle.std.specs.Prelude.{◌≡◌, map, IfOk};
-ghost use Rattle.charging.specs.Answers.{outcome_of, service_answer};
+ghost use Rattle.std.specs.Prelude.{◌≡◌, ◌<◌, ◌≤◌, IfOk};
+ghost use Rattle.commands.specs.declared.answer.ServiceOutcome.TheVariants as service;
+ghost use Rattle.charging.specs.Settling.{settled_answer, settled_answers};
+ghost use Rattle.charging.specs.Granting.{last_unit, final_unit};
 
 use commands::{
     FinalUnit, Granted, Quantity, Service, ServiceAnswer, ServiceAnswers, ServiceFailure,
     ServiceOutcome,
 };
-use reserving::FlatTariff;
 use std::alloc::{AllocError, Global};
+use tariffs::{FinalAction, Tariff, TariffBook};
+use units::{Moment, Units};
 
-/// What a request is granted of the tariff's group.
-#[derive(Clone, Copy)]
-pub(crate) enum Quota {
-    /// It asks for nothing.
-    Settled,
-    /// The account doesn't cover one unit.
-    Nothing,
-    /// Units, the seconds for which they are valid, and whether they are fewer than wanted.
-    Units {
-        quantity: Quantity,
-        validity: u32,
-        fewer: bool,
-    },
-}
-
-fn outcome_of(quota: Quota) -> ServiceOutcome
-    ensures { result ≡ outcome_of quota }
+/// What follows the last units.
+fn last_unit(action: &FinalAction) -> Result<FinalUnit, AllocError>
+    ensures { IfOk result (λ unit. unit ≡ last_unit action.now) }
 {
-    match quota {
-        Quota::Settled => ServiceOutcome::Settled,
-        Quota::Nothing => ServiceOutcome::Failed(ServiceFailure::CreditLimitReached),
-        Quota::Units {
-            quantity,
-            validity,
-            fewer,
-        } => {
-            let last = if fewer {
-                Some(FinalUnit::Terminate)
-            } else {
-                None
-            };
-            ServiceOutcome::Granted(Granted {
-                quantity,
-                switch: None,
-                validity,
-                last,
-            })
-        }
+    match action {
+        FinalAction::Terminate => Ok(FinalUnit::Terminate),
+        FinalAction::Redirect(address) => Ok(FinalUnit::Redirect(address.clone()?)),
     }
 }
 
-/// The answer to a service; a rating group without a tariff is 5031.
-fn service_answer(tariff: &FlatTariff, quota: Quota, service: &Service) -> ServiceAnswer
-    ensures { result ≡ service_answer tariff.now quota service.now }
+/// What is said of units that are fewer than wanted.
+fn final_unit(tariff: &Tariff, fewer: bool) -> Result<Option<FinalUnit>, AllocError>
+    ensures { IfOk result (λ last. last ≡ final_unit tariff.now fewer) }
 {
-    let outcome = if service.group == tariff.group() {
-        outcome_of(quota)
+    if fewer {
+        Ok(Some(last_unit(tariff.final_action())?))
+    } else {
+        Ok(None)
+    }
+}
+
+/// Units of a group with this tariff, as they are granted.
+pub(crate) fn granted_outcome(
+    tariff: &Tariff,
+    units: Units,
+    switch: Option<Moment>,
+    validity: u32,
+    fewer: bool,
+) -> Result<ServiceOutcome, AllocError>
+    requires some { 0 < units.0 }
+    requires most { units.0 ≤ tariff.now.max_grant }
+    ensures { IfOk result (λ outcome. outcome ≡ service.Granted (record { quantity = record { kind = tariff.now.unit; units = units.0 }; switch = switch; validity = validity; last = final_unit tariff.now fewer })) }
+{
+    let _ranges = tariff.max_grant();
+    let last = final_unit(tariff, fewer)?;
+    let quantity = Quantity::new(tariff.unit(), units.0);
+    Ok(ServiceOutcome::Granted(Granted {
+        quantity,
+        switch,
+        validity,
+        last,
+    }))
+}
+
+/// The answer to a service that asks for nothing; a rating group without a tariff is 5031.
+fn settled_answer(book: &TariffBook, service: &Service) -> ServiceAnswer
+    ensures { result ≡ settled_answer book.now service.now }
+{
+    let outcome = if book.tariff(service.group).is_some() {
+        ServiceOutcome::Settled
     } else {
         ServiceOutcome::Failed(ServiceFailure::RatingFailed)
     };
@@ -66,28 +72,26 @@ fn service_answer(tariff: &FlatTariff, quota: Quota, service: &Service) -> Servi
     }
 }
 
-fn answer_list(
+fn settled_list(
     alloc: Global,
-    tariff: &FlatTariff,
-    quota: Quota,
+    book: &TariffBook,
     services: &[Service],
 ) -> Result<Vec<ServiceAnswer>, AllocError>
-    ensures { IfOk result (λ v. v.items ≡ map (service_answer tariff.now quota) services.now) }
+    ensures { IfOk result (λ v. v.items ≡ settled_answers book.now services.now) }
 {
     services
         .iter()
-        .map(|service| service_answer(tariff, quota, service))
+        .map(|service| settled_answer(book, service))
         .collect(alloc)
 }
 
-/// The answers to the services of a request.
-pub(crate) fn service_answers(
+/// The answers to services that ask for nothing.
+pub(crate) fn settled_answers(
     alloc: Global,
-    tariff: &FlatTariff,
-    quota: Quota,
+    book: &TariffBook,
     services: &[Service],
 ) -> Result<ServiceAnswers, AllocError>
-    ensures { IfOk result (λ answers. answers ≡ map (service_answer tariff.now quota) services.now) }
+    ensures { IfOk result (λ answers. answers ≡ settled_answers book.now services.now) }
 {
-    Ok(ServiceAnswers::new(answer_list(alloc, tariff, quota, services)?))
+    Ok(ServiceAnswers::new(settled_list(alloc, book, services)?))
 }

@@ -3,12 +3,11 @@ ghost use Rattle.reserving.specs.Ledger.{Ledger};
 ghost use Rattle.reserving.specs.Rows.{IsRowsOf};
 ghost use Rattle.reserving.specs.Sessions.{is_live_in};
 ghost use Rattle.commands.specs.Services.{groups_differ};
-ghost use Rattle.charging.specs.Named.{named};
-ghost use Rattle.charging.specs.Free.{IsFreeFor};
+ghost use Rattle.charging.specs.Free.{AreFree};
 ghost use Rattle.charging.specs.Follows.{Follows, Settles};
 ghost use Rattle.charging.specs.Decisions.{decision, decided, initial_decision, update_decision, termination_decision, answer_of, is_accepted, is_accepted_failure};
 
-use crate::answering::{Quota, service_answers};
+use crate::answering::settled_answers;
 use crate::granting::{open, renew};
 use crate::refusing::{early_refusal, initial_refusal};
 use crate::settling::{end, settle_services};
@@ -48,9 +47,9 @@ fn initial(
 ) -> Result<Outcome, AllocError>
     requires apart { groups_differ services.now ≡ true }
     requires later { account.old.as_of ≤ moment }
-    ensures follows { IfOk result (λ outcome. Follows account.old account.new outcome (initial_decision account.old.tariff moment session.now number services.now)) }
+    ensures follows { IfOk result (λ outcome. Follows account.old account.new outcome (initial_decision account.old.book moment session.now number services.now)) }
     ensures moment { IfOk result (λ outcome. account.new.as_of ≡ if is_accepted outcome then moment else account.old.as_of) }
-    ensures tariff { account.new.tariff ≡ account.old.tariff }
+    ensures tariff { account.new.book ≡ account.old.book }
     ensures same { IfOk result (λ outcome. is_accepted outcome ≡ false → account.new ≡ account.old) }
 {
     if let Some(failure) = initial_refusal(account, session, services) {
@@ -68,15 +67,14 @@ fn settle_or_refuse(
     services: &[Service],
     moment: Moment,
 ) -> Result<Option<Failure>, AllocError>
-    requires apart { groups_differ services.now ≡ true }
     requires later { account.old.as_of ≤ moment }
     ensures settles { IfOk result (λ refusal. Settles refusal account.old account.new moment session.now number services.now) }
     ensures refusal { IfOk result (λ refusal. IfSome refusal (λ failure. is_accepted_failure failure ≡ false)) }
     ensures same { IfOk result (λ refusal. IfSome refusal (λ failure. account.new ≡ account.old)) }
-    ensures live { IfOk result (λ refusal. refusal ≡ None → is_live_in account.new.tariff.validity moment account.new.sessions session.now ≡ true) }
-    ensures free { IfOk result (λ refusal. refusal ≡ None → IsFreeFor (named account.old.tariff.group services.now) session.now account.new.groups) }
+    ensures live { IfOk result (λ refusal. refusal ≡ None → is_live_in account.new.book.validity moment account.new.sessions session.now ≡ true) }
+    ensures free { IfOk result (λ refusal. refusal ≡ None → AreFree account.old.book session.now services.now account.new.groups) }
     ensures later { account.new.as_of ≤ moment }
-    ensures tariff { account.new.tariff ≡ account.old.tariff }
+    ensures tariff { account.new.book ≡ account.old.book }
 {
     if let Some(failure) = early_refusal(account, session, number, services, moment) {
         return Ok(Some(failure));
@@ -98,9 +96,9 @@ fn update(
 ) -> Result<Outcome, AllocError>
     requires apart { groups_differ services.now ≡ true }
     requires later { account.old.as_of ≤ moment }
-    ensures follows { IfOk result (λ outcome. Follows account.old account.new outcome (update_decision account.old.tariff moment session.now number services.now)) }
+    ensures follows { IfOk result (λ outcome. Follows account.old account.new outcome (update_decision account.old.book moment session.now number services.now)) }
     ensures moment { IfOk result (λ outcome. account.new.as_of ≡ if is_accepted outcome then moment else account.old.as_of) }
-    ensures tariff { account.new.tariff ≡ account.old.tariff }
+    ensures tariff { account.new.book ≡ account.old.book }
     ensures same { IfOk result (λ outcome. is_accepted outcome ≡ false → account.new ≡ account.old) }
 {
     if let Some(failure) = settle_or_refuse(alloc, account, session, number, services, moment)? {
@@ -118,17 +116,16 @@ fn terminate(
     services: &[Service],
     moment: Moment,
 ) -> Result<Outcome, AllocError>
-    requires apart { groups_differ services.now ≡ true }
     requires later { account.old.as_of ≤ moment }
-    ensures follows { IfOk result (λ outcome. Follows account.old account.new outcome (termination_decision account.old.tariff moment session.now number services.now)) }
+    ensures follows { IfOk result (λ outcome. Follows account.old account.new outcome (termination_decision account.old.book moment session.now number services.now)) }
     ensures moment { IfOk result (λ outcome. account.new.as_of ≡ if is_accepted outcome then moment else account.old.as_of) }
-    ensures tariff { account.new.tariff ≡ account.old.tariff }
+    ensures tariff { account.new.book ≡ account.old.book }
     ensures same { IfOk result (λ outcome. is_accepted outcome ≡ false → account.new ≡ account.old) }
 {
     if let Some(failure) = settle_or_refuse(alloc, account, session, number, services, moment)? {
         return Ok(refused(failure));
     }
-    let answers = service_answers(alloc, account.tariff(), Quota::Settled, services)?;
+    let answers = settled_answers(alloc, account.book(), services)?;
     end(account, session, number, moment);
     Ok(Outcome::Services(answers))
 }
@@ -142,9 +139,9 @@ fn decide_ask(
     moment: Moment,
 ) -> Result<Outcome, AllocError>
     requires later { account.old.as_of ≤ moment }
-    ensures follows { IfOk result (λ outcome. Follows account.old account.new outcome (decided account.old.tariff moment session.now number ask.now)) }
+    ensures follows { IfOk result (λ outcome. Follows account.old account.new outcome (decided account.old.book moment session.now number ask.now)) }
     ensures moment { IfOk result (λ outcome. account.new.as_of ≡ if is_accepted outcome then moment else account.old.as_of) }
-    ensures tariff { account.new.tariff ≡ account.old.tariff }
+    ensures tariff { account.new.book ≡ account.old.book }
     ensures same { IfOk result (λ outcome. is_accepted outcome ≡ false → account.new ≡ account.old) }
 {
     match ask {
@@ -176,11 +173,11 @@ pub fn decide(
 ) -> Result<RequestAnswer, AllocError>
     requires later { account.old.as_of ≤ moment }
     ensures answer { IfOk result (λ answer. (ledger : Ledger) → IsRowsOf ledger account.old →
-        answer ≡ answer_of request.now (decision account.old.tariff moment request.now ledger).outcome) }
+        answer ≡ answer_of request.now (decision account.old.book moment request.now ledger).outcome) }
     ensures rows { IfOk result (λ answer. (ledger : Ledger) → IsRowsOf ledger account.old →
-        IsRowsOf (decision account.old.tariff moment request.now ledger).after account.new) }
+        IsRowsOf (decision account.old.book moment request.now ledger).after account.new) }
     ensures moment { IfOk result (λ answer. account.new.as_of ≡ if is_accepted answer.outcome then moment else account.old.as_of) }
-    ensures tariff { account.new.tariff ≡ account.old.tariff }
+    ensures tariff { account.new.book ≡ account.old.book }
     ensures same { IfOk result (λ answer. is_accepted answer.outcome ≡ false → account.new ≡ account.old) }
 {
     let session = request.session.clone()?;

@@ -1,12 +1,11 @@
-ghost use Rattle.std.specs.Prelude.{◌≡◌, ◌≤◌, false, is_some, option_copied};
-ghost use Rattle.std.specs.List.{list_any};
+ghost use Rattle.std.specs.Prelude.{◌≡◌, ◌≤◌, false, is_some};
 ghost use Rattle.reserving.specs.Ledger.{Ledger, used, last_recording};
-ghost use Rattle.reserving.specs.Sessions.{is_session, session_in, group_in};
+ghost use Rattle.reserving.specs.Sessions.{session_in};
+ghost use Rattle.reserving.specs.Prepared.{reservation_in};
 ghost use Rattle.reserving.specs.Rows.{IsRowsOf};
 ghost use Rattle.reserving.specs.Changes.{used_in};
 ghost use Rattle.charging.specs.Recorded.{has_record, is_late, is_late_row};
-ghost use Rattle.charging.specs.Free.{IsFree, is_reserved};
-ghost use Rattle.charging.specs.Named.{named};
+ghost use Rattle.charging.specs.Free.{AreFree, any_reserved};
 
 use commands::Service;
 use identifiers::SessionId;
@@ -50,7 +49,7 @@ fn used_in(groups: &[SessionGroup], id: &SessionId, group: u32) -> u64
 
 /// Whether the session has a reservation of the group.
 fn is_reserved(groups: &[SessionGroup], id: &SessionId, group: u32) -> bool
-    ensures { result ≡ is_reserved (group_in id.now group groups.now) }
+    ensures { result ≡ is_some (reservation_in id.now group groups.now) }
 {
     for row in groups {
         if row.session == *id && row.group == group {
@@ -58,6 +57,15 @@ fn is_reserved(groups: &[SessionGroup], id: &SessionId, group: u32) -> bool
         }
     }
     false
+}
+
+/// Whether the session has a reservation of some service's group.
+fn any_reserved(groups: &[SessionGroup], id: &SessionId, services: &[Service]) -> bool
+    ensures { result ≡ any_reserved id.now services.now groups.now }
+{
+    services
+        .iter()
+        .any(|service| is_reserved(groups, id, service.group))
 }
 
 fn has_row(sessions: &[Session], id: &SessionId) -> bool
@@ -71,23 +79,12 @@ fn has_row(sessions: &[Session], id: &SessionId) -> bool
     false
 }
 
-/// Whether some request of the session was accepted: then it has a row, and only then a reservation of the group.
-pub(crate) fn is_known(account: &Account, id: &SessionId, group: u32) -> bool
+/// Whether some request of the session was accepted: then it has a row, and only then reservations of the services'
+/// groups.
+pub(crate) fn is_recorded(account: &Account, id: &SessionId, services: &[Service]) -> bool
     ensures new { result ≡ false → is_some (session_in id.now account.now.sessions) ≡ false }
-    ensures free { result ≡ false → IsFree (group_in id.now group account.now.groups) }
+    ensures free { result ≡ false → AreFree account.now.book id.now services.now account.now.groups }
     ensures ledger { (ledger : Ledger) → IsRowsOf ledger account.now → result ≡ has_record id.now ledger }
 {
-    has_row(account.sessions(), id) || is_reserved(account.groups(), id, group)
-}
-
-/// The service of a rating group.
-pub(crate) fn named(group: u32, services: &[Service]) -> Option<&Service>
-    ensures { option_copied result ≡ named group services.now }
-{
-    for service in services {
-        if service.group == group {
-            return Some(service);
-        }
-    }
-    None
+    has_row(account.sessions(), id) || any_reserved(account.groups(), id, services)
 }

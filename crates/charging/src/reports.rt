@@ -1,11 +1,10 @@
 ghost use Rattle.std.specs.Prelude.{◌≡◌, ◌<◌, ◌≤◌, ◌^◌, IfOk, map, option_map, sum_by, Some, None};
-ghost use Rattle.reserving.specs.FlatTariff.{IsFlat};
-ghost use Rattle.reserving.specs.Settlement.{reported, rated_blocks};
+ghost use Rattle.reserving.specs.Settlement.{reported};
 ghost use Rattle.charging.specs.Reports.{is_kind, units_of, asked_units, change_of, part_of, parts_of, asks_other, reports_other, wrong_units};
 
 use commands::{Avp, Requested, Service, UsedParts};
-use reserving::FlatTariff;
 use std::alloc::{AllocError, Global};
+use tariffs::Tariff;
 use units::{TariffChangeUsage, UnitKind, Units, UsedPart, blocks_started};
 
 /// The most blocks that a report can start.
@@ -108,24 +107,21 @@ fn reported_units(used: &UsedParts) -> u64
     units_of(used.parts())
 }
 
-fn reports_other(tariff: &FlatTariff, before: u64, used: &UsedParts) -> bool
+fn reports_other(tariff: &Tariff, before: u64, used: &UsedParts) -> bool
     ensures { result ≡ reports_other tariff.now before (Some used.now) }
 {
     let block = tariff.block();
     let units = Units(reported_units(used));
-    !is_kind(used.kind(), tariff.kind())
+    !is_kind(used.kind(), tariff.unit())
         || MOST_BLOCKS < blocks_started(Units(before), units, block).0
 }
 
-/// What is wrong with the units of a service of a known group, what it asks for first; `before` is the session's
+/// What is wrong with the units of a service by its group's tariff, what it asks for first; `before` is the session's
 /// use of the group so far.
-pub(crate) fn wrong_units(tariff: &FlatTariff, before: u64, service: &Service) -> Option<Avp>
-    ensures { result ≡ wrong_units tariff.now before service.now }
+pub(crate) fn wrong_units(tariff: &Tariff, before: u64, service: &Service) -> Option<Avp>
+    ensures { result ≡ wrong_units (Some tariff.now) before service.now }
 {
-    if service.group != tariff.group() {
-        return None;
-    }
-    if asks_other(tariff.kind(), &service.requested) {
+    if asks_other(tariff.unit(), &service.requested) {
         return Some(Avp::RequestedUnit);
     }
     match &service.used {

@@ -1,14 +1,11 @@
 ghost use Rattle.std.specs.Prelude.{◌≡◌, ◌≤◌, true, ◌∷◌, [], OnOk, OnErr};
 ghost use Rattle.reserving.specs.Ledger.{Ledger};
 ghost use Rattle.reserving.specs.Requests.{touched, closed};
-ghost use Rattle.reserving.specs.Sessions.{is_live_in, group_in};
+ghost use Rattle.reserving.specs.Sessions.{is_live_in};
 ghost use Rattle.reserving.specs.Rows.{IsRowsOf};
-ghost use Rattle.commands.specs.Services.{groups_differ};
-ghost use Rattle.charging.specs.Named.{named};
-ghost use Rattle.charging.specs.Free.{IsFree, IsFreeFor};
+ghost use Rattle.charging.specs.Free.{AreFree, AreKept};
 ghost use Rattle.charging.specs.Follows.{SettlesAll};
 
-use crate::looking::named;
 use crate::reports::parts_of;
 use commands::Service;
 use identifiers::SessionId;
@@ -16,7 +13,7 @@ use reserving::{Account, AccountFault};
 use std::alloc::Global;
 use units::Moment;
 
-/// Settles a service of the tariff's group for a live session: its reservation ends, with the reported use or
+/// Settles a service for a live session, where its group has a tariff: its reservation ends, with the reported use or
 /// none. `Limit` where a stored number would pass its limit; then, and where memory ran out, nothing has changed.
 fn settle(
     alloc: Global,
@@ -25,22 +22,70 @@ fn settle(
     service: &Service,
     moment: Moment,
 ) -> Result<(), AccountFault>
-    requires known { service.now.group ≡ account.old.tariff.group }
     requires later { account.old.as_of ≤ moment }
-    requires live { is_live_in account.old.tariff.validity moment account.old.sessions session.now ≡ true }
+    requires live { is_live_in account.old.book.validity moment account.old.sessions session.now ≡ true }
     ensures settles { SettlesAll result account.old account.new moment session.now (service.now ∷ []) }
-    ensures live { is_live_in account.new.tariff.validity moment account.new.sessions session.now ≡ true }
+    ensures live { is_live_in account.new.book.validity moment account.new.sessions session.now ≡ true }
     ensures later { account.new.as_of ≤ moment }
-    ensures free { OnOk result (IsFree (group_in session.now service.now.group account.new.groups)) }
-    ensures tariff { account.new.tariff ≡ account.old.tariff }
+    ensures free { OnOk result (AreFree account.old.book session.now (service.now ∷ []) account.new.groups) }
+    ensures kept { OnOk result (AreKept session.now account.old.groups account.new.groups) }
+    ensures tariff { account.new.book ≡ account.old.book }
     ensures err { OnErr result (account.new ≡ account.old) }
 {
+    if account.book().tariff(service.group).is_none() {
+        return Ok(());
+    }
     let parts = parts_of(alloc, service)?;
     account.settle(session, service.group, &parts, moment)?;
     Ok(())
 }
 
-/// Settles the services of a session's request: at most one is of the tariff's group.
+/// Settles services one after another. At a fault those before it are settled.
+fn settle_each(
+    alloc: Global,
+    account: &mut Account,
+    session: &SessionId,
+    services: &[Service],
+    moment: Moment,
+) -> Result<(), AccountFault>
+    requires later { account.old.as_of ≤ moment }
+    requires live { is_live_in account.old.book.validity moment account.old.sessions session.now ≡ true }
+    ensures settles { SettlesAll result account.old account.new moment session.now services.now }
+    ensures live { is_live_in account.new.book.validity moment account.new.sessions session.now ≡ true }
+    ensures later { account.new.as_of ≤ moment }
+    ensures free { OnOk result (AreFree account.old.book session.now services.now account.new.groups) }
+    ensures tariff { account.new.book ≡ account.old.book }
+{
+    for service in services {
+        settle(alloc, account, session, service, moment)?;
+    }
+    Ok(())
+}
+
+/// Settles several services: on a copy, so that a fault leaves the account as it was.
+fn settle_several(
+    alloc: Global,
+    account: &mut Account,
+    session: &SessionId,
+    services: &[Service],
+    moment: Moment,
+) -> Result<(), AccountFault>
+    requires later { account.old.as_of ≤ moment }
+    requires live { is_live_in account.old.book.validity moment account.old.sessions session.now ≡ true }
+    ensures settles { SettlesAll result account.old account.new moment session.now services.now }
+    ensures live { is_live_in account.new.book.validity moment account.new.sessions session.now ≡ true }
+    ensures later { account.new.as_of ≤ moment }
+    ensures free { OnOk result (AreFree account.old.book session.now services.now account.new.groups) }
+    ensures tariff { account.new.book ≡ account.old.book }
+    ensures err { OnErr result (account.new ≡ account.old) }
+{
+    let mut settled = account.copy()?;
+    settle_each(alloc, &mut settled, session, services, moment)?;
+    *account = settled;
+    Ok(())
+}
+
+/// Settles the services of a session's request, in its order. At a fault nothing has changed.
 pub(crate) fn settle_services(
     alloc: Global,
     account: &mut Account,
@@ -48,32 +93,31 @@ pub(crate) fn settle_services(
     services: &[Service],
     moment: Moment,
 ) -> Result<(), AccountFault>
-    requires apart { groups_differ services.now ≡ true }
     requires later { account.old.as_of ≤ moment }
-    requires live { is_live_in account.old.tariff.validity moment account.old.sessions session.now ≡ true }
+    requires live { is_live_in account.old.book.validity moment account.old.sessions session.now ≡ true }
     ensures settles { SettlesAll result account.old account.new moment session.now services.now }
-    ensures live { is_live_in account.new.tariff.validity moment account.new.sessions session.now ≡ true }
-    ensures free { OnOk result (IsFreeFor (named account.old.tariff.group services.now) session.now account.new.groups) }
+    ensures live { is_live_in account.new.book.validity moment account.new.sessions session.now ≡ true }
     ensures later { account.new.as_of ≤ moment }
-    ensures tariff { account.new.tariff ≡ account.old.tariff }
+    ensures free { OnOk result (AreFree account.old.book session.now services.now account.new.groups) }
+    ensures tariff { account.new.book ≡ account.old.book }
     ensures err { OnErr result (account.new ≡ account.old) }
 {
-    let group = account.tariff().group();
-    match named(group, services) {
-        Some(service) => settle(alloc, account, session, service, moment),
-        None => Ok(()),
+    match services {
+        [] => Ok(()),
+        [service] => settle(alloc, account, session, service, moment),
+        _ => settle_several(alloc, account, session, services, moment),
     }
 }
 
 /// Ends a live session with its last request.
 pub(crate) fn end(account: &mut Account, session: &SessionId, number: u32, moment: Moment)
     requires later { account.old.as_of ≤ moment }
-    requires live { is_live_in account.old.tariff.validity moment account.old.sessions session.now ≡ true }
+    requires live { is_live_in account.old.book.validity moment account.old.sessions session.now ≡ true }
     ensures ledger { (ledger : Ledger) → IsRowsOf ledger account.old → IsRowsOf (closed moment session.now (touched moment session.now number ledger)) account.new }
     ensures moment { account.new.as_of ≡ moment }
-    ensures tariff { account.new.tariff ≡ account.old.tariff }
+    ensures tariff { account.new.book ≡ account.old.book }
 {
-    let _ranges = account.tariff().validity();
+    let _ranges = account.book().validity();
     account.touch(session, number, moment);
     account.close(session, moment);
 }

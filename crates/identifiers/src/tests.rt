@@ -1,4 +1,4 @@
-use crate::{AccountNumber, Reference, SessionId, VoucherCode};
+use crate::{AccountNumber, RedirectAddress, Reference, SessionId, VoucherCode};
 use std::test::Fail;
 
 #[test]
@@ -13,5 +13,16 @@ fn names(rt: HostRuntime) -> Result<(), Fail> {
     assert_eq!(rt; reference.as_str(), "v1");
     let code = VoucherCode::new(alloc, "000000000001")?.ok_or("a code")?;
     assert_eq!(rt; code.as_str(), "000000000001");
+    Ok(())
+}
+
+#[test]
+fn redirect_addresses(rt: HostRuntime) -> Result<(), Fail> {
+    let alloc = rt.alloc();
+    assert!(rt; RedirectAddress::new(alloc, "a b")?.is_none());
+    let address = RedirectAddress::new(alloc, "http://topup.example/")?.ok_or("an address")?;
+    assert_eq!(rt; address.as_str(), "http://topup.example/");
+    let other = RedirectAddress::new(alloc, "http://topup.example")?.ok_or("an address")?;
+    assert!(rt; address != other);
     Ok(())
 }

@@ -34,18 +34,18 @@ lapse_group-used v t sessions r h = elim (is_live_in v t sessions r.session) as 
 
 pub IsAccount-advanced : (a : AccountRows) (t : ℕ) → IsAccount a → IsAccount (advanced t a)
 IsAccount-advanced a t is = record {
-  tariff = is.tariff;
-  sound = IsSound-ends t (lapsed_in (is_live_in a.tariff.validity t a.sessions) a.groups) a.buckets (lapsable_of (λ s. not (is_live_in a.tariff.validity t a.sessions s)) a.groups a.buckets is.held) is.sound;
-  below = IsBelow-ends a.next_bucket t (lapsed_in (is_live_in a.tariff.validity t a.sessions) a.groups) a.buckets is.below;
+  book = is.book;
+  sound = IsSound-ends t (lapsed_in (is_live_in a.book.validity t a.sessions) a.groups) a.buckets (lapsable_of (λ s. not (is_live_in a.book.validity t a.sessions s)) a.groups a.buckets is.held) is.sound;
+  below = IsBelow-ends a.next_bucket t (lapsed_in (is_live_in a.book.validity t a.sessions) a.groups) a.buckets is.below;
   next_bucket = is.next_bucket;
   next_charge = is.next_charge;
-  sessions = AreApart-map (λ x y. is_session x.id y) (lapse a.tariff.validity t) a.sessions (lapse-keys a.tariff.validity t) is.sessions;
-  groups = AreApart-map (λ x y. is_of x.session x.group y) (lapse_group (is_live_in a.tariff.validity t a.sessions)) a.groups (lapse_group-keys a.tariff.validity t a.sessions) is.groups;
+  sessions = AreApart-map (λ x y. is_session x.id y) (lapse a.book.validity t) a.sessions (lapse-keys a.book.validity t) is.sessions;
+  groups = AreApart-map (λ x y. is_of x.session x.group y) (lapse_group (is_live_in a.book.validity t a.sessions)) a.groups (lapse_group-keys a.book.validity t a.sessions) is.groups;
   counters = is.counters;
-  used = EachIn-map (λ r. r.used ≤ 1000000000000000000) (λ r. r.used ≤ 1000000000000000000) (lapse_group (is_live_in a.tariff.validity t a.sessions)) a.groups (lapse_group-used a.tariff.validity t a.sessions) is.used;
+  used = EachIn-map (λ r. r.used ≤ 1000000000000000000) (λ r. r.used ≤ 1000000000000000000) (lapse_group (is_live_in a.book.validity t a.sessions)) a.groups (lapse_group-used a.book.validity t a.sessions) is.used;
   counted = is.counted;
-  held = held_lapsed (is_live_in a.tariff.validity t a.sessions) t a.groups a.buckets is.held;
-  named = λ b le. named_lapsed (is_live_in a.tariff.validity t a.sessions) t a.groups b (is.named b le);
+  held = held_lapsed (is_live_in a.book.validity t a.sessions) t a.groups a.buckets is.held;
+  named = λ b le. named_lapsed (is_live_in a.book.validity t a.sessions) t a.groups b (is.named b le);
 }
 
 map_twice : {A : Type 0} (f g : A → A) (xs : List A) → map f (map g xs) ≡ map (λ x. f (g x)) xs
@@ -54,13 +54,13 @@ map_twice f g (x ∷ xs) = ap (λ ys. f (g x) ∷ ys) (map_twice f g xs)
 
 -- the parts that the code makes
 pub advanced-parts : (a : AccountRows) (t v : ℕ) (ss : List Session) (given ended : List Row) (sessions : List Session) (groups : List SessionGroup) →
-    v ≡ a.tariff.validity → ss ≡ a.sessions → given ≡ lapsed_rows (is_live_in v t ss) t a.groups a.buckets → ended ≡ map (with_end t) given → sessions ≡ map (lapse v t) a.sessions → groups ≡ map (lapse_group (is_live_in v t ss)) a.groups →
+    v ≡ a.book.validity → ss ≡ a.sessions → given ≡ lapsed_rows (is_live_in v t ss) t a.groups a.buckets → ended ≡ map (with_end t) given → sessions ≡ map (lapse v t) a.sessions → groups ≡ map (lapse_group (is_live_in v t ss)) a.groups →
     (let b : AccountRows = record a { as_of = t; buckets = ended; sessions = sessions; groups = groups } in b) ≡ advanced t a
 advanced-parts a t v ss given ended sessions groups ev es eg ee en er =
-    let buckets : ended ≡ map (λ b. with_end t (with_release t b (lapsed_in (is_live_in a.tariff.validity t a.sessions) a.groups b))) a.buckets =
+    let buckets : ended ≡ map (λ b. with_end t (with_release t b (lapsed_in (is_live_in a.book.validity t a.sessions) a.groups b))) a.buckets =
     ee ∙ ap (map (with_end t)) (eg ∙ lapsed_rows-is (is_live_in v t ss) t a.groups a.buckets)
     ∙ map_twice (with_end t) (λ b. with_release t b (lapsed_in (is_live_in v t ss) a.groups b)) a.buckets
     ∙ (λ i. map (λ b. with_end t (with_release t b (lapsed_in (is_live_in (ev i) t (es i)) a.groups b))) a.buckets) in
-    let s : sessions ≡ map (lapse a.tariff.validity t) a.sessions = en ∙ (λ i. map (lapse (ev i) t) a.sessions) in
-    let g : groups ≡ map (lapse_group (is_live_in a.tariff.validity t a.sessions)) a.groups = er ∙ (λ i. map (lapse_group (is_live_in (ev i) t (es i))) a.groups) in
+    let s : sessions ≡ map (lapse a.book.validity t) a.sessions = en ∙ (λ i. map (lapse (ev i) t) a.sessions) in
+    let g : groups ≡ map (lapse_group (is_live_in a.book.validity t a.sessions)) a.groups = er ∙ (λ i. map (lapse_group (is_live_in (ev i) t (es i))) a.groups) in
     λ i. record a { as_of = t; buckets = buckets i; sessions = s i; groups = g i }

@@ -9,7 +9,8 @@ use Rattle.reserving.specs.declared.session.Session.{Session}
 use Rattle.reserving.specs.declared.session.SessionState.TheVariants.{Ended}
 use Rattle.reserving.specs.declared.session.SessionGroup.{SessionGroup}
 use Rattle.reserving.specs.declared.session.Reservation.{Reservation}
-use Rattle.reserving.specs.Ledger.{Ledger, Periods, is_same, is_live, held, only, open_grant, has_group, used}
+use Rattle.rating.specs.declared.grant.Periods.{Periods}
+use Rattle.reserving.specs.Ledger.{Ledger, is_same, is_live, held, only, open_grant, has_group, used}
 use Rattle.reserving.specs.Balance.{credits, bucket_at, buckets_at}
 use Rattle.reserving.specs.Sessions.{is_session, is_of, group_in, group_at, reservation_at, reservation_of, holds_at, holds_in, held_by, is_open, is_live_in, is_live_row}
 use Rattle.reserving.specs.Rows.{AccountRows, EachIn, AreApart, IsAccount, IsRowsOf}
@@ -22,9 +23,9 @@ use Rattle.reserving.proofs.Positions.{bucket_at-later, holds_at-later}
 
 -- ---- liveness, read from the rows
 
-pub is_live_in-is : (ledger : Ledger) (a : AccountRows) (t : ℕ) (s : List ℕ) → IsRowsOf ledger a → a.as_of ≤ t → is_live_in a.tariff.validity t a.sessions s ≡ is_live a.tariff.validity t ledger s
+pub is_live_in-is : (ledger : Ledger) (a : AccountRows) (t : ℕ) (s : List ℕ) → IsRowsOf ledger a → a.as_of ≤ t → is_live_in a.book.validity t a.sessions s ≡ is_live a.book.validity t ledger s
 is_live_in-is ledger a t s rows le =
-    ap (is_live_row a.tariff.validity t) (rows.sessions s) ∙ is_live-later a.tariff.validity a.as_of t ledger s le (rows.touched s)
+    ap (is_live_row a.book.validity t) (rows.sessions s) ∙ is_live-later a.book.validity a.as_of t ledger s le (rows.touched s)
 
 -- ---- what the rows hold is what the ledger's reservations hold
 
@@ -211,7 +212,7 @@ lapse-id v t s r = elim (is_open r.state && not (nat_lt t (r.touched + 2 * v))) 
 -- the rows of the ledger at a later moment
 pub IsRowsOf-advanced : (ledger : Ledger) (a : AccountRows) (t : ℕ) → IsAccount a → IsRowsOf ledger a → a.as_of ≤ t → IsRowsOf ledger (advanced t a)
 IsRowsOf-advanced ledger a t is rows le =
-    let v : ℕ = a.tariff.validity in
+    let v : ℕ = a.book.validity in
     let live : (s : List ℕ) → is_live_in v t a.sessions s ≡ is_live v t ledger s = λ s. is_live_in-is ledger a t s rows le in
     let sound : IsSound (buckets_at v a.as_of ledger) = rw rows.buckets at is.sound in
     let all : Each (λ b. held_by (λ s. true) a.groups b ≡ b.reserved) (buckets_at v a.as_of ledger) = rw rows.buckets at is.held in

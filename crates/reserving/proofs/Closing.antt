@@ -13,7 +13,7 @@ use Rattle.reserving.specs.declared.session.Reservation.{Reservation}
 use Rattle.reserving.specs.Ledger.{Ledger, Recording, is_same, is_live, is_within, is_closed, last_touch, last_recording, or_else, charged, held, only, used, has_group}
 use Rattle.reserving.specs.Balance.{credits, bucket_at, buckets_at}
 use Rattle.reserving.specs.Sessions.{is_session, session_at, session_row, state_at, is_of, group_at, reservation_at, holds_at, held_by}
-use Rattle.reserving.specs.FlatTariff.{cycle_at}
+use Rattle.reserving.specs.Pricing.{cycle_at}
 use Rattle.reserving.specs.Rows.{AccountRows, EachIn, AreApart, IsAccount, IsRowsOf, IsUnknown}
 use Rattle.reserving.specs.Requests.{touched, closed}
 use Rattle.reserving.specs.Changes.{touched_account, touched_session, closed_account, closed_session, is_other, lapse_group, lapsed_in}
@@ -59,7 +59,7 @@ touched_other : (s x : List ℕ) (n t : ℕ) (state : SessionState) (r : Option 
 touched_other s x n t state None h = refl
 touched_other s x n t state (Some r) h = rw h refl
 
-pub IsRowsOf-touched : (ledger : Ledger) (a : AccountRows) (s : List ℕ) (n : ℕ) → IsRowsOf ledger a → is_live a.tariff.validity a.as_of ledger s ≡ true → 0 < a.tariff.validity → IsRowsOf (touched a.as_of s n ledger) (touched_account s n a)
+pub IsRowsOf-touched : (ledger : Ledger) (a : AccountRows) (s : List ℕ) (n : ℕ) → IsRowsOf ledger a → is_live a.book.validity a.as_of ledger s ≡ true → 0 < a.book.validity → IsRowsOf (touched a.as_of s n ledger) (touched_account s n a)
 IsRowsOf-touched ledger a s n rows live some = IsRowsOf-leaves a (touched t s n ledger) ledger (map (touched_session s n t) a.sessions) rows (record {
   money = same_touched t s n ledger;
   live = λ m. held_same (λ x g. is_live v t (touched t s n ledger) x) (λ x g. is_live v t ledger x) m ledger (λ x g. lives x (is_same s x) refl);
@@ -70,7 +70,7 @@ IsRowsOf-touched ledger a s n rows live some = IsRowsOf-leaves a (touched t s n 
 })
   where
     v : ℕ
-    v = a.tariff.validity
+    v = a.book.validity
 
     t : ℕ
     t = a.as_of
@@ -170,14 +170,14 @@ each_closed v t ledger s groups (c ∷ cs) apart is split balanced sums all =
     ∙ (λ i. balance_by (nat_lt t c.until) c (sym charged' i) (sym held' i)) in
     λ i. one i ∷ each_closed v t ledger s groups cs apart is split balanced.1 (λ x g. (sums x g).1) all.1 i
 
-pub IsRowsOf-closed : (ledger : Ledger) (a : AccountRows) (s : List ℕ) → IsAccount a → IsRowsOf ledger a → is_live a.tariff.validity a.as_of ledger s ≡ true → IsRowsOf (closed a.as_of s ledger) (closed_account s a)
+pub IsRowsOf-closed : (ledger : Ledger) (a : AccountRows) (s : List ℕ) → IsAccount a → IsRowsOf ledger a → is_live a.book.validity a.as_of ledger s ≡ true → IsRowsOf (closed a.as_of s ledger) (closed_account s a)
 IsRowsOf-closed ledger a s is rows live = record {
   buckets = ap (map (λ b. with_release t b (lapsed_in (is_other s) a.groups b))) rows.buckets
       ∙ each_closed v t ledger s a.groups (credits ledger) is.groups (groups_each v t ledger a.groups a.groups rows.groups (found_each a.groups is.groups)) split sound.balanced
       (λ x g. sum_at-parts (λ b. held (only x g) b.number ledger) (buckets_at v t ledger) sound.distinct) all;
   sessions = λ x. find-map (is_session x) (closed_session s) a.sessions (closed_id s x) ∙ ap (option_map (closed_session s)) (rows.sessions x) ∙ found x (is_same s x) refl;
   groups = λ x g. find-map (is_of x g) (lapse_group (is_other s)) a.groups (lapse_of (is_other s) x g) ∙ ap (option_map (lapse_group (is_other s))) (rows.groups x g) ∙ kept x g (is_same s x) refl;
-  counters = λ g c. rows.counters g c ∙ sym (counter_at-same (cycle_at a.tariff g) (closed t s ledger) ledger g c same);
+  counters = λ g c. rows.counters g c ∙ sym (counter_at-same (cycle_at a.book g) (closed t s ledger) ledger g c same);
   next_bucket = rows.next_bucket ∙ sym same.next_bucket;
   next_charge = rows.next_charge ∙ sym same.next_charge;
   touched = rows.touched;
@@ -187,7 +187,7 @@ IsRowsOf-closed ledger a s is rows live = record {
 }
   where
     v : ℕ
-    v = a.tariff.validity
+    v = a.book.validity
 
     t : ℕ
     t = a.as_of

@@ -9,7 +9,7 @@ use Rattle.buckets.proofs.Kept.{IsSound-inserted, Each-inserted}
 use Rattle.reserving.specs.Ledger.{Ledger, is_live, charged, held, only, used, counter, has_group, has_counter, open_grant, next_bucket}
 use Rattle.reserving.specs.Balance.{credits, bucket_at, balance_of}
 use Rattle.reserving.specs.Sessions.{held_by, holds_at, group_at, reservation_of, counter_at}
-use Rattle.reserving.specs.FlatTariff.{cycle_at}
+use Rattle.reserving.specs.Pricing.{cycle_at}
 use Rattle.reserving.specs.Rows.{AccountRows, IsAccount, IsRowsOf, IsUnknown}
 use Rattle.reserving.specs.Requests.{credited}
 use Rattle.reserving.specs.Changes.{credited_account}
@@ -60,7 +60,7 @@ pub IsAccount-credited : (a : AccountRows) (from until : ℕ) (scope : Option �
 IsAccount-credited a from until scope amount le most is =
     let b : Row = new_row a.next_bucket from until scope amount in
     record {
-      tariff = is.tariff;
+      book = is.book;
       sound = IsSound-inserted b a.buckets is.below (record { sum = omega arith; most = most }) is.sound;
       below = IsBelow-inserted a.next_bucket b a.buckets (omega arith) is.below;
       next_bucket = omega arith;
@@ -77,7 +77,7 @@ IsAccount-credited a from until scope amount le most is =
 -- ---- the ledger
 
 abbrev later_row : AccountRows → ℕ → Row → Row
-later_row a t b = with_end t (with_release t b (lapsed_in (is_live_in a.tariff.validity t a.sessions) a.groups b))
+later_row a t b = with_end t (with_release t b (lapsed_in (is_live_in a.book.validity t a.sessions) a.groups b))
 
 -- a new bucket at a moment
 new_later : (t n from until : ℕ) (scope : Option ℕ) (amount lapsed ch h : ℕ) → lapsed ≡ 0 → ch ≡ 0 → h ≡ 0 → with_end t (with_release t (new_row n from until scope amount) lapsed) ≡ balance_of t (new_row n from until scope amount) ch h
@@ -109,7 +109,7 @@ IsRowsOf-credited ledger a t from until scope amount is rows le = record {
 }
   where
     v : ℕ
-    v = a.tariff.validity
+    v = a.book.validity
 
     more : Ledger
     more = credited t from until scope amount ledger
@@ -158,10 +158,10 @@ IsRowsOf-credited ledger a t from until scope amount is rows le = record {
         let number : used s g ledger ≡ used s g more = omega arith in
         λ i. if has_group s g ledger then Some (record { session = s; group = g; used = number i; reservation = (if is_live v t ledger s then reservation_of (holds s g i) (open_grant s g ledger) else None) }) else None
 
-    counted : (g c : ℕ) → counter_at (cycle_at a.tariff g) ledger g c ≡ counter_at (cycle_at a.tariff g) more g c
+    counted : (g c : ℕ) → counter_at (cycle_at a.book g) ledger g c ≡ counter_at (cycle_at a.book g) more g c
     counted g c =
-        let number : counter (cycle_at a.tariff g) g c ledger ≡ counter (cycle_at a.tariff g) g c more = plain (cycle_at a.tariff g t == c) (counter (cycle_at a.tariff g) g c ledger) in
-        λ i. if has_counter (cycle_at a.tariff g) g c ledger then Some (record { group = g; cycle = c; blocks = number i }) else None
+        let number : counter (cycle_at a.book g) g c ledger ≡ counter (cycle_at a.book g) g c more = plain (cycle_at a.book g t == c) (counter (cycle_at a.book g) g c ledger) in
+        λ i. if has_counter (cycle_at a.book g) g c ledger then Some (record { group = g; cycle = c; blocks = number i }) else None
       where
         plain : (e : Bool) (n : ℕ) → n ≡ (if e then 0 else 0) + n
         plain true n = omega arith

@@ -22,7 +22,7 @@ split_and p q r b h = grind (arith, nat_tests)
 hold_split : (p q r : List ℕ → ℕ → Bool) (n : ℕ) (f : Fact) → IsSplit p q r → hold_of p n f ≡ hold_of q n f + hold_of r n f
 hold_split p q r n (HoldFact s g b a) h = split_cases (p s g) (q s g) (r s g) (b == n) a (h s g)
 hold_split p q r n (Credit a b c d e) h = refl
-hold_split p q r n (Grant a b c d e f) h = refl
+hold_split p q r n (Grant a b c d e) h = refl
 hold_split p q r n (End a b) h = refl
 hold_split p q r n (Use a b c d e f) h = refl
 hold_split p q r n (Charge a b) h = refl
@@ -34,7 +34,7 @@ before_split : (p q r : List ℕ → ℕ → Bool) (f : Fact) → IsSplit p q r 
 before_split p q r (End s' g') h = λ s g. split_and (p s g) (q s g) (r s g) (not (is_same s s' && g == g')) (h s g)
 before_split p q r (HoldFact s g b a) h = h
 before_split p q r (Credit a b c d e) h = h
-before_split p q r (Grant a b c d e f) h = h
+before_split p q r (Grant a b c d e) h = h
 before_split p q r (Use a b c d e f) h = h
 before_split p q r (Charge a b) h = h
 before_split p q r (Touch a) h = h
@@ -65,7 +65,7 @@ held_same p q n ledger h = let same : p ≡ q = λ i s g. h s g i in ap (λ c. h
 hold_none : (p : List ℕ → ℕ → Bool) (n : ℕ) (f : Fact) → ((s : List ℕ) (g : ℕ) → p s g ≡ false) → hold_of p n f ≡ 0
 hold_none p n (HoldFact s g b a) h = rw (h s g) refl
 hold_none p n (Credit a b c d e) h = refl
-hold_none p n (Grant a b c d e f) h = refl
+hold_none p n (Grant a b c d e) h = refl
 hold_none p n (End a b) h = refl
 hold_none p n (Use a b c d e f) h = refl
 hold_none p n (Charge a b) h = refl
@@ -77,7 +77,7 @@ before_none : (p : List ℕ → ℕ → Bool) (f : Fact) → ((s : List ℕ) (g 
 before_none p (End s' g') h = λ s g. rw (h s g) refl
 before_none p (HoldFact s g b a) h = h
 before_none p (Credit a b c d e) h = h
-before_none p (Grant a b c d e f) h = h
+before_none p (Grant a b c d e) h = h
 before_none p (Use a b c d e f) h = h
 before_none p (Charge a b) h = h
 before_none p (Touch a) h = h

@@ -49,7 +49,7 @@ pub IsAccount-with_session : (a : AccountRows) (s : List ℕ) (n t : ℕ) (state
 IsAccount-with_session a s n t state new is =
     let row : Session = record { id = s; last_number = n; touched = t; state = state } in
     record {
-      tariff = is.tariff;
+      book = is.book;
       sound = is.sound;
       below = is.below;
       next_bucket = is.next_bucket;
@@ -76,7 +76,7 @@ touched_keys s n t x y = at (is_session s x) (is_session s y)
 
 pub IsAccount-touched : (a : AccountRows) (s : List ℕ) (n : ℕ) → IsAccount a → IsAccount (touched_account s n a)
 IsAccount-touched a s n is = record {
-  tariff = is.tariff;
+  book = is.book;
   sound = is.sound;
   below = is.below;
   next_bucket = is.next_bucket;
@@ -137,7 +137,7 @@ held_closed keeps t groups (b ∷ bs) h =
 
 pub IsAccount-closed : (a : AccountRows) (s : List ℕ) → IsAccount a → IsAccount (closed_account s a)
 IsAccount-closed a s is = record {
-  tariff = is.tariff;
+  book = is.book;
   sound = IsSound-releases a.as_of (lapsed_in (is_other s) a.groups) a.buckets (lapsable_of (λ x. not (is_other s x)) a.groups a.buckets is.held) is.sound;
   below = IsBelow-map a.next_bucket (λ b. with_release a.as_of b (lapsed_in (is_other s) a.groups b)) a.buckets (release_keeps a.as_of (lapsed_in (is_other s) a.groups)) is.below;
   next_bucket = is.next_bucket;

@@ -8,7 +8,7 @@ use Rattle.reserving.specs.declared.session.Reservation.{Reservation}
 use Rattle.reserving.specs.declared.session.Counter.{Counter}
 use Rattle.reserving.specs.Keyed.{put}
 use Rattle.reserving.specs.Sessions.{is_of, group_in, is_counter, counter_in, holds_in}
-use Rattle.reserving.specs.Changes.{new_group, used_in, reserved_in, count_in, ended_group}
+use Rattle.reserving.specs.Changes.{new_group, used_in, reserved_in, periods_in, count_in, ended_group}
 use Rattle.reserving.specs.Prepared.{with_group, with_counter}
 use Rattle.reserving.specs.Rows.{EachIn, AreApart}
 use Rattle.reserving.proofs.Lists.{IsPlace, IsPlaceFrom, position_is, position_none, find-passes, some_of, no_some}
@@ -61,8 +61,18 @@ unused s g rows h = sym (ap (λ o. (unwrap_or o (new_group s g)).used) (unplaced
 pub reserved_at : (s : List ℕ) (g place : ℕ) (rows : List SessionGroup) (d : SessionGroup) → position (is_of s g) rows ≡ Some place → holds_in (get_or rows place d).reservation ≡ reserved_in s g rows
 reserved_at s g place rows d h = sym (ap (λ o. holds_in (unwrap_or o (new_group s g)).reservation) (found_group s g place rows d h))
 
+pub periods_at_place : (s : List ℕ) (g place : ℕ) (rows : List SessionGroup) (d : SessionGroup) → position (is_of s g) rows ≡ Some place → option_map (λ (r : Reservation). r.periods) (get_or rows place d).reservation ≡ periods_in s g rows
+periods_at_place s g place rows d h = sym (ap (λ o. option_map (λ (r : Reservation). r.periods) (unwrap_or o (new_group s g)).reservation) (found_group s g place rows d h))
+
+pub no_periods : (s : List ℕ) (g : ℕ) (rows : List SessionGroup) → position (is_of s g) rows ≡ None → None ≡ periods_in s g rows
+no_periods s g rows h = sym (ap (λ o. option_map (λ (r : Reservation). r.periods) (unwrap_or o (new_group s g)).reservation) (unplaced (is_of s g) rows h))
+
 pub unreserved : (s : List ℕ) (g : ℕ) (rows : List SessionGroup) → position (is_of s g) rows ≡ None → [] ≡ reserved_in s g rows
 unreserved s g rows h = sym (ap (λ o. holds_in (unwrap_or o (new_group s g)).reservation) (unplaced (is_of s g) rows h))
+
+-- a row that is found has its key
+pub found_session : (s : List ℕ) (g : ℕ) (rows : List SessionGroup) (x : SessionGroup) → group_in s g rows ≡ Some x → x.session ≡ s
+found_session s g rows x h = key_session x.session x.group s g (find-passes (is_of s g) rows x h)
 
 key_at : (s : List ℕ) (g place : ℕ) (rows : List SessionGroup) (d : SessionGroup) → position (is_of s g) rows ≡ Some place → is_of s g (get_or rows place d) ≡ true
 key_at s g place rows d h = find-passes (is_of s g) rows (get_or rows place d) (found_group s g place rows d h)

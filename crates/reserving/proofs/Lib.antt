@@ -22,7 +22,7 @@ pub mod SettledKept
 pub mod SettledParts
 pub mod SettledCall
 pub mod SettledFree
+pub mod Reported
 pub mod Reserved
-pub mod Granting
 pub mod ReservedCall
-mod WorkedRows
+pub mod StillFree

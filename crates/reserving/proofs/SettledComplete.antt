@@ -10,7 +10,8 @@ use Rattle.buckets.specs.Holding.{held_in}
 use Rattle.buckets.proofs.Parts.{sum_at, sum_at-parts, held_in-sum_at}
 use Rattle.reserving.specs.declared.session.SessionGroup.{SessionGroup}
 use Rattle.reserving.specs.declared.session.Reservation.{Reservation}
-use Rattle.reserving.specs.Ledger.{Ledger, Periods, held, only, is_live, has_group, open_grant}
+use Rattle.rating.specs.declared.grant.Periods.{Periods}
+use Rattle.reserving.specs.Ledger.{Ledger, held, only, is_live, has_group, open_grant}
 use Rattle.reserving.specs.Balance.{credits, bucket_at, buckets_at}
 use Rattle.reserving.specs.Sessions.{is_of, group_in, group_at, holds_in, holds_at, held_by, reservation_of, reservation_at}
 use Rattle.reserving.specs.Changes.{new_group, reserved_in}
@@ -177,9 +178,9 @@ reserves_none all (r ∷ rs) s g h e =
         cc
 
 -- nothing is held of a bucket by a live session's group that has no reservation
-pub held_free : (ledger : Ledger) (a : AccountRows) (s : List ℕ) (g : ℕ) → IsAccount a → IsRowsOf ledger a → is_live a.tariff.validity a.as_of ledger s ≡ true → is_some (reservation_in s g a.groups) ≡ false → Each (λ b. held (only s g) b.number ledger ≡ 0) (buckets_at a.tariff.validity a.as_of ledger)
+pub held_free : (ledger : Ledger) (a : AccountRows) (s : List ℕ) (g : ℕ) → IsAccount a → IsRowsOf ledger a → is_live a.book.validity a.as_of ledger s ≡ true → is_some (reservation_in s g a.groups) ≡ false → Each (λ b. held (only s g) b.number ledger ≡ 0) (buckets_at a.book.validity a.as_of ledger)
 held_free ledger a s g account rows live none =
-    let v : ℕ = a.tariff.validity in
+    let v : ℕ = a.book.validity in
     let t : ℕ = a.as_of in
     let sound : IsSound (buckets_at v t ledger) = subst IsSound rows.buckets account.sound in
     let own : EachIn (λ r. find (is_of r.session r.group) a.groups ≡ Some r) a.groups = found_own a.groups account.groups in
@@ -207,14 +208,14 @@ either_holds true l hs p used s g e = reservation_holds l hs p e
 either_holds false l hs p used s g e = cc
 
 -- what a live session's row has reserved is what the ledger holds for it
-pub reserved_in_is : (ledger : Ledger) (a : AccountRows) (s : List ℕ) (g : ℕ) → IsAccount a → IsRowsOf ledger a → is_live a.tariff.validity a.as_of ledger s ≡ true → reserved_in s g a.groups ≡ holds_at a.tariff.validity a.as_of s g ledger
+pub reserved_in_is : (ledger : Ledger) (a : AccountRows) (s : List ℕ) (g : ℕ) → IsAccount a → IsRowsOf ledger a → is_live a.book.validity a.as_of ledger s ≡ true → reserved_in s g a.groups ≡ holds_at a.book.validity a.as_of s g ledger
 reserved_in_is ledger a s g account rows live = by_test (is_some (reservation_in s g a.groups)) refl
   where
-    by_test : (e : Bool) → is_some (reservation_in s g a.groups) ≡ e → reserved_in s g a.groups ≡ holds_at a.tariff.validity a.as_of s g ledger
+    by_test : (e : Bool) → is_some (reservation_in s g a.groups) ≡ e → reserved_in s g a.groups ≡ holds_at a.book.validity a.as_of s g ledger
     by_test true q =
-        let row : reservation_in s g a.groups ≡ (unwrap_or (group_at a.tariff.validity a.as_of ledger s g) (new_group s g)).reservation = ap (λ o. (unwrap_or o (new_group s g)).reservation) (rows.groups s g) in
+        let row : reservation_in s g a.groups ≡ (unwrap_or (group_at a.book.validity a.as_of ledger s g) (new_group s g)).reservation = ap (λ o. (unwrap_or o (new_group s g)).reservation) (rows.groups s g) in
         ap holds_in row
-        ∙ either_holds (has_group s g ledger) (is_live a.tariff.validity a.as_of ledger s) (holds_at a.tariff.validity a.as_of s g ledger) (open_grant s g ledger) _ s g (sym (ap is_some row) ∙ q)
+        ∙ either_holds (has_group s g ledger) (is_live a.book.validity a.as_of ledger s) (holds_at a.book.validity a.as_of s g ledger) (open_grant s g ledger) _ s g (sym (ap is_some row) ∙ q)
     by_test false q =
         none_in (reservation_in s g a.groups) q
-        ∙ sym (parts_none (λ b. held (only s g) b.number ledger) (buckets_at a.tariff.validity a.as_of ledger) (held_free ledger a s g account rows live q))
+        ∙ sym (parts_none (λ b. held (only s g) b.number ledger) (buckets_at a.book.validity a.as_of ledger) (held_free ledger a s g account rows live q))

@@ -9,7 +9,7 @@ use Rattle.reserving.specs.Rows.{AccountRows}
 use Rattle.reserving.proofs.Lists.{find-map, find-passes, find-put}
 use Rattle.reserving.proofs.Holds.{same_itself, number_itself}
 
-ended_key : (s : List ℕ) (g : ℕ) (r : SessionGroup) → is_of s g (ended_group s g r) ≡ is_of s g r
+pub ended_key : (s : List ℕ) (g : ℕ) (r : SessionGroup) → is_of s g (ended_group s g r) ≡ is_of s g r
 ended_key s g r = elim (is_of s g r) as (λ l. is_of s g (if l then record r { reservation = None } else r) ≡ is_of s g r) [ true ↦ refl | false ↦ refl ]
 
 pub free_ended : (s : List ℕ) (g : ℕ) (rows : List SessionGroup) → (unwrap_or (group_in s g (map (ended_group s g) rows)) (new_group s g)).reservation ≡ None

@@ -10,7 +10,7 @@ use Rattle.buckets.proofs.Kept.{IsSound-charge, IsSound-charge_of_hold, IsSound-
 use Rattle.buckets.proofs.Settling.{left_within, settled_rows-along, IsSound-release_rest}
 use Rattle.reserving.specs.declared.session.SessionGroup.{SessionGroup}
 use Rattle.reserving.specs.declared.session.Counter.{Counter}
-use Rattle.reserving.specs.FlatTariff.{cycle_at}
+use Rattle.reserving.specs.Pricing.{cycle_at}
 use Rattle.reserving.specs.Keyed.{put}
 use Rattle.reserving.specs.Sessions.{is_of, group_in, is_counter, counter_in, holds_in, held_by}
 use Rattle.reserving.specs.Changes.{new_group, group_or_new, used_in, reserved_in, count_in, with_use, ended_group, ended_rows, settled_account}
@@ -133,15 +133,15 @@ AreApart-put_counter g c r (y ∷ ys) key h = by_test (is_counter g c y) refl (A
 
 pub IsAccount-settled : (a : AccountRows) (session : List ℕ) (group units blocks rated : ℕ) →
     used_in session group a.groups + units ≤ 1000000000000000000 →
-    count_in group (cycle_at a.tariff group a.as_of) a.counters + blocks ≤ 4000000000000000000 →
+    count_in group (cycle_at a.book group a.as_of) a.counters + blocks ≤ 4000000000000000000 →
     a.next_charge < 4294967296 →
     IsAccount a → IsAccount (settled_account session group units blocks rated a)
 IsAccount-settled a session group units blocks rated used_fits count_fits charge_fits h =
     let holds : List Hold = reserved_in session group a.groups in
     let within : IsWithin holds a.buckets = within_of session group a.groups a.buckets h.held in
-    let cycle : ℕ = cycle_at a.tariff group a.as_of in
+    let cycle : ℕ = cycle_at a.book group a.as_of in
     record {
-      tariff = h.tariff;
+      book = h.book;
       sound = IsSound-settled holds group a.as_of rated a.buckets within h.sound;
       below = IsBelow-map a.next_bucket (settled_row holds group a.as_of rated a.buckets) a.buckets (settled_number holds group a.as_of rated a.buckets) h.below;
       next_bucket = h.next_bucket;
@@ -180,7 +180,7 @@ IsAccount-ended a session group h =
     let holds : List Hold = reserved_in session group a.groups in
     let within : IsWithin holds a.buckets = within_of session group a.groups a.buckets h.held in
     record {
-      tariff = h.tariff;
+      book = h.book;
       sound = IsSound-release holds a.as_of a.buckets within h.sound;
       below = IsBelow-map a.next_bucket (λ b. with_release a.as_of b (held_in holds b)) a.buckets (λ b. with_release_number a.as_of b (held_in holds b)) h.below;
       next_bucket = h.next_bucket;
@@ -236,7 +236,7 @@ pub IsAccount-with_group_row : (a : AccountRows) (session : List ℕ) (group : �
 IsAccount-with_group_row a session group h =
     let row : SessionGroup = group_or_new session group a.groups in
     record {
-      tariff = h.tariff;
+      book = h.book;
       sound = h.sound;
       below = h.below;
       next_bucket = h.next_bucket;
@@ -255,7 +255,7 @@ IsAccount-with_rows a session group cycle h =
     let row : Counter = counter_or_new group cycle a.counters in
     let made : IsAccount (with_group_row session group a) = IsAccount-with_group_row a session group h in
     record {
-      tariff = h.tariff;
+      book = h.book;
       sound = h.sound;
       below = h.below;
       next_bucket = h.next_bucket;

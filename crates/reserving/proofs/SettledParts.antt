@@ -5,15 +5,16 @@ use Rattle.buckets.specs.declared.holds.Hold.{Hold}
 use Rattle.buckets.specs.Row.{Row, with_release, with_end}
 use Rattle.buckets.specs.Holding.{held_in, settled_rows, released_rows}
 use Rattle.reserving.specs.declared.session.SessionGroup.{SessionGroup}
+use Rattle.reserving.specs.declared.session.Reservation.{Reservation}
 use Rattle.reserving.specs.declared.session.Counter.{Counter}
-use Rattle.reserving.specs.FlatTariff.{cycle_at}
+use Rattle.reserving.specs.Pricing.{cycle_at}
 use Rattle.reserving.specs.Keyed.{put}
 use Rattle.reserving.specs.Sessions.{is_of, group_in, is_counter, counter_in, holds_in, held_by, is_live_in}
-use Rattle.reserving.specs.Changes.{lapse_group, lapsed_in, advanced, new_group, group_or_new, used_in, reserved_in, count_in, with_use, with_count, ended_group, ended_rows, settled_account}
+use Rattle.reserving.specs.Changes.{lapse_group, lapsed_in, advanced, new_group, group_or_new, used_in, reserved_in, periods_in, count_in, with_use, with_count, ended_group, ended_rows, settled_account}
 use Rattle.reserving.specs.Prepared.{with_group, counter_or_new, with_counter, with_rows}
 use Rattle.reserving.specs.Rows.{AccountRows}
 use Rattle.reserving.proofs.Lists.{find-map, find-put}
-use Rattle.reserving.proofs.KeysFound.{kept_group, put-none}
+use Rattle.reserving.proofs.KeysFound.{kept_group, put-none, found_session}
 use Rattle.reserving.proofs.SettledKept.{or_new_key, or_new_cycle}
 
 -- ---- part by part
@@ -26,12 +27,12 @@ ended_parts a s g holds buckets groups h b k =
     λ i. record a { buckets = moved i; groups = k i }
 
 pub settled_parts : (a : AccountRows) (s : List ℕ) (g cycle units blocks rated : ℕ) (holds : List Hold) (buckets : List Row) (counters : List Counter) (groups : List SessionGroup) →
-    cycle ≡ cycle_at a.tariff g a.as_of →
+    cycle ≡ cycle_at a.book g a.as_of →
     holds ≡ reserved_in s g a.groups → buckets ≡ settled_rows holds g a.as_of rated a.buckets → counters ≡ with_count g cycle blocks a.counters → groups ≡ with_use s g units a.groups →
     (let x : AccountRows = record a { buckets = buckets; counters = counters; groups = groups; next_charge = a.next_charge + 1 } in x) ≡ settled_account s g units blocks rated a
 settled_parts a s g cycle units blocks rated holds buckets counters groups e h b c k =
     let moved : buckets ≡ settled_rows (reserved_in s g a.groups) g a.as_of rated a.buckets = b ∙ ap (λ x. settled_rows x g a.as_of rated a.buckets) h in
-    let counted : counters ≡ with_count g (cycle_at a.tariff g a.as_of) blocks a.counters = c ∙ ap (λ x. with_count g x blocks a.counters) e in
+    let counted : counters ≡ with_count g (cycle_at a.book g a.as_of) blocks a.counters = c ∙ ap (λ x. with_count g x blocks a.counters) e in
     λ i. record a { buckets = moved i; counters = counted i; groups = k i; next_charge = a.next_charge + 1 }
 
 -- ---- rows without facts
@@ -102,6 +103,20 @@ used_later keeps s g rows =
     by_row (Some x) = lapsed_used (keeps x.session) x
     by_row None = refl
 
+kept_periods : (t : Bool) (r : SessionGroup) → t ≡ true → (let x : SessionGroup = if t then r else record r { reservation = None } in option_map (λ (y : Reservation). y.periods) x.reservation ≡ option_map (λ (y : Reservation). y.periods) r.reservation)
+kept_periods true r h = refl
+kept_periods false r h = cc
+
+-- a session that keeps its reservations keeps their periods
+pub periods_later : (keeps : List ℕ → Bool) (s : List ℕ) (g : ℕ) (rows : List SessionGroup) → keeps s ≡ true → periods_in s g (map (lapse_group keeps) rows) ≡ periods_in s g rows
+periods_later keeps s g rows h =
+    ap (λ o. option_map (λ (y : Reservation). y.periods) (unwrap_or o (new_group s g)).reservation) (find-map (is_of s g) (lapse_group keeps) rows (key_kept keeps s g))
+    ∙ by_row (group_in s g rows) refl
+  where
+    by_row : (o : Option SessionGroup) → group_in s g rows ≡ o → option_map (λ (y : Reservation). y.periods) (unwrap_or (option_map (lapse_group keeps) o) (new_group s g)).reservation ≡ option_map (λ (y : Reservation). y.periods) (unwrap_or o (new_group s g)).reservation
+    by_row (Some x) e = kept_periods (keeps x.session) x (ap keeps (found_session s g rows x e) ∙ h)
+    by_row None e = refl
+
 -- an empty row holds nothing
 held_by-new : (q : List ℕ → Bool) (s : List ℕ) (g : ℕ) (rows : List SessionGroup) (b : Row) → held_by q (rows ++ new_group s g ∷ []) b ≡ held_by q rows b
 held_by-new q s g [] b = elim (q s) as (λ t. (if t then held_in (holds_in None) b else 0) + 0 ≡ 0) [ true ↦ omega arith | false ↦ omega arith ]
@@ -126,10 +141,10 @@ count_later g c rows =
     by_row None = refl
 
 -- a settlement finds the empty rows as none
-pub settled_later : (a : AccountRows) (s : List ℕ) (g t units blocks rated : ℕ) → settled_account s g units blocks rated (advanced t (with_rows s g (cycle_at a.tariff g t) a)) ≡ settled_account s g units blocks rated (advanced t a)
+pub settled_later : (a : AccountRows) (s : List ℕ) (g t units blocks rated : ℕ) → settled_account s g units blocks rated (advanced t (with_rows s g (cycle_at a.book g t) a)) ≡ settled_account s g units blocks rated (advanced t a)
 settled_later a s g t units blocks rated =
-    let keeps : List ℕ → Bool = is_live_in a.tariff.validity t a.sessions in
-    let c : ℕ = cycle_at a.tariff g t in
+    let keeps : List ℕ → Bool = is_live_in a.book.validity t a.sessions in
+    let c : ℕ = cycle_at a.book g t in
     let row : group_or_new s g (map (lapse_group keeps) (with_group s g a.groups)) ≡ group_or_new s g (map (lapse_group keeps) a.groups) = or_new_later keeps s g a.groups in
     let groups : with_use s g units (map (lapse_group keeps) (with_group s g a.groups)) ≡ with_use s g units (map (lapse_group keeps) a.groups) =
     (λ i. put (is_of s g) (record { session = s; group = g; used = (row i).used + units; reservation = None }) (map (lapse_group keeps) (with_group s g a.groups)))

@@ -11,15 +11,18 @@ use Rattle.buckets.specs.Holding.{held_in, paid, paid_of_hold, paid_of_rest, set
 use Rattle.buckets.proofs.Parts.{sum_at}
 use Rattle.buckets.proofs.SharesAlong.{with_release_number}
 use Rattle.reserving.specs.declared.session.SessionGroup.{SessionGroup}
+use Rattle.reserving.specs.declared.session.Reservation.{Reservation}
 use Rattle.reserving.specs.declared.session.Counter.{Counter}
-use Rattle.reserving.specs.Ledger.{Fact, Dated, Ledger, Periods, or_else, held, only, used, counter, has_group, has_counter, inner, is_live, is_same, units_in, names_group, grant_in, counts_group, blocks_in, uses_in, credits_in, any, newest}
+use Rattle.rating.specs.declared.grant.Periods.{Periods}
+use Rattle.reserving.specs.Ledger.{Fact, Dated, Ledger, or_else, open_grant, held, only, used, counter, has_group, has_counter, inner, is_live, is_same, units_in, names_group, grant_in, counts_group, blocks_in, uses_in, credits_in, any, newest}
 use Rattle.reserving.specs.Ledger.Fact.{End, Use, Charge, Credit, Grant, Hold as HoldFact, Touch, Close, Recorded}
-use Rattle.reserving.specs.FlatTariff.{cycle_at}
+use Rattle.reserving.specs.Pricing.{cycle_at}
 use Rattle.reserving.specs.Keyed.{put}
 use Rattle.reserving.specs.Balance.{buckets_at}
 use Rattle.reserving.specs.Sessions.{is_of, group_in, group_at, is_counter, counter_in, counter_at, holds_at, reservation_of, reservation_at}
-use Rattle.reserving.specs.Settlement.{charge_facts, settled, settled_by, reported, rated_blocks, rated_amount}
-use Rattle.reserving.specs.Changes.{new_group, used_in, reserved_in, count_in, with_use, with_count, ended_group, ended_rows, settled_account, settled_by_rows}
+use Rattle.rating.specs.declared.report.Rated.{Rated}
+use Rattle.reserving.specs.Settlement.{charge_facts, settled, settled_by, reported, price_of, report_price}
+use Rattle.reserving.specs.Changes.{new_group, used_in, reserved_in, periods_in, price_in, count_in, with_use, with_count, ended_group, ended_rows, settled_account, settled_by_rows}
 use Rattle.reserving.specs.Rows.{AccountRows, IsAccount, IsRowsOf, IsUnknown}
 use Rattle.reserving.proofs.Lists.{find-put, find-put_other, find-map}
 use Rattle.reserving.proofs.Keys.{is_key, own_key, key_session, key_group, key_of, other_row, is_cycle, own_cycle, cycle_group, cycle_cycle, other_counter, same_tests, not_true}
@@ -34,7 +37,7 @@ none_units : (s : List ℕ) (g : ℕ) (f : Fact) → names_group s g f ≡ false
 none_units s g (Use a b c d e f) h = rw h refl
 none_units s g (HoldFact a b c d) h = refl
 none_units s g (Credit a b c d e) h = refl
-none_units s g (Grant a b c d e f) h = refl
+none_units s g (Grant a b c d e) h = refl
 none_units s g (End a b) h = refl
 none_units s g (Charge a b) h = refl
 none_units s g (Touch a) h = refl
@@ -62,7 +65,41 @@ either_used false x s g k = sym (k refl)
 pub used_in_is : (ledger : Ledger) (a : AccountRows) (s : List ℕ) (g : ℕ) → IsRowsOf ledger a → used_in s g a.groups ≡ used s g ledger
 used_in_is ledger a s g rows =
     ap (λ o. (unwrap_or o (new_group s g)).used) (rows.groups s g)
-    ∙ either_used (has_group s g ledger) (record { session = s; group = g; used = used s g ledger; reservation = reservation_at a.tariff.validity a.as_of ledger s g }) s g (used_none s g ledger)
+    ∙ either_used (has_group s g ledger) (record { session = s; group = g; used = used s g ledger; reservation = reservation_at a.book.validity a.as_of ledger s g }) s g (used_none s g ledger)
+
+-- without a grant or a use of the group there is no open grant
+grant_ended : (k : Bool) (o : Option (Option Periods)) → inner o ≡ None → inner (or_else (if k then Some None else None) o) ≡ None
+grant_ended true o h = refl
+grant_ended false o h = h
+
+open_none : (s : List ℕ) (g : ℕ) (ledger : Ledger) → has_group s g ledger ≡ false → open_grant s g ledger ≡ None
+open_none s g [] h = refl
+open_none s g (d ∷ older) h = by_fact d.at d.fact (first_false (names_group s g d.fact) (has_group s g older) h) (open_none s g older (second_false (names_group s g d.fact) (has_group s g older) h))
+  where
+    by_fact : (at : ℕ) (fact : Fact) → names_group s g fact ≡ false → inner (newest (grant_in s g) older) ≡ None → inner (or_else (grant_in s g (record { at = at; fact = fact })) (newest (grant_in s g) older)) ≡ None
+    by_fact at (Grant a b p c e) k r = (λ i. inner (or_else (if k i then Some (Some p) else None) (newest (grant_in s g) older))) ∙ r
+    by_fact at (End a b) k r = grant_ended (is_same a s && b == g) (newest (grant_in s g) older) r
+    by_fact at (Use a b c e x y) k r = r
+    by_fact at (HoldFact a b c e) k r = r
+    by_fact at (Credit a b c e x) k r = r
+    by_fact at (Charge a b) k r = r
+    by_fact at (Touch a) k r = r
+    by_fact at (Close a) k r = r
+    by_fact at (Recorded a b) k r = r
+
+either_periods : (h l : Bool) (hs : List Hold) (p : Option Periods) (used : ℕ) (s : List ℕ) (g : ℕ) → l ≡ true → (h ≡ false → p ≡ None) →
+    (let x : SessionGroup = record { session = s; group = g; used = used; reservation = if l then reservation_of hs p else None } in
+    option_map (λ (r : Reservation). r.periods) (unwrap_or (if h then Some x else None) (new_group s g)).reservation ≡ p)
+either_periods true true hs None used s g e k = refl
+either_periods true true hs (Some p) used s g e k = refl
+either_periods true false hs p used s g e k = cc
+either_periods false l hs p used s g e k = sym (k refl)
+
+-- the periods of a live session's reservation
+pub periods_in_is : (ledger : Ledger) (a : AccountRows) (s : List ℕ) (g : ℕ) → IsRowsOf ledger a → is_live a.book.validity a.as_of ledger s ≡ true → periods_in s g a.groups ≡ open_grant s g ledger
+periods_in_is ledger a s g rows live =
+    ap (λ o. option_map (λ (r : Reservation). r.periods) (unwrap_or o (new_group s g)).reservation) (rows.groups s g)
+    ∙ either_periods (has_group s g ledger) (is_live a.book.validity a.as_of ledger s) (holds_at a.book.validity a.as_of s g ledger) (open_grant s g ledger) (used s g ledger) s g live (open_none s g ledger)
 
 pub if_none : (t : Bool) → (let z : ℕ = 0 in (if t then z else z) ≡ z)
 if_none true = refl
@@ -80,7 +117,7 @@ none_blocks f g c d h = by_fact d.at d.fact h
     by_fact at (Use s' g' u b r x) e = both (f at == c) (g' == g) b e
     by_fact at (HoldFact s' g' b n) e = if_none (f at == c)
     by_fact at (Credit n a b x y) e = if_none (f at == c)
-    by_fact at (Grant s' g' x y z w) e = if_none (f at == c)
+    by_fact at (Grant s' g' x y z) e = if_none (f at == c)
     by_fact at (End s' g') e = if_none (f at == c)
     by_fact at (Charge b n) e = if_none (f at == c)
     by_fact at (Touch s') e = if_none (f at == c)
@@ -97,10 +134,10 @@ either_count true x k = refl
 either_count false x k = sym (k refl)
 
 -- the account's counter of a group and cycle
-pub count_in_is : (ledger : Ledger) (a : AccountRows) (g c : ℕ) → IsRowsOf ledger a → count_in g c a.counters ≡ counter (cycle_at a.tariff g) g c ledger
+pub count_in_is : (ledger : Ledger) (a : AccountRows) (g c : ℕ) → IsRowsOf ledger a → count_in g c a.counters ≡ counter (cycle_at a.book g) g c ledger
 count_in_is ledger a g c rows =
     ap (λ o. unwrap_or (option_map (λ (r : Counter). r.blocks) o) 0) (rows.counters g c)
-    ∙ either_count (has_counter (cycle_at a.tariff g) g c ledger) (record { group = g; cycle = c; blocks = counter (cycle_at a.tariff g) g c ledger }) (counter_none (cycle_at a.tariff g) g c ledger)
+    ∙ either_count (has_counter (cycle_at a.book g) g c ledger) (record { group = g; cycle = c; blocks = counter (cycle_at a.book g) g c ledger }) (counter_none (cycle_at a.book g) g c ledger)
 
 -- ---- the groups of the ledger with the settlement
 
@@ -277,10 +314,6 @@ split_by false k = refl
 held_part : (p k : List ℕ → ℕ → Bool) (n : ℕ) (ledger : Ledger) → held p n ledger ≡ 0 → held (λ s g. p s g && not (k s g)) n ledger ≡ 0
 held_part p k n ledger h = omega (arith, held_split p (λ s g. p s g && not (k s g)) (λ s g. p s g && k s g) n ledger (λ s g. split_by (p s g) (k s g)))
 
-grant_ended : (k : Bool) (o : Option (Option Periods)) → inner o ≡ None → inner (or_else (if k then Some None else None) o) ≡ None
-grant_ended true o h = refl
-grant_ended false o h = h
-
 unknown-settled : (v t : ℕ) (session : List ℕ) (group units blocks rated : ℕ) (ledger : Ledger) (s : List ℕ) → IsUnknown s ledger → IsUnknown s (settled v t session group units blocks rated ledger)
 unknown-settled v t session group units blocks rated ledger s h =
     let hs : List Hold = parts_paid v t session group rated ledger in
@@ -305,10 +338,10 @@ unknown-ended t session group ledger s h =
 -- ---- the rows of the ledger with the settlement
 
 pub IsRowsOf-settled : (ledger : Ledger) (a : AccountRows) (session : List ℕ) (group units blocks rated : ℕ) →
-    IsAccount a → IsRowsOf ledger a → is_live a.tariff.validity a.as_of ledger session ≡ true →
-    IsRowsOf (settled a.tariff.validity a.as_of session group units blocks rated ledger) (settled_account session group units blocks rated a)
+    IsAccount a → IsRowsOf ledger a → is_live a.book.validity a.as_of ledger session ≡ true →
+    IsRowsOf (settled a.book.validity a.as_of session group units blocks rated ledger) (settled_account session group units blocks rated a)
 IsRowsOf-settled ledger a session group units blocks rated account rows live =
-    let v : ℕ = a.tariff.validity in
+    let v : ℕ = a.book.validity in
     let t : ℕ = a.as_of in
     let after : Ledger = settled v t session group units blocks rated ledger in
     let now : List Row = buckets_at v t ledger in
@@ -324,7 +357,7 @@ IsRowsOf-settled ledger a session group units blocks rated account rows live =
       buckets = (λ i. settled_rows (held_is i) group t rated (rows.buckets i)) ∙ sym moved;
       sessions = λ s. rows.sessions s ∙ sym (same_session v t ledger after same s);
       groups = groups-settled v t session group units blocks rated ledger (settled_row holds group t rated now) a.groups is_moved (used_in_is ledger a session group rows) rows.groups;
-      counters = counters-settled (cycle_at a.tariff) v t session group units blocks rated ledger a.counters (count_in_is ledger a group (cycle_at a.tariff group t) rows) rows.counters;
+      counters = counters-settled (cycle_at a.book) v t session group units blocks rated ledger a.counters (count_in_is ledger a group (cycle_at a.book group t) rows) rows.counters;
       next_bucket = rows.next_bucket ∙ omega (arith, total-front (λ d. credits_in d.fact) (charge_facts t hs) ledger (each_charge _ t hs (λ b n. refl)));
       next_charge = ap (λ n. n + 1) rows.next_charge ∙ omega (arith, total-front (λ d. uses_in d.fact) (charge_facts t hs) ledger (each_charge _ t hs (λ b n. refl)));
       touched = same_touched ledger after same rows.touched;
@@ -382,10 +415,10 @@ counter_ended f t session group ledger g c =
     λ i. (if has_counter f g c ledger then Some (same i) else None)
 
 pub IsRowsOf-ended : (ledger : Ledger) (a : AccountRows) (session : List ℕ) (group : ℕ) →
-    IsAccount a → IsRowsOf ledger a → is_live a.tariff.validity a.as_of ledger session ≡ true →
+    IsAccount a → IsRowsOf ledger a → is_live a.book.validity a.as_of ledger session ≡ true →
     IsRowsOf (with_end a.as_of session group ledger) (ended_rows session group a)
 IsRowsOf-ended ledger a session group account rows live =
-    let v : ℕ = a.tariff.validity in
+    let v : ℕ = a.book.validity in
     let t : ℕ = a.as_of in
     let after : Ledger = with_end t session group ledger in
     let now : List Row = buckets_at v t ledger in
@@ -399,7 +432,7 @@ IsRowsOf-ended ledger a session group account rows live =
       buckets = (λ i. released_rows (held_is i) t (rows.buckets i)) ∙ sym moved;
       sessions = λ s. rows.sessions s ∙ sym (same_session v t ledger after same s);
       groups = groups-ended v t session group ledger (λ b. with_release t b (held_in holds b)) a.groups is_moved rows.groups;
-      counters = λ g c. rows.counters g c ∙ counter_ended (cycle_at a.tariff g) t session group ledger g c;
+      counters = λ g c. rows.counters g c ∙ counter_ended (cycle_at a.book g) t session group ledger g c;
       next_bucket = rows.next_bucket ∙ omega arith;
       next_charge = rows.next_charge ∙ omega arith;
       touched = same_touched ledger after same rows.touched;
@@ -410,12 +443,18 @@ IsRowsOf-ended ledger a session group account rows live =
 
 -- ---- a report's settlement
 
+-- a report costs by the rows what it costs by the ledger
+pub price_in_is : (ledger : Ledger) (a : AccountRows) (s : List ℕ) (g : ℕ) (used_parts : List UsedPart) → IsRowsOf ledger a → is_live a.book.validity a.as_of ledger s ≡ true →
+    price_in s g a.as_of used_parts a ≡ report_price a.book a.as_of s g used_parts ledger
+price_in_is ledger a s g used_parts rows live =
+    λ i. price_of a.book a.as_of g (periods_in_is ledger a s g rows live i) (used_in_is ledger a s g rows i) (count_in_is ledger a g (cycle_at a.book g a.as_of) rows i) used_parts
+
 pub IsRowsOf-settled_by : (ledger : Ledger) (a : AccountRows) (session : List ℕ) (group : ℕ) (used_parts : List UsedPart) →
-    IsAccount a → IsRowsOf ledger a → is_live a.tariff.validity a.as_of ledger session ≡ true →
-    IsRowsOf (settled_by a.tariff a.as_of session group used_parts ledger) (settled_by_rows session group used_parts a)
+    IsAccount a → IsRowsOf ledger a → is_live a.book.validity a.as_of ledger session ≡ true →
+    IsRowsOf (settled_by a.book a.as_of session group used_parts ledger) (settled_by_rows session group used_parts a)
 IsRowsOf-settled_by ledger a session group [] account rows live = IsRowsOf-ended ledger a session group account rows live
 IsRowsOf-settled_by ledger a session group (p ∷ ps) account rows live =
-    let so_far : used_in session group a.groups ≡ used session group ledger = used_in_is ledger a session group rows in
-    let n : ℕ = used_in session group a.groups in
-    subst (λ m. IsRowsOf (settled a.tariff.validity a.as_of session group (reported (p ∷ ps)) (rated_blocks a.tariff m (p ∷ ps)) (rated_amount a.tariff m (p ∷ ps)) ledger) (settled_by_rows session group (p ∷ ps) a)) so_far
-    (IsRowsOf-settled ledger a session group (reported (p ∷ ps)) (rated_blocks a.tariff n (p ∷ ps)) (rated_amount a.tariff n (p ∷ ps)) account rows live)
+    let cost : price_in session group a.as_of (p ∷ ps) a ≡ report_price a.book a.as_of session group (p ∷ ps) ledger = price_in_is ledger a session group (p ∷ ps) rows live in
+    let x : Rated = price_in session group a.as_of (p ∷ ps) a in
+    subst (λ (y : Rated). IsRowsOf (settled a.book.validity a.as_of session group (reported (p ∷ ps)) y.blocks y.amount.0 ledger) (settled_by_rows session group (p ∷ ps) a)) cost
+    (IsRowsOf-settled ledger a session group (reported (p ∷ ps)) x.blocks x.amount.0 account rows live)

@@ -11,7 +11,7 @@ use Rattle.reserving.specs.Ledger.{Ledger, Recording, is_same, is_live, is_close
 use Rattle.reserving.specs.Balance.{credits, bucket_at, buckets_at, balance_of}
 use Rattle.reserving.specs.Sessions.{is_session, session_in, session_at, session_row, state_at, group_at, reservation_at, reservation_of, holds_at, counter_at}
 use Rattle.reserving.specs.Keyed.{put}
-use Rattle.reserving.specs.FlatTariff.{cycle_at}
+use Rattle.reserving.specs.Pricing.{cycle_at}
 use Rattle.reserving.specs.Rows.{AccountRows, IsRowsOf, IsUnknown}
 use Rattle.reserving.specs.Requests.{recorded, touched, closed}
 use Rattle.reserving.specs.Changes.{with_session}
@@ -135,18 +135,18 @@ unknown-same s new old h e u = record {
 -- the rows, where the sessions' rows are shown apart
 pub record Leaves (a : AccountRows) (new old : Ledger) (rows : List Session) : Type 0 where
   pub money : SameMoney new old
-  pub live : (n : ℕ) → held (λ s g. is_live a.tariff.validity a.as_of new s) n old ≡ held (λ s g. is_live a.tariff.validity a.as_of old s) n old
-  pub reservations : (s : List ℕ) (g : ℕ) → reservation_at a.tariff.validity a.as_of new s g ≡ reservation_at a.tariff.validity a.as_of old s g
-  pub sessions : (s : List ℕ) → session_in s rows ≡ session_at a.tariff.validity a.as_of new s
+  pub live : (n : ℕ) → held (λ s g. is_live a.book.validity a.as_of new s) n old ≡ held (λ s g. is_live a.book.validity a.as_of old s) n old
+  pub reservations : (s : List ℕ) (g : ℕ) → reservation_at a.book.validity a.as_of new s g ≡ reservation_at a.book.validity a.as_of old s g
+  pub sessions : (s : List ℕ) → session_in s rows ≡ session_at a.book.validity a.as_of new s
   pub touched : (s : List ℕ) (x : ℕ) → last_touch s new ≡ Some x → option_map (λ (r : Recording). r.at) (last_recording s new) ≡ Some x
   pub unknown : (s : List ℕ) → last_recording s new ≡ None → IsUnknown s new
 
 pub IsRowsOf-leaves : (a : AccountRows) (new old : Ledger) (sessions : List Session) → IsRowsOf old a → Leaves a new old sessions → IsRowsOf new (record a { sessions = sessions })
 IsRowsOf-leaves a new old sessions rows h = record {
-  buckets = rows.buckets ∙ sym (buckets_at-same a.tariff.validity a.as_of new old h.money h.live);
+  buckets = rows.buckets ∙ sym (buckets_at-same a.book.validity a.as_of new old h.money h.live);
   sessions = h.sessions;
-  groups = λ s g. rows.groups s g ∙ sym (group_at-same a.tariff.validity a.as_of new old s g h.money (h.reservations s g));
-  counters = λ g c. rows.counters g c ∙ sym (counter_at-same (cycle_at a.tariff g) new old g c h.money);
+  groups = λ s g. rows.groups s g ∙ sym (group_at-same a.book.validity a.as_of new old s g h.money (h.reservations s g));
+  counters = λ g c. rows.counters g c ∙ sym (counter_at-same (cycle_at a.book g) new old g c h.money);
   next_bucket = rows.next_bucket ∙ sym h.money.next_bucket;
   next_charge = rows.next_charge ∙ sym h.money.next_charge;
   touched = h.touched;
@@ -189,7 +189,7 @@ IsRowsOf-denied ledger a s n t rows new = IsRowsOf-leaves a (recorded t s n ledg
 })
   where
     v : ℕ
-    v = a.tariff.validity
+    v = a.book.validity
 
     u : ℕ
     u = a.as_of
@@ -223,7 +223,7 @@ IsRowsOf-denied ledger a s n t rows new = IsRowsOf-leaves a (recorded t s n ledg
 
 -- ---- a new session is opened
 
-pub IsRowsOf-opened : (ledger : Ledger) (a : AccountRows) (s : List ℕ) (n t : ℕ) → IsRowsOf ledger a → session_in s a.sessions ≡ None → a.as_of ≤ t → 0 < a.tariff.validity → IsRowsOf (touched t s n ledger) (with_session s n t Open a)
+pub IsRowsOf-opened : (ledger : Ledger) (a : AccountRows) (s : List ℕ) (n t : ℕ) → IsRowsOf ledger a → session_in s a.sessions ≡ None → a.as_of ≤ t → 0 < a.book.validity → IsRowsOf (touched t s n ledger) (with_session s n t Open a)
 IsRowsOf-opened ledger a s n t rows new le some = IsRowsOf-leaves a (touched t s n ledger) ledger (put (is_session s) row a.sessions) rows (record {
   money = same_touched t s n ledger;
   live = λ m. more m;
@@ -234,7 +234,7 @@ IsRowsOf-opened ledger a s n t rows new le some = IsRowsOf-leaves a (touched t s
 })
   where
     v : ℕ
-    v = a.tariff.validity
+    v = a.book.validity
 
     u : ℕ
     u = a.as_of

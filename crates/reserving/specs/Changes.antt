@@ -13,10 +13,12 @@ use Rattle.reserving.specs.declared.session.SessionGroup.{SessionGroup}
 use Rattle.reserving.specs.declared.session.Reservation.{Reservation}
 use Rattle.reserving.specs.declared.session.Counter.{Counter}
 use Rattle.reserving.specs.Ledger.{is_same}
-use Rattle.reserving.specs.FlatTariff.{period_at, cycle_at}
+use Rattle.rating.specs.declared.grant.Periods.{Periods}
+use Rattle.rating.specs.declared.report.Rated.{Rated}
+use Rattle.reserving.specs.Pricing.{cycle_at, periods_at}
 use Rattle.reserving.specs.Keyed.{put}
 use Rattle.reserving.specs.Sessions.{is_session, is_of, group_in, is_counter, counter_in, is_open, is_live_in, held_by, holds_in}
-use Rattle.reserving.specs.Settlement.{reported, rated_blocks, rated_amount}
+use Rattle.reserving.specs.Settlement.{reported, price_of}
 use Rattle.reserving.specs.Rows.{AccountRows}
 
 -- ---- time goes on: sessions whose supervision time is over end, what they held is given up, and what is left
@@ -36,9 +38,9 @@ lapsed_in keeps groups b = held_by (λ s. not (keeps s)) groups b
 abbrev pub advanced : ℕ → AccountRows → AccountRows
 advanced t a = record a {
   as_of = t;
-  buckets = map (λ b. with_end t (with_release t b (lapsed_in (is_live_in a.tariff.validity t a.sessions) a.groups b))) a.buckets;
-  sessions = map (lapse a.tariff.validity t) a.sessions;
-  groups = map (lapse_group (is_live_in a.tariff.validity t a.sessions)) a.groups;
+  buckets = map (λ b. with_end t (with_release t b (lapsed_in (is_live_in a.book.validity t a.sessions) a.groups b))) a.buckets;
+  sessions = map (lapse a.book.validity t) a.sessions;
+  groups = map (lapse_group (is_live_in a.book.validity t a.sessions)) a.groups;
 }
 
 -- ---- sessions
@@ -93,26 +95,35 @@ ended_rows s g a = record a {
 abbrev pub settled_account : List ℕ → ℕ → ℕ → ℕ → ℕ → AccountRows → AccountRows
 settled_account s g units blocks rated a = record a {
   buckets = settled_rows (reserved_in s g a.groups) g a.as_of rated a.buckets;
-  counters = with_count g (cycle_at a.tariff g a.as_of) blocks a.counters;
+  counters = with_count g (cycle_at a.book g a.as_of) blocks a.counters;
   groups = with_use s g units a.groups;
   next_charge = a.next_charge + 1;
 }
 
+-- the periods of the group's reservation
+abbrev pub periods_in : List ℕ → ℕ → List SessionGroup → Option Periods
+periods_in s g rows = option_map (λ r. r.periods) (group_or_new s g rows).reservation
+
+-- what a report costs, by the rows
+abbrev pub price_in : List ℕ → ℕ → ℕ → List UsedPart → AccountRows → Rated
+price_in s g t used_parts a =
+    price_of a.book t g (periods_in s g a.groups) (used_in s g a.groups) (count_in g (cycle_at a.book g t) a.counters) used_parts
+
 abbrev pub settled_by_rows : List ℕ → ℕ → List UsedPart → AccountRows → AccountRows
 settled_by_rows s g [] a = ended_rows s g a
 settled_by_rows s g (p ∷ ps) a =
-    settled_account s g (reported (p ∷ ps)) (rated_blocks a.tariff (used_in s g a.groups) (p ∷ ps)) (rated_amount a.tariff (used_in s g a.groups) (p ∷ ps)) a
+    settled_account s g (reported (p ∷ ps)) (price_in s g a.as_of (p ∷ ps) a).blocks (price_in s g a.as_of (p ∷ ps) a).amount.0 a
 
 -- ---- reservation
 
-abbrev pub with_reservation : List ℕ → ℕ → ℕ → List Hold → List SessionGroup → List SessionGroup
-with_reservation s g period holds rows =
-    put (is_of s g) (record { session = s; group = g; used = used_in s g rows; reservation = Some (record { before = record { 0 = period }; after = record { 0 = period }; holds = holds }) }) rows
+abbrev pub with_reservation : List ℕ → ℕ → Periods → List Hold → List SessionGroup → List SessionGroup
+with_reservation s g periods holds rows =
+    put (is_of s g) (record { session = s; group = g; used = used_in s g rows; reservation = Some (record { periods = periods; holds = holds }) }) rows
 
 abbrev pub reserved_account : List ℕ → ℕ → ℕ → AccountRows → AccountRows
 reserved_account s g amount a = record a {
   buckets = held_rows g a.as_of amount a.buckets;
-  groups = with_reservation s g (period_at a.tariff a.as_of) (holds_of g a.as_of amount a.buckets) a.groups;
+  groups = with_reservation s g (periods_at a.book a.as_of) (holds_of g a.as_of amount a.buckets) a.groups;
 }
 
 -- ---- credit

@@ -2,15 +2,15 @@
 -- balance is a sum over it (TS 32.296, account balance management function).
 use Rattle.std.specs.Prelude.{ℕ, ◌+◌, ◌*◌, Bool, false, not, ◌==◌, ◌&&◌, ◌||◌, nat_lt, nat_eq, if◌then◌else◌, List, [], ◌∷◌, Option, Some, None}
 use Rattle.std.specs.Cmp.Lexicographic.{pointwise}
+use Rattle.rating.specs.declared.grant.Periods.{Periods}
 
 -- Credit: a bucket is made. Grant, Hold and End: a session gets units of a rating group, priced by the tariff
--- period at the grant (before) and at the switch within its validity (after), from this place of the group's
--- counter on; what is held for it of each bucket; it is over. Use and Charge: units are reported, start
+-- periods at the grant and at the switch within its validity, from this place of the group's counter on; what is held for it of each bucket; it is over. Use and Charge: units are reported, start
 -- blocks, and are rated; what each bucket pays. Touch and Close: a request of the session is accepted; the
 -- session ends. Recorded: a request of the session is kept under its number.
 pub data Fact : Type 0 where
   Credit : (number from until : ℕ) (scope : Option ℕ) (amount : ℕ) → Fact
-  Grant : (session : List ℕ) (group before after units counter : ℕ) → Fact
+  Grant : (session : List ℕ) (group : ℕ) (periods : Periods) (units counter : ℕ) → Fact
   Hold : (session : List ℕ) (group bucket amount : ℕ) → Fact
   End : (session : List ℕ) (group : ℕ) → Fact
   Use : (session : List ℕ) (group units blocks rated uncollected : ℕ) → Fact
@@ -157,16 +157,11 @@ held counts n (d ∷ older) = hold_of counts n d.fact + held (counts_before d.fa
 abbrev pub only : List ℕ → ℕ → List ℕ → ℕ → Bool
 only session group s g = is_same s session && g == group
 
--- the tariff periods of a grant
-pub record Periods : Type 0 where
-  pub before : ℕ
-  pub after : ℕ
-
 abbrev pub grant_in : List ℕ → ℕ → Dated → Option (Option Periods)
 grant_in s g d = granted_by d.fact
   where
     granted_by : Fact → Option (Option Periods)
-    granted_by (Grant session group before after units counter) = if is_same session s && group == g then Some (Some (record { before = before; after = after })) else None
+    granted_by (Grant session group periods units counter) = if is_same session s && group == g then Some (Some periods) else None
     granted_by (End session group) = if is_same session s && group == g then Some None else None
     granted_by _ = None
 
@@ -179,7 +174,7 @@ abbrev pub open_grant : List ℕ → ℕ → Ledger → Option Periods
 open_grant s g ledger = inner (newest (grant_in s g) ledger)
 
 abbrev pub names_group : List ℕ → ℕ → Fact → Bool
-names_group s g (Grant session group before after units counter) = is_same session s && group == g
+names_group s g (Grant session group periods units counter) = is_same session s && group == g
 names_group s g (Use session group units blocks rated uncollected) = is_same session s && group == g
 names_group s g _ = false
 

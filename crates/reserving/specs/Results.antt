@@ -1,46 +1,56 @@
 -- What settlements and grants answer, as a ledger tells it.
 -- Source: RFC 8506 sections 5.2 to 5.4; TS 32.299, session charging with unit reservation.
-use Rattle.std.specs.Prelude.{◌≡◌, ℕ, ◌+◌, ◌*◌, ◌<◌, ◌≤◌, Bool, nat_lt, List, Option, None}
+use Rattle.std.specs.Prelude.{◌≡◌, ℕ, ◌+◌, ◌<◌, ◌≤◌, Bool, nat_lt, List, Option, None, Some}
+use Rattle.units.specs.declared.blocks.UsedPart.{UsedPart}
 use Rattle.units.specs.Blocks.{started}
+use Rattle.tariffs.specs.Books.{Book}
+use Rattle.tariffs.specs.Tariffs.{GroupTariff, tiers_at}
+use Rattle.rating.specs.Granted.{IsGreatest}
 use Rattle.buckets.specs.Spend.{funds}
 use Rattle.reserving.specs.declared.reserve.Granted.{Granted}
 use Rattle.reserving.specs.declared.reserve.Granted.TheVariants.{Nothing, Units}
-use Rattle.reserving.specs.Balance.{buckets_at}
-use Rattle.reserving.specs.Reservation.{wanted_units, reserved, units_for, blocks_for}
-use Rattle.reserving.specs.Rows.{AccountRows, IsRowsOf}
-use Rattle.units.specs.declared.blocks.UsedPart.{UsedPart}
 use Rattle.reserving.specs.declared.settle.Settled.{Settled}
-use Rattle.reserving.specs.Ledger.{Ledger, used}
-use Rattle.reserving.specs.FlatTariff.{Flat}
-use Rattle.reserving.specs.Settlement.{rated_blocks, rated_amount, missing}
+use Rattle.reserving.specs.Ledger.{Ledger, used, counter}
+use Rattle.reserving.specs.Pricing.{tariff_of, cycle_at, switch_at, validity_at, periods_at, wanted_units, wanted_with}
+use Rattle.reserving.specs.Balance.{buckets_at}
+use Rattle.reserving.specs.Settlement.{report_price, missing}
+use Rattle.reserving.specs.Reservation.{reserved, grant_for}
+use Rattle.reserving.specs.Rows.{AccountRows, IsRowsOf}
 
 -- the blocks that a report starts, their price, and what of it is collected and isn't
-pub record IsSettlementOf (f : Flat) (t : ℕ) (session : List ℕ) (group : ℕ) (used_parts : List UsedPart) (ledger : Ledger) (s : Settled) : Type 0 where
-  pub blocks : s.blocks.0 ≡ rated_blocks f (used session group ledger) used_parts
-  pub rated : s.rated.0 ≡ rated_amount f (used session group ledger) used_parts
-  pub uncollected : s.uncollected.0 ≡ missing f t session group used_parts ledger
+pub record IsSettlementOf (b : Book) (t : ℕ) (session : List ℕ) (group : ℕ) (used_parts : List UsedPart) (ledger : Ledger) (s : Settled) : Type 0 where
+  pub blocks : s.blocks.0 ≡ (report_price b t session group used_parts ledger).blocks
+  pub rated : s.rated.0 ≡ (report_price b t session group used_parts ledger).amount.0
+  pub uncollected : s.uncollected.0 ≡ missing b t session group used_parts ledger
   pub collected : s.collected.0 + s.uncollected.0 ≡ s.rated.0
 
 -- ---- grants
 
--- units that are granted: as many as the funds cover, and no more; their price is held
-pub record IsGrantOf (f : Flat) (t : ℕ) (session : List ℕ) (group : ℕ) (requested : Option ℕ) (ledger : Ledger) (after : AccountRows) (given : ℕ) (at : Option ℕ) (seconds : ℕ) (final : Bool) : Type 0 where
+-- units that are granted: their price is held
+pub record IsGrantOf (b : Book) (t : ℕ) (session : List ℕ) (group : ℕ) (requested : Option ℕ) (ledger : Ledger) (after : AccountRows) (given : ℕ) (at : Option ℕ) (seconds : ℕ) (final : Bool) : Type 0 where
   pub some : 0 < given
-  pub units : given ≡ units_for f t group (used session group ledger) requested ledger
-  pub switch : at ≡ None
-  pub validity : seconds ≡ f.validity
-  pub fewer : final ≡ nat_lt given (wanted_units f requested)
-  pub covered : blocks_for f t group (used session group ledger) requested ledger * f.price ≤ funds group t (buckets_at f.validity t ledger)
-  pub greatest : blocks_for f t group (used session group ledger) requested ledger < started (used session group ledger) (wanted_units f requested) f.block →
-      funds group t (buckets_at f.validity t ledger) < (blocks_for f t group (used session group ledger) requested ledger + 1) * f.price
-  pub rows : IsRowsOf (reserved f t session group given (blocks_for f t group (used session group ledger) requested ledger * f.price) ledger) after
+  pub units : given ≡ (grant_for b t group (used session group ledger) requested ledger).units.0
+  pub switch : at ≡ switch_at b t
+  pub validity : seconds ≡ validity_at b t
+  pub fewer : final ≡ nat_lt given (wanted_with (tariff_of b group) requested)
+  -- as many blocks as the funds cover, and no more
+  pub greatest : (x : GroupTariff) → tariff_of b group ≡ Some x →
+      IsGreatest (tiers_at x (periods_at b t).before.0) (tiers_at x (periods_at b t).after.0) (counter (cycle_at b group) group (cycle_at b group t) ledger)
+      (started (used session group ledger) (wanted_units x requested) x.block) (funds group t (buckets_at b.validity t ledger)) (grant_for b t group (used session group ledger) requested ledger).blocks.0
+  pub rows : IsRowsOf (reserved b t session group given (grant_for b t group (used session group ledger) requested ledger).amount.0 ledger) after
 
 -- what a reservation answers, and what it makes of the account: nothing is granted exactly where no unit is covered
-abbrev pub GivesGrant : Flat → ℕ → List ℕ → ℕ → Option ℕ → Ledger → AccountRows → Granted → Type 0
-GivesGrant f t session group requested ledger after Nothing = (units_for f t group (used session group ledger) requested ledger ≡ 0) × IsRowsOf ledger after
-GivesGrant f t session group requested ledger after (Units units switch validity fewer) = IsGrantOf f t session group requested ledger after units.0 switch validity fewer
+abbrev pub GivesGrant : Book → ℕ → List ℕ → ℕ → Option ℕ → Ledger → AccountRows → Granted → Type 0
+GivesGrant b t session group requested ledger after Nothing = ((grant_for b t group (used session group ledger) requested ledger).units.0 ≡ 0) × IsRowsOf ledger after
+GivesGrant b t session group requested ledger after (Units units switch validity fewer) = IsGrantOf b t session group requested ledger after units.0 switch validity fewer
 
--- units that are granted are some, and no more than the greatest grant of the group
-abbrev pub IsWithinGrant : Flat → Granted → Type 0
-IsWithinGrant f Nothing = Unit {0}
-IsWithinGrant f (Units units switch validity fewer) = (0 < units.0) × (units.0 ≤ f.max_grant)
+-- units that are granted are some, of a group with a tariff, and no more than its greatest grant
+pub record IsWithin (t : Option GroupTariff) (units : ℕ) : Type 0 where
+  pub some : 0 < units
+  pub tariff : GroupTariff
+  pub known : t ≡ Some tariff
+  pub most : units ≤ tariff.max_grant
+
+abbrev pub IsWithinGrant : Option GroupTariff → Granted → Type 0
+IsWithinGrant t Nothing = Unit {0}
+IsWithinGrant t (Units units switch validity fewer) = IsWithin t units.0

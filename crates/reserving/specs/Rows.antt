@@ -7,12 +7,13 @@ use Rattle.reserving.specs.declared.session.Session.{Session}
 use Rattle.reserving.specs.declared.session.SessionGroup.{SessionGroup}
 use Rattle.reserving.specs.declared.session.Counter.{Counter}
 use Rattle.reserving.specs.Ledger.{Ledger, charged, held, is_same, is_closed, open_grant, last_touch, last_recording, next_bucket, next_charge}
-use Rattle.reserving.specs.FlatTariff.{Flat, IsFlat, cycle_at}
+use Rattle.tariffs.specs.Books.{Book, IsBook}
+use Rattle.reserving.specs.Pricing.{cycle_at}
 use Rattle.reserving.specs.Balance.{buckets_at}
 use Rattle.reserving.specs.Sessions.{is_session, session_in, session_at, is_of, group_in, group_at, is_counter, counter_in, counter_at, held_by}
 
 pub record AccountRows : Type 0 where
-  pub tariff : Flat
+  pub book : Book
   pub as_of : ℕ
   pub buckets : List Row
   pub counters : List Counter
@@ -33,7 +34,7 @@ AreApart same [] = Unit {0}
 AreApart same (x ∷ xs) = EachIn (λ y. same x y ≡ false) xs × AreApart same xs
 
 pub record IsAccount (a : AccountRows) : Type 0 where
-  pub tariff : IsFlat a.tariff
+  pub book : IsBook a.book
   pub sound : IsSound a.buckets
   pub below : IsBelow a.next_bucket a.buckets
   pub next_bucket : a.next_bucket ≤ 4294967296
@@ -59,10 +60,10 @@ pub record IsUnknown (s : List ℕ) (ledger : Ledger) : Type 0 where
 -- the account's rows are the ledger's at the moment as of which they stand: each row is the ledger's, and what
 -- the ledger tells has its row
 pub record IsRowsOf (ledger : Ledger) (a : AccountRows) : Type 0 where
-  pub buckets : a.buckets ≡ buckets_at a.tariff.validity a.as_of ledger
-  pub sessions : (s : List ℕ) → session_in s a.sessions ≡ session_at a.tariff.validity a.as_of ledger s
-  pub groups : (s : List ℕ) (g : ℕ) → group_in s g a.groups ≡ group_at a.tariff.validity a.as_of ledger s g
-  pub counters : (g c : ℕ) → counter_in g c a.counters ≡ counter_at (cycle_at a.tariff g) ledger g c
+  pub buckets : a.buckets ≡ buckets_at a.book.validity a.as_of ledger
+  pub sessions : (s : List ℕ) → session_in s a.sessions ≡ session_at a.book.validity a.as_of ledger s
+  pub groups : (s : List ℕ) (g : ℕ) → group_in s g a.groups ≡ group_at a.book.validity a.as_of ledger s g
+  pub counters : (g c : ℕ) → counter_in g c a.counters ≡ counter_at (cycle_at a.book g) ledger g c
   pub next_bucket : a.next_bucket ≡ next_bucket ledger
   pub next_charge : a.next_charge ≡ next_charge ledger
   -- a session's last touch is recorded

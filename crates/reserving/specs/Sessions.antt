@@ -12,7 +12,8 @@ use Rattle.reserving.specs.declared.session.SessionState.TheVariants.{Open, Ende
 use Rattle.reserving.specs.declared.session.SessionGroup.{SessionGroup}
 use Rattle.reserving.specs.declared.session.Reservation.{Reservation}
 use Rattle.reserving.specs.declared.session.Counter.{Counter}
-use Rattle.reserving.specs.Ledger.{Ledger, Recording, Periods, is_same, is_live, last_touch, last_recording, used, counter, held, only, open_grant, has_group, has_counter}
+use Rattle.rating.specs.declared.grant.Periods.{Periods}
+use Rattle.reserving.specs.Ledger.{Ledger, Recording, is_same, is_live, last_touch, last_recording, used, counter, held, only, open_grant, has_group, has_counter}
 use Rattle.reserving.specs.Balance.{buckets_at}
 
 -- ---- in lists of rows
@@ -78,7 +79,7 @@ holds_at v t session group ledger = parts (λ b. held (only session group) b.num
 
 abbrev pub reservation_of : List Hold → Option Periods → Option Reservation
 reservation_of holds None = None
-reservation_of holds (Some p) = Some (record { before = record { 0 = p.before }; after = record { 0 = p.after }; holds = holds })
+reservation_of holds (Some p) = Some (record { periods = p; holds = holds })
 
 -- a session's reservation of a group: a grant without an end in a live session
 abbrev pub reservation_at : ℕ → ℕ → Ledger → List ℕ → ℕ → Option Reservation

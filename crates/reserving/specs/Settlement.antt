@@ -1,28 +1,35 @@
 -- Settlement: a report's rated amount is charged to its reservation's holds and then to what is eligible; then
 -- the reservation ends (RFC 8506 section 5.3; TS 32.299, session charging with unit reservation).
-use Rattle.std.specs.Prelude.{ℕ, ◌+◌, ◌*◌, Bool, false, ◌||◌, nat_lt, List, [], ◌∷◌, ◌++◌, sum_by}
+use Rattle.std.specs.Prelude.{ℕ, ◌+◌, Bool, false, ◌||◌, nat_lt, List, [], ◌∷◌, ◌++◌, Option, sum_by, unwrap_or}
 use Rattle.units.specs.declared.blocks.UsedPart.{UsedPart}
-use Rattle.units.specs.Blocks.{started}
+use Rattle.calendar.specs.Timetable.{period_at}
+use Rattle.tariffs.specs.Books.{Book}
+use Rattle.rating.specs.declared.grant.Periods.{Periods}
+use Rattle.rating.specs.declared.report.Rated.{Rated}
 use Rattle.buckets.specs.declared.holds.Hold.{Hold}
 use Rattle.buckets.specs.Row.{Row}
 use Rattle.buckets.specs.Share.{parts}
 use Rattle.buckets.specs.Holding.{paid, uncollected}
-use Rattle.reserving.specs.Ledger.{Ledger, used, counter, next_charge}
+use Rattle.reserving.specs.Ledger.{Ledger, used, counter, open_grant, next_charge}
 use Rattle.reserving.specs.Ledger.Fact.{Use, Charge, End}
-use Rattle.reserving.specs.FlatTariff.{Flat, cycle_at}
+use Rattle.reserving.specs.Pricing.{tariff_of, cycle_at, one_period, rated_with}
 use Rattle.reserving.specs.Balance.{buckets_at}
 use Rattle.reserving.specs.Sessions.{holds_at}
 
--- the units of a report, all its parts together: at one price their order doesn't matter
+-- the units of a report, all its parts together
 abbrev pub reported : List UsedPart → ℕ
 reported used_parts = sum_by (λ p. p.units.0) used_parts
 
--- the blocks that a report starts, and what they cost
-abbrev pub rated_blocks : Flat → ℕ → List UsedPart → ℕ
-rated_blocks f before used_parts = started before (reported used_parts) f.block
+-- what a report costs: by the periods of its grant, or without one all by the period at its moment
+abbrev pub price_of : Book → ℕ → ℕ → Option Periods → ℕ → ℕ → List UsedPart → Rated
+price_of b t group granted used place used_parts =
+    rated_with (tariff_of b group) (unwrap_or granted (one_period (period_at b.calendar t))) used place used_parts
 
-abbrev pub rated_amount : Flat → ℕ → List UsedPart → ℕ
-rated_amount f before used_parts = rated_blocks f before used_parts * f.price
+-- the price of a report of a live session: its grant is its reservation, its use goes on after the session's use so
+-- far, and its blocks are counted from the group's counter in the cycle on
+abbrev pub report_price : Book → ℕ → List ℕ → ℕ → List UsedPart → Ledger → Rated
+report_price b t session group used_parts ledger =
+    price_of b t group (open_grant session group ledger) (used session group ledger) (counter (cycle_at b group) group (cycle_at b group t) ledger) used_parts
 
 abbrev pub charge_facts : ℕ → List Hold → Ledger
 charge_facts t [] = []
@@ -43,22 +50,22 @@ settled v t session group units blocks rated ledger =
 
 -- the ledger with a reported group's settlement; a group that is named without a report only ends its
 -- reservation
-abbrev pub settled_by : Flat → ℕ → List ℕ → ℕ → List UsedPart → Ledger → Ledger
-settled_by f t session group [] ledger = record { at = t; fact = End session group } ∷ ledger
-settled_by f t session group (p ∷ ps) ledger =
-    settled f.validity t session group (reported (p ∷ ps)) (rated_blocks f (used session group ledger) (p ∷ ps)) (rated_amount f (used session group ledger) (p ∷ ps)) ledger
+abbrev pub settled_by : Book → ℕ → List ℕ → ℕ → List UsedPart → Ledger → Ledger
+settled_by b t session group [] ledger = record { at = t; fact = End session group } ∷ ledger
+settled_by b t session group (p ∷ ps) ledger =
+    settled b.validity t session group (reported (p ∷ ps)) (report_price b t session group (p ∷ ps) ledger).blocks (report_price b t session group (p ∷ ps) ledger).amount.0 ledger
 
 -- what of a report's price neither its holds nor any eligible bucket pays
-abbrev pub missing : Flat → ℕ → List ℕ → ℕ → List UsedPart → Ledger → ℕ
-missing f t session group used_parts ledger =
-    uncollected (holds_at f.validity t session group ledger) group t (rated_amount f (used session group ledger) used_parts) (buckets_at f.validity t ledger)
+abbrev pub missing : Book → ℕ → List ℕ → ℕ → List UsedPart → Ledger → ℕ
+missing b t session group used_parts ledger =
+    uncollected (holds_at b.validity t session group ledger) group t (report_price b t session group used_parts ledger).amount.0 (buckets_at b.validity t ledger)
 
 -- a stored number would pass its limit: the session's use, the group's counter, or the charge row's number
 abbrev pub passes : ℕ → ℕ → ℕ → ℕ → ℕ → Bool
 passes before units count blocks charge =
     nat_lt 1000000000000000000 (before + units) || (nat_lt 4000000000000000000 (count + blocks) || nat_lt 4294967295 charge)
 
-abbrev pub passes_limit : Flat → ℕ → List ℕ → ℕ → List UsedPart → Ledger → Bool
-passes_limit f t session group [] ledger = false
-passes_limit f t session group (p ∷ ps) ledger =
-    passes (used session group ledger) (reported (p ∷ ps)) (counter (cycle_at f group) group (cycle_at f group t) ledger) (rated_blocks f (used session group ledger) (p ∷ ps)) (next_charge ledger)
+abbrev pub passes_limit : Book → ℕ → List ℕ → ℕ → List UsedPart → Ledger → Bool
+passes_limit b t session group [] ledger = false
+passes_limit b t session group (p ∷ ps) ledger =
+    passes (used session group ledger) (reported (p ∷ ps)) (counter (cycle_at b group) group (cycle_at b group t) ledger) (report_price b t session group (p ∷ ps) ledger).blocks (next_charge ledger)

@@ -3,19 +3,19 @@ ghost use Rattle.reserving.specs.Sessions.{is_live_in};
 ghost use Rattle.reserving.specs.Rows.{AccountRows, IsAccount, IsRowsOf};
 
 use crate::advance::is_live;
-use crate::flat::FlatTariff;
 use crate::session::{Counter, Session, SessionGroup};
 use buckets::Purse;
 use identifiers::SessionId;
 use std::alloc::Global;
 use std::marker::Model;
+use tariffs::TariffBook;
 use units::Moment;
 
 /// An account: its purse, its counters, and its sessions with their reservations, as of the moment of its last
-/// change. It is priced by a tariff that it borrows.
+/// change. It is priced by a tariff book that it borrows.
 #[derive(Drop)]
 pub struct Account<'b> {
-    pub(crate) tariff: &'b FlatTariff,
+    pub(crate) book: &'b TariffBook,
     pub(crate) as_of: Moment,
     pub(crate) purse: Purse,
     pub(crate) counters: Vec<Counter>,
@@ -32,7 +32,7 @@ impl<'b> Model for Account<'b> {
     ghost Value = { AccountRows };
 
     ghost view = { λ a. record {
-      tariff = a.tariff.now;
+      book = a.book.now;
       as_of = a.as_of;
       buckets = a.purse;
       counters = a.counters.items;
@@ -43,7 +43,7 @@ impl<'b> Model for Account<'b> {
     } };
 
     ghost invariant = { λ a. IsAccount (record {
-      tariff = a.tariff.now;
+      book = a.book.now;
       as_of = a.as_of;
       buckets = a.purse;
       counters = a.counters.items;
@@ -56,10 +56,10 @@ impl<'b> Model for Account<'b> {
 
 impl<'b> Account<'b> {
     /// An account without buckets and sessions. It takes no memory.
-    pub fn new(alloc: Global, tariff: &'b FlatTariff) -> Self
+    pub fn new(alloc: Global, book: &'b TariffBook) -> Self
         ensures ledger { IsRowsOf [] result }
         ensures rows { result ≡ record {
-          tariff = tariff.now;
+          book = book.now;
           as_of = 0;
           buckets = [];
           counters = [];
@@ -69,9 +69,9 @@ impl<'b> Account<'b> {
           next_charge = 1;
         } }
     {
-        let _ranges = tariff.block();
+        let _ranges = book.validity();
         Account {
-            tariff,
+            book,
             as_of: Moment::first(),
             purse: Purse::new(alloc),
             counters: Vec::new(alloc),
@@ -83,20 +83,20 @@ impl<'b> Account<'b> {
         }
     }
 
-    /// The tariff that prices it.
-    pub fn tariff(&self) -> &'b FlatTariff
-        ensures { result.now ≡ self.now.tariff }
+    /// The tariff book that prices it.
+    pub fn book(&self) -> &'b TariffBook
+        ensures { result.now ≡ self.now.book }
     {
-        self.tariff
+        self.book
     }
 
     /// Whether the session is live at the moment: opened and not closed, and its supervision time, two validity
     /// times after its last accepted request, isn't over (profile, in the place of the supervision timer of RFC 8506
     /// section 13).
     pub fn is_live(&self, session: &SessionId, moment: Moment) -> bool
-        ensures { result ≡ is_live_in self.now.tariff.validity moment self.now.sessions session.now }
+        ensures { result ≡ is_live_in self.now.book.validity moment self.now.sessions session.now }
     {
-        is_live(&self.sessions, session, self.tariff.validity(), moment)
+        is_live(&self.sessions, session, self.book.validity(), moment)
     }
 
     /// Its purse.

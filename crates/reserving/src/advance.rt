@@ -20,7 +20,7 @@ impl<'b> Account<'b> {
         ensures rows { self.new ≡ advanced moment self.old }
         ensures ledger { (ledger : Ledger) → IsRowsOf ledger self.old → IsRowsOf ledger self.new }
     {
-        let validity = self.tariff.validity();
+        let validity = self.book.validity();
         lapse_groups(
             &mut self.purse,
             &mut self.groups,

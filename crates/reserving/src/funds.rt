@@ -20,9 +20,9 @@ impl<'b> Account<'b> {
         requires { self.now.as_of ≤ moment }
         ensures rows { result.0 ≡ funds group moment (advanced moment self.now).buckets }
         ensures ledger { (ledger : Ledger) → IsRowsOf ledger self.now →
-            result.0 ≡ funds group moment (buckets_at self.now.tariff.validity moment ledger) }
+            result.0 ≡ funds group moment (buckets_at self.now.book.validity moment ledger) }
     {
-        let validity = self.tariff.validity();
+        let validity = self.book.validity();
         let mut total = 0;
         for bucket in self.purse.buckets() {
             total += available_later(

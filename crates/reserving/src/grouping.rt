@@ -1,15 +1,15 @@
 //! The rows of sessions' groups and of counters: found by their keys, made, and written.
 
-ghost use Rattle.std.specs.Prelude.{◌≡◌, ℕ, ◌+◌, ◌≤◌, ◌^◌, ◌<◌, true, is_some, OnOk, OnErr, position, map, length, vec_len, vec_capacity};
+ghost use Rattle.std.specs.Prelude.{◌≡◌, ℕ, ◌+◌, ◌≤◌, ◌^◌, ◌<◌, true, is_some, OnOk, OnErr, position, map, option_map, length, vec_len, vec_capacity};
 ghost use Rattle.reserving.specs.Sessions.{is_of, group_in, is_counter, counter_in, holds_in};
 ghost use Rattle.reserving.specs.Rows.{AreApart};
-ghost use Rattle.reserving.specs.Changes.{used_in, reserved_in, count_in, with_use, with_count, with_reservation, ended_group};
+ghost use Rattle.reserving.specs.Changes.{used_in, reserved_in, periods_in, count_in, with_use, with_count, with_reservation, ended_group};
 ghost use Rattle.reserving.specs.Prepared.{with_group, with_counter};
 
-use crate::flat::Period;
 use crate::session::{Counter, Reservation, SessionGroup};
 use buckets::Holds;
 use identifiers::SessionId;
+use rating::Periods;
 use std::alloc::{AllocError, Global};
 
 /// The place of the row of a session's group.
@@ -38,6 +38,30 @@ pub(crate) fn used_of(groups: &[SessionGroup], session: &SessionId, group: u32) 
         return 0;
     };
     groups[place].used
+}
+
+/// The periods of the reservation of a session's group.
+pub(crate) fn periods_of(
+    groups: &[SessionGroup],
+    session: &SessionId,
+    group: u32,
+) -> Option<Periods>
+    ensures { result ≡ periods_in session.now group groups.now }
+{
+    let Some(place) = place_of(groups, session, group) else {
+        return None;
+    };
+    periods_in(&groups[place])
+}
+
+/// The periods of a row's reservation.
+fn periods_in(row: &SessionGroup) -> Option<Periods>
+    ensures { result ≡ option_map (λ r. r.periods) row.now.reservation }
+{
+    match &row.reservation {
+        Some(reservation) => Some(reservation.periods),
+        None => None,
+    }
 }
 
 /// The blocks that a counter has counted.
@@ -153,19 +177,15 @@ pub(crate) fn reserve_group(
     groups: &mut Vec<SessionGroup>,
     session: &SessionId,
     group: u32,
-    period: Period,
+    periods: Periods,
     holds: Holds,
 )
     requires { is_some (group_in session.now group groups.old.items) ≡ true }
-    ensures { groups.new.items ≡ with_reservation session.now group period.0 holds groups.old.items }
+    ensures { groups.new.items ≡ with_reservation session.now group periods holds groups.old.items }
 {
     let Some(place) = place_of(groups, session, group) else {
         unreachable!();
     };
     let row = &mut groups[place];
-    row.reservation = Some(Reservation {
-        before: period,
-        after: period,
-        holds,
-    });
+    row.reservation = Some(Reservation { periods, holds });
 }

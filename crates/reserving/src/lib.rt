@@ -3,13 +3,13 @@
 
 mod account;
 mod advance;
+mod copy;
 mod credit;
 mod fault;
-mod flat;
 mod funds;
-mod grant;
 mod grouping;
 mod laws;
+mod pricing;
 mod reserve;
 mod session;
 mod sessions;
@@ -17,7 +17,6 @@ mod settle;
 
 pub use crate::account::Account;
 pub use crate::fault::AccountFault;
-pub use crate::flat::{FlatTariff, Period};
 pub use crate::laws::going_on;
 pub use crate::reserve::Granted;
 pub use crate::session::{Counter, Reservation, Session, SessionGroup, SessionState};

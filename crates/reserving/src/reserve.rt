@@ -1,23 +1,24 @@
-ghost use Rattle.std.specs.Prelude.{◌≡◌, ℕ, ◌+◌, ◌*◌, ◌≤◌, ◌<◌, None, true, is_some, nat_lt, length, option_map, OnOk, OnErr, IfOk};
-ghost use Rattle.units.specs.Blocks.{started};
+ghost use Rattle.std.specs.Prelude.{◌≡◌, ℕ, ◌+◌, ◌*◌, ◌≤◌, ◌<◌, ◌==◌, None, true, false, is_some, nat_lt, length, option_map, OnOk, OnErr, IfOk};
 ghost use Rattle.buckets.specs.Spend.{funds};
 ghost use Rattle.reserving.specs.Ledger.{Ledger};
 ghost use Rattle.reserving.specs.Sessions.{group_in, is_live_in};
-ghost use Rattle.reserving.specs.Grant.{granted_blocks, granted_units};
-ghost use Rattle.reserving.specs.Reservation.{wanted_units, units_for};
-ghost use Rattle.reserving.specs.Changes.{advanced, used_in, reserved_account};
+ghost use Rattle.reserving.specs.Pricing.{tariff_of, cycle_at, periods_at, wanted_with, grant_with};
+ghost use Rattle.reserving.specs.Reservation.{grant_for};
+ghost use Rattle.reserving.specs.Quotas.{IsQuota};
+ghost use Rattle.reserving.specs.Changes.{advanced, used_in, count_in, reserved_account};
 ghost use Rattle.reserving.specs.Prepared.{with_group_row, reservation_in};
 ghost use Rattle.reserving.specs.Rows.{IsAccount, IsRowsOf};
 ghost use Rattle.reserving.specs.Results.{GivesGrant, IsWithinGrant};
 
 use crate::account::Account;
 use crate::fault::AccountFault;
-use crate::flat::Period;
-use crate::grant::{Quota, greatest_grant};
 use crate::grouping;
+use crate::pricing::{wanted_of, window_at};
 use buckets::HoldRoom;
 use identifiers::SessionId;
-use units::{Amount, Moment, Units};
+use rating::{Grant, Periods, greatest_grant};
+use tariffs::Tariff;
+use units::{Amount, Blocks, Moment, Units};
 
 /// What is granted of a wanted amount (Granted-Service-Unit, RFC 8506 section 8.17).
 #[derive(Clone, Copy, Debug, PartialEq, Eq)]
@@ -37,8 +38,14 @@ pub enum Granted {
     },
 }
 
-/// The period of a flat tariff.
-const PERIOD: Period = Period(0);
+/// What a wanted amount comes to.
+#[derive(Clone, Copy)]
+struct Quota {
+    /// The units that are wanted.
+    wanted: u64,
+    /// The greatest grant that the funds cover.
+    grant: Grant,
+}
 
 impl<'b> Account<'b> {
     /// Reserves units of a rating group for a live session that has no reservation of it (RFC 8506 sections
@@ -54,30 +61,32 @@ impl<'b> Account<'b> {
         moment: Moment,
     ) -> Result<Granted, AccountFault>
         requires moment { self.old.as_of ≤ moment }
-        requires live { is_live_in self.old.tariff.validity moment self.old.sessions session.now ≡ true }
+        requires live { is_live_in self.old.book.validity moment self.old.sessions session.now ≡ true }
         requires free { reservation_in session.now group self.old.groups ≡ None }
         ensures rows { IfOk result (λ granted. (ledger : Ledger) → IsRowsOf ledger self.old →
-            GivesGrant self.old.tariff moment session.now group (option_map (λ u. u.0) requested) ledger self.new granted) }
+            GivesGrant self.old.book moment session.now group (option_map (λ u. u.0) requested) ledger self.new granted) }
         ensures as_of { OnOk result (self.new.as_of ≡ moment) }
-        ensures tariff { self.new.tariff ≡ self.old.tariff }
-        ensures within { IfOk result (IsWithinGrant self.old.tariff) }
+        ensures tariff { self.new.book ≡ self.old.book }
+        ensures sessions { OnOk result (self.new.sessions ≡ (advanced moment self.old).sessions) }
+        ensures within { IfOk result (IsWithinGrant (tariff_of self.old.book group)) }
+        ensures others { OnOk result ((g : ℕ) → (g == group) ≡ false → reservation_in session.now g self.old.groups ≡ None → reservation_in session.now g self.new.groups ≡ None) }
         ensures memory { OnErr result (result ≡ Err AccountFault.Memory) }
         ensures err { OnErr result (self.new ≡ self.old) }
     {
-        let validity = self.tariff.validity();
-        let quota = self.quota(session, group, requested, moment);
-        if quota.units == 0 {
+        let window = window_at(self.book, moment);
+        let quota = self.quota(session, group, requested, window.periods, moment);
+        if quota.grant.units.0 == 0 {
             self.advance(moment);
             return Ok(Granted::Nothing);
         }
         let room = self.make_row(session, group, moment)?;
         self.advance(moment);
-        self.hold_quota(room, session, group, Amount(quota.amount));
+        self.hold_quota(room, session, group, window.periods, quota.grant.amount);
         Ok(Granted::Units {
-            units: Units(quota.units),
-            switch: None,
-            validity,
-            fewer: quota.units < quota.wanted,
+            units: quota.grant.units,
+            switch: window.switch,
+            validity: window.validity,
+            fewer: quota.grant.units.0 < quota.wanted,
         })
     }
 
@@ -86,10 +95,11 @@ impl<'b> Account<'b> {
     pub fn would_grant(&self, group: u32, requested: Option<Units>, moment: Moment) -> bool
         requires { self.now.as_of ≤ moment }
         ensures { (ledger : Ledger) → IsRowsOf ledger self.now →
-            result ≡ nat_lt 0 (units_for self.now.tariff moment group 0 (option_map (λ u. u.0) requested) ledger) }
+            result ≡ nat_lt 0 (grant_for self.now.book moment group 0 (option_map (λ u. u.0) requested) ledger).units.0 }
     {
-        let funds = self.funds(group, moment);
-        0 < greatest_grant(self.tariff, 0, requested, funds).units
+        let periods = window_at(self.book, moment).periods;
+        let quota = self.quota_after(0, group, requested, periods, moment);
+        0 < quota.grant.units.0
     }
 
     /// The greatest grant that the funds cover at a moment.
@@ -98,22 +108,39 @@ impl<'b> Account<'b> {
         session: &SessionId,
         group: u32,
         requested: Option<Units>,
+        periods: Periods,
         moment: Moment,
     ) -> Quota
         requires { self.now.as_of ≤ moment }
         ensures account { IsAccount self.now }
-        ensures wanted { result.wanted ≡ wanted_units self.now.tariff (option_map (λ u. u.0) requested) }
-        ensures units { result.units ≡ granted_units (used_in session.now group self.now.groups) result.wanted self.now.tariff.block self.now.tariff.price (funds group moment (advanced moment self.now).buckets) }
-        ensures blocks { result.blocks ≡ granted_blocks (used_in session.now group self.now.groups) result.wanted self.now.tariff.block self.now.tariff.price (funds group moment (advanced moment self.now).buckets) }
-        ensures within { result.units ≤ result.wanted }
-        ensures amount { result.amount ≡ result.blocks * self.now.tariff.price }
-        ensures covered { result.amount ≤ funds group moment (advanced moment self.now).buckets }
-        ensures greatest { result.blocks < started (used_in session.now group self.now.groups) result.wanted self.now.tariff.block →
-            funds group moment (advanced moment self.now).buckets < (result.blocks + 1) * self.now.tariff.price }
+        ensures quota { IsQuota self.now.book (used_in session.now group self.now.groups) group (option_map (λ u. u.0) requested) periods
+            (count_in group (cycle_at self.now.book group moment) self.now.counters) (funds group moment (advanced moment self.now).buckets) result.wanted result.grant }
     {
-        let funds = self.funds(group, moment);
         let used = grouping::used_of(&self.groups, session, group);
-        greatest_grant(self.tariff, used, requested, funds)
+        self.quota_after(used, group, requested, periods, moment)
+    }
+
+    /// The greatest grant that the funds cover at a moment, after a use.
+    fn quota_after(
+        &self,
+        used: u64,
+        group: u32,
+        requested: Option<Units>,
+        periods: Periods,
+        moment: Moment,
+    ) -> Quota
+        requires { self.now.as_of ≤ moment }
+        ensures { IsQuota self.now.book used group (option_map (λ u. u.0) requested) periods
+            (count_in group (cycle_at self.now.book group moment) self.now.counters) (funds group moment (advanced moment self.now).buckets) result.wanted result.grant }
+    {
+        let Some(tariff) = self.book.tariff(group) else {
+            return Quota::none();
+        };
+        let wanted = wanted_of(tariff, requested);
+        let place = self.place_at(group, moment);
+        let funds = self.funds(group, moment);
+        let grant = greatest_grant(tariff, periods, Units(used), place, Units(wanted), funds);
+        Quota { wanted, grant }
     }
 
     /// Takes the memory of a reservation, and makes the row of its group. At a fault nothing has changed.
@@ -134,7 +161,15 @@ impl<'b> Account<'b> {
     }
 
     /// Holds the price of a grant, and reserves its units in a row that is there.
-    fn hold_quota(&mut self, room: HoldRoom, session: &SessionId, group: u32, amount: Amount)
+    fn hold_quota(
+        &mut self,
+        room: HoldRoom,
+        session: &SessionId,
+        group: u32,
+        periods: Periods,
+        amount: Amount,
+    )
+        requires periods { periods ≡ periods_at self.old.book self.old.as_of }
         requires there { is_some (group_in session.now group self.old.groups) ≡ true }
         requires free { reservation_in session.now group self.old.groups ≡ None }
         requires room { length self.old.buckets ≤ room }
@@ -142,6 +177,23 @@ impl<'b> Account<'b> {
         ensures { self.new ≡ reserved_account session.now group amount.0 self.old }
     {
         let holds = self.purse.hold_in(room, group, self.as_of, amount);
-        grouping::reserve_group(&mut self.groups, session, group, PERIOD, holds);
+        grouping::reserve_group(&mut self.groups, session, group, periods, holds);
+    }
+}
+
+impl Quota {
+    /// Nothing is wanted, and nothing granted.
+    fn none() -> Quota
+        ensures wanted { result.wanted ≡ 0 }
+        ensures grant { result.grant ≡ record { blocks = record { 0 = 0 }; units = record { 0 = 0 }; amount = record { 0 = 0 } } }
+    {
+        Quota {
+            wanted: 0,
+            grant: Grant {
+                blocks: Blocks(0),
+                units: Units(0),
+                amount: Amount(0),
+            },
+        }
     }
 }

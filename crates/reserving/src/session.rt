@@ -1,6 +1,6 @@
-use crate::flat::Period;
 use buckets::Holds;
 use identifiers::SessionId;
+use rating::Periods;
 use units::Moment;
 
 /// What became of a session.
@@ -15,7 +15,7 @@ pub enum SessionState {
 }
 
 /// A session of an account, or a recorded event.
-#[derive(Debug, Drop)]
+#[derive(Clone, Debug, Drop)]
 pub struct Session {
     /// Its name (Session-Id, RFC 6733 section 8.8).
     pub id: SessionId,
@@ -28,18 +28,16 @@ pub struct Session {
 }
 
 /// What a grant reserved: the tariff periods that price its units, and the money that is held for them.
-#[derive(Debug, Drop)]
+#[derive(Clone, Debug, Drop)]
 pub struct Reservation {
-    /// The period at the grant.
-    pub before: Period,
-    /// The period at the tariff switch within the grant's validity; the same without one.
-    pub after: Period,
+    /// The periods at the grant and at the tariff switch within its validity.
+    pub periods: Periods,
     /// What it holds, bucket by bucket.
     pub holds: Holds,
 }
 
 /// What a session has of a rating group, from its first grant or use on.
-#[derive(Debug, Drop)]
+#[derive(Clone, Debug, Drop)]
 pub struct SessionGroup {
     /// The session's name.
     pub session: SessionId,

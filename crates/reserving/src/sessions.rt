@@ -31,7 +31,7 @@ impl<'b> Account<'b> {
         ensures memory { OnErr result (result ≡ Err AccountFault.Memory) }
         ensures err { OnErr result (self.new ≡ self.old) }
     {
-        let _ranges = &self.tariff;
+        let _ranges = &self.book;
         self.record_new(session, number, moment, SessionState::Open)?;
         self.advance(moment);
         Ok(())
@@ -61,7 +61,7 @@ impl<'b> Account<'b> {
     /// memory.
     pub fn touch(&mut self, session: &SessionId, number: u32, moment: Moment)
         requires later { self.old.as_of ≤ moment }
-        requires live { is_live_in self.old.tariff.validity moment self.old.sessions session.now ≡ true }
+        requires live { is_live_in self.old.book.validity moment self.old.sessions session.now ≡ true }
         ensures rows { self.new ≡ touched_account session.now number (advanced moment self.old) }
         ensures ledger { (ledger : Ledger) → IsRowsOf ledger self.old → IsRowsOf (touched moment session.now number ledger) self.new }
     {
@@ -73,7 +73,7 @@ impl<'b> Account<'b> {
     /// takes no memory.
     pub fn close(&mut self, session: &SessionId, moment: Moment)
         requires later { self.old.as_of ≤ moment }
-        requires live { is_live_in self.old.tariff.validity moment self.old.sessions session.now ≡ true }
+        requires live { is_live_in self.old.book.validity moment self.old.sessions session.now ≡ true }
         ensures rows { self.new ≡ closed_account session.now (advanced moment self.old) }
         ensures ledger { (ledger : Ledger) → IsRowsOf ledger self.old → IsRowsOf (closed moment session.now ledger) self.new }
     {

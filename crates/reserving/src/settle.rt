@@ -1,21 +1,26 @@
-ghost use Rattle.std.specs.Prelude.{◌≡◌, ℕ, ◌+◌, ◌≤◌, ◌<◌, ◌^◌, true, false, None, is_some, OnOk, OnErr, IfOk, IfSome, IsNone};
+ghost use Rattle.std.specs.Prelude.{◌≡◌, ℕ, ◌+◌, ◌≤◌, ◌<◌, ◌^◌, true, false, None, is_some, OnOk, OnErr, IfOk, IfSome, List, Some, unwrap_or};
 ghost use Rattle.reserving.specs.Ledger.{Ledger};
 ghost use Rattle.reserving.specs.Sessions.{is_live_in};
-ghost use Rattle.reserving.specs.Settlement.{reported, rated_blocks, rated_amount, passes, passes_limit, settled_by};
+ghost use Rattle.reserving.specs.Settlement.{reported, price_of, passes, passes_limit, settled_by};
 ghost use Rattle.reserving.specs.Rows.{IsAccount, IsRowsOf};
 ghost use Rattle.reserving.specs.Results.{IsSettlementOf};
 ghost use Rattle.buckets.specs.Holding.{uncollected};
-ghost use Rattle.reserving.specs.FlatTariff.{cycle_at};
+ghost use Rattle.units.specs.declared.blocks.UsedPart.{UsedPart};
+ghost use Rattle.units.specs.declared.blocks.TariffChangeUsage.TheVariants.{UnitBeforeTariffChange, UnitAfterTariffChange, UnitIndeterminate};
+ghost use Rattle.calendar.specs.Timetable.{period_at};
+ghost use Rattle.reserving.specs.Pricing.{cycle_at, units_of, one_period};
 ghost use Rattle.reserving.specs.Sessions.{group_in, counter_in};
-ghost use Rattle.reserving.specs.Changes.{advanced, used_in, reserved_in, count_in, settled_account, ended_rows};
+ghost use Rattle.reserving.specs.Changes.{advanced, used_in, reserved_in, periods_in, count_in, price_in, settled_account, ended_rows};
 ghost use Rattle.reserving.specs.Prepared.{with_rows, reservation_in};
 
 use crate::account::Account;
 use crate::fault::AccountFault;
 use crate::grouping;
+use crate::pricing::{Tally, price, reported_units, tally_of};
 use buckets::Charged;
 use identifiers::SessionId;
-use units::{Amount, Blocks, Moment, Units, UsedPart, blocks_started};
+use rating::{Periods, Rated};
+use units::{Amount, Blocks, Moment, Units, UsedPart};
 
 /// What became of a report of used units: what is collected and what isn't sum to the rated amount.
 #[derive(Clone, Copy, Debug, PartialEq, Eq)]
@@ -38,9 +43,6 @@ const MOST_COUNTED: u128 = 4_000_000_000_000_000_000;
 
 /// The greatest number of a charge.
 const LAST_CHARGE: u64 = 4_294_967_295;
-
-/// The cycle of the counters: a flat tariff has one.
-const CYCLE: u32 = 0;
 
 /// A report as it is rated: its units, the blocks that they start, and what these cost.
 #[derive(Clone, Copy)]
@@ -65,19 +67,20 @@ impl<'b> Account<'b> {
         moment: Moment,
     ) -> Result<Settled, AccountFault>
         requires moment { self.old.as_of ≤ moment }
-        requires live { is_live_in self.old.tariff.validity moment self.old.sessions session.now ≡ true }
+        requires live { is_live_in self.old.book.validity moment self.old.sessions session.now ≡ true }
         ensures rows { OnOk result ((ledger : Ledger) → IsRowsOf ledger self.old →
-            IsRowsOf (settled_by self.old.tariff moment session.now group parts.now ledger) self.new) }
+            IsRowsOf (settled_by self.old.book moment session.now group parts.now ledger) self.new) }
         ensures as_of { OnOk result (self.new.as_of ≡ moment) }
-        ensures tariff { self.new.tariff ≡ self.old.tariff }
+        ensures tariff { self.new.book ≡ self.old.book }
         ensures sessions { OnOk result (self.new.sessions ≡ (advanced moment self.old).sessions) }
         ensures settled { IfOk result (λ s. (ledger : Ledger) → IsRowsOf ledger self.old →
-            IsSettlementOf self.old.tariff moment session.now group parts.now ledger s) }
+            IsSettlementOf self.old.book moment session.now group parts.now ledger s) }
         ensures within { OnOk result ((ledger : Ledger) → IsRowsOf ledger self.old →
-            passes_limit self.old.tariff moment session.now group parts.now ledger ≡ false) }
+            passes_limit self.old.book moment session.now group parts.now ledger ≡ false) }
         ensures limit { result ≡ Err AccountFault.Limit → (ledger : Ledger) → IsRowsOf ledger self.old →
-            passes_limit self.old.tariff moment session.now group parts.now ledger ≡ true }
+            passes_limit self.old.book moment session.now group parts.now ledger ≡ true }
         ensures free { OnOk result (reservation_in session.now group self.new.groups ≡ None) }
+        ensures others { OnOk result ((s : List ℕ) (g : ℕ) → reservation_in s g self.old.groups ≡ None → reservation_in s g self.new.groups ≡ None) }
         ensures err { OnErr result (self.new ≡ self.old) }
     {
         if parts.is_empty() {
@@ -90,12 +93,13 @@ impl<'b> Account<'b> {
                 uncollected: Amount(0),
             });
         }
-        let Some(rated) = self.rate(session, group, parts) else {
+        let Some(rated) = self.rate(session, group, parts, moment) else {
             return Err(AccountFault::Limit);
         };
-        self.make_rows(session, group, CYCLE)?;
+        let cycle = self.cycle_at(group, moment);
+        self.make_rows(session, group, cycle)?;
         self.advance(moment);
-        let charged = self.settle_use(session, group, CYCLE, rated);
+        let charged = self.settle_use(session, group, cycle, rated);
         Ok(Settled {
             blocks: rated.blocks,
             rated: rated.amount,
@@ -116,32 +120,99 @@ impl<'b> Account<'b> {
         Ok(())
     }
 
+    /// The cycle of the counter of a group at a moment.
+    pub(crate) fn cycle_at(&self, group: u32, moment: Moment) -> u32
+        ensures { result ≡ cycle_at self.now.book group moment }
+    {
+        match self.book.tariff(group) {
+            Some(tariff) => self.book.cycle_of(tariff.cycle(), moment),
+            None => 0,
+        }
+    }
+
+    /// The blocks that the counter of a group has counted in the cycle of a moment.
+    pub(crate) fn place_at(&self, group: u32, moment: Moment) -> u64
+        ensures { result ≡ count_in group (cycle_at self.now.book group moment) self.now.counters }
+    {
+        let cycle = self.cycle_at(group, moment);
+        grouping::count_of(&self.counters, group, cycle)
+    }
+
     /// Rates a report; None where a stored number would pass its limit.
-    fn rate(&self, session: &SessionId, group: u32, parts: &[UsedPart]) -> Option<RatedUse>
+    fn rate(
+        &self,
+        session: &SessionId,
+        group: u32,
+        parts: &[UsedPart],
+        moment: Moment,
+    ) -> Option<RatedUse>
         ensures account { IsAccount self.now }
-        ensures none { result ≡ None → passes (used_in session.now group self.now.groups) (reported parts.now) (count_in group 0 self.now.counters) (rated_blocks self.now.tariff (used_in session.now group self.now.groups) parts.now) self.now.next_charge ≡ true }
-        ensures some { IfSome result (λ r. passes (used_in session.now group self.now.groups) r.units.0 (count_in group 0 self.now.counters) r.blocks.0 self.now.next_charge ≡ false) }
+        ensures none { result ≡ None → passes (used_in session.now group self.now.groups) (reported parts.now) (count_in group (cycle_at self.now.book group moment) self.now.counters) (price_in session.now group moment parts.now self.now).blocks self.now.next_charge ≡ true }
+        ensures some { IfSome result (λ r. passes (used_in session.now group self.now.groups) r.units.0 (count_in group (cycle_at self.now.book group moment) self.now.counters) r.blocks.0 self.now.next_charge ≡ false) }
         ensures units { IfSome result (λ r. r.units.0 ≡ reported parts.now) }
-        ensures blocks { IfSome result (λ r. r.blocks.0 ≡ rated_blocks self.now.tariff (used_in session.now group self.now.groups) parts.now) }
-        ensures amount { IfSome result (λ r. r.amount.0 ≡ rated_amount self.now.tariff (used_in session.now group self.now.groups) parts.now) }
+        ensures blocks { IfSome result (λ r. r.blocks.0 ≡ (price_in session.now group moment parts.now self.now).blocks) }
+        ensures amount { IfSome result (λ r. r.amount.0 ≡ (price_in session.now group moment parts.now self.now).amount.0) }
     {
         let used = grouping::used_of(&self.groups, session, group);
         let units = reported_units(parts);
         if MOST_USED < used as u128 + units {
             return None;
         }
-        let units = Units(units as u64);
-        let blocks = blocks_started(Units(used), units, self.tariff.block());
-        let counted = grouping::count_of(&self.counters, group, CYCLE) as u128 + blocks.0 as u128;
-        if MOST_COUNTED < counted || LAST_CHARGE < self.next_charge {
+        let tally = tally_of(parts);
+        let place = self.place_at(group, moment);
+        let rated = self.price(session, group, used, place, &tally, moment);
+        let fits = rated.blocks <= MOST_COUNTED && place as u128 + rated.blocks <= MOST_COUNTED;
+        if !fits || LAST_CHARGE < self.next_charge {
             return None;
         }
-        let amount = Amount(blocks.0 as u128 * self.tariff.price() as u128);
         Some(RatedUse {
-            units,
-            blocks,
-            amount,
+            units: Units(units as u64),
+            blocks: Blocks(rated.blocks as u64),
+            amount: rated.amount,
         })
+    }
+
+    /// What a report costs: by the periods of its grant, without one by the period at the moment. A group that the
+    /// book doesn't have costs nothing.
+    fn price(
+        &self,
+        session: &SessionId,
+        group: u32,
+        used: u64,
+        place: u64,
+        tally: &Tally,
+        moment: Moment,
+    ) -> Rated
+        requires { tally.now.untagged + tally.now.before + tally.now.indeterminate + tally.now.after < 2 ^ 64 }
+        ensures { (parts : List UsedPart) →
+            tally.now.untagged ≡ units_of None parts → tally.now.before ≡ units_of (Some UnitBeforeTariffChange) parts →
+            tally.now.indeterminate ≡ units_of (Some UnitIndeterminate) parts → tally.now.after ≡ units_of (Some UnitAfterTariffChange) parts →
+            result ≡ price_of self.now.book moment group (periods_in session.now group self.now.groups) used place parts }
+    {
+        let Some(tariff) = self.book.tariff(group) else {
+            return Rated {
+                amount: Amount(0),
+                blocks: 0,
+            };
+        };
+        let periods = self.periods(session, group, moment);
+        price(tariff, periods, used, place, tally)
+    }
+
+    /// The periods that price a report: those of its grant, or the period at the moment.
+    fn periods(&self, session: &SessionId, group: u32, moment: Moment) -> Periods
+        ensures { result ≡ unwrap_or (periods_in session.now group self.now.groups) (one_period (period_at self.now.book.calendar moment)) }
+    {
+        match grouping::periods_of(&self.groups, session, group) {
+            Some(periods) => periods,
+            None => {
+                let period = self.book.period_at(moment);
+                Periods {
+                    before: period,
+                    after: period,
+                }
+            }
+        }
     }
 
     /// Settles a use in rows that are there: what was reserved pays first, then what is eligible.
@@ -154,7 +225,7 @@ impl<'b> Account<'b> {
     ) -> Charged
         requires group { is_some (group_in session.now group self.old.groups) ≡ true }
         requires counter { is_some (counter_in group cycle self.old.counters) ≡ true }
-        requires cycle { cycle ≡ cycle_at self.old.tariff group self.old.as_of }
+        requires cycle { cycle ≡ cycle_at self.old.book group self.old.as_of }
         requires used { used_in session.now group self.old.groups + rated.units.0 ≤ 1_000_000_000_000_000_000 }
         requires counted { count_in group cycle self.old.counters + rated.blocks.0 ≤ 4_000_000_000_000_000_000 }
         requires charges { self.old.next_charge < 4_294_967_296 }
@@ -183,16 +254,4 @@ impl<'b> Account<'b> {
         let holds = grouping::end_group(self.alloc, &mut self.groups, session, group);
         self.purse.release(holds, self.as_of);
     }
-}
-
-/// The units of a report, all its parts together.
-fn reported_units(parts: &[UsedPart]) -> u128
-    ensures sum { result ≡ reported parts.now }
-    ensures most { result < 2 ^ 127 }
-{
-    let mut total = 0;
-    for part in parts {
-        total += part.units.0 as u128;
-    }
-    total
 }

@@ -5,6 +5,7 @@ use Rattle.std.specs.List.{list_any}
 use Rattle.toml.specs.Data.{Data, Members}
 use Rattle.calendar.specs.declared.cycle.Cycle.{Cycle}
 use Rattle.calendar.specs.declared.cycle.Cycle.TheVariants as cycles
+use Rattle.identifiers.specs.Texts.{is_redirect_address}
 use Rattle.units.specs.declared.blocks.UnitKind.{UnitKind}
 use Rattle.units.specs.declared.blocks.UnitKind.TheVariants.{Time, TotalOctets, ServiceSpecific}
 use Rattle.book_fields.specs.declared.fault.BookFault.{BookFault}
@@ -13,7 +14,6 @@ use Rattle.book_fields.specs.Faults.{◌>>=◌, or_fault, where_holds}
 use Rattle.book_fields.specs.Fields.{text_of, number_in, filled_array_of, table_at, collected}
 use Rattle.tariffs.specs.declared.final_action.FinalAction.{FinalAction}
 use Rattle.tariffs.specs.declared.final_action.FinalAction.TheVariants.{Terminate, Redirect}
-use Rattle.tariffs.specs.Redirect.{is_address}
 use Rattle.tariffs.specs.Names.{same_text}
 use Rattle.tariffs.specs.Tariffs.{GroupTariff}
 use Rattle.tariffs.specs.PriceFields.{prices_of}
@@ -64,7 +64,7 @@ cycle_of t = do
 unfoldable pub redirect_of : Members → Result FinalAction BookFault
 redirect_of t = do
   text ← text_of (codes "redirect") t
-  where_holds (is_address text) OutOfRange (Redirect text)
+  where_holds (is_redirect_address text) OutOfRange (Redirect text)
 
 -- `final`, and `redirect` for a redirect
 unfoldable pub final_action_of : Members → Result FinalAction BookFault

@@ -1,4 +1,3 @@
-pub mod Redirect
 pub mod Prices
 pub mod Tariffs
 pub mod Names

@@ -6,12 +6,13 @@ ghost use Rattle.book_fields.specs.Fields.{collected};
 ghost use Rattle.tariffs.specs.Tariffs.{IsTariff};
 ghost use Rattle.tariffs.specs.GroupFields.{id_of, unit_named, unit_of, most_units, max_grant_of, cycle_named, cycle_of, redirect_of, final_action_of, group_of, groups_of};
 
-use crate::final_action::{FinalAction, RedirectAddress};
+use crate::final_action::FinalAction;
 use crate::names::PeriodNames;
 use crate::price_fields;
 use crate::tariff::Tariff;
 use book_fields::BookFault;
 use calendar::Cycle;
+use identifiers::RedirectAddress;
 use std::alloc::Global;
 use toml::{Table, Value};
 use units::UnitKind;

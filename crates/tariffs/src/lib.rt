@@ -11,7 +11,7 @@ mod tiers;
 mod week_fields;
 
 pub use crate::book::TariffBook;
-pub use crate::final_action::{FinalAction, RedirectAddress};
+pub use crate::final_action::FinalAction;
 pub use crate::tariff::Tariff;
 pub use crate::tiers::Tier;
 pub use book_fields::BookFault;

@@ -6,7 +6,7 @@ use crate::documents::BOOK;
 use calendar::{Cycle, Period};
 use std::alloc::Global;
 use std::test::Fail;
-use tariffs::{RedirectAddress, Tariff, TariffBook};
+use tariffs::{Tariff, TariffBook};
 use units::Moment;
 
 /// What a tariff says of itself, but for its prices.
@@ -173,16 +173,5 @@ fn names(rt: HostRuntime) -> Result<(), Fail> {
     );
     assert_eq!(rt; book.currency(), 978);
     assert_eq!(rt; book.validity(), 3600);
-    Ok(())
-}
-
-#[test]
-fn addresses(rt: HostRuntime) -> Result<(), Fail> {
-    let alloc = rt.alloc();
-    assert!(rt; RedirectAddress::new(alloc, "a b")?.is_none());
-    let address = RedirectAddress::new(alloc, "http://topup.example/")?.ok_or("an address")?;
-    assert_eq!(rt; address.as_str(), "http://topup.example/");
-    let other = RedirectAddress::new(alloc, "http://topup.example")?.ok_or("an address")?;
-    assert!(rt; address != other);
     Ok(())
 }

@@ -1,26 +1,24 @@
 use Rattle.std.proofs.Common.{◌≡◌, ◌<◌, true, sym, subst, arith}
 use Rattle.reserving.specs.declared.session.SessionState.TheVariants.{Open}
 use Rattle.reserving.specs.Sessions.{is_live_in}
-use Rattle.reserving.specs.FlatTariff.{Flat, IsFlat}
+use Rattle.tariffs.specs.Books.{Book, IsBook}
 use Rattle.reserving.specs.Rows.{AccountRows}
 use Rattle.reserving.specs.Changes.{session_put}
-use Rattle.charging.specs.Named.{named}
-use Rattle.charging.specs.Free.{IsFreeFor}
-use Rattle.charging.proofs.Alive.{live_opened, free_opened, free_for_named}
+use Rattle.charging.specs.Free.{AreFree}
+use Rattle.charging.proofs.Alive.{live_opened, free_lapsed}
 use Rattle.charging.proofs.granting.open.Goals as goal
 
 pub grant_services-requires-clause-live : goal.grant_services-requires-clause-live
 grant_services-requires-clause-live c =
     let a : AccountRows = c.args.account.now in
-    let flat : IsFlat c.tariff.result.now = c.validity-ranges.ensures.ranges in
-    let lower : 0 < c.tariff.result.now.validity = omega (arith, flat.validity) in
-    let some : 0 < a.tariff.validity = subst (λ (f : Flat). 0 < f.validity) c.tariff.ensures lower in
-    subst (λ (r : AccountRows). is_live_in r.tariff.validity c.args.moment r.sessions c.args.session.now ≡ true) (sym c.in-Ok-open.ensures.rows)
-    (live_opened a.tariff.validity c.args.moment c.args.number c.args.session.now a.sessions some)
+    let book : IsBook c.book.result.now = c.validity-ranges.ensures.book in
+    let lower : 0 < c.book.result.now.validity = omega (arith, book.some_validity) in
+    let some : 0 < a.book.validity = subst (λ (f : Book). 0 < f.validity) c.book.ensures lower in
+    subst (λ (r : AccountRows). is_live_in r.book.validity c.args.moment r.sessions c.args.session.now ≡ true) (sym c.in-Ok-open.ensures.rows)
+    (live_opened a.book.validity c.args.moment c.args.number c.args.session.now a.sessions some)
 
 pub grant_services-requires-clause-free : goal.grant_services-requires-clause-free
 grant_services-requires-clause-free c =
     let a : AccountRows = c.args.account.now in
-    subst (λ (r : AccountRows). IsFreeFor (named r.tariff.group c.args.services.now) c.args.session.now r.groups) (sym c.in-Ok-open.ensures.rows)
-    (free_for_named a.tariff.group c.args.session.now c.args.services.now _
-    (free_opened (is_live_in a.tariff.validity c.args.moment (session_put c.args.session.now c.args.number c.args.moment Open a.sessions)) c.args.session.now a.tariff.group a.groups c.requires.free))
+    subst (λ (r : AccountRows). AreFree r.book c.args.session.now c.args.services.now r.groups) (sym c.in-Ok-open.ensures.rows)
+    (free_lapsed (is_live_in a.book.validity c.args.moment (session_put c.args.session.now c.args.number c.args.moment Open a.sessions)) a.book c.args.session.now c.args.services.now a.groups c.requires.free)

@@ -16,6 +16,6 @@ returns c =
     let there : position (is_of c.args.session.now c.args.group) c.args.groups.now.items ≡ Some c.in-Some.place = ap (position (is_of c.args.session.now c.args.group)) (sym c.deref.ensures.value) ∙ sym c.place_of.ensures ∙ c.in-Some.is in
     let used : c.index_mut-row.result.now.used ≡ used_in c.args.session.now c.args.group c.args.groups.now.items =
     ap (λ (x : SessionGroup). x.used) c.index_mut-row.ensures.value ∙ used_at c.args.session.now c.args.group c.in-Some.place c.args.groups.now.items c.index_mut-row.result.now there in
-    let given : Reservation = record { before = c.args.period; after = c.args.period; holds = c.args.holds } in
+    let given : Reservation = record { periods = c.args.periods; holds = c.args.holds } in
     put_at c.args.session.now c.args.group c.in-Some.place c.args.groups.now.items c.index_mut-row.result.now c.index_mut-row.result.now.used (Some given) c.index_mut-row.ensures.value there
     ∙ (λ i. put (is_of c.args.session.now c.args.group) (record { session = c.args.session.now; group = c.args.group; used = used i; reservation = Some given }) c.args.groups.now.items)

@@ -14,7 +14,7 @@ lapse_groups-requires c =
 
 abbrev rows_of : (c : goal.After-moment-1) → AccountRows
 rows_of c = record {
-  tariff = c.self.inside.tariff.now;
+  book = c.self.inside.book.now;
   as_of = c.self.inside.as_of;
   buckets = c.self.inside.purse;
   counters = c.self.inside.counters.items;
@@ -26,7 +26,7 @@ rows_of c = record {
 
 abbrev after : (c : goal.After-moment-1) → AccountRows
 after c = record {
-  tariff = c.self.inside.tariff.now;
+  book = c.self.inside.book.now;
   as_of = c.args.moment;
   buckets = c.expire.new.self;
   counters = c.self.inside.counters.items;

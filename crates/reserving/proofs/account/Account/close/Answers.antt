@@ -15,7 +15,7 @@ close_groups-requires c = lapsable_of (λ s. not (is_other c.args.session.now s)
 
 abbrev rows_of : (c : goal.After-close_session) → AccountRows
 rows_of c = record {
-  tariff = c.self.inside.tariff.now;
+  book = c.self.inside.book.now;
   as_of = c.self.inside.as_of;
   buckets = c.self.inside.purse;
   counters = c.self.inside.counters.items;
@@ -51,5 +51,5 @@ returns-clause-rows c = after_is c
 pub returns-clause-ledger : goal.returns-clause-ledger
 returns-clause-ledger c = λ ledger rows.
     let later : IsRowsOf ledger (advanced c.args.moment c.args.self.now) = subst (IsRowsOf ledger) c.advance.ensures.rows (c.advance.ensures.ledger ledger rows) in
-    let live : is_live c.args.self.now.tariff.validity c.args.moment ledger c.args.session.now ≡ true = sym (is_live_in-is ledger c.args.self.now c.args.moment c.args.session.now rows c.requires.later) ∙ c.requires.live in
+    let live : is_live c.args.self.now.book.validity c.args.moment ledger c.args.session.now ≡ true = sym (is_live_in-is ledger c.args.self.now c.args.moment c.args.session.now rows c.requires.later) ∙ c.requires.live in
     subst (IsRowsOf (closed c.args.moment c.args.session.now ledger)) (sym (after_is c)) (IsRowsOf-closed ledger (advanced c.args.moment c.args.self.now) c.args.session.now (account_of c) later live)

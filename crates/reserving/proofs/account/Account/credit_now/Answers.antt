@@ -8,7 +8,7 @@ use Rattle.reserving.proofs.account.Account.credit_now.Goals as goal
 
 abbrev rows_of : (c : goal.After-self-1) → AccountRows
 rows_of c = record {
-  tariff = c.self.inside.tariff.now;
+  book = c.self.inside.book.now;
   as_of = c.self.inside.as_of;
   buckets = c.self.inside.purse;
   counters = c.self.inside.counters.items;

@@ -14,7 +14,7 @@ release-requires c =
 pub invariant_of-self : goal.invariant_of-self
 invariant_of-self c =
     let a : AccountRows = record {
-      tariff = c.self.inside.tariff.now;
+      book = c.self.inside.book.now;
       as_of = c.self.inside.as_of;
       buckets = c.self.inside.purse;
       counters = c.self.inside.counters.items;
@@ -29,7 +29,7 @@ invariant_of-self c =
 pub returns-clause-rows : goal.returns-clause-rows
 returns-clause-rows c =
     let a : AccountRows = record {
-      tariff = c.self.inside.tariff.now;
+      book = c.self.inside.book.now;
       as_of = c.self.inside.as_of;
       buckets = c.self.inside.purse;
       counters = c.self.inside.counters.items;

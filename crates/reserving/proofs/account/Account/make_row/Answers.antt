@@ -6,7 +6,7 @@ use Rattle.reserving.proofs.account.Account.make_row.Goals as goal
 pub invariant_of-self-2 : goal.invariant_of-self-2
 invariant_of-self-2 c =
     let a : AccountRows = record {
-      tariff = c.self.inside.tariff.now;
+      book = c.self.inside.book.now;
       as_of = c.self.inside.as_of;
       buckets = c.self.inside.purse;
       counters = c.self.inside.counters.items;

@@ -7,7 +7,7 @@ use Rattle.reserving.proofs.account.Account.open.Goals as goal
 pub returns-clause-ledger : goal.returns-clause-ledger
 returns-clause-ledger c = λ ledger rows.
     let account : IsAccount c.args.self.now = subst IsAccount c.self.view_is c.self.invariant in
-    let some : 0 < c.args.self.now.tariff.validity = omega (arith, account.tariff.validity) in
+    let some : 0 < c.args.self.now.book.validity = omega (arith, account.book.some_validity) in
     c.advance.ensures.ledger (touched c.args.moment c.args.session.now c.args.number ledger)
     (subst (IsRowsOf (touched c.args.moment c.args.session.now c.args.number ledger)) (sym c.in_ok-record_new.ensures.rows)
     (IsRowsOf-opened ledger c.args.self.now c.args.session.now c.args.number c.args.moment rows c.requires.new c.requires.later some))

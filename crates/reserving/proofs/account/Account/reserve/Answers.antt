@@ -1,22 +1,30 @@
-use Rattle.std.proofs.Common.{◌≤◌, ◌<◌, sym, ap, ◌∙◌, arith, refl}
+use Rattle.std.proofs.Common.{◌≡◌, ℕ, ◌≤◌, ◌<◌, List, Option, sym, ap, subst, ◌∙◌, arith, refl}
 use Rattle.std.specs.Prelude.{option_map, nat_lt}
 use Rattle.units.specs.declared.blocks.Units.{Units}
-use Rattle.reserving.specs.Changes.{advanced}
+use Rattle.rating.specs.declared.grant.Grant.{Grant}
+use Rattle.rating.specs.declared.grant.Periods.{Periods}
+use Rattle.buckets.specs.Spend.{funds}
+use Rattle.reserving.specs.Pricing.{periods_at, switch_at, validity_at, cycle_at}
+use Rattle.reserving.specs.Quotas.{IsQuota}
+use Rattle.reserving.specs.Changes.{advanced, used_in, count_in, reserved_account}
 use Rattle.reserving.specs.Rows.{AccountRows}
-use Rattle.reserving.proofs.ReservedCall.{group_there, free_middle, covered_middle, IsQuota, units_told, grant_is, wanted_le}
+use Rattle.reserving.proofs.ReservedCall.{group_there, free_middle, covered_middle, QuotaOf, grant_told, quota_covered, grant_is, within_grant}
+use Rattle.reserving.proofs.StillFree.{others_advanced, others_reserved}
 use Rattle.reserving.proofs.account.Account.reserve.Goals as goal
+
+-- the quota that was reckoned with the window's periods
+quota_is : (a : AccountRows) (s : List ℕ) (g t : ℕ) (requested : Option ℕ) (units : ℕ) (grant : Grant) (periods : Periods) → periods ≡ periods_at a.book t →
+    IsQuota a.book (used_in s g a.groups) g requested periods (count_in g (cycle_at a.book g t) a.counters) (funds g t (advanced t a).buckets) units grant → QuotaOf a s g t requested units grant
+quota_is a s g t requested units grant periods is q =
+    subst (λ p. IsQuota a.book (used_in s g a.groups) g requested p (count_in g (cycle_at a.book g t) a.counters) (funds g t (advanced t a).buckets) units grant) is q
 
 pub returns-then-quota-eq0-clause-rows : goal.returns-then-quota-eq0-clause-rows
 returns-then-quota-eq0-clause-rows c = λ ledger rows.
-    let q : IsQuota c.args.self.now c.args.session.now c.args.group c.args.moment (option_map (λ (u : Units). u.0) c.args.requested) c.quota-quota.result.wanted c.quota-quota.result.units c.quota-quota.result.blocks c.quota-quota.result.amount = record {
-      wanted_is = c.quota-quota.ensures.wanted;
-      units_are = c.quota-quota.ensures.units;
-      blocks_are = c.quota-quota.ensures.blocks;
-      amount_is = c.quota-quota.ensures.amount;
-      covered = c.quota-quota.ensures.covered;
-      greatest = c.quota-quota.ensures.greatest;
-    } in (
-      sym (units_told ledger c.args.self.now c.args.session.now c.args.group c.args.moment (option_map (λ (u : Units). u.0) c.args.requested) c.quota-quota.result.wanted c.quota-quota.result.units c.quota-quota.result.blocks c.quota-quota.result.amount c.quota-quota.ensures.account rows c.requires.moment q) ∙ c.if-quota-eq0.true,
+    let a : AccountRows = c.args.self.now in
+    let requested : Option ℕ = option_map (λ (u : Units). u.0) c.args.requested in
+    let periods : c.window_at-window.result.periods ≡ periods_at a.book c.args.moment = c.window_at-window.ensures.periods ∙ ap (λ (x : AccountRows). periods_at x.book c.args.moment) c.self.view_is in
+    let q : QuotaOf a c.args.session.now c.args.group c.args.moment requested c.quota-quota.result.wanted c.quota-quota.result.grant = quota_is a c.args.session.now c.args.group c.args.moment requested c.quota-quota.result.wanted c.quota-quota.result.grant c.window_at-window.result.periods periods c.quota-quota.ensures.quota in (
+      sym (ap (λ (x : Grant). x.units.0) (grant_told ledger a c.args.session.now c.args.group c.args.moment requested c.quota-quota.result.wanted c.quota-quota.result.grant c.quota-quota.ensures.account rows c.requires.moment q)) ∙ c.if-quota-eq0.true,
       c.advance.ensures.ledger ledger rows,
     )
 
@@ -27,27 +35,45 @@ pub hold_quota-requires-clause-free : goal.hold_quota-requires-clause-free
 hold_quota-requires-clause-free c = free_middle c.args.self.now c.advance-2.new.self c.args.session.now c.args.group c.args.moment c.requires.free (c.advance-2.ensures.rows ∙ ap (advanced c.args.moment) c.in_ok-room.ensures.ok)
 
 pub hold_quota-requires-clause-covered : goal.hold_quota-requires-clause-covered
-hold_quota-requires-clause-covered c = covered_middle c.args.self.now c.advance-2.new.self c.args.session.now c.args.group c.args.moment c.quota-quota.result.amount c.quota-quota.ensures.covered (c.advance-2.ensures.rows ∙ ap (advanced c.args.moment) c.in_ok-room.ensures.ok)
+hold_quota-requires-clause-covered c =
+    let a : AccountRows = c.args.self.now in
+    let requested : Option ℕ = option_map (λ (u : Units). u.0) c.args.requested in
+    let periods : c.window_at-window.result.periods ≡ periods_at a.book c.args.moment = c.window_at-window.ensures.periods ∙ ap (λ (x : AccountRows). periods_at x.book c.args.moment) c.self.view_is in
+    let q : QuotaOf a c.args.session.now c.args.group c.args.moment requested c.quota-quota.result.wanted c.quota-quota.result.grant = quota_is a c.args.session.now c.args.group c.args.moment requested c.quota-quota.result.wanted c.quota-quota.result.grant c.window_at-window.result.periods periods c.quota-quota.ensures.quota in
+    covered_middle a c.advance-2.new.self c.args.session.now c.args.group c.args.moment c.quota-quota.result.grant.amount.0
+    (quota_covered a c.args.session.now c.args.group c.args.moment requested c.quota-quota.result.wanted c.quota-quota.result.grant q) (c.advance-2.ensures.rows ∙ ap (advanced c.args.moment) c.in_ok-room.ensures.ok)
 
 pub returns-clause-rows : goal.returns-clause-rows
 returns-clause-rows c = λ ledger rows.
-    let q : IsQuota c.args.self.now c.args.session.now c.args.group c.args.moment (option_map (λ (u : Units). u.0) c.args.requested) c.quota-quota.result.wanted c.quota-quota.result.units c.quota-quota.result.blocks c.quota-quota.result.amount = record {
-      wanted_is = c.quota-quota.ensures.wanted;
-      units_are = c.quota-quota.ensures.units;
-      blocks_are = c.quota-quota.ensures.blocks;
-      amount_is = c.quota-quota.ensures.amount;
-      covered = c.quota-quota.ensures.covered;
-      greatest = c.quota-quota.ensures.greatest;
-    } in
-    let some : 0 < c.quota-quota.result.units = omega (arith, c.if-quota-eq0.false) in
-    grant_is ledger c.args.self.now c.advance-2.new.self c.hold_quota.new.self c.args.session.now c.args.group c.args.moment (option_map (λ (u : Units). u.0) c.args.requested) c.quota-quota.result.wanted c.quota-quota.result.units c.quota-quota.result.blocks c.quota-quota.result.amount c.validity-validity.result (nat_lt c.quota-quota.result.units c.quota-quota.result.wanted)
+    let a : AccountRows = c.args.self.now in
+    let requested : Option ℕ = option_map (λ (u : Units). u.0) c.args.requested in
+    let grant : Grant = c.quota-quota.result.grant in
+    let periods : c.window_at-window.result.periods ≡ periods_at a.book c.args.moment = c.window_at-window.ensures.periods ∙ ap (λ (x : AccountRows). periods_at x.book c.args.moment) c.self.view_is in
+    let q : QuotaOf a c.args.session.now c.args.group c.args.moment requested c.quota-quota.result.wanted grant = quota_is a c.args.session.now c.args.group c.args.moment requested c.quota-quota.result.wanted grant c.window_at-window.result.periods periods c.quota-quota.ensures.quota in
+    let some : 0 < grant.units.0 = omega (arith, c.if-quota-eq0.false) in
+    grant_is ledger a c.advance-2.new.self c.hold_quota.new.self c.args.session.now c.args.group c.args.moment requested c.quota-quota.result.wanted grant c.window_at-window.result.switch c.window_at-window.result.validity (nat_lt grant.units.0 c.quota-quota.result.wanted)
     c.quota-quota.ensures.account rows c.requires.moment c.requires.live c.requires.free q some
-    (c.validity-validity.ensures.value ∙ ap (λ (x : AccountRows). x.tariff.validity) c.self.view_is) refl
+    (c.window_at-window.ensures.switch ∙ ap (λ (x : AccountRows). switch_at x.book c.args.moment) c.self.view_is)
+    (c.window_at-window.ensures.validity ∙ ap (λ (x : AccountRows). validity_at x.book c.args.moment) c.self.view_is) refl
     (c.advance-2.ensures.rows ∙ ap (advanced c.args.moment) c.in_ok-room.ensures.ok) c.hold_quota.ensures
 
 pub returns-clause-within : goal.returns-clause-within
 returns-clause-within c =
-    let some : 0 < c.quota-quota.result.units = omega (arith, c.if-quota-eq0.false) in
-    let wanted : c.quota-quota.result.wanted ≤ c.args.self.now.tariff.max_grant =
-    wanted_le c.args.self.now.tariff (option_map (λ (u : Units). u.0) c.args.requested) c.quota-quota.result.wanted c.quota-quota.ensures.wanted in
-    (some, omega (arith, c.quota-quota.ensures.within, wanted))
+    let some : 0 < c.quota-quota.result.grant.units.0 = omega (arith, c.if-quota-eq0.false) in
+    within_grant c.args.self.now.book (used_in c.args.session.now c.args.group c.args.self.now.groups) c.args.group (option_map (λ (u : Units). u.0) c.args.requested) c.window_at-window.result.periods _ _ c.quota-quota.result.wanted c.quota-quota.result.grant c.quota-quota.ensures.quota some
+
+pub returns-clause-others : goal.returns-clause-others
+returns-clause-others c = λ g n h.
+    others_reserved c.args.self.now c.advance-2.new.self c.hold_quota.new.self c.args.session.now g c.args.group c.args.moment c.quota-quota.result.grant.amount.0
+    (c.advance-2.ensures.rows ∙ ap (advanced c.args.moment) c.in_ok-room.ensures.ok) c.hold_quota.ensures n h
+
+pub returns-then-quota-eq0-clause-others : goal.returns-then-quota-eq0-clause-others
+returns-then-quota-eq0-clause-others c = λ g n h. others_advanced c.args.self.now c.advance.new.self c.args.session.now g c.args.moment c.advance.ensures.rows h
+
+pub returns-clause-sessions : goal.returns-clause-sessions
+returns-clause-sessions c =
+    ap (λ (x : AccountRows). x.sessions) (c.hold_quota.ensures ∙ ap (reserved_account c.args.session.now c.args.group c.quota-quota.result.grant.amount.0)
+    (c.advance-2.ensures.rows ∙ ap (advanced c.args.moment) c.in_ok-room.ensures.ok))
+
+pub returns-then-quota-eq0-clause-sessions : goal.returns-then-quota-eq0-clause-sessions
+returns-then-quota-eq0-clause-sessions c = ap (λ (x : AccountRows). x.sessions) c.advance.ensures.rows

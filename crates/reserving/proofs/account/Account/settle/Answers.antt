@@ -3,10 +3,12 @@ use Rattle.std.specs.Prelude.{◌==◌}
 use Rattle.std.proofs.lemmas.Bool.Decides.{nat_tests}
 use Rattle.units.specs.declared.blocks.UsedPart.{UsedPart}
 use Rattle.reserving.specs.Changes.{advanced, used_in, count_in, settled_account, ended_rows}
+use Rattle.reserving.specs.Pricing.{cycle_at}
 use Rattle.reserving.specs.Rows.{AccountRows}
 use Rattle.reserving.specs.Settlement.{passes}
 use Rattle.reserving.proofs.SettledCall.{rows_ended, nothing_settled, within_used, within_counted, passes_is, there_later, counter_there, used_middle, count_middle, rows_settled, settlement_is}
 use Rattle.reserving.proofs.SettledFree.{ended_free, settled_free}
+use Rattle.reserving.proofs.StillFree.{others_ended, others_settled}
 use Rattle.reserving.proofs.account.Account.settle.Goals as goal
 
 is_nothing : (ps : List UsedPart) → (length ps == 0) ≡ true → ps ≡ []
@@ -28,42 +30,43 @@ returns-then-is_empty-clause-settled c = λ ledger rows.
 
 pub returns-in_default-clause-limit : goal.returns-in_default-clause-limit
 returns-in_default-clause-limit c = λ e ledger rows.
-    passes_is ledger c.args.self.now c.args.session.now c.args.group c.args.moment c.args.parts.now rows (is_something c.args.parts.now (sym c.is_empty.ensures ∙ c.if-is_empty.false))
+    passes_is ledger c.args.self.now c.args.session.now c.args.group c.args.moment c.args.parts.now c.rate.ensures.account rows c.requires.moment c.requires.live (is_something c.args.parts.now (sym c.is_empty.ensures ∙ c.if-is_empty.false))
     ∙ c.rate.ensures.none c.in_default.is
 
 pub settle_use-charged-requires-clause-group : goal.settle_use-charged-requires-clause-group
-settle_use-charged-requires-clause-group c = there_later c.args.self.now c.advance-2.new.self c.args.session.now c.args.group 0 c.args.moment (c.advance-2.ensures.rows ∙ ap (advanced c.args.moment) c.in_ok-make_rows.ensures.ok)
+settle_use-charged-requires-clause-group c = there_later c.args.self.now c.advance-2.new.self c.args.session.now c.args.group c.cycle_at-cycle.result c.args.moment (c.advance-2.ensures.rows ∙ ap (advanced c.args.moment) c.in_ok-make_rows.ensures.ok)
 
 pub settle_use-charged-requires-clause-counter : goal.settle_use-charged-requires-clause-counter
-settle_use-charged-requires-clause-counter c = counter_there c.args.self.now c.advance-2.new.self c.args.session.now c.args.group 0 c.args.moment (c.advance-2.ensures.rows ∙ ap (advanced c.args.moment) c.in_ok-make_rows.ensures.ok)
+settle_use-charged-requires-clause-counter c = counter_there c.args.self.now c.advance-2.new.self c.args.session.now c.args.group c.cycle_at-cycle.result c.args.moment (c.advance-2.ensures.rows ∙ ap (advanced c.args.moment) c.in_ok-make_rows.ensures.ok)
 
 pub settle_use-charged-requires-clause-used : goal.settle_use-charged-requires-clause-used
 settle_use-charged-requires-clause-used c =
-    let same : used_in c.args.session.now c.args.group c.advance-2.new.self.groups ≡ used_in c.args.session.now c.args.group c.args.self.now.groups = used_middle c.args.self.now c.advance-2.new.self c.args.session.now c.args.group 0 c.args.moment (c.advance-2.ensures.rows ∙ ap (advanced c.args.moment) c.in_ok-make_rows.ensures.ok) in
-    omega (arith, same, within_used (used_in c.args.session.now c.args.group c.args.self.now.groups) c.in-Some.rated.units.0 (count_in c.args.group 0 c.args.self.now.counters) c.in-Some.rated.blocks.0 c.args.self.now.next_charge c.in-Some.ensures.some)
+    let same : used_in c.args.session.now c.args.group c.advance-2.new.self.groups ≡ used_in c.args.session.now c.args.group c.args.self.now.groups = used_middle c.args.self.now c.advance-2.new.self c.args.session.now c.args.group c.cycle_at-cycle.result c.args.moment (c.advance-2.ensures.rows ∙ ap (advanced c.args.moment) c.in_ok-make_rows.ensures.ok) in
+    omega (arith, same, within_used (used_in c.args.session.now c.args.group c.args.self.now.groups) c.in-Some.rated.units.0 (count_in c.args.group (cycle_at c.args.self.now.book c.args.group c.args.moment) c.args.self.now.counters) c.in-Some.rated.blocks.0 c.args.self.now.next_charge c.in-Some.ensures.some)
 
 pub settle_use-charged-requires-clause-counted : goal.settle_use-charged-requires-clause-counted
 settle_use-charged-requires-clause-counted c =
-    let same : count_in c.args.group 0 c.advance-2.new.self.counters ≡ count_in c.args.group 0 c.args.self.now.counters = count_middle c.args.self.now c.advance-2.new.self c.args.session.now c.args.group 0 c.args.moment (c.advance-2.ensures.rows ∙ ap (advanced c.args.moment) c.in_ok-make_rows.ensures.ok) in
-    omega (arith, same, within_counted (used_in c.args.session.now c.args.group c.args.self.now.groups) c.in-Some.rated.units.0 (count_in c.args.group 0 c.args.self.now.counters) c.in-Some.rated.blocks.0 c.args.self.now.next_charge c.in-Some.ensures.some)
+    let cycle : count_in c.args.group c.cycle_at-cycle.result c.args.self.now.counters ≡ count_in c.args.group (cycle_at c.args.self.now.book c.args.group c.args.moment) c.args.self.now.counters = ap (λ x. count_in c.args.group x c.args.self.now.counters) c.cycle_at-cycle.ensures in
+    let same : count_in c.args.group c.cycle_at-cycle.result c.advance-2.new.self.counters ≡ count_in c.args.group c.cycle_at-cycle.result c.args.self.now.counters = count_middle c.args.self.now c.advance-2.new.self c.args.session.now c.args.group c.cycle_at-cycle.result c.args.moment (c.advance-2.ensures.rows ∙ ap (advanced c.args.moment) c.in_ok-make_rows.ensures.ok) in
+    omega (arith, same, cycle, within_counted (used_in c.args.session.now c.args.group c.args.self.now.groups) c.in-Some.rated.units.0 (count_in c.args.group (cycle_at c.args.self.now.book c.args.group c.args.moment) c.args.self.now.counters) c.in-Some.rated.blocks.0 c.args.self.now.next_charge c.in-Some.ensures.some)
 
 pub returns-clause-rows : goal.returns-clause-rows
 returns-clause-rows c = λ ledger rows.
-    rows_settled ledger c.args.self.now c.advance-2.new.self c.settle_use-charged.new.self c.args.session.now c.args.group c.args.moment c.in-Some.rated.units.0 c.in-Some.rated.blocks.0 c.in-Some.rated.amount.0 c.args.parts.now
-    c.rate.ensures.account rows c.requires.moment c.requires.live (is_something c.args.parts.now (sym c.is_empty.ensures ∙ c.if-is_empty.false))
+    rows_settled ledger c.args.self.now c.advance-2.new.self c.settle_use-charged.new.self c.args.session.now c.args.group c.cycle_at-cycle.result c.args.moment c.in-Some.rated.units.0 c.in-Some.rated.blocks.0 c.in-Some.rated.amount.0 c.args.parts.now
+    c.rate.ensures.account rows c.requires.moment c.requires.live (is_something c.args.parts.now (sym c.is_empty.ensures ∙ c.if-is_empty.false)) c.cycle_at-cycle.ensures
     c.in-Some.ensures.units c.in-Some.ensures.blocks c.in-Some.ensures.amount
     (c.advance-2.ensures.rows ∙ ap (advanced c.args.moment) c.in_ok-make_rows.ensures.ok) c.settle_use-charged.ensures.rows
 
 pub returns-clause-settled : goal.returns-clause-settled
 returns-clause-settled c = λ ledger rows.
-    settlement_is ledger c.args.self.now c.advance-2.new.self c.args.session.now c.args.group c.args.moment c.args.parts.now _
+    settlement_is ledger c.args.self.now c.advance-2.new.self c.args.session.now c.args.group c.cycle_at-cycle.result c.args.moment c.args.parts.now _
     c.rate.ensures.account rows c.requires.moment c.requires.live c.in-Some.ensures.blocks c.in-Some.ensures.amount
     (c.advance-2.ensures.rows ∙ ap (advanced c.args.moment) c.in_ok-make_rows.ensures.ok) c.settle_use-charged.ensures.uncollected c.settle_use-charged.ensures.collected
 
 pub returns-clause-within : goal.returns-clause-within
 returns-clause-within c = λ ledger rows.
-    passes_is ledger c.args.self.now c.args.session.now c.args.group c.args.moment c.args.parts.now rows (is_something c.args.parts.now (sym c.is_empty.ensures ∙ c.if-is_empty.false))
-    ∙ (λ i. passes (used_in c.args.session.now c.args.group c.args.self.now.groups) (sym c.in-Some.ensures.units i) (count_in c.args.group 0 c.args.self.now.counters) (sym c.in-Some.ensures.blocks i) c.args.self.now.next_charge)
+    passes_is ledger c.args.self.now c.args.session.now c.args.group c.args.moment c.args.parts.now c.rate.ensures.account rows c.requires.moment c.requires.live (is_something c.args.parts.now (sym c.is_empty.ensures ∙ c.if-is_empty.false))
+    ∙ (λ i. passes (used_in c.args.session.now c.args.group c.args.self.now.groups) (sym c.in-Some.ensures.units i) (count_in c.args.group (cycle_at c.args.self.now.book c.args.group c.args.moment) c.args.self.now.counters) (sym c.in-Some.ensures.blocks i) c.args.self.now.next_charge)
     ∙ c.in-Some.ensures.some
 
 pub returns-clause-sessions : goal.returns-clause-sessions
@@ -80,3 +83,12 @@ returns-clause-free c = settled_free c.args.session.now c.args.group c.in-Some.r
 
 pub returns-then-is_empty-clause-free : goal.returns-then-is_empty-clause-free
 returns-then-is_empty-clause-free c = ended_free c.args.session.now c.args.group c.advance.new.self c.end_reservation.new.self c.end_reservation.ensures.rows
+
+pub returns-clause-others : goal.returns-clause-others
+returns-clause-others c = λ s g h.
+    others_settled c.args.self.now c.advance-2.new.self c.settle_use-charged.new.self s g c.args.session.now c.args.group _ c.args.moment c.in-Some.rated.units.0 c.in-Some.rated.blocks.0 c.in-Some.rated.amount.0
+    (c.advance-2.ensures.rows ∙ ap (advanced c.args.moment) c.in_ok-make_rows.ensures.ok) c.settle_use-charged.ensures.rows h
+
+pub returns-then-is_empty-clause-others : goal.returns-then-is_empty-clause-others
+returns-then-is_empty-clause-others c = λ s g h.
+    others_ended c.args.self.now c.advance.new.self c.end_reservation.new.self s g c.args.session.now c.args.group c.args.moment c.advance.ensures.rows c.end_reservation.ensures.rows h

@@ -1,6 +1,6 @@
 use Rattle.std.proofs.Common.{◌≡◌, ◌≤◌, ◌<◌, ◌+◌, sym, subst}
 use Rattle.buckets.specs.Holding.{IsWithin}
-use Rattle.reserving.specs.FlatTariff.{cycle_at}
+use Rattle.reserving.specs.Pricing.{cycle_at}
 use Rattle.reserving.specs.Rows.{AccountRows, IsAccount}
 use Rattle.reserving.specs.Changes.{used_in, count_in}
 use Rattle.reserving.proofs.SettledKept.{within_of, IsAccount-settled}
@@ -15,7 +15,7 @@ settle-charged-requires c =
 pub invariant_of-self : goal.invariant_of-self
 invariant_of-self c =
     let a : AccountRows = record {
-      tariff = c.self.inside.tariff.now;
+      book = c.self.inside.book.now;
       as_of = c.self.inside.as_of;
       buckets = c.self.inside.purse;
       counters = c.self.inside.counters.items;
@@ -25,7 +25,7 @@ invariant_of-self c =
       next_charge = c.self.inside.next_charge;
     } in
     let is : a ≡ c.args.self.now = c.self.view_is in
-    let cycle : c.args.cycle ≡ cycle_at a.tariff c.args.group a.as_of = subst (λ x. c.args.cycle ≡ cycle_at x.tariff c.args.group x.as_of) (sym is) c.requires.cycle in
+    let cycle : c.args.cycle ≡ cycle_at a.book c.args.group a.as_of = subst (λ x. c.args.cycle ≡ cycle_at x.book c.args.group x.as_of) (sym is) c.requires.cycle in
     let used : used_in c.args.session.now c.args.group a.groups + c.args.rated.units.0 ≤ 1000000000000000000 = subst (λ x. used_in c.args.session.now c.args.group x.groups + c.args.rated.units.0 ≤ 1000000000000000000) (sym is) c.requires.used in
     let counted : count_in c.args.group c.args.cycle a.counters + c.args.rated.blocks.0 ≤ 4000000000000000000 = subst (λ x. count_in c.args.group c.args.cycle x.counters + c.args.rated.blocks.0 ≤ 4000000000000000000) (sym is) c.requires.counted in
     let charges : a.next_charge < 4294967296 = subst (λ x. x.next_charge < 4294967296) (sym is) c.requires.charges in

@@ -10,7 +10,7 @@ use Rattle.reserving.proofs.account.Account.touch.Goals as goal
 
 abbrev rows_of : (c : goal.After-touch_session) → AccountRows
 rows_of c = record {
-  tariff = c.self.inside.tariff.now;
+  book = c.self.inside.book.now;
   as_of = c.self.inside.as_of;
   buckets = c.self.inside.purse;
   counters = c.self.inside.counters.items;
@@ -43,12 +43,12 @@ returns-clause-rows c = after_is c
 
 pub returns-clause-ledger : goal.returns-clause-ledger
 returns-clause-ledger c = λ ledger rows.
-    let some : 0 < c.args.self.now.tariff.validity = positive c in
+    let some : 0 < c.args.self.now.book.validity = positive c in
     let later : IsRowsOf ledger (advanced c.args.moment c.args.self.now) = subst (IsRowsOf ledger) c.advance.ensures.rows (c.advance.ensures.ledger ledger rows) in
-    let live : is_live c.args.self.now.tariff.validity c.args.moment ledger c.args.session.now ≡ true = sym (is_live_in-is ledger c.args.self.now c.args.moment c.args.session.now rows c.requires.later) ∙ c.requires.live in
+    let live : is_live c.args.self.now.book.validity c.args.moment ledger c.args.session.now ≡ true = sym (is_live_in-is ledger c.args.self.now c.args.moment c.args.session.now rows c.requires.later) ∙ c.requires.live in
     subst (IsRowsOf (touched c.args.moment c.args.session.now c.args.number ledger)) (sym (after_is c)) (IsRowsOf-touched ledger (advanced c.args.moment c.args.self.now) c.args.session.now c.args.number later live some)
   where
-    positive : (c : goal.After-touch_session) → 0 < c.args.self.now.tariff.validity
+    positive : (c : goal.After-touch_session) → 0 < c.args.self.now.book.validity
     positive c =
         let account : IsAccount (advanced c.args.moment c.args.self.now) = subst IsAccount (advanced_is c) c.self.invariant in
-        omega (arith, account.tariff.validity)
+        omega (arith, account.book.some_validity)

@@ -1,0 +1,99 @@
+-- What a tariff book says of a rating group at a moment: its tariff, the cycle of its counter, the tariff switch within
+-- the validity, the periods of a grant, and what a report costs.
+-- Source: RFC 8506 sections 8.19, 8.20, 8.27 and 8.33; TS 32.296, rating function.
+use Rattle.std.specs.Prelude.{ℕ, ◌-◌, ◌==◌, Bool, true, false, if◌then◌else◌, List, [], ◌∷◌, Option, Some, None, find, min, sum_by, unwrap_or}
+use Rattle.calendar.specs.Clock.{ZoneRule}
+use Rattle.calendar.specs.Timetable.{Timetable, period_at, switch_within, validity_from, cycle_of}
+use Rattle.calendar.specs.declared.week.Period.{Period}
+use Rattle.tariffs.specs.Books.{Book}
+use Rattle.tariffs.specs.Tariffs.{GroupTariff}
+use Rattle.units.specs.declared.blocks.TariffChangeUsage.{TariffChangeUsage}
+use Rattle.units.specs.declared.blocks.TariffChangeUsage.TheVariants.{UnitBeforeTariffChange, UnitAfterTariffChange, UnitIndeterminate}
+use Rattle.units.specs.declared.blocks.UsedPart.{UsedPart}
+use Rattle.rating.specs.declared.grant.Grant.{Grant}
+use Rattle.rating.specs.declared.grant.Periods.{Periods}
+use Rattle.rating.specs.declared.report.Part.{Part}
+use Rattle.rating.specs.declared.report.Rated.{Rated}
+use Rattle.rating.specs.Rated.{part_of, rated_report}
+use Rattle.rating.specs.Granted.{grant_of}
+
+-- the tariff of a rating group; none for a group that the book doesn't have
+abbrev pub tariff_of : Book → ℕ → Option GroupTariff
+tariff_of b g = find (λ t. t.group == g) b.tariffs
+
+abbrev pub cycle_with : ZoneRule → Option GroupTariff → ℕ → ℕ
+cycle_with zone None t = 0
+cycle_with zone (Some x) t = cycle_of zone x.cycle t
+
+-- the cycle of a group's counter at a moment
+abbrev pub cycle_at : Book → ℕ → ℕ → ℕ
+cycle_at b g t = cycle_with b.calendar.zone (tariff_of b g) t
+
+-- ---- the validity of a grant
+
+-- the book's validity; moments reach 43,200 seconds past the last one of commands, so that no command's is cut
+abbrev pub reach : Book → ℕ → ℕ
+reach b t = min b.validity (4_102_488_000 - t)
+
+-- the tariff switch within the validity (Tariff-Time-Change)
+abbrev pub switch_at : Book → ℕ → Option ℕ
+switch_at b t = switch_within b.calendar t (reach b t)
+
+-- the granted Validity-Time: cut at the next change of period after the switch
+abbrev pub validity_at : Book → ℕ → ℕ
+validity_at b t = validity_from b.calendar t (reach b t)
+
+abbrev pub period_after : Timetable → ℕ → Option ℕ → Period
+period_after c t None = period_at c t
+period_after c t (Some s) = period_at c s
+
+-- the periods of a grant: at its moment, and at its switch
+abbrev pub periods_at : Book → ℕ → Periods
+periods_at b t = record { before = period_at b.calendar t; after = period_after b.calendar t (switch_at b t) }
+
+-- ---- reports
+
+-- one period for all parts of a report
+abbrev pub one_period : Period → Periods
+one_period p = record { before = p; after = p }
+
+abbrev pub is_change : Option TariffChangeUsage → Option TariffChangeUsage → Bool
+is_change None None = true
+is_change (Some UnitBeforeTariffChange) (Some UnitBeforeTariffChange) = true
+is_change (Some UnitIndeterminate) (Some UnitIndeterminate) = true
+is_change (Some UnitAfterTariffChange) (Some UnitAfterTariffChange) = true
+is_change a b = false
+
+-- the units of the parts with this Tariff-Change-Usage
+abbrev pub units_of : Option TariffChangeUsage → List UsedPart → ℕ
+units_of change parts = sum_by (λ p. if is_change change p.change then p.units.0 else 0) parts
+
+abbrev pub four_parts : Periods → ℕ → ℕ → ℕ → ℕ → List Part
+four_parts p untagged before indeterminate after =
+    part_of p.before untagged ∷ part_of p.before before ∷ part_of p.before indeterminate ∷ part_of p.after after ∷ []
+
+-- a report's parts as they are rated: those without a Tariff-Change-Usage, before the switch, and on both sides of it
+-- by the period at the grant; then those after the switch by the period there
+abbrev pub rated_parts : Periods → List UsedPart → List Part
+rated_parts p parts =
+    four_parts p (units_of None parts) (units_of (Some UnitBeforeTariffChange) parts) (units_of (Some UnitIndeterminate) parts) (units_of (Some UnitAfterTariffChange) parts)
+
+-- what a report costs after a use so far, from a place of the counter on; a group without a tariff costs nothing
+abbrev pub rated_with : Option GroupTariff → Periods → ℕ → ℕ → List UsedPart → Rated
+rated_with None periods used place parts = record { amount = record { 0 = 0 }; blocks = 0 }
+rated_with (Some t) periods used place parts = rated_report t used place (rated_parts periods parts)
+
+-- ---- grants
+
+-- the units that are wanted: what is requested, or the group's slice, and never more than the greatest grant
+abbrev pub wanted_units : GroupTariff → Option ℕ → ℕ
+wanted_units t requested = min (unwrap_or requested t.slice) t.max_grant
+
+abbrev pub wanted_with : Option GroupTariff → Option ℕ → ℕ
+wanted_with None requested = 0
+wanted_with (Some t) requested = wanted_units t requested
+
+-- the greatest grant that the funds cover; of a group without a tariff nothing is granted
+abbrev pub grant_with : Option GroupTariff → Periods → ℕ → ℕ → Option ℕ → ℕ → Grant
+grant_with None periods used place requested funds = record { blocks = record { 0 = 0 }; units = record { 0 = 0 }; amount = record { 0 = 0 } }
+grant_with (Some t) periods used place requested funds = grant_of t periods used place (wanted_units t requested) funds

@@ -1,0 +1,50 @@
+ghost use Rattle.std.specs.Prelude.{◌≡◌, IfOk};
+
+use crate::account::Account;
+use crate::session::{Counter, Session, SessionGroup};
+use buckets::Purse;
+use std::alloc::AllocError;
+
+impl<'b> Account<'b> {
+    /// The same account once more: calls on it may fail midway, and this one stays as it is. Its error is want of
+    /// memory.
+    pub fn copy(&self) -> Result<Account<'b>, AllocError>
+        ensures { IfOk result (λ copy. copy ≡ self.now) }
+    {
+        Ok(Account {
+            book: self.book,
+            as_of: self.as_of,
+            purse: copy_of_purse(&self.purse)?,
+            counters: copy_of_counters(&self.counters)?,
+            sessions: copy_of_sessions(&self.sessions)?,
+            groups: copy_of_groups(&self.groups)?,
+            next_bucket: self.next_bucket,
+            next_charge: self.next_charge,
+            alloc: self.alloc,
+        })
+    }
+}
+
+fn copy_of_purse(purse: &Purse) -> Result<Purse, AllocError>
+    ensures { IfOk result (λ copy. copy ≡ purse.now) }
+{
+    purse.clone()
+}
+
+fn copy_of_counters(counters: &Vec<Counter>) -> Result<Vec<Counter>, AllocError>
+    ensures { IfOk result (λ copy. copy.items ≡ counters.now.items) }
+{
+    counters.clone()
+}
+
+fn copy_of_sessions(sessions: &Vec<Session>) -> Result<Vec<Session>, AllocError>
+    ensures { IfOk result (λ copy. copy.items ≡ sessions.now.items) }
+{
+    sessions.clone()
+}
+
+fn copy_of_groups(groups: &Vec<SessionGroup>) -> Result<Vec<SessionGroup>, AllocError>
+    ensures { IfOk result (λ copy. copy.items ≡ groups.now.items) }
+{
+    groups.clone()
+}

@@ -1,0 +1,217 @@
+//! What the tariff book says of a grant's validity and of a report's parts.
+
+ghost use Rattle.std.specs.Prelude.{◌≡◌, ◌+◌, ◌≤◌, ◌<◌, ◌^◌, Some, None, IfSome, option_map, if◌then◌else◌};
+ghost use Rattle.units.specs.declared.blocks.TariffChangeUsage.TheVariants.{UnitBeforeTariffChange, UnitAfterTariffChange, UnitIndeterminate};
+ghost use Rattle.calendar.specs.Timetable.{cut_after};
+ghost use Rattle.rating.specs.Rated.{part_of, rated_report};
+ghost use Rattle.reserving.specs.Pricing.{reach, switch_at, validity_at, periods_at, is_change, units_of, four_parts, wanted_units};
+ghost use Rattle.reserving.specs.Settlement.{reported};
+
+use calendar::Period;
+use rating::{Part, Periods, Rated, rate_report};
+use tariffs::{Tariff, TariffBook};
+use units::{Moment, TariffChangeUsage, Units, UsedPart};
+
+/// The last moment that there is, 43,200 seconds past the last one of commands.
+const LAST_MOMENT: u64 = 4_102_488_000;
+
+/// For how long, and by which periods, a grant of a moment is valid.
+#[derive(Clone, Copy)]
+pub(crate) struct Window {
+    /// The periods at the grant and at its tariff switch.
+    pub(crate) periods: Periods,
+    /// The tariff switch within the validity.
+    pub(crate) switch: Option<Moment>,
+    /// The seconds of the validity, cut at the next change of period after the switch.
+    pub(crate) validity: u32,
+}
+
+/// The validity of a grant of this moment.
+pub(crate) fn window_at(book: &TariffBook, moment: Moment) -> Window
+    ensures periods { result.periods ≡ periods_at book.now moment }
+    ensures switch { result.switch ≡ switch_at book.now moment }
+    ensures validity { result.validity ≡ validity_at book.now moment }
+{
+    let seconds = reach(book, moment);
+    let before = book.period_at(moment);
+    match book.next_switch(moment, seconds) {
+        Some(switch) => Window {
+            periods: Periods {
+                before,
+                after: book.period_at(switch),
+            },
+            switch: Some(switch),
+            validity: validity_after(book, moment, seconds, switch),
+        },
+        None => Window {
+            periods: Periods {
+                before,
+                after: before,
+            },
+            switch: None,
+            validity: seconds,
+        },
+    }
+}
+
+/// The seconds of the book's validity after a moment, as far as there are moments.
+fn reach(book: &TariffBook, moment: Moment) -> u32
+    ensures value { result ≡ reach book.now moment }
+    ensures most { result ≤ 43_200 }
+    ensures within { moment + result ≤ 4_102_488_000 }
+{
+    let left = LAST_MOMENT - moment.seconds();
+    let validity = book.validity();
+    if u64::from(validity) < left {
+        validity
+    } else {
+        left as u32
+    }
+}
+
+/// The validity of so many seconds, cut at the next change of period after the switch.
+fn validity_after(book: &TariffBook, moment: Moment, seconds: u32, switch: Moment) -> u32
+    requires seconds { seconds ≤ 43_200 }
+    requires in_range { moment + seconds ≤ 4_102_488_000 }
+    requires later { moment < switch }
+    requires within { switch < moment + seconds }
+    ensures { result ≡ cut_after book.now.calendar moment seconds (Some switch) }
+{
+    let end = moment.seconds() + u64::from(seconds);
+    let left = (end - switch.seconds()) as u32;
+    match book.next_switch(switch, left) {
+        Some(next) => (next.seconds() - moment.seconds()) as u32,
+        None => seconds,
+    }
+}
+
+/// The units of a report, by their Tariff-Change-Usage.
+#[derive(Clone, Copy)]
+pub(crate) struct Tally {
+    /// Without one.
+    pub(crate) untagged: u128,
+    /// Before the switch.
+    pub(crate) before: u128,
+    /// On both sides of the switch.
+    pub(crate) indeterminate: u128,
+    /// After the switch.
+    pub(crate) after: u128,
+}
+
+/// Counts the units of a report's parts.
+pub(crate) fn tally_of(parts: &[UsedPart]) -> Tally
+    ensures untagged { result.untagged ≡ units_of None parts.now }
+    ensures before { result.before ≡ units_of (Some UnitBeforeTariffChange) parts.now }
+    ensures indeterminate { result.indeterminate ≡ units_of (Some UnitIndeterminate) parts.now }
+    ensures after { result.after ≡ units_of (Some UnitAfterTariffChange) parts.now }
+    ensures total { result.untagged + result.before + result.indeterminate + result.after ≡ reported parts.now }
+{
+    Tally {
+        untagged: units_of(parts, None),
+        before: units_of(parts, Some(TariffChangeUsage::UnitBeforeTariffChange)),
+        indeterminate: units_of(parts, Some(TariffChangeUsage::UnitIndeterminate)),
+        after: units_of(parts, Some(TariffChangeUsage::UnitAfterTariffChange)),
+    }
+}
+
+/// The units of a report, all its parts together.
+pub(crate) fn reported_units(parts: &[UsedPart]) -> u128
+    ensures sum { result ≡ reported parts.now }
+    ensures most { result < 2 ^ 127 }
+{
+    let mut total = 0;
+    for part in parts {
+        total += part.units.0 as u128;
+    }
+    total
+}
+
+/// The units of the parts with this Tariff-Change-Usage.
+fn units_of(parts: &[UsedPart], change: Option<TariffChangeUsage>) -> u128
+    ensures { result ≡ units_of change parts.now }
+{
+    let mut total = 0;
+    for part in parts {
+        total += units_in(part, change) as u128;
+    }
+    total
+}
+
+fn units_in(part: &UsedPart, change: Option<TariffChangeUsage>) -> u64
+    ensures { result ≡ if is_change change part.now.change then part.now.units.0 else 0 }
+{
+    if is_change(change, part.change) {
+        part.units.0
+    } else {
+        0
+    }
+}
+
+/// Whether two values of Tariff-Change-Usage, or their absences, are the same.
+fn is_change(one: Option<TariffChangeUsage>, other: Option<TariffChangeUsage>) -> bool
+    ensures { result ≡ is_change one other }
+{
+    match (one, other) {
+        (None, None) => true,
+        (Some(one), Some(other)) => is_usage(one, other),
+        _ => false,
+    }
+}
+
+fn is_usage(one: TariffChangeUsage, other: TariffChangeUsage) -> bool
+    ensures { result ≡ is_change (Some one) (Some other) }
+{
+    match (one, other) {
+        (TariffChangeUsage::UnitBeforeTariffChange, TariffChangeUsage::UnitBeforeTariffChange) =>
+            true,
+        (TariffChangeUsage::UnitIndeterminate, TariffChangeUsage::UnitIndeterminate) => true,
+        (TariffChangeUsage::UnitAfterTariffChange, TariffChangeUsage::UnitAfterTariffChange) => {
+            true
+        }
+        _ => false,
+    }
+}
+
+/// A part of a report, of so many units.
+fn part(period: Period, units: u128) -> Part
+    requires { units < 2 ^ 64 }
+    ensures { result ≡ part_of period units }
+{
+    Part {
+        period,
+        units: Units(units as u64),
+    }
+}
+
+/// What a report costs by its group's tariff, after a use so far and from a place of the counter on.
+pub(crate) fn price(
+    tariff: &Tariff,
+    periods: Periods,
+    used: u64,
+    place: u64,
+    tally: &Tally,
+) -> Rated
+    requires { tally.now.untagged + tally.now.before + tally.now.indeterminate + tally.now.after < 2 ^ 64 }
+    ensures { result ≡ rated_report tariff.now used place (four_parts periods tally.now.untagged tally.now.before tally.now.indeterminate tally.now.after) }
+{
+    let parts = [
+        part(periods.before, tally.untagged),
+        part(periods.before, tally.before),
+        part(periods.before, tally.indeterminate),
+        part(periods.after, tally.after),
+    ];
+    rate_report(tariff, Units(used), place, &parts)
+}
+
+/// The units that are wanted of a group: what is requested, or its slice, and never more than its greatest grant.
+pub(crate) fn wanted_of(tariff: &Tariff, requested: Option<Units>) -> u64
+    ensures value { result ≡ wanted_units tariff.now (option_map (λ u. u.0) requested) }
+    ensures most { result ≤ tariff.now.max_grant }
+{
+    let most = tariff.max_grant();
+    let wanted = match requested {
+        Some(units) => units.0,
+        None => tariff.slice(),
+    };
+    if wanted < most { wanted } else { most }
+}
