@@ -58,5 +58,5 @@ live_after old new s t book sessions live =
     (λ i. is_live_in (book i).validity t (sessions i) s) ∙ live_lapsed old.book.validity t old.sessions s live
 
 -- services' groups stay free as time goes on
-pub free_lapsed : (keeps : List ℕ → Bool) (f : Book) (s : List ℕ) (services : List Service) (rows : List SessionGroup) → AreFree f s services rows → AreFree f s services (map (lapse_group keeps) rows)
-free_lapsed keeps f s services rows free = free_kept f s services rows (map (lapse_group keeps) rows) (λ g none. free_later keeps s g rows none) free
+pub free_lapsed : (keeps : List ℕ → Bool) (book : Book) (s : List ℕ) (services : List Service) (rows : List SessionGroup) → AreFree book s services rows → AreFree book s services (map (lapse_group keeps) rows)
+free_lapsed keeps book s services rows free = free_kept book s services rows (map (lapse_group keeps) rows) (λ g none. free_later keeps s g rows none) free

@@ -1,13 +1,12 @@
 -- What the rows of an account tell of its ledger.
-use Rattle.std.proofs.Common.{◌≡◌, ℕ, ◌+◌, Bool, true, false, List, [], ◌∷◌, refl, sym, ap, ◌∙◌, Option, Some, None, arith}
-use Rattle.std.specs.Prelude.{if◌then◌else◌, ◌||◌, ◌&&◌, ◌==◌, is_some, unwrap_or}
+use Rattle.std.proofs.Common.{◌≡◌, ℕ, Bool, true, false, List, [], ◌∷◌, refl, sym, ap, ◌∙◌, Option, Some, None}
+use Rattle.std.specs.Prelude.{◌||◌, is_some, unwrap_or}
 use Rattle.reserving.specs.declared.session.SessionState.{SessionState}
 use Rattle.reserving.specs.declared.session.SessionGroup.{SessionGroup}
-use Rattle.reserving.specs.Ledger.{Fact, Ledger, Recording, is_same, used, units_in, names_group, has_group, open_grant, is_live, last_recording}
-use Rattle.reserving.specs.Ledger.Fact.{Credit, Grant, Hold, End, Use, Charge, Touch, Close, Recorded}
-use Rattle.reserving.specs.Sessions.{session_in, session_row, state_at, group_in, group_at, reservation_at}
+use Rattle.reserving.specs.Ledger.{Ledger, Recording, has_group, open_grant, is_live, last_recording}
+use Rattle.reserving.specs.Sessions.{session_in, session_row, state_at, group_in, group_at}
 use Rattle.reserving.specs.Rows.{AccountRows, IsRowsOf}
-use Rattle.reserving.specs.Changes.{used_in, new_group}
+use Rattle.reserving.specs.Changes.{new_group}
 use Rattle.reserving.specs.Prepared.{reservation_in}
 use Rattle.tariffs.specs.Books.{Book}
 use Rattle.reserving.proofs.KeysFound.{is_none_is}
@@ -30,11 +29,11 @@ neither false b h = (refl, h)
 neither true b h = absurd (let no : true ≡ false = h in cc)
 
 -- where none is reserved, all are free
-pub none_reserved : (f : Book) (s : List ℕ) (services : List Service) (groups : List SessionGroup) → any_reserved s services groups ≡ false → AreFree f s services groups
-none_reserved f s [] groups h = tt
-none_reserved f s (x ∷ xs) groups h =
+pub none_reserved : (book : Book) (s : List ℕ) (services : List Service) (groups : List SessionGroup) → any_reserved s services groups ≡ false → AreFree book s services groups
+none_reserved book s [] groups h = tt
+none_reserved book s (x ∷ xs) groups h =
     let each : (is_some (reservation_in s x.group groups) ≡ false) × (any_reserved s xs groups ≡ false) = neither (is_some (reservation_in s x.group groups)) (any_reserved s xs groups) h in
-    ((λ known. is_none_is (reservation_in s x.group groups) each.0), none_reserved f s xs groups each.1)
+    ((λ known. is_none_is (reservation_in s x.group groups) each.0), none_reserved book s xs groups each.1)
 
 row_reservation : (v t : ℕ) (ledger : Ledger) (s : List ℕ) (g : ℕ) (o : Option SessionGroup) → o ≡ group_at v t ledger s g → open_grant s g ledger ≡ None → (unwrap_or o (new_group s g)).reservation ≡ None
 row_reservation v t ledger s g o e none = ap (λ x. (unwrap_or x (new_group s g)).reservation) e ∙ at (has_group s g ledger) (is_live v t ledger s) refl refl

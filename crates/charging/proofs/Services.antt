@@ -1,5 +1,5 @@
 -- The services of a request, one after another: what the first of them came to, and what is left.
-use Rattle.std.proofs.Common.{◌≡◌, ℕ, ◌≤◌, Bool, true, false, List, [], ◌∷◌, ◌++◌, refl, sym, ap, ◌∙◌, subst, Result, Ok, Err, arith}
+use Rattle.std.proofs.Common.{◌≡◌, ℕ, Bool, true, false, List, [], ◌∷◌, ◌++◌, refl, sym, ap, ◌∙◌, subst, Result, Ok, Err, arith}
 use Rattle.std.specs.Prelude.{◌==◌, ◌&&◌, ◌||◌, not}
 use Rattle.std.specs.List.{list_all}
 use Rattle.std.proofs.lemmas.Bool.{and_parts}
@@ -8,22 +8,19 @@ use Rattle.commands.specs.Services.{groups_differ}
 use Rattle.commands.specs.declared.service.Service.{Service}
 use Rattle.commands.specs.declared.answer.ServiceAnswer.{ServiceAnswer}
 use Rattle.commands.specs.declared.answer.ServiceOutcome.{ServiceOutcome}
-use Rattle.units.specs.declared.blocks.UsedPart.{UsedPart}
 use Rattle.reserving.specs.declared.fault.AccountFault.{AccountFault}
 use Rattle.reserving.specs.declared.fault.AccountFault.TheVariants.{Memory, Limit}
 use Rattle.reserving.specs.declared.session.SessionGroup.{SessionGroup}
 use Rattle.reserving.specs.Ledger.{Ledger}
 use Rattle.tariffs.specs.Books.{Book}
-use Rattle.tariffs.specs.Tariffs.{GroupTariff}
-use Rattle.reserving.specs.Results.{IsWithin}
-use Rattle.reserving.specs.Settlement.{passes_limit, settled_by}
+use Rattle.reserving.specs.Settlement.{passes_limit}
 use Rattle.reserving.specs.Rows.{AccountRows, IsRowsOf}
 use Rattle.charging.specs.Known.{is_known}
 use Rattle.charging.specs.Reports.{parts_of}
 use Rattle.charging.specs.Settling.{settled_service, settled_services, any_passes}
 use Rattle.charging.specs.Granting.{granted, grant_answers, after_grants}
 use Rattle.charging.specs.Free.{AreFree, AreKept, OthersKept}
-use Rattle.charging.specs.Follows.{Grants, GrantsAll, SettlesAll}
+use Rattle.charging.specs.Follows.{Grants, SettlesAll}
 
 or_false : (b : Bool) → (b || false) ≡ b
 or_false true = refl
@@ -32,36 +29,28 @@ or_false false = refl
 -- ---- settlements
 
 -- a ledger on which the services that are left come to what all come to on this one
-pub record IsSettledTo (f : Book) (t : ℕ) (s : List ℕ) (services rest : List Service) (ledger : Ledger) (now : AccountRows) : Type 0 where
+pub record IsSettledTo (book : Book) (t : ℕ) (s : List ℕ) (services rest : List Service) (ledger : Ledger) (now : AccountRows) : Type 0 where
   pub middle : Ledger
-  pub settled : settled_services f t s services ledger ≡ settled_services f t s rest middle
-  pub passes : any_passes f t s services ledger ≡ any_passes f t s rest middle
+  pub settled : settled_services book t s services ledger ≡ settled_services book t s rest middle
+  pub passes : any_passes book t s services ledger ≡ any_passes book t s rest middle
   pub rows : IsRowsOf middle now
 
 abbrev pub SettlesTo : AccountRows → AccountRows → ℕ → List ℕ → List Service → List Service → Type 0
 SettlesTo old now t s services rest = (ledger : Ledger) → IsRowsOf ledger old → IsSettledTo old.book t s services rest ledger now
-
-pub settles_none : (old : AccountRows) (t : ℕ) (s : List ℕ) (services : List Service) → SettlesTo old old t s services services
-settles_none old t s services = λ ledger rows. record { middle = ledger; settled = refl; passes = refl; rows = rows }
 
 pub settles_one : (old now next : AccountRows) (t : ℕ) (s : List ℕ) (services : List Service) (x : Service) (rest : List Service) (r : Unit {0}) →
     SettlesTo old now t s services (x ∷ rest) → now.book ≡ old.book → SettlesAll (Ok r) now next t s (x ∷ []) → SettlesTo old next t s services rest
 settles_one old now next t s services x rest r so e one = λ ledger rows.
     let to : IsSettledTo old.book t s services (x ∷ rest) ledger now = so ledger rows in
     let each : (any_passes now.book t s (x ∷ []) to.middle ≡ false) × IsRowsOf (settled_services now.book t s (x ∷ []) to.middle) next = one to.middle to.rows in
-    let within : any_passes old.book t s (x ∷ []) to.middle ≡ false = subst (λ f. any_passes f t s (x ∷ []) to.middle ≡ false) e each.0 in
+    let within : any_passes old.book t s (x ∷ []) to.middle ≡ false = subst (λ book. any_passes book t s (x ∷ []) to.middle ≡ false) e each.0 in
     let own : Bool = is_known old.book x.group && passes_limit old.book t s x.group (parts_of x.used) to.middle in
     record {
       middle = settled_service old.book t s x to.middle;
       settled = to.settled;
       passes = to.passes ∙ ap (λ b. b || any_passes old.book t s rest (settled_service old.book t s x to.middle)) (sym (or_false own) ∙ within);
-      rows = subst (λ f. IsRowsOf (settled_services f t s (x ∷ []) to.middle) next) e each.1;
+      rows = subst (λ book. IsRowsOf (settled_services book t s (x ∷ []) to.middle) next) e each.1;
     }
-
-pub settles_end : (old now : AccountRows) (t : ℕ) (s : List ℕ) (services : List Service) (r : Unit {0}) → SettlesTo old now t s services [] → SettlesAll (Ok r) old now t s services
-settles_end old now t s services r so = λ ledger rows.
-    let to : IsSettledTo old.book t s services [] ledger now = so ledger rows in
-    (to.passes, subst (λ l. IsRowsOf l now) (sym to.settled) to.rows)
 
 -- a service that isn't settled
 pub settles_failed : (fault : AccountFault) (old now next last : AccountRows) (t : ℕ) (s : List ℕ) (services : List Service) (x : Service) (rest : List Service) →
@@ -70,7 +59,7 @@ settles_failed Memory old now next last t s services x rest so e one = tt
 settles_failed Limit old now next last t s services x rest so e one = λ ledger rows.
     let to : IsSettledTo old.book t s services (x ∷ rest) ledger now = so ledger rows in
     let own : Bool = is_known old.book x.group && passes_limit old.book t s x.group (parts_of x.used) to.middle in
-    let past : any_passes old.book t s (x ∷ []) to.middle ≡ true = subst (λ f. any_passes f t s (x ∷ []) to.middle ≡ true) e (one to.middle to.rows) in
+    let past : any_passes old.book t s (x ∷ []) to.middle ≡ true = subst (λ book. any_passes book t s (x ∷ []) to.middle ≡ true) e (one to.middle to.rows) in
     to.passes ∙ ap (λ b. b || any_passes old.book t s rest (settled_service old.book t s x to.middle)) (sym (or_false own) ∙ past)
 
 -- the fault of one service is that of all
@@ -79,52 +68,31 @@ pub settles_fault : (fault : AccountFault) (r : Result (Unit {0}) AccountFault) 
 settles_fault fault r old now next last t s services x rest is so e one =
     subst (λ q. SettlesAll q old last t s services) (sym is) (settles_failed fault old now next last t s services x rest so e one)
 
--- a service of a known group alone
-pub single_settled : (f : Book) (t : ℕ) (s : List ℕ) (x : Service) (ledger : Ledger) (used_parts : List UsedPart) (new : AccountRows) →
-    is_known f x.group ≡ true → used_parts ≡ parts_of x.used → passes_limit f t s x.group used_parts ledger ≡ false → IsRowsOf (settled_by f t s x.group used_parts ledger) new →
-    (any_passes f t s (x ∷ []) ledger ≡ false) × IsRowsOf (settled_services f t s (x ∷ []) ledger) new
-single_settled f t s x ledger used_parts new e parts within rows =
-    rw (e, sym parts) (rw within refl, rows)
-
-pub single_passes : (f : Book) (t : ℕ) (s : List ℕ) (x : Service) (ledger : Ledger) (used_parts : List UsedPart) →
-    is_known f x.group ≡ true → used_parts ≡ parts_of x.used → passes_limit f t s x.group used_parts ledger ≡ true → any_passes f t s (x ∷ []) ledger ≡ true
-single_passes f t s x ledger used_parts e parts past = rw (e, sym parts) (rw past refl)
-
--- and of an unknown one
-pub single_unknown : (old : AccountRows) (t : ℕ) (s : List ℕ) (x : Service) (r : Unit {0}) → is_known old.book x.group ≡ false → SettlesAll (Ok r) old old t s (x ∷ [])
-single_unknown old t s x r e = λ ledger rows. rw e (refl, rows)
-
 -- ---- what is free
 
 -- the services that are left make all of them free, as long as no other is reserved
 abbrev pub FreesTo : Book → List ℕ → List Service → List Service → List SessionGroup → Type 0
-FreesTo f s services rest groups = (later : List SessionGroup) → AreKept s groups later → AreFree f s rest later → AreFree f s services later
+FreesTo book s services rest groups = (later : List SessionGroup) → AreKept s groups later → AreFree book s rest later → AreFree book s services later
 
-pub frees_none : (f : Book) (s : List ℕ) (services : List Service) (groups : List SessionGroup) → FreesTo f s services services groups
-frees_none f s services groups = λ later kept free. free
-
-pub frees_one : (f : Book) (s : List ℕ) (services : List Service) (x : Service) (rest : List Service) (groups next : List SessionGroup) →
-    FreesTo f s services (x ∷ rest) groups → AreKept s groups next → AreFree f s (x ∷ []) next → FreesTo f s services rest next
-frees_one f s services x rest groups next so kept own = λ later keeps free.
+pub frees_one : (book : Book) (s : List ℕ) (services : List Service) (x : Service) (rest : List Service) (groups next : List SessionGroup) →
+    FreesTo book s services (x ∷ rest) groups → AreKept s groups next → AreFree book s (x ∷ []) next → FreesTo book s services rest next
+frees_one book s services x rest groups next so kept own = λ later keeps free.
     so later (λ g none. keeps g (kept g none)) ((λ known. keeps x.group (own.0 known)), free)
 
-pub frees_end : (f : Book) (s : List ℕ) (services : List Service) (groups : List SessionGroup) → FreesTo f s services [] groups → AreFree f s services groups
-frees_end f s services groups so = so groups (λ g none. none) tt
-
-pub free_kept : (f : Book) (s : List ℕ) (services : List Service) (groups later : List SessionGroup) → AreKept s groups later → AreFree f s services groups → AreFree f s services later
-free_kept f s [] groups later kept free = tt
-free_kept f s (x ∷ xs) groups later kept free = ((λ known. kept x.group (free.0 known)), free_kept f s xs groups later kept free.1)
+pub free_kept : (book : Book) (s : List ℕ) (services : List Service) (groups later : List SessionGroup) → AreKept s groups later → AreFree book s services groups → AreFree book s services later
+free_kept book s [] groups later kept free = tt
+free_kept book s (x ∷ xs) groups later kept free = ((λ known. kept x.group (free.0 known)), free_kept book s xs groups later kept free.1)
 
 flipped : (a b : ℕ) → not (a == b) ≡ true → (b == a) ≡ false
 flipped a b h = grind (arith, nat_tests)
 
 -- a grant leaves the groups after it free, which are others
-pub free_others : (f : Book) (s : List ℕ) (g : ℕ) (services : List Service) (groups later : List SessionGroup) → list_all (λ (y : Service). not (g == y.group)) services ≡ true →
-    OthersKept s g groups later → AreFree f s services groups → AreFree f s services later
-free_others f s g [] groups later h kept free = tt
-free_others f s g (y ∷ ys) groups later h kept free =
+pub free_others : (book : Book) (s : List ℕ) (g : ℕ) (services : List Service) (groups later : List SessionGroup) → list_all (λ (y : Service). not (g == y.group)) services ≡ true →
+    OthersKept s g groups later → AreFree book s services groups → AreFree book s services later
+free_others book s g [] groups later h kept free = tt
+free_others book s g (y ∷ ys) groups later h kept free =
     let both : (not (g == y.group) ≡ true) × (list_all (λ (z : Service). not (g == z.group)) ys ≡ true) = and_parts (not (g == y.group)) (list_all (λ (z : Service). not (g == z.group)) ys) h in
-    ((λ known. kept y.group (flipped g y.group both.0) (free.0 known)), free_others f s g ys groups later both.1 kept free.1)
+    ((λ known. kept y.group (flipped g y.group both.0) (free.0 known)), free_others book s g ys groups later both.1 kept free.1)
 
 pub differs_first : (x : Service) (xs : List Service) → groups_differ (x ∷ xs) ≡ true → list_all (λ (y : Service). not (x.group == y.group)) xs ≡ true
 differs_first x xs h = (and_parts (list_all (λ (y : Service). not (x.group == y.group)) xs) (groups_differ xs) h).0
@@ -135,25 +103,18 @@ differs_rest x xs h = (and_parts (list_all (λ (y : Service). not (x.group == y.
 -- ---- grants
 
 -- a ledger on which the services that are left are granted what all are on this one, after the answers so far
-pub record IsGrantedTo (f : Book) (t : ℕ) (s : List ℕ) (services rest : List Service) (ledger : Ledger) (answers : List ServiceAnswer) (now : AccountRows) : Type 0 where
+pub record IsGrantedTo (book : Book) (t : ℕ) (s : List ℕ) (services rest : List Service) (ledger : Ledger) (answers : List ServiceAnswer) (now : AccountRows) : Type 0 where
   pub middle : Ledger
-  pub same : answers ++ grant_answers f t s rest middle ≡ grant_answers f t s services ledger
-  pub after : after_grants f t s services ledger ≡ after_grants f t s rest middle
+  pub same : answers ++ grant_answers book t s rest middle ≡ grant_answers book t s services ledger
+  pub after : after_grants book t s services ledger ≡ after_grants book t s rest middle
   pub rows : IsRowsOf middle now
 
 abbrev pub GrantsTo : AccountRows → AccountRows → ℕ → List ℕ → List Service → List Service → List ServiceAnswer → Type 0
 GrantsTo old now t s services rest answers = (ledger : Ledger) → IsRowsOf ledger old → IsGrantedTo old.book t s services rest ledger answers now
 
-pub grants_none : (old : AccountRows) (t : ℕ) (s : List ℕ) (services : List Service) → GrantsTo old old t s services services []
-grants_none old t s services = λ ledger rows. record { middle = ledger; same = refl; after = refl; rows = rows }
-
 append_one : (xs : List ServiceAnswer) (y : ServiceAnswer) (ys : List ServiceAnswer) → (xs ++ y ∷ []) ++ ys ≡ xs ++ y ∷ ys
 append_one [] y ys = refl
 append_one (x ∷ xs) y ys = ap (λ zs. x ∷ zs) (append_one xs y ys)
-
-append_none : (xs : List ServiceAnswer) → xs ++ [] ≡ xs
-append_none [] = refl
-append_none (x ∷ xs) = ap (λ zs. x ∷ zs) (append_none xs)
 
 abbrev pub answer_with : Service → ServiceOutcome → ServiceAnswer
 answer_with x outcome = record { group = x.group; outcome = outcome }
@@ -164,7 +125,7 @@ pub grants_one : (old now next : AccountRows) (t : ℕ) (s : List ℕ) (services
     GrantsTo old next t s services rest (answers ++ answer_with x outcome ∷ [])
 grants_one old now next t s services x rest answers outcome so e one = λ ledger rows.
     let to : IsGrantedTo old.book t s services (x ∷ rest) ledger answers now = so ledger rows in
-    let own : Grants outcome (granted old.book t s x to.middle) next = subst (λ f. Grants outcome (granted f t s x to.middle) next) e (one to.middle to.rows) in
+    let own : Grants outcome (granted old.book t s x to.middle) next = subst (λ book. Grants outcome (granted book t s x to.middle) next) e (one to.middle to.rows) in
     let left : List ServiceAnswer = grant_answers old.book t s rest (granted old.book t s x to.middle).after in
     record {
       middle = (granted old.book t s x to.middle).after;
@@ -172,16 +133,3 @@ grants_one old now next t s services x rest answers outcome so e one = λ ledger
       after = to.after;
       rows = own.rows;
     }
-
-pub grants_end : (old now : AccountRows) (t : ℕ) (s : List ℕ) (services : List Service) (answers : List ServiceAnswer) → GrantsTo old now t s services [] answers →
-    (ledger : Ledger) → IsRowsOf ledger old → GrantsAll answers old.book t s services ledger now
-grants_end old now t s services answers so = λ ledger rows.
-    let to : IsGrantedTo old.book t s services [] ledger answers now = so ledger rows in
-    record { same = sym (append_none answers) ∙ to.same; rows = subst (λ l. IsRowsOf l now) (sym to.after) to.rows }
-
-some_same : (x y : GroupTariff) → Some x ≡ Some y → x ≡ y
-some_same x y h = cc
-
--- units that are granted are no more than the greatest grant of the group's tariff
-pub within_most : (t : Option GroupTariff) (x : GroupTariff) (units : ℕ) → t ≡ Some x → IsWithin t units → units ≤ x.max_grant
-within_most t x units e within = subst (λ (y : GroupTariff). units ≤ y.max_grant) (some_same within.tariff x (sym within.known ∙ e)) within.most

@@ -51,10 +51,14 @@ granted_with b tariff t s g asked grant ledger =
     then record { outcome = grant_answer b tariff t grant.units.0 asked; after = reserved b t s g grant.units.0 grant.amount.0 ledger }
     else record { outcome = service.Failed CreditLimitReached; after = ledger }
 
+-- the same, as far as the funds cover it
+abbrev pub granted_units : Book → GroupTariff → ℕ → List ℕ → ℕ → Option ℕ → Ledger → Answered
+granted_units b tariff t s g asked ledger = granted_with b tariff t s g asked (grant_for b t g (used s g ledger) asked ledger) ledger
+
 -- a service that asks for nothing is granted nothing, and that is 2001
 abbrev pub granted_if : Book → GroupTariff → ℕ → List ℕ → ℕ → Option Requested → Ledger → Answered
 granted_if b tariff t s g None ledger = record { outcome = service.Settled; after = ledger }
-granted_if b tariff t s g (Some requested) ledger = granted_with b tariff t s g (units_of requested) (grant_for b t g (used s g ledger) (units_of requested) ledger) ledger
+granted_if b tariff t s g (Some requested) ledger = granted_units b tariff t s g (units_of requested) ledger
 
 -- a rating group without a tariff is 5031
 abbrev pub granted_by : Option GroupTariff → Book → ℕ → List ℕ → Service → Ledger → Answered

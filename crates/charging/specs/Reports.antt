@@ -61,7 +61,7 @@ abbrev pub reports_other : GroupTariff → ℕ → Option Used → Bool
 reports_other tariff before None = false
 reports_other tariff before (Some u) = not (is_kind u.kind tariff.unit) || nat_lt 1000000000 (started before (reported (map part_of u.parts)) tariff.block)
 
--- what is wrong with the units of a service by its group's tariff, what it asks for first; of an unknown group nothing is
+-- what is wrong with the units of a service by its group's tariff, what it asks for first; nothing where the group has none
 abbrev pub wrong_units : Option GroupTariff → ℕ → Service → Option Avp
 wrong_units None before x = None
 wrong_units (Some tariff) before x =

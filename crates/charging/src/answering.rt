@@ -5,6 +5,7 @@ ghost use Rattle.commands.specs.declared.answer.ServiceOutcome.TheVariants as se
 ghost use Rattle.charging.specs.Settling.{settled_answer, settled_answers};
 ghost use Rattle.charging.specs.Granting.{last_unit, final_unit};
 
+use crate::looking::is_known;
 use commands::{
     FinalUnit, Granted, Quantity, Service, ServiceAnswer, ServiceAnswers, ServiceFailure,
     ServiceOutcome,
@@ -61,7 +62,7 @@ pub(crate) fn granted_outcome(
 fn settled_answer(book: &TariffBook, service: &Service) -> ServiceAnswer
     ensures { result ≡ settled_answer book.now service.now }
 {
-    let outcome = if book.tariff(service.group).is_some() {
+    let outcome = if is_known(book, service.group) {
         ServiceOutcome::Settled
     } else {
         ServiceOutcome::Failed(ServiceFailure::RatingFailed)

@@ -1,17 +1,19 @@
-ghost use Rattle.std.specs.Prelude.{◌≡◌, ◌≤◌, ◌<◌, ℕ, true, false, None, is_some, OnOk, IfOk};
+ghost use Rattle.std.specs.Prelude.{◌≡◌, ◌≤◌, ◌<◌, ℕ, true, false, None, Some, is_some, option_map, OnOk, IfOk};
 ghost use Rattle.reserving.specs.Ledger.{Ledger};
 ghost use Rattle.reserving.specs.Requests.{touched};
 ghost use Rattle.reserving.specs.Sessions.{is_live_in, session_in};
 ghost use Rattle.reserving.specs.Prepared.{reservation_in};
+ghost use Rattle.reserving.specs.Pricing.{tariff_of};
 ghost use Rattle.reserving.specs.Rows.{IsRowsOf};
 ghost use Rattle.commands.specs.Services.{groups_differ};
 ghost use Rattle.charging.specs.Known.{is_known};
 ghost use Rattle.charging.specs.Free.{AreFree, OthersKept};
-ghost use Rattle.charging.specs.Granting.{granted, grants_new, any_grants, denial, first_denial};
+ghost use Rattle.charging.specs.Granting.{granted, granted_units, grants_new, any_grants, denial, first_denial};
 ghost use Rattle.charging.specs.Decisions.{opened, is_accepted};
 ghost use Rattle.charging.specs.Follows.{Grants, GrantsAll, Follows};
 
 use crate::answering::granted_outcome;
+use crate::looking::{is_known, tariff_of};
 use crate::reports::{asked_units, requested_units};
 use commands::{
     Failure, Outcome, Service, ServiceAnswer, ServiceAnswers, ServiceFailure, ServiceOutcome,
@@ -19,14 +21,14 @@ use commands::{
 use identifiers::SessionId;
 use reserving::{Account, Granted};
 use std::alloc::{AllocError, Global};
-use tariffs::TariffBook;
-use units::Moment;
+use tariffs::{Tariff, TariffBook};
+use units::{Moment, Units};
 
 /// Why a service that would grant nothing doesn't.
 fn denial(book: &TariffBook, service: &Service) -> ServiceFailure
     ensures { result ≡ denial book.now service.now }
 {
-    if book.tariff(service.group).is_some() {
+    if is_known(book, service.group) {
         ServiceFailure::CreditLimitReached
     } else {
         ServiceFailure::RatingFailed
@@ -65,7 +67,41 @@ fn any_grants(account: &Account, services: &[Service], moment: Moment) -> bool
     false
 }
 
-/// Grants a service what it asks for, as far as the account covers it; its session is live.
+/// Grants units of a group with this tariff, as far as the account covers them; the session is live.
+fn grant_units(
+    account: &mut Account,
+    session: &SessionId,
+    tariff: &Tariff,
+    group: u32,
+    requested: Option<Units>,
+    moment: Moment,
+) -> Result<ServiceOutcome, AllocError>
+    requires known { Some tariff.now ≡ tariff_of account.old.book group }
+    requires later { account.old.as_of ≡ moment }
+    requires live { is_live_in account.old.book.validity moment account.old.sessions session.now ≡ true }
+    requires free { reservation_in session.now group account.old.groups ≡ None }
+    ensures grants { IfOk result (λ outcome. (ledger : Ledger) → IsRowsOf ledger account.old →
+        Grants outcome (granted_units account.old.book tariff.now moment session.now group (option_map (λ u. u.0) requested) ledger) account.new) }
+    ensures moment { OnOk result (account.new.as_of ≡ moment) }
+    ensures live { OnOk result (is_live_in account.new.book.validity moment account.new.sessions session.now ≡ true) }
+    ensures others { OnOk result (OthersKept session.now group account.old.groups account.new.groups) }
+    ensures tariff { account.new.book ≡ account.old.book }
+{
+    match account.reserve(session, group, requested, moment) {
+        Ok(Granted::Nothing) => Ok(ServiceOutcome::Failed(ServiceFailure::CreditLimitReached)),
+        Ok(
+            Granted::Units {
+                units,
+                switch,
+                validity,
+                fewer,
+            },
+        ) => granted_outcome(tariff, units, switch, validity, fewer),
+        Err(_) => Err(AllocError),
+    }
+}
+
+/// Grants a service of a live session what it asks for; a rating group without a tariff is 5031.
 fn grant(
     account: &mut Account,
     session: &SessionId,
@@ -82,24 +118,14 @@ fn grant(
     ensures others { OnOk result (OthersKept session.now service.now.group account.old.groups account.new.groups) }
     ensures tariff { account.new.book ≡ account.old.book }
 {
-    let Some(tariff) = account.book().tariff(service.group) else {
+    let Some(tariff) = tariff_of(account, service.group) else {
         return Ok(ServiceOutcome::Failed(ServiceFailure::RatingFailed));
     };
     let Some(requested) = &service.requested else {
         return Ok(ServiceOutcome::Settled);
     };
-    match account.reserve(session, service.group, requested_units(requested), moment) {
-        Ok(Granted::Nothing) => Ok(ServiceOutcome::Failed(ServiceFailure::CreditLimitReached)),
-        Ok(
-            Granted::Units {
-                units,
-                switch,
-                validity,
-                fewer,
-            },
-        ) => granted_outcome(tariff, units, switch, validity, fewer),
-        Err(_) => Err(AllocError),
-    }
+    let requested = requested_units(requested);
+    grant_units(account, session, tariff, service.group, requested, moment)
 }
 
 /// Grants the services of a live session what they ask for, in the order of the request.

@@ -1,15 +1,32 @@
-ghost use Rattle.std.specs.Prelude.{◌≡◌, ◌≤◌, false, is_some};
+ghost use Rattle.std.specs.Prelude.{◌≡◌, ◌≤◌, false, is_some, option_copied};
 ghost use Rattle.reserving.specs.Ledger.{Ledger, used, last_recording};
 ghost use Rattle.reserving.specs.Sessions.{session_in};
 ghost use Rattle.reserving.specs.Prepared.{reservation_in};
 ghost use Rattle.reserving.specs.Rows.{IsRowsOf};
 ghost use Rattle.reserving.specs.Changes.{used_in};
+ghost use Rattle.reserving.specs.Pricing.{tariff_of};
+ghost use Rattle.charging.specs.Known.{is_known};
 ghost use Rattle.charging.specs.Recorded.{has_record, is_late, is_late_row};
 ghost use Rattle.charging.specs.Free.{AreFree, any_reserved};
 
 use commands::Service;
 use identifiers::SessionId;
 use reserving::{Account, Session, SessionGroup};
+use tariffs::{Tariff, TariffBook};
+
+/// The tariff of a rating group, where it has one.
+pub(crate) fn tariff_of<'b>(account: &Account<'b>, group: u32) -> Option<&'b Tariff>
+    ensures { option_copied result ≡ tariff_of account.now.book group }
+{
+    account.book().tariff(group)
+}
+
+/// Whether the rating group has a tariff.
+pub(crate) fn is_known(book: &TariffBook, group: u32) -> bool
+    ensures { result ≡ is_known book.now group }
+{
+    book.tariff(group).is_some()
+}
 
 /// Whether the number isn't greater than that of the session's last accepted request.
 pub(crate) fn is_late(account: &Account, id: &SessionId, number: u32) -> bool

@@ -9,7 +9,7 @@ ghost use Rattle.charging.specs.Free.{AreFree};
 ghost use Rattle.charging.specs.Reports.{wrong_units, units_fault};
 ghost use Rattle.charging.specs.Decisions.{invalid, initial_refusal, early_refusal, is_accepted_failure};
 
-use crate::looking::{is_late, is_recorded, used_of};
+use crate::looking::{is_late, is_recorded, tariff_of, used_of};
 use crate::reports::wrong_units;
 use commands::{Avp, Failure, Service};
 use identifiers::SessionId;
@@ -21,7 +21,7 @@ fn service_fault(account: &Account, session: &SessionId, service: &Service) -> O
     ensures { (ledger : Ledger) → IsRowsOf ledger account.now →
         result ≡ wrong_units (tariff_of account.now.book service.now.group) (used session.now service.now.group ledger) service.now }
 {
-    let tariff = account.book().tariff(service.group)?;
+    let tariff = tariff_of(account, service.group)?;
     let used = used_of(account, session, service.group);
     wrong_units(tariff, used, service)
 }

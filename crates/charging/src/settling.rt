@@ -6,6 +6,7 @@ ghost use Rattle.reserving.specs.Rows.{IsRowsOf};
 ghost use Rattle.charging.specs.Free.{AreFree, AreKept};
 ghost use Rattle.charging.specs.Follows.{SettlesAll};
 
+use crate::looking::is_known;
 use crate::reports::parts_of;
 use commands::Service;
 use identifiers::SessionId;
@@ -32,7 +33,7 @@ fn settle(
     ensures tariff { account.new.book ≡ account.old.book }
     ensures err { OnErr result (account.new ≡ account.old) }
 {
-    if account.book().tariff(service.group).is_none() {
+    if !is_known(account.book(), service.group) {
         return Ok(());
     }
     let parts = parts_of(alloc, service)?;

@@ -11,9 +11,9 @@ use Rattle.charging.proofs.granting.open.Goals as goal
 pub grant_services-requires-clause-live : goal.grant_services-requires-clause-live
 grant_services-requires-clause-live c =
     let a : AccountRows = c.args.account.now in
-    let book : IsBook c.book.result.now = c.validity-ranges.ensures.book in
-    let lower : 0 < c.book.result.now.validity = omega (arith, book.some_validity) in
-    let some : 0 < a.book.validity = subst (λ (f : Book). 0 < f.validity) c.book.ensures lower in
+    let ranges : IsBook c.book.result.now = c.validity-ranges.ensures.book in
+    let lower : 0 < c.book.result.now.validity = omega (arith, ranges.some_validity) in
+    let some : 0 < a.book.validity = subst (λ (book : Book). 0 < book.validity) c.book.ensures lower in
     subst (λ (r : AccountRows). is_live_in r.book.validity c.args.moment r.sessions c.args.session.now ≡ true) (sym c.in-Ok-open.ensures.rows)
     (live_opened a.book.validity c.args.moment c.args.number c.args.session.now a.sessions some)
 

@@ -10,9 +10,9 @@ use Rattle.charging.proofs.settling.end.Goals as goal
 pub close-requires-clause-live : goal.close-requires-clause-live
 close-requires-clause-live c =
     let a : AccountRows = c.args.account.now in
-    let book : IsBook c.book.result.now = c.validity-ranges.ensures.book in
-    let lower : 0 < c.book.result.now.validity = omega (arith, book.some_validity) in
-    let some : 0 < a.book.validity = subst (λ (f : Book). 0 < f.validity) c.book.ensures lower in
+    let ranges : IsBook c.book.result.now = c.validity-ranges.ensures.book in
+    let lower : 0 < c.book.result.now.validity = omega (arith, ranges.some_validity) in
+    let some : 0 < a.book.validity = subst (λ (book : Book). 0 < book.validity) c.book.ensures lower in
     subst (λ (r : AccountRows). is_live_in r.book.validity c.args.moment r.sessions c.args.session.now ≡ true) (sym c.touch.ensures.rows)
     (live_touched a.book.validity c.args.moment c.args.number c.args.session.now (map (lapse a.book.validity c.args.moment) a.sessions) some
     (live_lapsed a.book.validity c.args.moment a.sessions c.args.session.now c.requires.live))

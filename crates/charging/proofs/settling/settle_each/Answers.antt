@@ -19,18 +19,18 @@ returns-in_err-settle-clause-settles c =
 
 pub loop-service-preserved : goal.loop-service-preserved
 loop-service-preserved c =
-    let f : Book = c.args.account.now.book in
+    let book : Book = c.args.account.now.book in
     let x : Service = c.service-item.result in
     let rest : List Service = drop (c.loop-service.service-index + 1) c.args.services.now in
     let left : drop c.loop-service.service-index c.args.services.now ≡ x ∷ rest =
     at_drop_more (λ ys. ys) c.args.services.now c.loop-service.service-index x (omega arith) ∙ ap (λ y. y ∷ rest) (sym c.service-item.is) in
     let so : SettlesTo c.args.account.now c.loop-service.account c.args.moment c.args.session.now c.args.services.now (x ∷ rest) =
     subst (SettlesTo c.args.account.now c.loop-service.account c.args.moment c.args.session.now c.args.services.now) left c.loop-service.invariant.settles in
-    let frees : FreesTo f c.args.session.now c.args.services.now (x ∷ rest) c.loop-service.account.groups =
-    subst (λ ys. FreesTo f c.args.session.now c.args.services.now ys c.loop-service.account.groups) left c.loop-service.invariant.frees in
+    let frees : FreesTo book c.args.session.now c.args.services.now (x ∷ rest) c.loop-service.account.groups =
+    subst (λ ys. FreesTo book c.args.session.now c.args.services.now ys c.loop-service.account.groups) left c.loop-service.invariant.frees in
     record {
       settles = settles_one c.args.account.now c.loop-service.account c.settle.new.account c.args.moment c.args.session.now c.args.services.now x rest tt so c.loop-service.invariant.tariff c.in_ok-settle.ensures.settles;
-      frees = frees_one f c.args.session.now c.args.services.now x rest c.loop-service.account.groups c.settle.new.account.groups frees c.in_ok-settle.ensures.kept
+      frees = frees_one book c.args.session.now c.args.services.now x rest c.loop-service.account.groups c.settle.new.account.groups frees c.in_ok-settle.ensures.kept
           (subst (λ b. AreFree b c.args.session.now (x ∷ []) c.settle.new.account.groups) c.loop-service.invariant.tariff c.in_ok-settle.ensures.free);
       live = c.settle.ensures.live;
       later = c.settle.ensures.later;
