@@ -14,7 +14,7 @@ use Rattle.commands.specs.declared.request.Request.{Request}
 use Rattle.json_fields.specs.declared.fault.WireFault.{WireFault}
 use Rattle.wire_answers.specs.Spelled.{answer_text, fault_text}
 use Rattle.reserving.specs.Ledger.{Ledger, is_same}
-use Rattle.reserving.specs.FlatTariff.{Flat}
+use Rattle.tariffs.specs.Books.{Book}
 use Rattle.reserving.specs.Requests.{credited}
 use Rattle.charging.specs.Decisions.{Decision, decision, answer_of, is_accepted}
 use Rattle.ocs.specs.declared.account.Kept.{Kept}
@@ -72,24 +72,24 @@ turned at r d x = record {
 }
 
 -- the moment of a command is the later of the one handed in and the last accepted one
-abbrev pub new_turn : Flat → DatedRequest → Subscriber → Turn
-new_turn f d x = turned (max d.moment x.as_of) d.request (decision f (max d.moment x.as_of) d.request x.ledger) x
+abbrev pub new_turn : Book → DatedRequest → Subscriber → Turn
+new_turn book d x = turned (max d.moment x.as_of) d.request (decision book (max d.moment x.as_of) d.request x.ledger) x
 
 -- a repeat with equal content gets the kept answer; other content under the same number is refused
 abbrev pub answer_again : Request → Kept → Answer
 answer_again r k = if same_request k.request r then k.answer else answered r (Failed (InvalidAvpValue RequestNumber))
 
 -- and changes nothing
-abbrev pub keyed_turn : Option Kept → Flat → DatedRequest → Subscriber → Turn
-keyed_turn None f d x = new_turn f d x
-keyed_turn (Some k) f d x = record { answer = answer_again d.request k; after = x }
+abbrev pub keyed_turn : Option Kept → Book → DatedRequest → Subscriber → Turn
+keyed_turn None book d x = new_turn book d x
+keyed_turn (Some k) book d x = record { answer = answer_again d.request k; after = x }
 
-abbrev pub own_turn : Flat → DatedRequest → Subscriber → Turn
-own_turn f d x = keyed_turn (find (is_kept_for d.request) x.kept) f d x
+abbrev pub own_turn : Book → DatedRequest → Subscriber → Turn
+own_turn book d x = keyed_turn (find (is_kept_for d.request) x.kept) book d x
 
 -- another account is unknown
-abbrev pub turn : Flat → DatedRequest → Subscriber → Turn
-turn f d x = if is_same d.request.account x.number then own_turn f d x else record { answer = answered d.request (Failed UserUnknown); after = x }
+abbrev pub turn : Book → DatedRequest → Subscriber → Turn
+turn book d x = if is_same d.request.account x.number then own_turn book d x else record { answer = answered d.request (Failed UserUnknown); after = x }
 
 -- ---- a line
 
@@ -99,24 +99,24 @@ faulted fault x = record { text = fault_text fault; after = x }
 abbrev pub told : Turn → Served
 told turn = record { text = answer_text turn.answer; after = Some turn.after }
 
-abbrev pub served : Result DatedRequest WireFault → Flat → ℕ → Option Subscriber → Served
-served (Ok d) f credit x = told (turn f d (subscriber_of credit d.request x))
-served (Err fault) f credit x = faulted fault x
+abbrev pub served : Result DatedRequest WireFault → Book → ℕ → Option Subscriber → Served
+served (Ok d) book credit x = told (turn book d (subscriber_of credit d.request x))
+served (Err fault) book credit x = faulted fault x
 
 -- a line is answered
-abbrev pub served_line : Flat → ℕ → List ℕ → Option Subscriber → Served
-served_line f credit line x = served (line_request line) f credit x
+abbrev pub served_line : Book → ℕ → List ℕ → Option Subscriber → Served
+served_line book credit line x = served (line_request line) book credit x
 
 -- ---- all lines
 
 -- lines are answered one after another, with a line feed after each answer
-unfoldable pub served_lines : Flat → ℕ → List (List ℕ) → Option Subscriber → Served
-served_lines f credit [] x = record { text = []; after = x }
-served_lines f credit (line ∷ lines) x = record {
-  text = (served_line f credit line x).text ++ 10 ∷ (served_lines f credit lines (served_line f credit line x).after).text;
-  after = (served_lines f credit lines (served_line f credit line x).after).after;
+unfoldable pub served_lines : Book → ℕ → List (List ℕ) → Option Subscriber → Served
+served_lines book credit [] x = record { text = []; after = x }
+served_lines book credit (line ∷ lines) x = record {
+  text = (served_line book credit line x).text ++ 10 ∷ (served_lines book credit lines (served_line book credit line x).after).text;
+  after = (served_lines book credit lines (served_line book credit line x).after).after;
 }
 
 -- the lines of a stream, from before the first request
-abbrev pub run : Flat → ℕ → List ℕ → Served
-run f credit stream = served_lines f credit (lines_of stream) None
+abbrev pub run : Book → ℕ → List ℕ → Served
+run book credit stream = served_lines book credit (lines_of stream) None

@@ -1,10 +1,8 @@
 -- The program's words: `once --credit AMOUNT --price PRICE --block SIZE` after its name.
 -- Source: profile.
-use Rattle.std.specs.Prelude.{◌++◌, ◌∷◌, ◌≡◌, ◌≢◌, ℕ, ◌&&◌, nat_le, if◌then◌else◌, List, [], length, Option, Some, None, codes, slice_index_or}
+use Rattle.std.specs.Prelude.{◌++◌, ◌∷◌, ◌≡◌, ◌≢◌, ℕ, ◌&&◌, nat_le, if◌then◌else◌, List, [], length, Option, Some, None, codes, slice_index_or, option_and_then, ◌≤◌}
 use Rattle.std.specs.Borrow.{Bor}
-use Rattle.units.specs.declared.blocks.UnitKind.TheVariants.{Time}
 use Rattle.operator.specs.Numbers.{number_of}
-use Rattle.reserving.specs.FlatTariff.{Flat}
 use Rattle.ocs.specs.declared.fault.LinesFault.{LinesFault}
 use Rattle.ocs.specs.declared.fault.LinesFault.TheVariants.{Memory, File}
 use Rattle.std.specs.Io.KnownBytes.{Keeps}
@@ -26,35 +24,28 @@ pub record IsOnce (words : Words) : Type 0 where
   pub price : word words 4 ≡ codes "--price"
   pub block : word words 6 ≡ codes "--block"
 
--- the tariff of rating group 10 in seconds: a slice of 600, at most 3,600 at once, valid for an hour
-abbrev pub seconds : ℕ → ℕ → Flat
-seconds price block = record { group = 10; kind = Time; block = block; slice = 600; max_grant = 3600; price = price; validity = 3600 }
+-- a word says a number in this range
+abbrev pub number_within : ℕ → ℕ → List ℕ → Option ℕ
+number_within low high text = option_and_then (λ n. if nat_le low n && nat_le n high then Some n else None) (number_of text)
 
--- 1 to 10^15 micro-units
-abbrev pub opening_of : ℕ → Option ℕ
-opening_of amount = if nat_le 1 amount && nat_le amount 1000000000000000 then Some amount else None
+infixl 10 ◌>>=◌
+abbrev ◌>>=◌ : {A B : Type 0} → Option A → (A → Option B) → Option B
+o >>= next = option_and_then next o
 
--- 0 to 10^9 micro-units a block, and 1 to 10^15 seconds a block
-abbrev pub tariff_of : ℕ → ℕ → Option Flat
-tariff_of price block = if nat_le price 1000000000 && (nat_le 1 block && nat_le block 1000000000000000) then Some (seconds price block) else None
-
-abbrev pub paired : Option ℕ → Option Flat → Option OnceWords
-paired None tariff = None
-paired (Some credit) None = None
-paired (Some credit) (Some tariff) = Some (record { credit = credit; tariff = tariff })
-
-abbrev pub priced : Option ℕ → Option ℕ → Option Flat
-priced None block = None
-priced (Some price) None = None
-priced (Some price) (Some block) = tariff_of price block
-
-abbrev pub opened_with : Option ℕ → Option ℕ
-opened_with None = None
-opened_with (Some amount) = opening_of amount
-
--- what the words say
+-- what the words say: 1 to 10^15 micro-units, 0 to 10^9 micro-units a block, and 1 to 10^15 seconds a block
 abbrev pub once_of : Words → Option OnceWords
-once_of words = paired (opened_with (number_of (word words 3))) (priced (number_of (word words 5)) (number_of (word words 7)))
+once_of words = do
+  credit ← number_within 1 1_000_000_000_000_000 (word words 3)
+  price ← number_within 0 1_000_000_000 (word words 5)
+  block ← number_within 1 1_000_000_000_000_000 (word words 7)
+  Some (record { credit = credit; price = price; block = block })
+
+-- the ranges of what they say
+pub record IsInRange (once : OnceWords) : Type 0 where
+  pub some_credit : 1 ≤ once.credit
+  pub price : once.price ≤ 1_000_000_000
+  pub some_block : 1 ≤ once.block
+  pub block : once.block ≤ 1_000_000_000_000_000
 
 -- ---- faults
 

@@ -1,7 +1,7 @@
 ghost use Rattle.std.specs.Prelude.{◌≡◌, ◌++◌, max, None, Some, OnOk, IfOk, option_map, string_bytes, if◌then◌else◌};
 ghost use Rattle.std.specs.List.{find};
 ghost use Rattle.commands.specs.declared.answer.Outcome.TheVariants.{Failed};
-ghost use Rattle.reserving.specs.FlatTariff.{Flat};
+ghost use Rattle.tariffs.specs.Books.{Book};
 ghost use Rattle.wire_answers.specs.Spelled.{answer_text};
 ghost use Rattle.ocs.specs.Served.{Subscriber, opening, answered, keeping, is_kept_for, answer_again as again, new_turn, own_turn, turn};
 ghost use Rattle.ocs.specs.Office.{IsOpenedFor, IsTurned};
@@ -11,8 +11,9 @@ use crate::reading::DatedRequest;
 use charging::{decide, is_accepted};
 use commands::{Answer, Avp, Failure, Outcome, Request, RequestAnswer};
 use identifiers::AccountNumber;
-use reserving::{Account, FlatTariff};
+use reserving::Account;
 use std::alloc::Global;
+use tariffs::TariffBook;
 use units::{Moment, Money};
 use wire_answers::write_answer;
 
@@ -35,14 +36,14 @@ impl<'b> Opened<'b> {
     /// Opens an account with one bucket, from the beginning and without end.
     pub(crate) fn new(
         alloc: Global,
-        tariff: &'b FlatTariff,
+        book: &'b TariffBook,
         credit: Money,
         number: &AccountNumber,
     ) -> Result<Self, LinesFault>
-        ensures { IfOk result (IsOpenedFor tariff.now (opening credit number.now)) }
+        ensures { IfOk result (IsOpenedFor book.now (opening credit number.now)) }
     {
         let number = number.clone()?;
-        let mut account = Account::new(alloc, tariff);
+        let mut account = Account::new(alloc, book);
         let first = Moment::first();
         let Ok(_bucket) = account.credit(first, Moment::no_end(), None, credit, first) else {
             return Err(LinesFault::Memory);
@@ -61,8 +62,8 @@ impl<'b> Opened<'b> {
         alloc: Global,
         dated: DatedRequest,
     ) -> Result<String, LinesFault>
-        ensures { IfOk result (λ text. (f : Flat) (x : Subscriber) → IsOpenedFor f x self.old →
-            IsTurned f (turn f dated x) (string_bytes text) self.new) }
+        ensures { IfOk result (λ text. (book : Book) (x : Subscriber) → IsOpenedFor book x self.old →
+            IsTurned book (turn book dated x) (string_bytes text) self.new) }
     {
         if dated.request.account == self.number {
             let text = self.own_answer(alloc, dated)?;
@@ -73,8 +74,8 @@ impl<'b> Opened<'b> {
 
     /// The text of the answer to a request of this account: the kept one, where its number has one.
     fn own_answer(&mut self, alloc: Global, dated: DatedRequest) -> Result<String, LinesFault>
-        ensures { IfOk result (λ text. (f : Flat) (x : Subscriber) → IsOpenedFor f x self.old →
-            IsTurned f (own_turn f dated x) (string_bytes text) self.new) }
+        ensures { IfOk result (λ text. (book : Book) (x : Subscriber) → IsOpenedFor book x self.old →
+            IsTurned book (own_turn book dated x) (string_bytes text) self.new) }
     {
         match kept_for(&self.kept, &dated.request) {
             Some(kept) => answer_again(alloc, &dated.request, kept),
@@ -85,8 +86,8 @@ impl<'b> Opened<'b> {
     /// The text of the answer to a request under a new number, at the later of its moment and the account's last
     /// change.
     fn new_answer(&mut self, alloc: Global, dated: DatedRequest) -> Result<String, LinesFault>
-        ensures { IfOk result (λ text. (f : Flat) (x : Subscriber) → IsOpenedFor f x self.old →
-            IsTurned f (new_turn f dated x) (string_bytes text) self.new) }
+        ensures { IfOk result (λ text. (book : Book) (x : Subscriber) → IsOpenedFor book x self.old →
+            IsTurned book (new_turn book dated x) (string_bytes text) self.new) }
     {
         let DatedRequest { moment, request } = dated;
         let at = later(moment, self.account.as_of());

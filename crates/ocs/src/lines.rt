@@ -6,9 +6,10 @@ use crate::account::Opened;
 use crate::fault::LinesFault;
 use crate::office::Office;
 use byte_streams::{next_line, write_whole};
-use reserving::{Account, FlatTariff};
+use reserving::Account;
 use std::alloc::Global;
 use std::io::{Read, Write};
+use tariffs::TariffBook;
 use units::Money;
 
 /// Answers lines `MOMENT JSON` of initial, update and termination requests, a line each, to the end of the input,
@@ -22,17 +23,17 @@ pub fn lines<'b, R: Read, W: Write>(
     alloc: Global,
     reader: &mut R,
     writer: &mut W,
-    tariff: &'b FlatTariff,
+    book: &'b TariffBook,
     credit: Money,
 ) -> Result<Option<Account<'b>>, LinesFault>
     ensures run { IfOk result (λ account. IfSome (R.remaining reader.old) (λ stream.
-        IsRun tariff.now (run tariff.now credit stream) (W.contents writer.old) (W.contents writer.new) account)) }
+        IsRun book.now (run book.now credit stream) (W.contents writer.old) (W.contents writer.new) account)) }
     ensures err { OnErr result (IfSome (R.remaining reader.old) (λ stream.
-        WritesBeginning (W.contents writer.old) (W.contents writer.new) (run tariff.now credit stream).text)) }
+        WritesBeginning (W.contents writer.old) (W.contents writer.new) (run book.now credit stream).text)) }
 {
     let office = Office {
         alloc,
-        tariff,
+        book,
         credit,
     };
     let mut opened = None;
@@ -51,10 +52,10 @@ fn answer_line<'b, R: Read, W: Write>(
     writer: &mut W,
     opened: &mut Option<Opened<'b>>,
 ) -> Result<bool, LinesFault>
-    ensures served { IfOk result (λ more. IfSome (R.remaining reader.old) (λ stream. (x : Option Subscriber) → IsServing office.now.tariff.now x opened.old →
-        IsLineServed office.now.tariff.now office.now.credit stream x more (R.remaining reader.new) (W.contents writer.old) (W.contents writer.new) opened.new)) }
-    ensures err { OnErr result (IfSome (R.remaining reader.old) (λ stream. (x : Option Subscriber) → IsServing office.now.tariff.now x opened.old →
-        WritesBeginning (W.contents writer.old) (W.contents writer.new) (line_text office.now.tariff.now office.now.credit stream x))) }
+    ensures served { IfOk result (λ more. IfSome (R.remaining reader.old) (λ stream. (x : Option Subscriber) → IsServing office.now.book.now x opened.old →
+        IsLineServed office.now.book.now office.now.credit stream x more (R.remaining reader.new) (W.contents writer.old) (W.contents writer.new) opened.new)) }
+    ensures err { OnErr result (IfSome (R.remaining reader.old) (λ stream. (x : Option Subscriber) → IsServing office.now.book.now x opened.old →
+        WritesBeginning (W.contents writer.old) (W.contents writer.new) (line_text office.now.book.now office.now.credit stream x))) }
 {
     let Some(line) = next_line(office.alloc, reader)? else {
         return Ok(false);

@@ -8,18 +8,21 @@ mod office;
 mod reading;
 mod words;
 
-ghost use Rattle.std.specs.Prelude.{◌≡◌, ◌≤◌, IfSome, Some, None};
+ghost use Rattle.std.specs.Prelude.{◌≡◌, ◌≤◌, IfSome, OnOk, OnErr, Some, None};
 ghost use Rattle.std.specs.Io.KnownBytes.{Appends, Keeps};
+ghost use Rattle.operator.specs.OnceBook.{once_book};
 ghost use Rattle.ocs.specs.declared.words.OnceWords.{OnceWords};
 ghost use Rattle.ocs.specs.declared.fault.LinesFault.{LinesFault};
-ghost use Rattle.ocs.specs.Words.{IsOnce, once_of, fault_line, IsToldFault};
+ghost use Rattle.ocs.specs.Words.{IsOnce, IsInRange, once_of, fault_line, IsToldFault};
 ghost use Rattle.ocs.specs.Served.{run};
 ghost use Rattle.ocs.specs.Office.{WritesBeginning};
 
 use crate::fault::LinesFault;
 use crate::lines::lines;
-use crate::words::once_words;
+use crate::words::{OnceWords, once_words};
 use byte_streams::write_whole;
+use operator::once_book;
+use std::alloc::Global;
 use std::io::{BufReader, Read, Write};
 use std::process::ExitCode;
 use std::{env, io};
@@ -52,21 +55,39 @@ pub fn run_words<R: AllocGlobal, I: Read, O: Write, E: Write>(
     ensures unwritten { result ≡ 2 → Keeps (O.contents output.old) (O.contents output.new) }
     ensures once { (once : OnceWords) → IsOnce words.now → once_of words.now ≡ Some once → result ≤ 1 }
     ensures done { (once : OnceWords) → IsOnce words.now → once_of words.now ≡ Some once → result ≡ 0 →
-        IfSome (I.remaining input.old) (λ stream. Appends (O.contents output.old) (O.contents output.new) (run once.tariff once.credit stream).text) }
+        IfSome (I.remaining input.old) (λ stream. Appends (O.contents output.old) (O.contents output.new) (run (once_book once.price once.block) once.credit stream).text) }
     ensures fault { (once : OnceWords) → IsOnce words.now → once_of words.now ≡ Some once → result ≡ 1 →
-        IfSome (I.remaining input.old) (λ stream. WritesBeginning (O.contents output.old) (O.contents output.new) (run once.tariff once.credit stream).text) }
+        IfSome (I.remaining input.old) (λ stream. WritesBeginning (O.contents output.old) (O.contents output.new) (run (once_book once.price once.block) once.credit stream).text) }
     ensures told { IsToldFault result (E.contents errors.old) (E.contents errors.new) }
 {
     let Some(once) = once_words(words) else {
         return 2;
     };
-    match lines(rt.alloc(), input, output, &once.tariff, once.credit) {
-        Ok(_account) => 0,
+    match answer_lines(rt.alloc(), once, input, output) {
+        Ok(()) => 0,
         Err(fault) => {
             let _ = write_whole(errors, fault_line(fault));
             1
         }
     }
+}
+
+/// Answers the lines of the input, priced by the book of the words.
+fn answer_lines<I: Read, O: Write>(
+    alloc: Global,
+    once: OnceWords,
+    input: &mut I,
+    output: &mut O,
+) -> Result<(), LinesFault>
+    requires { IsInRange once }
+    ensures done { OnOk result (IfSome (I.remaining input.old) (λ stream.
+        Appends (O.contents output.old) (O.contents output.new) (run (once_book once.price once.block) once.credit stream).text)) }
+    ensures fault { OnErr result (IfSome (I.remaining input.old) (λ stream.
+        WritesBeginning (O.contents output.old) (O.contents output.new) (run (once_book once.price once.block) once.credit stream).text)) }
+{
+    let book = once_book(alloc, once.price, once.block)?;
+    let _account = lines(alloc, input, output, &book, once.credit)?;
+    Ok(())
 }
 
 fn fault_line(fault: LinesFault) -> &'static [u8]

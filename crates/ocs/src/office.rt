@@ -7,16 +7,16 @@ use crate::fault::LinesFault;
 use crate::reading::{DatedRequest, read_line};
 use commands::Request;
 use json_fields::WireFault;
-use reserving::FlatTariff;
 use std::alloc::Global;
+use tariffs::TariffBook;
 use units::Money;
 use wire_answers::write_fault;
 
-/// What an account is opened with: its tariff, and the amount of its bucket.
+/// What an account is opened with: its tariff book, and the amount of its bucket.
 #[derive(Clone, Copy)]
 pub(crate) struct Office<'b> {
     pub(crate) alloc: Global,
-    pub(crate) tariff: &'b FlatTariff,
+    pub(crate) book: &'b TariffBook,
     pub(crate) credit: Money,
 }
 
@@ -27,8 +27,8 @@ impl<'b> Office<'b> {
         opened: &mut Option<Opened<'b>>,
         line: &[u8],
     ) -> Result<String, LinesFault>
-        ensures { IfOk result (λ text. (x : Option Subscriber) → IsServing self.now.tariff.now x opened.old →
-            IsServed self.now.tariff.now (served_line self.now.tariff.now self.now.credit line.now x) (string_bytes text) opened.new) }
+        ensures { IfOk result (λ text. (x : Option Subscriber) → IsServing self.now.book.now x opened.old →
+            IsServed self.now.book.now (served_line self.now.book.now self.now.credit line.now x) (string_bytes text) opened.new) }
     {
         match read_line(self.alloc, line) {
             Ok(dated) => self.serve(opened, dated),
@@ -42,8 +42,8 @@ impl<'b> Office<'b> {
         opened: &mut Option<Opened<'b>>,
         dated: DatedRequest,
     ) -> Result<String, LinesFault>
-        ensures { IfOk result (λ text. (x : Option Subscriber) → IsServing self.now.tariff.now x opened.old →
-            IsServed self.now.tariff.now (told (turn self.now.tariff.now dated (subscriber_of self.now.credit dated.request x))) (string_bytes text) opened.new) }
+        ensures { IfOk result (λ text. (x : Option Subscriber) → IsServing self.now.book.now x opened.old →
+            IsServed self.now.book.now (told (turn self.now.book.now dated (subscriber_of self.now.credit dated.request x))) (string_bytes text) opened.new) }
     {
         let mut account = self.opened_for(opened.take(), &dated.request)?;
         let text = account.answer(self.alloc, dated)?;
@@ -57,12 +57,12 @@ impl<'b> Office<'b> {
         opened: Option<Opened<'b>>,
         request: &Request,
     ) -> Result<Opened<'b>, LinesFault>
-        ensures { IfOk result (λ account. (x : Option Subscriber) → IsServing self.now.tariff.now x opened.entry →
-            IsOpenedFor self.now.tariff.now (subscriber_of self.now.credit request.now x) account) }
+        ensures { IfOk result (λ account. (x : Option Subscriber) → IsServing self.now.book.now x opened.entry →
+            IsOpenedFor self.now.book.now (subscriber_of self.now.credit request.now x) account) }
     {
         match opened {
             Some(opened) => Ok(opened),
-            None => Opened::new(self.alloc, self.tariff, self.credit, &request.account),
+            None => Opened::new(self.alloc, self.book, self.credit, &request.account),
         }
     }
 }

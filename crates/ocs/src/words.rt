@@ -1,18 +1,18 @@
-ghost use Rattle.std.specs.Prelude.{◌≡◌, IfSome};
-ghost use Rattle.operator.specs.Numbers.{number_of};
-ghost use Rattle.ocs.specs.Words.{IsOnce, once_of, opening_of, tariff_of, opened_with, priced};
+ghost use Rattle.std.specs.Prelude.{◌≡◌, ◌≤◌, IfSome};
+ghost use Rattle.ocs.specs.Words.{IsOnce, IsInRange, once_of, number_within};
 
 use operator::number;
-use reserving::FlatTariff;
-use units::{Money, UnitKind};
+use units::Money;
 
-/// What the words of `once` say: an account's opening credit in micro-units, and the tariff of its one rating group.
-#[derive(Debug, Drop)]
+/// What the words of `once` say: an account's opening credit, and the one price of its tariff book.
+#[derive(Clone, Copy, Debug)]
 pub struct OnceWords {
-    /// What the account's bucket is opened with.
+    /// What the account's bucket is opened with, 1 to 10^15 micro-units.
     pub credit: Money,
-    /// What its requests are priced by.
-    pub tariff: FlatTariff,
+    /// The price of a block, 0 to 10^9 micro-units.
+    pub price: u64,
+    /// The size of a block, 1 to 10^15 seconds.
+    pub block: u64,
 }
 
 /// Reads `once --credit AMOUNT --price PRICE --block SIZE` after the program's name: 1 to 10^15 micro-units, 0 to
@@ -20,6 +20,7 @@ pub struct OnceWords {
 pub fn once_words(words: &[&str]) -> Option<OnceWords>
     ensures once { IsOnce words.now → result ≡ once_of words.now }
     ensures form { IfSome result (λ _. IsOnce words.now) }
+    ensures in_range { IfSome result IsInRange }
 {
     let [
         _,
@@ -34,31 +35,25 @@ pub fn once_words(words: &[&str]) -> Option<OnceWords>
     else {
         return None;
     };
-    let credit = opening(credit)?;
-    let tariff = tariff(price, block)?;
-    Some(OnceWords { credit, tariff })
+    let credit = Money::new(within(credit, 1, 1_000_000_000_000_000)?)?;
+    let price = within(price, 0, 1_000_000_000)?;
+    let block = within(block, 1, 1_000_000_000_000_000)?;
+    Some(OnceWords {
+        credit,
+        price,
+        block,
+    })
 }
 
-/// The opening credit that a word says.
-fn opening(word: &str) -> Option<Money>
-    ensures { result ≡ opened_with (number_of word.now) }
+/// The number that a word says, where it lies in this range.
+fn within(word: &str, low: u64, high: u64) -> Option<u64>
+    ensures value { result ≡ number_within low high word.now }
+    ensures in_range { IfSome result (λ n. (low ≤ n) × (n ≤ high)) }
 {
-    let credit = Money::new(number(word)?)?;
-    if credit.micros() == 0 {
-        return None;
+    let number = number(word)?;
+    if low <= number && number <= high {
+        Some(number)
+    } else {
+        None
     }
-    Some(credit)
-}
-
-fn tariff(price: &str, block: &str) -> Option<FlatTariff>
-    ensures { result ≡ priced (number_of price.now) (number_of block.now) }
-{
-    seconds_tariff(number(price)?, number(block)?)
-}
-
-/// The tariff of rating group 10 in seconds: a slice of 600, at most 3,600 at once, valid for an hour.
-fn seconds_tariff(price: u64, block: u64) -> Option<FlatTariff>
-    ensures { result ≡ tariff_of price block }
-{
-    FlatTariff::new(10, UnitKind::Time, block, 600, 3_600, price, 3_600)
 }

@@ -1,6 +1,7 @@
 use super::*;
+use operator::once_book;
 use std::test::Fail;
-use units::{Moment, UnitKind};
+use units::Moment;
 
 const ASKED: &[u8] =
     b"1767607200 {\"Session-Id\":\"s3\",\"CC-Request-Type\":1,\"CC-Request-Number\":0,\"Subscription-Id\":{\"Subscription-Id-Type\":0,\"Subscription-Id-Data\":\"49151\"},\"Multiple-Services-Credit-Control\":[{\"Rating-Group\":10,\"Requested-Service-Unit\":{\"CC-Time\":600}}]}\n1767607500 {\"Session-Id\":\"s3\",\"CC-Request-Type\":3,\"CC-Request-Number\":1,\"Subscription-Id\":{\"Subscription-Id-Type\":0,\"Subscription-Id-Data\":\"49151\"},\"Multiple-Services-Credit-Control\":[{\"Rating-Group\":10,\"Used-Service-Unit\":[{\"CC-Time\":300}]}]}\n";
@@ -40,19 +41,15 @@ const UNREAD: &[u8] = b"0 {}\n1 {\"Session-Id\":\"s\",\"CC-Request-Type\":4}\n{}
 const REFUSED: &[u8] =
     b"{\"Failed-AVP\":\"Session-Id\",\"Result-Code\":5005}\n{\"Failed-AVP\":\"CC-Request-Type\",\"Result-Code\":5004}\n{\"Result-Code\":5012}\n";
 
-fn tariff() -> Option<FlatTariff> {
-    FlatTariff::new(10, UnitKind::Time, 60, 600, 3_600, 100_000, 3_600)
-}
-
 /// A grant of two blocks of five used: two are collected.
 #[test]
 fn a_session_from_line_to_line(rt: HostRuntime) -> Result<(), Fail> {
     let alloc = rt.alloc();
-    let tariff = tariff().ok_or("a tariff")?;
+    let book = once_book(alloc, 100_000, 60)?;
     let credit = Money::new(250_000).ok_or("an amount")?;
     let mut input = ASKED;
     let mut output = Vec::new(alloc);
-    let account = lines(alloc, &mut input, &mut output, &tariff, credit)?.ok_or("an account")?;
+    let account = lines(alloc, &mut input, &mut output, &book, credit)?.ok_or("an account")?;
     assert_eq!(rt; output.as_slice(), GRANTED);
     let buckets = account.purse().buckets();
     assert_eq!(rt; buckets.len(), 1);
@@ -69,11 +66,11 @@ fn a_session_from_line_to_line(rt: HostRuntime) -> Result<(), Fail> {
 #[test]
 fn a_repeat_has_the_first_answer(rt: HostRuntime) -> Result<(), Fail> {
     let alloc = rt.alloc();
-    let tariff = tariff().ok_or("a tariff")?;
+    let book = once_book(alloc, 100_000, 60)?;
     let credit = Money::new(1_000_000).ok_or("an amount")?;
     let mut input = REPEATED;
     let mut output = Vec::new(alloc);
-    let account = lines(alloc, &mut input, &mut output, &tariff, credit)?.ok_or("an account")?;
+    let account = lines(alloc, &mut input, &mut output, &book, credit)?.ok_or("an account")?;
     assert_eq!(rt; output.as_slice(), ANSWERED_ALIKE);
     let buckets = account.purse().buckets();
     assert_eq!(rt; buckets.len(), 1);
@@ -87,11 +84,11 @@ fn a_repeat_has_the_first_answer(rt: HostRuntime) -> Result<(), Fail> {
 #[test]
 fn a_session_in_time(rt: HostRuntime) -> Result<(), Fail> {
     let alloc = rt.alloc();
-    let tariff = tariff().ok_or("a tariff")?;
+    let book = once_book(alloc, 100_000, 60)?;
     let credit = Money::new(1_000_000).ok_or("an amount")?;
     let mut input = IN_TIME;
     let mut output = Vec::new(alloc);
-    let _account = lines(alloc, &mut input, &mut output, &tariff, credit)?;
+    let _account = lines(alloc, &mut input, &mut output, &book, credit)?;
     assert_eq!(rt; output.as_slice(), LIVE);
     Ok(())
 }
@@ -100,11 +97,11 @@ fn a_session_in_time(rt: HostRuntime) -> Result<(), Fail> {
 #[test]
 fn a_session_that_ended_by_itself(rt: HostRuntime) -> Result<(), Fail> {
     let alloc = rt.alloc();
-    let tariff = tariff().ok_or("a tariff")?;
+    let book = once_book(alloc, 100_000, 60)?;
     let credit = Money::new(1_000_000).ok_or("an amount")?;
     let mut input = TOO_LATE;
     let mut output = Vec::new(alloc);
-    let mut account = lines(alloc, &mut input, &mut output, &tariff, credit)?.ok_or("an account")?;
+    let mut account = lines(alloc, &mut input, &mut output, &book, credit)?.ok_or("an account")?;
     assert_eq!(rt; output.as_slice(), OVER);
     assert_eq!(rt; account.purse().buckets().len(), 1);
     assert_eq!(rt; account.purse().buckets()[0].reserved(), 1_000_000);
@@ -122,11 +119,11 @@ fn a_session_that_ended_by_itself(rt: HostRuntime) -> Result<(), Fail> {
 #[test]
 fn lines_that_are_no_requests(rt: HostRuntime) -> Result<(), Fail> {
     let alloc = rt.alloc();
-    let tariff = tariff().ok_or("a tariff")?;
+    let book = once_book(alloc, 100_000, 60)?;
     let credit = Money::new(1).ok_or("an amount")?;
     let mut input = UNREAD;
     let mut output = Vec::new(alloc);
-    let account = lines(alloc, &mut input, &mut output, &tariff, credit)?;
+    let account = lines(alloc, &mut input, &mut output, &book, credit)?;
     assert!(rt; account.is_none());
     assert_eq!(rt; output.as_slice(), REFUSED);
     Ok(())
@@ -136,11 +133,11 @@ fn lines_that_are_no_requests(rt: HostRuntime) -> Result<(), Fail> {
 #[test]
 fn a_denied_request_keeps_its_number(rt: HostRuntime) -> Result<(), Fail> {
     let alloc = rt.alloc();
-    let tariff = tariff().ok_or("a tariff")?;
+    let book = once_book(alloc, 100_000, 60)?;
     let credit = Money::new(40_000).ok_or("an amount")?;
     let mut input = ENDED_AGAIN;
     let mut output = Vec::new(alloc);
-    let _account = lines(alloc, &mut input, &mut output, &tariff, credit)?;
+    let _account = lines(alloc, &mut input, &mut output, &book, credit)?;
     assert_eq!(rt; output.as_slice(), DENIED);
     Ok(())
 }
@@ -149,11 +146,11 @@ fn a_denied_request_keeps_its_number(rt: HostRuntime) -> Result<(), Fail> {
 #[test]
 fn a_denied_request_opens_no_session(rt: HostRuntime) -> Result<(), Fail> {
     let alloc = rt.alloc();
-    let tariff = tariff().ok_or("a tariff")?;
+    let book = once_book(alloc, 100_000, 60)?;
     let credit = Money::new(40_000).ok_or("an amount")?;
     let mut input = ASKED;
     let mut output = Vec::new(alloc);
-    let _account = lines(alloc, &mut input, &mut output, &tariff, credit)?;
+    let _account = lines(alloc, &mut input, &mut output, &book, credit)?;
     assert_eq!(rt; output.as_slice(), UNKNOWN);
     Ok(())
 }
