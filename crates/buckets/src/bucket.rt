@@ -8,7 +8,7 @@ use units::{Moment, Money};
 ///
 /// The credited amount is the sum of four columns, which the type keeps: what is available, what is reserved
 /// for live sessions, what was charged, and what expired at the bucket's end. All are micro-units.
-#[derive(Debug, Drop)]
+#[derive(Clone, Debug, Drop)]
 pub struct Bucket {
     number: u32,
     from: Moment,

@@ -15,7 +15,7 @@ pub struct Hold {
 }
 
 /// What a reservation holds, in the order of the buckets, each hold above 0.
-#[derive(Debug, Drop)]
+#[derive(Clone, Debug, Drop)]
 pub struct Holds {
     pub(crate) items: Vec<Hold>,
 }

@@ -43,7 +43,7 @@ pub struct Charged {
 
 /// The buckets of an account, by end and then by number: the order in which they are used (TS 32.296, account
 /// balance management function).
-#[derive(Drop)]
+#[derive(Clone, Drop)]
 pub struct Purse {
     buckets: Vec<Bucket>,
     alloc: Global,

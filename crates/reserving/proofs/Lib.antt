@@ -26,3 +26,4 @@ pub mod Reserved
 pub mod Granting
 pub mod ReservedCall
 mod WorkedRows
+pub mod StoredRows

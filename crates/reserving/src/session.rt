@@ -15,7 +15,7 @@ pub enum SessionState {
 }
 
 /// A session of an account, or a recorded event.
-#[derive(Debug, Drop)]
+#[derive(Clone, Debug, Drop)]
 pub struct Session {
     /// Its name (Session-Id, RFC 6733 section 8.8).
     pub id: SessionId,
@@ -28,7 +28,7 @@ pub struct Session {
 }
 
 /// What a grant reserved: the tariff periods that price its units, and the money that is held for them.
-#[derive(Debug, Drop)]
+#[derive(Clone, Debug, Drop)]
 pub struct Reservation {
     /// The period at the grant.
     pub before: Period,
@@ -39,7 +39,7 @@ pub struct Reservation {
 }
 
 /// What a session has of a rating group, from its first grant or use on.
-#[derive(Debug, Drop)]
+#[derive(Clone, Debug, Drop)]
 pub struct SessionGroup {
     /// The session's name.
     pub session: SessionId,
