@@ -27,3 +27,4 @@ pub mod Reserved
 pub mod ReservedCall
 pub mod StillFree
 mod WorkedRows
+pub mod StoredRows

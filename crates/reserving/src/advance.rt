@@ -54,7 +54,7 @@ fn is_live_session(session: &Session, validity: u32, at: Moment) -> bool
     session.state == SessionState::Open && at.seconds() < ends
 }
 
-fn lapse_sessions(sessions: &mut Vec<Session>, validity: u32, at: Moment)
+pub(crate) fn lapse_sessions(sessions: &mut Vec<Session>, validity: u32, at: Moment)
     ensures { sessions.new.items ≡ map (lapse validity at) sessions.old.items }
 {
     for session in sessions.iter_mut() {
@@ -71,7 +71,7 @@ fn lapse_session(session: &mut Session, validity: u32, at: Moment)
     }
 }
 
-fn lapse_groups(
+pub(crate) fn lapse_groups(
     purse: &mut Purse,
     groups: &mut Vec<SessionGroup>,
     sessions: &[Session],

@@ -25,25 +25,25 @@ impl<'b> Account<'b> {
     }
 }
 
-fn copy_of_purse(purse: &Purse) -> Result<Purse, AllocError>
+pub(crate) fn copy_of_purse(purse: &Purse) -> Result<Purse, AllocError>
     ensures { IfOk result (λ copy. copy ≡ purse.now) }
 {
     purse.clone()
 }
 
-fn copy_of_counters(counters: &Vec<Counter>) -> Result<Vec<Counter>, AllocError>
+pub(crate) fn copy_of_counters(counters: &Vec<Counter>) -> Result<Vec<Counter>, AllocError>
     ensures { IfOk result (λ copy. copy.items ≡ counters.now.items) }
 {
     counters.clone()
 }
 
-fn copy_of_sessions(sessions: &Vec<Session>) -> Result<Vec<Session>, AllocError>
+pub(crate) fn copy_of_sessions(sessions: &Vec<Session>) -> Result<Vec<Session>, AllocError>
     ensures { IfOk result (λ copy. copy.items ≡ sessions.now.items) }
 {
     sessions.clone()
 }
 
-fn copy_of_groups(groups: &Vec<SessionGroup>) -> Result<Vec<SessionGroup>, AllocError>
+pub(crate) fn copy_of_groups(groups: &Vec<SessionGroup>) -> Result<Vec<SessionGroup>, AllocError>
     ensures { IfOk result (λ copy. copy.items ≡ groups.now.items) }
 {
     groups.clone()

@@ -14,6 +14,7 @@ mod reserve;
 mod session;
 mod sessions;
 mod settle;
+mod stored;
 
 pub use crate::account::Account;
 pub use crate::fault::AccountFault;
@@ -21,6 +22,7 @@ pub use crate::laws::going_on;
 pub use crate::reserve::Granted;
 pub use crate::session::{Counter, Reservation, Session, SessionGroup, SessionState};
 pub use crate::settle::Settled;
+pub use crate::stored::StoredAccount;
 
 #[cfg(test)]
 mod tests;

@@ -1,0 +1,52 @@
+-- The keys of kept answers.
+-- Source: profile; a request's key is its Session-Id and CC-Request-Number (RFC 8506 sections 8.2 and 8.4).
+use Rattle.std.specs.Prelude.{◌≡◌, ℕ, ◌&&◌, ◌++◌, Bool, true, false, List, nat_eq}
+use Rattle.std.specs.Bool.{Decides}
+use Rattle.std.specs.Cmp.{unsigned_Decides}
+use Rattle.std.specs.Cmp.Lexicographic.{bytes_decides}
+use Rattle.std.specs.Hash as fed
+use Rattle.std.proofs.Common.{refl, sym, ap, subst, true≢false}
+use Rattle.std.proofs.lemmas.Bool.{and_parts}
+use Rattle.commands.specs.Alike.{same_name}
+use Rattle.commands.specs.declared.command.Content.{Content}
+use Rattle.commands.specs.declared.command.Content.TheVariants as content
+use Rattle.keepers.specs.declared.key.Key.{Key}
+use Rattle.keepers.specs.declared.key.Key.TheVariants.{Request, Reference}
+
+-- the key of a command with this content
+abbrev pub key_of : Content → Key
+key_of (content.Request r) = Request r.session r.number
+key_of (content.Credit c) = Reference c.reference
+
+abbrev pub same_key : Key → Key → Bool
+same_key (Request s n) (Request t m) = same_name s t && nat_eq n m
+same_key (Reference r) (Reference q) = same_name r q
+same_key x y = false
+
+no : {X : Type 0} → false ≡ true → X
+no e = absurd (true≢false (sym e))
+
+both : (a b : Bool) → a ≡ true → b ≡ true → (a && b) ≡ true
+both true b p q = q
+both false b p q = no p
+
+key_sound : (x y : Key) → same_key x y ≡ true → x ≡ y
+key_sound (Request s n) (Request t m) e =
+    let parts = and_parts (same_name s t) (nat_eq n m) e in
+    λ i. Request ((bytes_decides s t).0 parts.0 i) ((unsigned_Decides n m).0 parts.1 i)
+key_sound (Request s n) (Reference q) e = no e
+key_sound (Reference r) (Request t m) e = no e
+key_sound (Reference r) (Reference q) e = ap Reference ((bytes_decides r q).0 e)
+
+key_itself : (x : Key) → same_key x x ≡ true
+key_itself (Request s n) = both (same_name s s) (nat_eq n n) ((bytes_decides s s).1 refl) ((unsigned_Decides n n).1 refl)
+key_itself (Reference r) = (bytes_decides r r).1 refl
+
+-- the test tells equal keys
+pub key_decides : (x y : Key) → Decides (same_key x y) (x ≡ y)
+key_decides x y = (key_sound x y, λ e. subst (λ k. same_key x k ≡ true) e (key_itself x))
+
+-- what a hash of a key is made of
+abbrev pub key_writes : Key → List (List ℕ)
+key_writes (Request s n) = fed.str s ++ fed.u32 n
+key_writes (Reference r) = fed.str r

@@ -1,0 +1,6 @@
+pub mod Faults
+pub mod Keys
+pub mod Tables
+pub mod Change
+pub mod Memory
+pub mod Failing

@@ -1,0 +1,134 @@
+ghost use Rattle.std.specs.Prelude.{◌≡◌, true, false};
+
+use crate::fault::StoreFault;
+use crate::keeper::Keeper;
+use crate::key::{KeptAnswer, Key};
+use crate::loaded::{Change, Loaded};
+use identifiers::AccountNumber;
+use tariffs::TariffBook;
+use units::Moment;
+
+/// A keeper whose store fails once, for tests: the call after so many others answers store fault 2 and is counted;
+/// each other call is that of the keeper inside. It meets the laws over any keeper.
+#[derive(Drop)]
+pub struct Failing<K> {
+    inner: K,
+    left: u64,
+    failed: bool,
+}
+
+impl<K: Keeper> Failing<K> {
+    /// The keeper, with a store that fails at the call after this many. `failures` and `abandon` don't count.
+    pub fn new(inner: K, left: u64) -> Failing<K>
+        ensures { ⟦<Failing<K> as Keeper>⟧.content result ≡ K.content inner }
+    {
+        Failing {
+            inner,
+            left,
+            failed: false,
+        }
+    }
+
+    /// The keeper inside.
+    pub fn into_inner(self) -> K
+        ensures { K.content result ≡ ⟦<Failing<K> as Keeper>⟧.content self }
+    {
+        let Failing {
+            inner,
+            left: _,
+            failed: _,
+        } = self;
+        inner
+    }
+
+    /// Whether this call fails.
+    fn fails(&mut self) -> bool
+        ensures same { self.new.inner ≡ self.old.inner }
+        ensures raised { result ≡ true → (self.old.failed ≡ false) × (self.new.failed ≡ true) }
+        ensures kept { result ≡ false → self.new.failed ≡ self.old.failed }
+    {
+        if self.failed {
+            return false;
+        }
+        if self.left == 0 {
+            self.failed = true;
+            return true;
+        }
+        self.left -= 1;
+        false
+    }
+}
+
+impl<K: Keeper> Keeper for Failing<K> {
+    ghost use Rattle.keepers.specs.Failing.{failure_total, total-bounded};
+
+    ghost content = { λ k. K.content k.inner };
+
+    ghost failed = { λ k. failure_total (K.failed k.inner) k.failed };
+
+    ghost clean = { λ k. K.clean k.inner };
+
+    ghost bounded = { λ k. total-bounded (K.failed k.inner) k.failed (K.bounded k.inner) };
+
+    fn failures(&self) -> u64 {
+        let inner = self.inner.failures();
+        if self.failed {
+            inner.saturating_add(1).min(1_000_000_000_000_000_000)
+        } else {
+            inner
+        }
+    }
+
+    fn last(&mut self) -> Result<Moment, StoreFault> {
+        if self.fails() {
+            return Err(StoreFault::Store);
+        }
+        self.inner.last()
+    }
+
+    fn load<'b>(
+        &mut self,
+        book: &'b TariffBook,
+        account: &AccountNumber,
+    ) -> Result<Option<Loaded<'b>>, StoreFault> {
+        if self.fails() {
+            return Err(StoreFault::Store);
+        }
+        self.inner.load(book, account)
+    }
+
+    fn find_answer(
+        &mut self,
+        account: &AccountNumber,
+        key: &Key,
+    ) -> Result<Option<KeptAnswer>, StoreFault> {
+        if self.fails() {
+            return Err(StoreFault::Store);
+        }
+        self.inner.find_answer(account, key)
+    }
+
+    fn commit<'b>(&mut self, change: Change<'b>) -> Result<(), StoreFault> {
+        if self.fails() {
+            let Change {
+                moment: _,
+                account,
+                kept: _,
+            } = change;
+            self.inner.abandon(account);
+            return Err(StoreFault::Store);
+        }
+        self.inner.commit(change)
+    }
+
+    fn abandon<'b>(&mut self, loaded: Loaded<'b>) {
+        self.inner.abandon(loaded);
+    }
+
+    fn sweep(&mut self, book: &TariffBook, moment: Moment) -> Result<u64, StoreFault> {
+        if self.fails() {
+            return Err(StoreFault::Store);
+        }
+        self.inner.sweep(book, moment)
+    }
+}

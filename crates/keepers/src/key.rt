@@ -1,0 +1,105 @@
+ghost use Rattle.std.specs.Prelude.{◌≡◌, IfOk};
+ghost use Rattle.keepers.specs.Keys.{same_key, key_of};
+
+use crate::copies::{copy_answer, copy_content};
+use commands::{Answer, Content};
+use identifiers::{Reference, SessionId};
+use std::alloc::AllocError;
+use std::hash::{Hash, Hasher};
+
+/// The key of a kept answer within its account: an accepted command with the same key is its repeat, or at fault.
+#[derive(Clone, Debug, Drop)]
+pub enum Key {
+    /// Of a request: its session and its number in it (RFC 8506 section 8.2).
+    Request { session: SessionId, number: u32 },
+    /// Of an operator's command: its reference (profile).
+    Reference(Reference),
+}
+
+/// What is kept of an accepted command, so that its repeat is answered as it was.
+#[derive(Debug, Drop)]
+pub struct KeptAnswer {
+    /// The command. It tells the key.
+    pub content: Content,
+    /// Its first answer.
+    pub answer: Answer,
+}
+
+impl Key {
+    /// The key of a command with this content.
+    pub fn of(content: &Content) -> Result<Key, AllocError>
+        ensures { IfOk result (λ key. key ≡ key_of content.now) }
+    {
+        match content {
+            Content::Request(request) => {
+                let session = request.session.clone()?;
+                Ok(Key::Request {
+                    session,
+                    number: request.number,
+                })
+            }
+            Content::Credit(credit) => Ok(Key::Reference(credit.reference.clone()?)),
+        }
+    }
+}
+
+impl KeptAnswer {
+    /// The same once more.
+    pub fn copy(&self) -> Result<KeptAnswer, AllocError>
+        ensures { IfOk result (λ copy. copy ≡ self.now) }
+    {
+        Ok(KeptAnswer {
+            content: copy_content(&self.content)?,
+            answer: copy_answer(&self.answer)?,
+        })
+    }
+}
+
+impl PartialEq for Key {
+    ghost use Rattle.std.specs.Cmp.{decided, partial_equiv_from_equiv};
+    ghost use Rattle.keepers.specs.Keys.{same_key, key_decides};
+
+    ghost eq = { same_key };
+
+    ghost laws = { partial_equiv_from_equiv (decided same_key key_decides) };
+
+    fn eq(&self, other: &Key) -> bool {
+        match (self, other) {
+            (
+                Key::Request { session, number },
+                Key::Request {
+                    session: other,
+                    number: n,
+                },
+            ) => session == other && number == n,
+            (Key::Reference(reference), Key::Reference(other)) => reference == other,
+            _ => false,
+        }
+    }
+}
+
+impl Eq for Key {
+    ghost use Rattle.std.specs.Cmp.{decided};
+    ghost use Rattle.keepers.specs.Keys.{same_key, key_decides};
+
+    ghost laws = { decided same_key key_decides };
+}
+
+impl Hash for Key {
+    ghost use Rattle.std.specs.Hash.{same_Alike};
+    ghost use Rattle.keepers.specs.Keys.{same_key, key_decides, key_writes};
+
+    ghost hash_input = { key_writes };
+
+    ghost respects_eq = { λ x y. (same_Alike key_writes key_decides).fed x y };
+
+    fn hash<H: Hasher>(&self, state: &mut H) {
+        match self {
+            Key::Request { session, number } => {
+                session.hash(state);
+                number.hash(state);
+            }
+            Key::Reference(reference) => reference.hash(state),
+        }
+    }
+}

@@ -1,0 +1,102 @@
+ghost use Rattle.std.specs.Prelude.{◌≡◌};
+ghost use Rattle.keepers.specs.Tables.{no_tables};
+
+use crate::entries::{Entry, advance_entries, count_of, find_kept, load_entry, put_entry};
+use crate::fault::StoreFault;
+use crate::keeper::Keeper;
+use crate::key::{KeptAnswer, Key};
+use crate::loaded::{Change, Loaded};
+use identifiers::AccountNumber;
+use std::alloc::Global;
+use tariffs::TariffBook;
+use units::Moment;
+
+/// A keeper in memory. Its store never fails.
+#[derive(Drop)]
+pub struct MemoryKeeper {
+    last: Moment,
+    entries: Vec<Entry>,
+    alloc: Global,
+}
+
+impl MemoryKeeper {
+    /// A keeper without accounts. It takes no memory.
+    pub fn new(alloc: Global) -> MemoryKeeper
+        ensures { ⟦<MemoryKeeper as Keeper>⟧.content result ≡ no_tables }
+    {
+        MemoryKeeper {
+            last: Moment::first(),
+            entries: Vec::new(alloc),
+            alloc,
+        }
+    }
+}
+
+impl Keeper for MemoryKeeper {
+    ghost use Rattle.keepers.specs.Memory.{memory_tables};
+
+    ghost content = { λ k. memory_tables k.last k.entries.items };
+
+    ghost failed = { λ _. 0 };
+
+    ghost clean = { λ _. Unit {0} };
+
+    ghost use Rattle.std.proofs.Common.{zero-le};
+
+    ghost bounded = { λ _. zero-le };
+
+    fn failures(&self) -> u64 {
+        0
+    }
+
+    fn last(&mut self) -> Result<Moment, StoreFault> {
+        Ok(self.last)
+    }
+
+    fn load<'b>(
+        &mut self,
+        book: &'b TariffBook,
+        account: &AccountNumber,
+    ) -> Result<Option<Loaded<'b>>, StoreFault> {
+        Ok(load_entry(&self.entries, book, account)?)
+    }
+
+    fn find_answer(
+        &mut self,
+        account: &AccountNumber,
+        key: &Key,
+    ) -> Result<Option<KeptAnswer>, StoreFault> {
+        Ok(find_kept(&self.entries, account, key)?)
+    }
+
+    fn commit<'b>(&mut self, change: Change<'b>) -> Result<(), StoreFault> {
+        let Change {
+            moment,
+            account,
+            kept,
+        } = change;
+        let Loaded {
+            number,
+            barred,
+            account,
+        } = account;
+        let rows = account.into_stored();
+        put_entry(self.alloc, &mut self.entries, number, barred, rows, kept)?;
+        self.last = moment;
+        Ok(())
+    }
+
+    fn abandon<'b>(&mut self, loaded: Loaded<'b>) {
+        let Loaded {
+            number: _,
+            barred: _,
+            account: _,
+        } = loaded;
+    }
+
+    fn sweep(&mut self, book: &TariffBook, moment: Moment) -> Result<u64, StoreFault> {
+        advance_entries(&mut self.entries, book, moment);
+        self.last = moment;
+        Ok(count_of(&self.entries))
+    }
+}
