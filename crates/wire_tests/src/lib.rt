@@ -11,11 +11,15 @@ mod faults;
 #[cfg(test)]
 mod heads;
 #[cfg(test)]
+mod kept;
+#[cfg(test)]
 mod order;
 #[cfg(test)]
 mod refunds;
 #[cfg(test)]
 mod reporting;
+#[cfg(test)]
+mod requests;
 #[cfg(test)]
 mod tables;
 #[cfg(test)]
