@@ -3,6 +3,10 @@
 #![tactic(auto)]
 
 #[cfg(test)]
+mod answers;
+#[cfg(test)]
+mod answers_read;
+#[cfg(test)]
 mod asking;
 #[cfg(test)]
 mod credits;
@@ -12,6 +16,8 @@ mod faults;
 mod heads;
 #[cfg(test)]
 mod kept;
+#[cfg(test)]
+mod members;
 #[cfg(test)]
 mod order;
 #[cfg(test)]
