@@ -1,5 +1,6 @@
 //! Answers as they are read: each text gives a value that writes the same text.
 
+use crate::tables::{Told, try_told};
 use std::alloc::Global;
 use std::test::Fail;
 use wire::{read_answer, write_answer};
@@ -62,7 +63,7 @@ fn texts(rt: HostRuntime) -> Result<(), Fail> {
 }
 
 /// What an answer shows of itself, or the fault.
-fn shown(alloc: Global, text: &[u8]) -> Result<String, Fail> {
+pub(crate) fn shown(alloc: Global, text: &[u8]) -> Result<String, Fail> {
     match read_answer(alloc, text) {
         Ok(answer) => Ok(format!(in alloc; "{answer:?}")?),
         Err(fault) => Ok(format!(in alloc; "{fault}")?),
@@ -102,11 +103,5 @@ x -> no JSON object
 
 #[test]
 fn values(rt: HostRuntime) -> Result<(), Fail> {
-    let alloc = rt.alloc();
-    for line in SHOWN.lines() {
-        let (text, expected) = line.split_once(" -> ").ok_or("a case")?;
-        let found = shown(alloc, text.as_bytes())?;
-        assert_eq!(rt; found.as_str(), expected, "{text}");
-    }
-    Ok(())
+    try_told(&rt, rt.alloc(), Told::AnswerShown, SHOWN)
 }

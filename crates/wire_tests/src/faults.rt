@@ -1,11 +1,12 @@
 //! The texts that answer what isn't read.
 
+use crate::tables::{Told, try_told};
 use std::alloc::Global;
 use std::test::Fail;
 use wire::{read_request, write_fault};
 
 /// What a body is answered that isn't read.
-fn answered(alloc: Global, body: &[u8]) -> Result<String, Fail> {
+pub(crate) fn answered(alloc: Global, body: &[u8]) -> Result<String, Fail> {
     match read_request(alloc, body) {
         Ok(_) => Ok(String::from_str(alloc, "read")?),
         Err(fault) => Ok(write_fault(alloc, fault)?),
@@ -51,11 +52,5 @@ const FAULTS: &str = r##"{} -> {"Failed-AVP":"Session-Id","Result-Code":5005}
 
 #[test]
 fn faults(rt: HostRuntime) -> Result<(), Fail> {
-    let alloc = rt.alloc();
-    for line in FAULTS.lines() {
-        let (body, expected) = line.split_once(" -> ").ok_or("a case")?;
-        let found = answered(alloc, body.as_bytes())?;
-        assert_eq!(rt; found.as_str(), expected, "{body}");
-    }
-    Ok(())
+    try_told(&rt, rt.alloc(), Told::Fault, FAULTS)
 }

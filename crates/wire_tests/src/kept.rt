@@ -1,5 +1,6 @@
 //! What is kept of accepted commands, written and read again.
 
+use crate::tables::{Told, try_told};
 use commands::{Content, Credit, same_content};
 use identifiers::{AccountNumber, Reference};
 use std::alloc::Global;
@@ -11,23 +12,34 @@ fn account(alloc: Global) -> Result<AccountNumber, Fail> {
     Ok(AccountNumber::new(alloc, "49151")?.ok_or("an account")?)
 }
 
+/// Whether the text is read as this content.
+fn is_read_again(alloc: Global, text: &str, content: &Content) -> Result<bool, Fail> {
+    let account = account(alloc)?;
+    let again = read_content(alloc, account, text.as_bytes())?;
+    Ok(same_content(content, &again))
+}
+
 /// The text that is kept of the content, where it is read again as the same content.
 fn kept(alloc: Global, content: &Content) -> Result<String, Fail> {
     let text = write_content(alloc, content)?;
-    let again = read_content(alloc, account(alloc)?, text.as_str().as_bytes())?;
-    if same_content(content, &again) {
+    if is_read_again(alloc, text.as_str(), content)? {
         Ok(text)
     } else {
         Ok(String::from_str(alloc, "another content")?)
     }
 }
 
-fn kept_credit(alloc: Global, body: &[u8]) -> Result<String, Fail> {
-    let credit = read_credit(alloc, account(alloc)?, body)?;
-    kept(alloc, &Content::Credit(credit))
+fn credit(alloc: Global, body: &[u8]) -> Result<Content, Fail> {
+    let account = account(alloc)?;
+    Ok(Content::Credit(read_credit(alloc, account, body)?))
 }
 
-fn kept_request(alloc: Global, body: &[u8]) -> Result<String, Fail> {
+pub(crate) fn kept_credit(alloc: Global, body: &[u8]) -> Result<String, Fail> {
+    let content = credit(alloc, body)?;
+    kept(alloc, &content)
+}
+
+pub(crate) fn kept_request(alloc: Global, body: &[u8]) -> Result<String, Fail> {
     let request = read_request(alloc, body)?;
     kept(alloc, &Content::Request(request))
 }
@@ -42,13 +54,7 @@ const CREDITS: &str = r##"{"Amount":1000000,"Reference":"r1"} -> {"Amount":10000
 
 #[test]
 fn credits(rt: HostRuntime) -> Result<(), Fail> {
-    let alloc = rt.alloc();
-    for line in CREDITS.lines() {
-        let (body, expected) = line.split_once(" -> ").ok_or("a case")?;
-        let found = kept_credit(alloc, body.as_bytes())?;
-        assert_eq!(rt; found.as_str(), expected);
-    }
-    Ok(())
+    try_told(&rt, rt.alloc(), Told::KeptCredit, CREDITS)
 }
 
 /// A body, and what is kept of the request.
@@ -61,13 +67,7 @@ const REQUESTS: &str =
 
 #[test]
 fn requests(rt: HostRuntime) -> Result<(), Fail> {
-    let alloc = rt.alloc();
-    for line in REQUESTS.lines() {
-        let (body, expected) = line.split_once(" -> ").ok_or("a case")?;
-        let found = kept_request(alloc, body.as_bytes())?;
-        assert_eq!(rt; found.as_str(), expected);
-    }
-    Ok(())
+    try_told(&rt, rt.alloc(), Told::KeptRequest, REQUESTS)
 }
 
 /// A credit that no body can say: of no money, and past the last moment of a command.
@@ -97,7 +97,7 @@ fn widest_credit(rt: HostRuntime) -> Result<(), Fail> {
 }
 
 /// What a kept text shows of itself when it is read.
-fn shown(alloc: Global, text: &[u8]) -> Result<String, Fail> {
+pub(crate) fn shown(alloc: Global, text: &[u8]) -> Result<String, Fail> {
     let account = account(alloc)?;
     match read_content(alloc, account, text) {
         Ok(content) => Ok(format!(in alloc; "{content:?}")?),
@@ -116,42 +116,33 @@ x -> no JSON object
 
 #[test]
 fn values(rt: HostRuntime) -> Result<(), Fail> {
-    let alloc = rt.alloc();
-    for line in SHOWN.lines() {
-        let (text, expected) = line.split_once(" -> ").ok_or("a case")?;
-        let found = shown(alloc, text.as_bytes())?;
-        assert_eq!(rt; found.as_str(), expected, "{text}");
-    }
-    Ok(())
+    try_told(&rt, rt.alloc(), Told::ContentShown, SHOWN)
 }
 
-fn compared(alloc: Global, a: &str, b: &str) -> Result<&'static str, Fail> {
-    let a = read_credit(alloc, account(alloc)?, a.as_bytes())?;
-    let b = read_credit(alloc, account(alloc)?, b.as_bytes())?;
-    if same_content(&Content::Credit(a), &Content::Credit(b)) {
-        Ok("same")
+/// Whether `A = B` are the same content as credits.
+pub(crate) fn compared(alloc: Global, pair: &str) -> Result<String, Fail> {
+    let (a, b) = pair.split_once(" = ").ok_or("two bodies")?;
+    let a = credit(alloc, a.as_bytes())?;
+    let b = credit(alloc, b.as_bytes())?;
+    let word = if same_content(&a, &b) {
+        "same"
     } else {
-        Ok("other")
-    }
+        "other"
+    };
+    Ok(String::from_str(alloc, word)?)
 }
 
 /// Whether two credits are the same content: an absent member is other content than its meaning.
 const PAIRS: &str =
-    r##"same: {"Amount":1,"Scope":5,"Reference":"r"} = {"More":1,"Reference":"r","Scope":5,"Amount":1}
-other: {"Amount":1,"Reference":"r"} = {"Amount":2,"Reference":"r"}
-other: {"Amount":1,"Reference":"r"} = {"Amount":1,"Reference":"R"}
-other: {"Amount":1,"Reference":"r"} = {"Amount":1,"Until":4102444800,"Reference":"r"}
-other: {"Amount":1,"Reference":"r"} = {"Amount":1,"From":0,"Reference":"r"}
-other: {"Amount":1,"Reference":"r"} = {"Amount":1,"Scope":0,"Reference":"r"}
-other: {"Amount":1,"From":5,"Reference":"r"} = {"Amount":1,"Until":5,"Reference":"r"}"##;
+    r##"{"Amount":1,"Scope":5,"Reference":"r"} = {"More":1,"Reference":"r","Scope":5,"Amount":1} -> same
+{"Amount":1,"Reference":"r"} = {"Amount":2,"Reference":"r"} -> other
+{"Amount":1,"Reference":"r"} = {"Amount":1,"Reference":"R"} -> other
+{"Amount":1,"Reference":"r"} = {"Amount":1,"Until":4102444800,"Reference":"r"} -> other
+{"Amount":1,"Reference":"r"} = {"Amount":1,"From":0,"Reference":"r"} -> other
+{"Amount":1,"Reference":"r"} = {"Amount":1,"Scope":0,"Reference":"r"} -> other
+{"Amount":1,"From":5,"Reference":"r"} = {"Amount":1,"Until":5,"Reference":"r"} -> other"##;
 
 #[test]
 fn contents(rt: HostRuntime) -> Result<(), Fail> {
-    let alloc = rt.alloc();
-    for line in PAIRS.lines() {
-        let (expected, bodies) = line.split_once(": ").ok_or("a case")?;
-        let (a, b) = bodies.split_once(" = ").ok_or("two bodies")?;
-        assert_eq!(rt; compared(alloc, a, b)?, expected, "{bodies}");
-    }
-    Ok(())
+    try_told(&rt, rt.alloc(), Told::Credits, PAIRS)
 }

@@ -6,6 +6,7 @@ use json_fields::{
     array, document, member, number, object, optional_number, put_money, put_number, put_perhaps,
     put_text, text, unit_name, unit_told, units_in,
 };
+use serde_json::Value;
 use std::alloc::Global;
 use std::test::Fail;
 use units::UnitKind;
@@ -15,25 +16,23 @@ const BODY: &str =
     r##"{"Session-Id":"s1","CC-Request-Type":2,"Subscription-Id":{"Subscription-Id-Type":0,"Subscription-Id-Data":"49151"},"Until":5,"Multiple-Services-Credit-Control":[{},{}],"CC-Total-Octets":7}"##;
 
 /// What its members say, each read by its kind.
-fn members(alloc: Global) -> Result<String, Fail> {
-    let parent = document(alloc, BODY.as_bytes())?;
-    let session = text(&parent, Avp::SessionId)?;
-    let kind = number(&parent, Avp::RequestType, 1, 4)?;
-    let until = optional_number(&parent, Avp::Until, 5, 5)?;
-    let scope = optional_number(&parent, Avp::Scope, 0, 9)?;
-    let list = array(member(&parent, Avp::Services)?, Avp::Services)?;
+fn members(alloc: Global, parent: &Value) -> Result<String, Fail> {
+    let session = text(parent, Avp::SessionId)?;
+    let kind = number(parent, Avp::RequestType, 1, 4)?;
+    let until = optional_number(parent, Avp::Until, 5, 5)?;
+    let scope = optional_number(parent, Avp::Scope, 0, 9)?;
+    let list = array(member(parent, Avp::Services)?, Avp::Services)?;
     let count = list.len();
-    let subscription = object(&parent, Avp::SubscriptionId)?;
+    let subscription = object(parent, Avp::SubscriptionId)?;
     let account = text(subscription, Avp::SubscriptionIdData)?;
     let first = format!(in alloc; "{session} {kind} {until:?} {scope:?}")?;
     Ok(format!(in alloc; "{first} {count} {account}")?)
 }
 
 /// What its units are, and each kind's name.
-fn counted(alloc: Global) -> Result<String, Fail> {
-    let parent = document(alloc, BODY.as_bytes())?;
-    let told = unit_told(&parent);
-    let units = units_in(&parent, Avp::GrantedUnit, 7, UnitKind::TotalOctets)?;
+fn counted(alloc: Global, parent: &Value) -> Result<String, Fail> {
+    let told = unit_told(parent);
+    let units = units_in(parent, Avp::GrantedUnit, 7, UnitKind::TotalOctets)?;
     let first = format!(in alloc; "{told:?} {units}")?;
     let time = unit_name(UnitKind::Time);
     let octets = unit_name(UnitKind::TotalOctets);
@@ -42,11 +41,10 @@ fn counted(alloc: Global) -> Result<String, Fail> {
 }
 
 /// What names it.
-fn named(alloc: Global) -> Result<String, Fail> {
-    let parent = document(alloc, BODY.as_bytes())?;
-    let session = session_id(alloc, &parent)?;
-    let account = account_number(alloc, &parent)?;
-    let kind = request_kind(&parent)?;
+fn named(alloc: Global, parent: &Value) -> Result<String, Fail> {
+    let kind = request_kind(parent)?;
+    let session = session_id(alloc, parent)?;
+    let account = account_number(alloc, parent)?;
     let session = session.as_str();
     let account = account.as_str();
     Ok(format!(in alloc; "{session} {account} {kind:?}")?)
@@ -55,14 +53,15 @@ fn named(alloc: Global) -> Result<String, Fail> {
 #[test]
 fn members_read(rt: HostRuntime) -> Result<(), Fail> {
     let alloc = rt.alloc();
-    let found = members(alloc)?;
+    let parent = document(alloc, BODY.as_bytes())?;
+    let found = members(alloc, &parent)?;
     assert_eq!(rt; found.as_str(), "s1 2 Some(5) None 2 49151");
-    let found = counted(alloc)?;
+    let found = counted(alloc, &parent)?;
     assert_eq!(rt;
         found.as_str(),
         "Some(TotalOctets) 7 CC-Time CC-Total-Octets CC-Service-Specific-Units"
     );
-    let found = named(alloc)?;
+    let found = named(alloc, &parent)?;
     assert_eq!(rt; found.as_str(), "s1 49151 Update");
     Ok(())
 }

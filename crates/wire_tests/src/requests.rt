@@ -1,12 +1,13 @@
 //! Requests as they are written, and read again.
 
-use commands::same_request;
+use crate::tables::{Told, try_told};
+use commands::{Request, same_request};
 use std::alloc::Global;
 use std::test::Fail;
 use wire::{read_request, write_request};
 
 /// The text of the request that the body is, where it is read again as an equal request.
-fn written(alloc: Global, body: &[u8]) -> Result<String, Fail> {
+pub(crate) fn written(alloc: Global, body: &[u8]) -> Result<String, Fail> {
     let request = read_request(alloc, body)?;
     let text = write_request(alloc, &request)?;
     let again = read_request(alloc, text.as_str().as_bytes())?;
@@ -36,17 +37,11 @@ const WRITTEN: &str =
 
 #[test]
 fn texts(rt: HostRuntime) -> Result<(), Fail> {
-    let alloc = rt.alloc();
-    for line in WRITTEN.lines() {
-        let (body, expected) = line.split_once(" -> ").ok_or("a case")?;
-        let found = written(alloc, body.as_bytes())?;
-        assert_eq!(rt; found.as_str(), expected);
-    }
-    Ok(())
+    try_told(&rt, rt.alloc(), Told::Request, WRITTEN)
 }
 
 /// What the request that the body is shows of itself.
-fn shown(alloc: Global, body: &[u8]) -> Result<String, Fail> {
+pub(crate) fn shown(alloc: Global, body: &[u8]) -> Result<String, Fail> {
     let request = read_request(alloc, body)?;
     Ok(format!(in alloc; "{request:?}")?)
 }
@@ -65,63 +60,57 @@ const SHOWN: &str =
 
 #[test]
 fn values(rt: HostRuntime) -> Result<(), Fail> {
-    let alloc = rt.alloc();
-    for line in SHOWN.lines() {
-        let (body, expected) = line.split_once(" -> ").ok_or("a case")?;
-        let found = shown(alloc, body.as_bytes())?;
-        assert_eq!(rt; found.as_str(), expected);
-    }
-    Ok(())
+    try_told(&rt, rt.alloc(), Told::RequestShown, SHOWN)
 }
 
 const BODY: &str =
     r##"{"Session-Id":"s1","CC-Request-Number":1,"Subscription-Id":{"Subscription-Id-Type":0,"Subscription-Id-Data":"49151"},HERE}"##;
 
-/// Whether two bodies are read as equal requests, by what stands for `HERE` in them.
-fn compared(alloc: Global, a: &str, b: &str) -> Result<&'static str, Fail> {
-    let a = BODY.replace(alloc, "HERE", a)?;
-    let b = BODY.replace(alloc, "HERE", b)?;
-    let a = read_request(alloc, a.as_str().as_bytes())?;
-    let b = read_request(alloc, b.as_str().as_bytes())?;
-    if same_request(&a, &b) {
-        Ok("same")
+/// The request of the body in which `HERE` stands for the text.
+fn request(alloc: Global, text: &str) -> Result<Request, Fail> {
+    let body = BODY.replace(alloc, "HERE", text)?;
+    Ok(read_request(alloc, body.as_str().as_bytes())?)
+}
+
+/// Whether `A = B` are read as equal requests.
+pub(crate) fn compared(alloc: Global, pair: &str) -> Result<String, Fail> {
+    let (a, b) = pair.split_once(" = ").ok_or("two bodies")?;
+    let a = request(alloc, a)?;
+    let b = request(alloc, b)?;
+    let word = if same_request(&a, &b) {
+        "same"
     } else {
-        Ok("other")
-    }
+        "other"
+    };
+    Ok(String::from_str(alloc, word)?)
 }
 
 /// Whether two bodies are the same content.
 const PAIRS: &str =
-    r##"same: "CC-Request-Type":2,"Multiple-Services-Credit-Control":[{"Rating-Group":10,"Requested-Service-Unit":{"CC-Time":5}}] = "CC-Request-Type":2,"Multiple-Services-Credit-Control":[{"Requested-Service-Unit":{"More":1,"CC-Time":5},"Rating-Group":10}]
-same: "CC-Request-Type":3 = "CC-Request-Type":3,"Multiple-Services-Credit-Control":[]
-same: "CC-Request-Type":3,"Multiple-Services-Credit-Control":[] = "CC-Request-Type":3,"Requested-Action":5,"Requested-Service-Unit":null
-same: "CC-Request-Type":4,"Requested-Action":1,"Requested-Service-Unit":{"CC-Money":{"Unit-Value":{"Value-Digits":1,"Exponent":0},"Currency-Code":978}} = "CC-Request-Type":4,"Requested-Action":1,"Requested-Service-Unit":{"CC-Money":{"Unit-Value":{"Value-Digits":1000000,"Exponent":-6},"Currency-Code":978}}
-same: "CC-Request-Type":4,"Requested-Action":1,"Requested-Service-Unit":{"CC-Money":{"Unit-Value":{"Value-Digits":25,"Exponent":-1},"Currency-Code":978}} = "CC-Request-Type":4,"Requested-Action":1,"Requested-Service-Unit":{"CC-Money":{"Unit-Value":{"Value-Digits":2500,"Exponent":-3},"Currency-Code":978}},"Multiple-Services-Credit-Control":5
-same: "CC-Request-Type":4,"Requested-Action":0,"Multiple-Services-Credit-Control":[{"Rating-Group":30,"Requested-Service-Unit":{}}] = "CC-Request-Type":4,"Requested-Action":0,"Multiple-Services-Credit-Control":[{"Rating-Group":30,"Requested-Service-Unit":{}}],"Used-Service-Unit":5
-other: "CC-Request-Type":4,"Requested-Action":1,"Requested-Service-Unit":{"CC-Money":{"Unit-Value":{"Value-Digits":1,"Exponent":0},"Currency-Code":978}} = "CC-Request-Type":4,"Requested-Action":1,"Requested-Service-Unit":{"CC-Money":{"Unit-Value":{"Value-Digits":1,"Exponent":-1},"Currency-Code":978}}
-other: "CC-Request-Type":4,"Requested-Action":1,"Requested-Service-Unit":{"CC-Money":{"Unit-Value":{"Value-Digits":1,"Exponent":0},"Currency-Code":978}} = "CC-Request-Type":4,"Requested-Action":1,"Requested-Service-Unit":{"CC-Money":{"Unit-Value":{"Value-Digits":1,"Exponent":0},"Currency-Code":840}}
-other: "CC-Request-Type":4,"Requested-Action":0,"Multiple-Services-Credit-Control":[{"Rating-Group":30,"Requested-Service-Unit":{}}] = "CC-Request-Type":4,"Requested-Action":2,"Multiple-Services-Credit-Control":[{"Rating-Group":30,"Requested-Service-Unit":{}}]
-other: "CC-Request-Type":4,"Requested-Action":2,"Multiple-Services-Credit-Control":[{"Rating-Group":30,"Requested-Service-Unit":{}}] = "CC-Request-Type":4,"Requested-Action":3,"Multiple-Services-Credit-Control":[{"Rating-Group":30,"Requested-Service-Unit":{}}]
-other: "CC-Request-Type":4,"Requested-Action":0,"Multiple-Services-Credit-Control":[{"Rating-Group":30,"Requested-Service-Unit":{}}] = "CC-Request-Type":4,"Requested-Action":0,"Multiple-Services-Credit-Control":[{"Rating-Group":30,"Requested-Service-Unit":{"CC-Time":600}}]
-other: "CC-Request-Type":4,"Requested-Action":0,"Multiple-Services-Credit-Control":[{"Rating-Group":30,"Requested-Service-Unit":{"CC-Total-Octets":600}}] = "CC-Request-Type":4,"Requested-Action":0,"Multiple-Services-Credit-Control":[{"Rating-Group":30,"Requested-Service-Unit":{"CC-Time":600}}]
-other: "CC-Request-Type":2,"Multiple-Services-Credit-Control":[{"Rating-Group":10},{"Rating-Group":11}] = "CC-Request-Type":2,"Multiple-Services-Credit-Control":[{"Rating-Group":11},{"Rating-Group":10}]
-other: "CC-Request-Type":2,"Multiple-Services-Credit-Control":[{"Rating-Group":10}] = "CC-Request-Type":2,"Multiple-Services-Credit-Control":[{"Rating-Group":10},{"Rating-Group":11}]
-other: "CC-Request-Type":2,"Multiple-Services-Credit-Control":[{"Rating-Group":10}] = "CC-Request-Type":2,"Multiple-Services-Credit-Control":[{"Rating-Group":10,"Requested-Service-Unit":{}}]
-other: "CC-Request-Type":2,"Multiple-Services-Credit-Control":[{"Rating-Group":10}] = "CC-Request-Type":2,"Multiple-Services-Credit-Control":[{"Rating-Group":10,"Used-Service-Unit":[{"CC-Time":0}]}]
-other: "CC-Request-Type":2,"Multiple-Services-Credit-Control":[{"Rating-Group":10,"Used-Service-Unit":[{"CC-Time":1},{"CC-Time":1,"Tariff-Change-Usage":0}]}] = "CC-Request-Type":2,"Multiple-Services-Credit-Control":[{"Rating-Group":10,"Used-Service-Unit":[{"CC-Time":1,"Tariff-Change-Usage":0},{"CC-Time":1}]}]
-other: "CC-Request-Type":2,"Multiple-Services-Credit-Control":[{"Rating-Group":10,"Used-Service-Unit":[{"CC-Time":1}]}] = "CC-Request-Type":2,"Multiple-Services-Credit-Control":[{"Rating-Group":10,"Used-Service-Unit":[{"CC-Time":1,"Tariff-Change-Usage":2}]}]
-other: "CC-Request-Type":2,"Multiple-Services-Credit-Control":[{"Rating-Group":10,"Used-Service-Unit":[{"CC-Time":0}]}] = "CC-Request-Type":2,"Multiple-Services-Credit-Control":[{"Rating-Group":10,"Used-Service-Unit":[{"CC-Total-Octets":0}]}]
-other: "CC-Request-Type":2,"Multiple-Services-Credit-Control":[{"Rating-Group":10}] = "CC-Request-Type":3,"Multiple-Services-Credit-Control":[{"Rating-Group":10}]"##;
+    r##""CC-Request-Type":2,"Multiple-Services-Credit-Control":[{"Rating-Group":10,"Requested-Service-Unit":{"CC-Time":5}}] = "CC-Request-Type":2,"Multiple-Services-Credit-Control":[{"Requested-Service-Unit":{"More":1,"CC-Time":5},"Rating-Group":10}] -> same
+"CC-Request-Type":3 = "CC-Request-Type":3,"Multiple-Services-Credit-Control":[] -> same
+"CC-Request-Type":3,"Multiple-Services-Credit-Control":[] = "CC-Request-Type":3,"Requested-Action":5,"Requested-Service-Unit":null -> same
+"CC-Request-Type":4,"Requested-Action":1,"Requested-Service-Unit":{"CC-Money":{"Unit-Value":{"Value-Digits":1,"Exponent":0},"Currency-Code":978}} = "CC-Request-Type":4,"Requested-Action":1,"Requested-Service-Unit":{"CC-Money":{"Unit-Value":{"Value-Digits":1000000,"Exponent":-6},"Currency-Code":978}} -> same
+"CC-Request-Type":4,"Requested-Action":1,"Requested-Service-Unit":{"CC-Money":{"Unit-Value":{"Value-Digits":25,"Exponent":-1},"Currency-Code":978}} = "CC-Request-Type":4,"Requested-Action":1,"Requested-Service-Unit":{"CC-Money":{"Unit-Value":{"Value-Digits":2500,"Exponent":-3},"Currency-Code":978}},"Multiple-Services-Credit-Control":5 -> same
+"CC-Request-Type":4,"Requested-Action":0,"Multiple-Services-Credit-Control":[{"Rating-Group":30,"Requested-Service-Unit":{}}] = "CC-Request-Type":4,"Requested-Action":0,"Multiple-Services-Credit-Control":[{"Rating-Group":30,"Requested-Service-Unit":{}}],"Used-Service-Unit":5 -> same
+"CC-Request-Type":4,"Requested-Action":1,"Requested-Service-Unit":{"CC-Money":{"Unit-Value":{"Value-Digits":1,"Exponent":0},"Currency-Code":978}} = "CC-Request-Type":4,"Requested-Action":1,"Requested-Service-Unit":{"CC-Money":{"Unit-Value":{"Value-Digits":1,"Exponent":-1},"Currency-Code":978}} -> other
+"CC-Request-Type":4,"Requested-Action":1,"Requested-Service-Unit":{"CC-Money":{"Unit-Value":{"Value-Digits":1,"Exponent":0},"Currency-Code":978}} = "CC-Request-Type":4,"Requested-Action":1,"Requested-Service-Unit":{"CC-Money":{"Unit-Value":{"Value-Digits":1,"Exponent":0},"Currency-Code":840}} -> other
+"CC-Request-Type":4,"Requested-Action":0,"Multiple-Services-Credit-Control":[{"Rating-Group":30,"Requested-Service-Unit":{}}] = "CC-Request-Type":4,"Requested-Action":2,"Multiple-Services-Credit-Control":[{"Rating-Group":30,"Requested-Service-Unit":{}}] -> other
+"CC-Request-Type":4,"Requested-Action":2,"Multiple-Services-Credit-Control":[{"Rating-Group":30,"Requested-Service-Unit":{}}] = "CC-Request-Type":4,"Requested-Action":3,"Multiple-Services-Credit-Control":[{"Rating-Group":30,"Requested-Service-Unit":{}}] -> other
+"CC-Request-Type":4,"Requested-Action":0,"Multiple-Services-Credit-Control":[{"Rating-Group":30,"Requested-Service-Unit":{}}] = "CC-Request-Type":4,"Requested-Action":0,"Multiple-Services-Credit-Control":[{"Rating-Group":30,"Requested-Service-Unit":{"CC-Time":600}}] -> other
+"CC-Request-Type":4,"Requested-Action":0,"Multiple-Services-Credit-Control":[{"Rating-Group":30,"Requested-Service-Unit":{"CC-Total-Octets":600}}] = "CC-Request-Type":4,"Requested-Action":0,"Multiple-Services-Credit-Control":[{"Rating-Group":30,"Requested-Service-Unit":{"CC-Time":600}}] -> other
+"CC-Request-Type":2,"Multiple-Services-Credit-Control":[{"Rating-Group":10},{"Rating-Group":11}] = "CC-Request-Type":2,"Multiple-Services-Credit-Control":[{"Rating-Group":11},{"Rating-Group":10}] -> other
+"CC-Request-Type":2,"Multiple-Services-Credit-Control":[{"Rating-Group":10}] = "CC-Request-Type":2,"Multiple-Services-Credit-Control":[{"Rating-Group":10},{"Rating-Group":11}] -> other
+"CC-Request-Type":2,"Multiple-Services-Credit-Control":[{"Rating-Group":10}] = "CC-Request-Type":2,"Multiple-Services-Credit-Control":[{"Rating-Group":10,"Requested-Service-Unit":{}}] -> other
+"CC-Request-Type":2,"Multiple-Services-Credit-Control":[{"Rating-Group":10}] = "CC-Request-Type":2,"Multiple-Services-Credit-Control":[{"Rating-Group":10,"Used-Service-Unit":[{"CC-Time":0}]}] -> other
+"CC-Request-Type":2,"Multiple-Services-Credit-Control":[{"Rating-Group":10,"Used-Service-Unit":[{"CC-Time":1},{"CC-Time":1,"Tariff-Change-Usage":0}]}] = "CC-Request-Type":2,"Multiple-Services-Credit-Control":[{"Rating-Group":10,"Used-Service-Unit":[{"CC-Time":1,"Tariff-Change-Usage":0},{"CC-Time":1}]}] -> other
+"CC-Request-Type":2,"Multiple-Services-Credit-Control":[{"Rating-Group":10,"Used-Service-Unit":[{"CC-Time":1}]}] = "CC-Request-Type":2,"Multiple-Services-Credit-Control":[{"Rating-Group":10,"Used-Service-Unit":[{"CC-Time":1,"Tariff-Change-Usage":2}]}] -> other
+"CC-Request-Type":2,"Multiple-Services-Credit-Control":[{"Rating-Group":10,"Used-Service-Unit":[{"CC-Time":0}]}] = "CC-Request-Type":2,"Multiple-Services-Credit-Control":[{"Rating-Group":10,"Used-Service-Unit":[{"CC-Total-Octets":0}]}] -> other
+"CC-Request-Type":2,"Multiple-Services-Credit-Control":[{"Rating-Group":10}] = "CC-Request-Type":3,"Multiple-Services-Credit-Control":[{"Rating-Group":10}] -> other"##;
 
 /// The order of services and of the parts of a report is content; the order of members, other members, and how money is
 /// written aren't.
 #[test]
 fn contents(rt: HostRuntime) -> Result<(), Fail> {
-    let alloc = rt.alloc();
-    for line in PAIRS.lines() {
-        let (expected, bodies) = line.split_once(": ").ok_or("a case")?;
-        let (a, b) = bodies.split_once(" = ").ok_or("two bodies")?;
-        assert_eq!(rt; compared(alloc, a, b)?, expected, "{bodies}");
-    }
-    Ok(())
+    try_told(&rt, rt.alloc(), Told::Requests, PAIRS)
 }
