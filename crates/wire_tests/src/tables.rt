@@ -1,0 +1,110 @@
+//! Tables of cases: a case is a line of a constant text.
+
+use crate::{answers_read, faults, kept, requests};
+use std::alloc::Global;
+use std::process::Abort;
+use std::test::Fail;
+use wire::read_request;
+
+/// How a request is read: `read`, or the fault.
+pub(crate) fn outcome(alloc: Global, body: &[u8]) -> Result<String, Fail> {
+    match read_request(alloc, body) {
+        Ok(_) => Ok(String::from_str(alloc, "read")?),
+        Err(fault) => Ok(format!(in alloc; "{fault}")?),
+    }
+}
+
+/// Tries the cases `OUTCOME: TEXT`: the text stands for `HERE` in the document, which is read as a request.
+pub(crate) fn try_texts(
+    rt: &impl Abort,
+    alloc: Global,
+    document: &str,
+    cases: &str,
+) -> Result<(), Fail> {
+    for line in cases.lines() {
+        let (expected, text) = line.split_once(": ").ok_or("a case")?;
+        let body = document.replace(alloc, "HERE", text)?;
+        let found = outcome(alloc, body.as_str().as_bytes())?;
+        assert_eq!(rt; found.as_str(), expected, "{text}");
+    }
+    Ok(())
+}
+
+/// The document with the changes of a case, joined by `&`, each `OLD -> NEW`.
+fn changed(rt: &impl Abort, alloc: Global, document: &str, changes: &str) -> Result<String, Fail> {
+    let mut text = String::from_str(alloc, document)?;
+    for change in changes.split(" & ") {
+        let (old, new) = change.split_once(" -> ").ok_or("a change")?;
+        assert!(rt; text.as_str().contains(old), "{change}");
+        text = text.as_str().replace(alloc, old, new)?;
+    }
+    Ok(text)
+}
+
+/// Tries the cases `OUTCOME: CHANGES` of a document that is read as a request.
+pub(crate) fn try_changes(
+    rt: &impl Abort,
+    alloc: Global,
+    document: &str,
+    cases: &str,
+) -> Result<(), Fail> {
+    for line in cases.lines() {
+        let (expected, changes) = line.split_once(": ").ok_or("a case")?;
+        let body = changed(rt, alloc, document, changes)?;
+        let found = outcome(alloc, body.as_str().as_bytes())?;
+        assert_eq!(rt; found.as_str(), expected, "{changes}");
+    }
+    Ok(())
+}
+
+/// What a case tells of its text.
+#[derive(Clone, Copy)]
+pub(crate) enum Told {
+    /// What a body is answered that isn't read.
+    Fault,
+    /// The text of the request that a body is.
+    Request,
+    /// The value of that request.
+    RequestShown,
+    /// Whether two bodies of requests are the same content.
+    Requests,
+    /// What is kept of the request that a body is.
+    KeptRequest,
+    /// What is kept of the credit that a body is.
+    KeptCredit,
+    /// The value of a kept text.
+    ContentShown,
+    /// Whether two bodies of credits are the same content.
+    Credits,
+    /// The value of the answer that a text is.
+    AnswerShown,
+}
+
+fn tell(alloc: Global, what: Told, text: &str) -> Result<String, Fail> {
+    match what {
+        Told::Fault => faults::answered(alloc, text.as_bytes()),
+        Told::Request => requests::written(alloc, text.as_bytes()),
+        Told::RequestShown => requests::shown(alloc, text.as_bytes()),
+        Told::Requests => requests::compared(alloc, text),
+        Told::KeptRequest => kept::kept_request(alloc, text.as_bytes()),
+        Told::KeptCredit => kept::kept_credit(alloc, text.as_bytes()),
+        Told::ContentShown => kept::shown(alloc, text.as_bytes()),
+        Told::Credits => kept::compared(alloc, text),
+        Told::AnswerShown => answers_read::shown(alloc, text.as_bytes()),
+    }
+}
+
+/// Tries the cases `TEXT -> WHAT IS TOLD`.
+pub(crate) fn try_told(
+    rt: &impl Abort,
+    alloc: Global,
+    what: Told,
+    cases: &str,
+) -> Result<(), Fail> {
+    for line in cases.lines() {
+        let (text, expected) = line.split_once(" -> ").ok_or("a case")?;
+        let found = tell(alloc, what, text)?;
+        assert_eq!(rt; found.as_str(), expected, "{text}");
+    }
+    Ok(())
+}
