@@ -23,6 +23,7 @@ impl<K: Keeper> Failing<K> {
         ensures content { ⟦<Failing<K> as Keeper>⟧.content result ≡ K.content inner }
         ensures failures { ⟦<Failing<K> as Keeper>⟧.failed result ≡ K.failed inner }
         ensures cleanness { K.clean inner → ⟦<Failing<K> as Keeper>⟧.clean result }
+        ensures calls { result.left ≡ left }
     {
         Failing {
             inner,
