@@ -20,7 +20,10 @@ pub struct Failing<K> {
 impl<K: Keeper> Failing<K> {
     /// The keeper, with a store that fails at the call after this many. `failures` and `abandon` don't count.
     pub fn new(inner: K, left: u64) -> Failing<K>
-        ensures { ⟦<Failing<K> as Keeper>⟧.content result ≡ K.content inner }
+        ensures content { ⟦<Failing<K> as Keeper>⟧.content result ≡ K.content inner }
+        ensures failures { ⟦<Failing<K> as Keeper>⟧.failed result ≡ K.failed inner }
+        ensures cleanness { K.clean inner → ⟦<Failing<K> as Keeper>⟧.clean result }
+        ensures calls { result.left ≡ left }
     {
         Failing {
             inner,
