@@ -4,3 +4,5 @@ pub mod Tables
 pub mod Change
 pub mod Memory
 pub mod Failing
+pub mod Noted
+pub mod Accepted

@@ -129,7 +129,8 @@ impl<'b> Account<'b> {
 
     /// The moment of its last change.
     pub fn as_of(&self) -> Moment
-        ensures { result ≡ self.now.as_of }
+        ensures value { result ≡ self.now.as_of }
+        ensures kept { IsAccount self.now }
     {
         self.as_of
     }

@@ -1,0 +1,108 @@
+-- Accepted commands, the newest first: the notes that they leave of each account, and the tables that hold them.
+-- Source: profile.
+use Rattle.std.specs.Prelude.{◌≡◌, ℕ, ◌+◌, ◌≤◌, Bool, true, false, if◌then◌else◌, List, [], ◌∷◌, ◌++◌, Option, Some, None}
+use Rattle.commands.specs.Alike.{same_name}
+use Rattle.commands.specs.declared.command.Command.{Command}
+use Rattle.commands.specs.declared.command.Command.TheVariants as command
+use Rattle.commands.specs.declared.answer.Answer.{Answer}
+use Rattle.tariffs.specs.Books.{Book}
+use Rattle.reserving.specs.Rows.{IsRowsOf}
+use Rattle.reserving.specs.Stored.{IsStored, priced}
+use Rattle.keepers.specs.declared.key.Key.{Key}
+use Rattle.keepers.specs.Tables.{Tables, AccountRow}
+use Rattle.keepers.specs.Noted.{Note, is_opened, is_barred, money, kept_under}
+
+-- a command with its moment
+pub record Accepted : Type 0 where
+  pub moment : ℕ
+  pub command : Command
+
+-- what a command is answered on an account's notes, whether it is accepted, and what it adds to them, the newest first
+pub record Outcome : Type 0 where
+  pub answer : Answer
+  pub accepted : Bool
+  pub adds : List Note
+
+-- the account that a command names
+abbrev pub account_of : Command → Option (List ℕ)
+account_of (command.Ccr r) = Some r.account
+account_of (command.OpenAccount n) = Some n
+account_of (command.Credit c) = Some c.account
+account_of (command.Bar n) = Some n
+account_of (command.Unbar n) = Some n
+account_of command.Sweep = None
+
+abbrev pub names : List ℕ → Option (List ℕ) → Bool
+names a None = false
+names a (Some b) = same_name b a
+
+-- a command brings an account to its moment where it names the account, or none
+abbrev pub reaches : List ℕ → Option (List ℕ) → Bool
+reaches a None = true
+reaches a (Some b) = same_name b a
+
+abbrev pub is_opening : Command → Bool
+is_opening (command.OpenAccount n) = true
+is_opening (command.Ccr r) = false
+is_opening (command.Credit c) = false
+is_opening (command.Bar n) = false
+is_opening (command.Unbar n) = false
+is_opening command.Sweep = false
+
+-- the moment of the last accepted command
+abbrev pub last_moment : List Accepted → ℕ
+last_moment [] = 0
+last_moment (d ∷ before) = d.moment
+
+-- the moment of the last accepted command that names the account or is a sweep
+abbrev pub as_of : List ℕ → List Accepted → ℕ
+as_of a [] = 0
+as_of a (d ∷ before) = if reaches a (account_of d.command) then d.moment else as_of a before
+
+-- how many accounts there are
+abbrev pub account_count : List Accepted → ℕ
+account_count [] = 0
+account_count (d ∷ before) = if is_opening d.command then account_count before + 1 else account_count before
+
+-- moments don't fall
+abbrev pub IsInTime : List Accepted → Type 0
+IsInTime [] = Unit {0}
+IsInTime (d ∷ before) = (last_moment before ≤ d.moment) × IsInTime before
+
+-- ---- one account alone
+
+-- the accepted commands that name an account
+abbrev pub own : List ℕ → List Accepted → List Accepted
+own a [] = []
+own a (d ∷ before) = if names a (account_of d.command) then d ∷ own a before else own a before
+
+-- an account's row holds what its notes tell at a moment
+pub record IsHeld (book : Book) (t : ℕ) (notes : List Note) (row : AccountRow) : Type 0 where
+  pub barred : row.barred ≡ is_barred notes
+  pub moment : row.rows.as_of ≡ t
+  pub rows : IsRowsOf (money notes) (priced book row.rows)
+  -- and keeps what each account keeps
+  pub kept : IsStored row.rows
+
+abbrev pub IsRow : Book → ℕ → List Note → Option AccountRow → Type 0
+IsRow book t notes None = is_opened notes ≡ false
+IsRow book t notes (Some row) = (is_opened notes ≡ true) × IsHeld book t notes row
+
+-- by what commands come to on an account's notes
+module _ (outcome : List Note → Command → ℕ → Outcome) where
+  -- the account's notes
+  abbrev pub notes_of : List ℕ → List Accepted → List Note
+  notes_of a [] = []
+  notes_of a (d ∷ before) =
+      if names a (account_of d.command)
+      then (outcome (notes_of a before) d.command d.moment).adds ++ notes_of a before
+      else notes_of a before
+
+  -- ---- tables
+
+  -- the tables of the accepted commands
+  pub record AreTablesOf (book : Book) (list : List Accepted) (tables : Tables) : Type 0 where
+    pub last : tables.last ≡ last_moment list
+    pub accounts : (a : List ℕ) → IsRow book (as_of a list) (notes_of a list) (tables.accounts a)
+    pub answers : (a : List ℕ) (k : Key) → tables.answers a k ≡ kept_under k (notes_of a list)
+    pub count : tables.count ≡ account_count list
