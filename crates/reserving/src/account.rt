@@ -129,8 +129,7 @@ impl<'b> Account<'b> {
 
     /// The moment of its last change.
     pub fn as_of(&self) -> Moment
-        ensures value { result ≡ self.now.as_of }
-        ensures kept { IsAccount self.now }
+        ensures { result ≡ self.now.as_of }
     {
         self.as_of
     }
