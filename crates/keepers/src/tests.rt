@@ -1,4 +1,5 @@
-//! One account with a credit of 150,000 micro-units until 10:10 on a day in January 2026.
+//! Scenarios of a keeper: what each call gives, a line a call. An account has a credit of 150,000 micro-units until
+//! 1767607800, 10:10 on a day in January 2026.
 
 use crate::{
     Change, Failing, Keeper, KeptAnswer, Key, Loaded, MemoryKeeper, StoreFault, copy_credit,
@@ -7,11 +8,10 @@ use commands::{Answer, Content, Credit};
 use identifiers::{AccountNumber, Reference, SessionId};
 use reserving::Account;
 use std::alloc::Global;
+use std::process::Abort;
 use std::test::Fail;
 use tariffs::TariffBook;
 use units::{Moment, Money};
-
-const TEN: u64 = 1_767_607_200;
 
 const END: u64 = 1_767_607_800;
 
@@ -45,7 +45,7 @@ final = "terminate"
 price = [{period = "all", tiers = [{price = 100000}]}]
 "#;
 
-fn per_minute(alloc: Global) -> Result<TariffBook, Fail> {
+fn book(alloc: Global) -> Result<TariffBook, Fail> {
     Ok(TariffBook::read(alloc, BOOK.as_bytes())?)
 }
 
@@ -170,62 +170,144 @@ fn bucket_under<K: Keeper>(
     }
 }
 
-#[test]
-fn an_account_and_its_kept_answer(rt: HostRuntime) -> Result<(), Fail> {
-    let book = per_minute(rt.alloc())?;
-    let number = account(rt.alloc(), "49151")?;
-    let ten = moment(TEN)?;
-    let mut keeper = MemoryKeeper::new(rt.alloc());
-    assert_eq!(rt; sight(&mut keeper, &book, &number)?, None);
-    open(rt.alloc(), &mut keeper, &book, &number, ten)?;
-    let empty = Seen {
-        barred: false,
-        as_of: TEN,
-        available: 0,
-        expired: 0,
-    };
-    assert_eq!(rt; sight(&mut keeper, &book, &number)?, Some(empty));
-    give(&mut keeper, &book, &credit(rt.alloc(), "v1")?, ten)?;
-    let credited = Seen {
-        barred: true,
-        as_of: TEN,
-        available: 150_000,
-        expired: 0,
-    };
-    assert_eq!(rt; sight(&mut keeper, &book, &number)?, Some(credited));
-    assert_eq!(rt; keeper.last()?, ten);
+fn faulted(alloc: Global, fault: StoreFault) -> Result<String, Fail> {
+    Ok(format!(in alloc; "fault {}", fault.number())?)
+}
 
-    let key = Key::Reference(reference(rt.alloc(), "v1")?);
-    assert_eq!(rt; bucket_under(&mut keeper, &number, &key)?, Some(1));
-    let other = Key::Reference(reference(rt.alloc(), "v2")?);
-    assert_eq!(rt; bucket_under(&mut keeper, &number, &other)?, None);
-    let stranger = account(rt.alloc(), "49152")?;
-    assert_eq!(rt; bucket_under(&mut keeper, &stranger, &key)?, None);
-    assert_eq!(rt; sight(&mut keeper, &book, &stranger)?, None);
+fn done(alloc: Global, made: Result<(), StoreFault>) -> Result<String, Fail> {
+    match made {
+        Ok(()) => Ok(String::from_str(alloc, "done")?),
+        Err(fault) => faulted(alloc, fault),
+    }
+}
+
+fn counted(alloc: Global, swept: Result<u64, StoreFault>) -> Result<String, Fail> {
+    match swept {
+        Ok(count) => Ok(format!(in alloc; "{count}")?),
+        Err(fault) => faulted(alloc, fault),
+    }
+}
+
+/// `open ACCOUNT MOMENT`.
+fn opened<K: Keeper>(
+    alloc: Global,
+    keeper: &mut K,
+    book: &TariffBook,
+    words: &str,
+) -> Result<String, Fail> {
+    let (number, at) = words.split_once(" ").ok_or("an account and a moment")?;
+    let number = account(alloc, number)?;
+    let at = moment(at.parse::<u64>()?)?;
+    done(alloc, open(alloc, keeper, book, &number, at))
+}
+
+/// `give REFERENCE MOMENT`.
+fn given<K: Keeper>(
+    alloc: Global,
+    keeper: &mut K,
+    book: &TariffBook,
+    words: &str,
+) -> Result<String, Fail> {
+    let (name, at) = words.split_once(" ").ok_or("a reference and a moment")?;
+    let credit = credit(alloc, name)?;
+    let at = moment(at.parse::<u64>()?)?;
+    done(alloc, give(keeper, book, &credit, at))
+}
+
+/// `see ACCOUNT`: whether it is barred, its moment, what is available and what is expired.
+fn told<K: Keeper>(
+    alloc: Global,
+    keeper: &mut K,
+    book: &TariffBook,
+    word: &str,
+) -> Result<String, Fail> {
+    let number = account(alloc, word)?;
+    match sight(keeper, book, &number) {
+        Ok(Some(seen)) => {
+            let (barred, at) = (seen.barred, seen.as_of);
+            Ok(format!(in alloc; "{} {} {} {}", barred, at, seen.available, seen.expired)?)
+        }
+        Ok(None) => Ok(String::from_str(alloc, "none")?),
+        Err(fault) => faulted(alloc, fault),
+    }
+}
+
+/// `kept ACCOUNT REFERENCE`: the bucket of the kept answer.
+fn kept<K: Keeper>(alloc: Global, keeper: &mut K, words: &str) -> Result<String, Fail> {
+    let (number, name) = words.split_once(" ").ok_or("an account and a reference")?;
+    let number = account(alloc, number)?;
+    let key = Key::Reference(reference(alloc, name)?);
+    match bucket_under(keeper, &number, &key) {
+        Ok(bucket) => Ok(format!(in alloc; "{:?}", bucket)?),
+        Err(fault) => faulted(alloc, fault),
+    }
+}
+
+/// `last moment`.
+fn last<K: Keeper>(alloc: Global, keeper: &mut K) -> Result<String, Fail> {
+    match keeper.last() {
+        Ok(at) => Ok(format!(in alloc; "{}", at.seconds())?),
+        Err(fault) => faulted(alloc, fault),
+    }
+}
+
+/// What a call gives.
+fn outcome<K: Keeper>(
+    alloc: Global,
+    keeper: &mut K,
+    book: &TariffBook,
+    call: &str,
+    words: &str,
+) -> Result<String, Fail> {
+    match call {
+        "open" => opened(alloc, keeper, book, words),
+        "give" => given(alloc, keeper, book, words),
+        "see" => told(alloc, keeper, book, words),
+        "kept" => kept(alloc, keeper, words),
+        "sweep" => counted(alloc, keeper.sweep(book, moment(words.parse::<u64>()?)?)),
+        "failures" => Ok(format!(in alloc; "{}", keeper.failures())?),
+        _ => last(alloc, keeper),
+    }
+}
+
+/// Tries the lines of a scenario.
+fn try_all<K: Keeper>(
+    rt: &impl Abort,
+    alloc: Global,
+    keeper: &mut K,
+    lines: &str,
+) -> Result<(), Fail> {
+    let book = book(alloc)?;
+    for line in lines.lines() {
+        let (line, expected) = line.split_once(" -> ").ok_or("a line")?;
+        let (call, words) = line.split_once(" ").ok_or("a call and its words")?;
+        let given = outcome(alloc, keeper, &book, call, words)?;
+        assert_eq!(rt; given.as_str(), expected, "{line}");
+    }
     Ok(())
 }
 
+const KEPT: &str = "see 49151 -> none
+sweep 1767607200 -> 0
+open 49151 1767607200 -> done
+see 49151 -> false 1767607200 0 0
+give v1 1767607200 -> done
+see 49151 -> true 1767607200 150000 0
+last moment -> 1767607200
+kept 49151 v1 -> Some(1)
+kept 49151 v2 -> None
+kept 49152 v1 -> None
+see 49152 -> none
+open 49152 1767607200 -> done
+sweep 1767607800 -> 2
+see 49151 -> true 1767607800 0 150000
+last moment -> 1767607800
+failures of all -> 0";
+
 #[test]
-fn a_sweep(rt: HostRuntime) -> Result<(), Fail> {
-    let book = per_minute(rt.alloc())?;
-    let number = account(rt.alloc(), "49151")?;
-    let stranger = account(rt.alloc(), "49152")?;
-    let (ten, end) = (moment(TEN)?, moment(END)?);
+fn an_account_its_kept_answer_and_a_sweep(rt: HostRuntime) -> Result<(), Fail> {
     let mut keeper = MemoryKeeper::new(rt.alloc());
-    assert_eq!(rt; keeper.sweep(&book, ten)?, 0);
-    open(rt.alloc(), &mut keeper, &book, &number, ten)?;
-    open(rt.alloc(), &mut keeper, &book, &stranger, ten)?;
-    give(&mut keeper, &book, &credit(rt.alloc(), "v1")?, ten)?;
-    assert_eq!(rt; keeper.sweep(&book, end)?, 2);
-    let swept = Seen {
-        barred: true,
-        as_of: END,
-        available: 0,
-        expired: 150_000,
-    };
-    assert_eq!(rt; sight(&mut keeper, &book, &number)?, Some(swept));
-    assert_eq!(rt; keeper.last()?, end);
-    Ok(())
+    try_all(&rt, rt.alloc(), &mut keeper, KEPT)
 }
 
 #[test]
@@ -245,42 +327,35 @@ fn keys(rt: HostRuntime) -> Result<(), Fail> {
     Ok(())
 }
 
-/// Opens, credits and sweeps: four calls of a keeper.
-fn served<K: Keeper>(
-    alloc: Global,
-    keeper: &mut K,
-    book: &TariffBook,
-    credit: &Credit,
-    moments: [Moment; 2],
-) -> Result<u64, StoreFault> {
-    let [ten, end] = moments;
-    open(alloc, keeper, book, &credit.account, ten)?;
-    give(keeper, book, credit, ten)?;
-    keeper.sweep(book, end)
+/// The call after so many others fails: nothing has changed by it, and the count rose.
+fn fails_after(rt: &impl Abort, alloc: Global, calls: u64, lines: &str) -> Result<(), Fail> {
+    let mut keeper = Failing::new(MemoryKeeper::new(alloc), calls);
+    try_all(rt, alloc, &mut keeper, lines)
 }
 
+const FIRST_FAILS: &str = "open 49151 1767607200 -> fault 2
+failures of all -> 1
+sweep 1767607800 -> 0
+see 49151 -> none";
+
+const SECOND_FAILS: &str = "open 49151 1767607200 -> done
+give v1 1767607200 -> fault 2
+failures of all -> 1
+sweep 1767607800 -> 1
+see 49151 -> false 1767607800 0 0";
+
+const FOURTH_FAILS: &str = "open 49151 1767607200 -> done
+give v1 1767607200 -> done
+sweep 1767607800 -> fault 2
+failures of all -> 1
+see 49151 -> true 1767607200 150000 0
+sweep 1767607800 -> 1
+see 49151 -> true 1767607800 0 150000";
+
 #[test]
-fn a_store_that_fails_at_each_call(rt: HostRuntime) -> Result<(), Fail> {
-    let book = per_minute(rt.alloc())?;
-    let credit = credit(rt.alloc(), "v1")?;
-    let moments = [moment(TEN)?, moment(END)?];
-    for calls in 0..5 {
-        let mut keeper = Failing::new(MemoryKeeper::new(rt.alloc()), calls);
-        let first = served(rt.alloc(), &mut keeper, &book, &credit, moments);
-        if calls < 4 {
-            assert_eq!(rt; first, Err(StoreFault::Store));
-            assert_eq!(rt; keeper.failures(), 1);
-        } else {
-            assert_eq!(rt; first, Ok(1));
-            assert_eq!(rt; keeper.failures(), 0);
-        }
-        let swept = keeper.sweep(&book, moments[1]);
-        assert_eq!(rt; swept.is_ok(), calls < 4);
-        let mut inner = keeper.into_inner();
-        let opened = sight(&mut inner, &book, &credit.account)?;
-        assert_eq!(rt; opened.is_some(), calls > 0);
-        let credited = opened.is_some_and(|seen| seen.barred && seen.expired == 150_000);
-        assert_eq!(rt; credited, calls > 2);
-    }
-    Ok(())
+fn a_store_that_fails_at_a_call(rt: HostRuntime) -> Result<(), Fail> {
+    fails_after(&rt, rt.alloc(), 0, FIRST_FAILS)?;
+    fails_after(&rt, rt.alloc(), 1, SECOND_FAILS)?;
+    fails_after(&rt, rt.alloc(), 2, SECOND_FAILS)?;
+    fails_after(&rt, rt.alloc(), 3, FOURTH_FAILS)
 }
