@@ -34,7 +34,7 @@ DiffersFromAll-inserted : (n : ℕ) (b : Row) (rows : List Row) → b.number ≢
 DiffersFromAll-inserted n b [] e h = (e, tt)
 DiffersFromAll-inserted n b (x ∷ xs) e h = elim (nat_lt b.until x.until) as (λ t. DiffersFromAll n (if t then b ∷ x ∷ xs else x ∷ inserted b xs)) [ true ↦ (e, h) | false ↦ (h.0, DiffersFromAll-inserted n b xs e h.1) ]
 
-AreDistinct-inserted : (b : Row) (rows : List Row) → IsBelow b.number rows → AreDistinct rows → AreDistinct (inserted b rows)
+pub AreDistinct-inserted : (b : Row) (rows : List Row) → IsBelow b.number rows → AreDistinct rows → AreDistinct (inserted b rows)
 AreDistinct-inserted b [] new h = (tt, tt)
 AreDistinct-inserted b (x ∷ xs) new h = elim (nat_lt b.until x.until) as (λ t. AreDistinct (if t then b ∷ x ∷ xs else x ∷ inserted b xs)) [
   | true ↦ (DiffersFromAll-below b.number (x ∷ xs) new, h)

@@ -12,7 +12,7 @@ use Rattle.reserving.specs.declared.session.Reservation.{Reservation}
 use Rattle.rating.specs.declared.grant.Periods.{Periods}
 use Rattle.reserving.specs.Ledger.{Ledger, is_same, is_live, held, only, open_grant, has_group, used}
 use Rattle.reserving.specs.Balance.{credits, bucket_at, buckets_at}
-use Rattle.reserving.specs.Sessions.{is_session, is_of, group_in, group_at, reservation_at, reservation_of, holds_at, holds_in, held_by, is_open, is_live_in, is_live_row}
+use Rattle.reserving.specs.Sessions.{is_session, session_in, is_of, group_in, group_at, reservation_at, reservation_of, holds_at, holds_in, held_by, is_open, is_live_in, is_live_row}
 use Rattle.reserving.specs.Rows.{AccountRows, EachIn, AreApart, IsAccount, IsRowsOf}
 use Rattle.reserving.specs.Changes.{advanced, lapse, lapse_group, lapsed_in}
 use Rattle.reserving.proofs.Lists.{find-map, no_some, some_of}
@@ -209,6 +209,10 @@ group_later v t1 t2 ledger sessions s g le live = at (has_group s g ledger)
 lapse-id : (v t : ℕ) (s : List ℕ) (r : Session) → is_session s (lapse v t r) ≡ is_session s r
 lapse-id v t s r = elim (is_open r.state && not (nat_lt t (r.touched + 2 * v))) as (λ l. is_session s (if l then record r { state = Ended } else r) ≡ is_session s r) [ true ↦ refl | false ↦ refl ]
 
+-- a session without a row has none later
+pub session_in-advanced : (x : List ℕ) (t : ℕ) (a : AccountRows) → session_in x a.sessions ≡ None → session_in x (advanced t a).sessions ≡ None
+session_in-advanced x t a h = find-map (is_session x) (lapse a.book.validity t) a.sessions (lapse-id a.book.validity t x) ∙ ap (option_map (lapse a.book.validity t)) h
+
 -- the rows of the ledger at a later moment
 pub IsRowsOf-advanced : (ledger : Ledger) (a : AccountRows) (t : ℕ) → IsAccount a → IsRowsOf ledger a → a.as_of ≤ t → IsRowsOf ledger (advanced t a)
 IsRowsOf-advanced ledger a t is rows le =
@@ -217,6 +221,7 @@ IsRowsOf-advanced ledger a t is rows le =
     let sound : IsSound (buckets_at v a.as_of ledger) = rw rows.buckets at is.sound in
     let all : Each (λ b. held_by (λ s. true) a.groups b ≡ b.reserved) (buckets_at v a.as_of ledger) = rw rows.buckets at is.held in
     record {
+      barred = rows.barred;
       buckets = ap (map (λ b. with_end t (with_release t b (lapsed_in (is_live_in v t a.sessions) a.groups b)))) rows.buckets
           ∙ each_advanced v a.as_of t ledger a.sessions a.groups (credits ledger) le is.groups (groups_each v a.as_of ledger a.groups a.groups rows.groups (found_each a.groups is.groups)) live sound.balanced
           (λ s g. sum_at-parts (λ b. held (only s g) b.number ledger) (buckets_at v a.as_of ledger) sound.distinct) all;

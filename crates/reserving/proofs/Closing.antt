@@ -61,6 +61,7 @@ touched_other s x n t state (Some r) h = rw h refl
 
 pub IsRowsOf-touched : (ledger : Ledger) (a : AccountRows) (s : List ℕ) (n : ℕ) → IsRowsOf ledger a → is_live a.book.validity a.as_of ledger s ≡ true → 0 < a.book.validity → IsRowsOf (touched a.as_of s n ledger) (touched_account s n a)
 IsRowsOf-touched ledger a s n rows live some = IsRowsOf-leaves a (touched t s n ledger) ledger (map (touched_session s n t) a.sessions) rows (record {
+  barred = refl;
   money = same_touched t s n ledger;
   live = λ m. held_same (λ x g. is_live v t (touched t s n ledger) x) (λ x g. is_live v t ledger x) m ledger (λ x g. lives x (is_same s x) refl);
   reservations = λ x g. reservation_at-same v t (touched t s n ledger) ledger x g (same_touched t s n ledger) (lives x (is_same s x) refl);
@@ -172,6 +173,7 @@ each_closed v t ledger s groups (c ∷ cs) apart is split balanced sums all =
 
 pub IsRowsOf-closed : (ledger : Ledger) (a : AccountRows) (s : List ℕ) → IsAccount a → IsRowsOf ledger a → is_live a.book.validity a.as_of ledger s ≡ true → IsRowsOf (closed a.as_of s ledger) (closed_account s a)
 IsRowsOf-closed ledger a s is rows live = record {
+  barred = rows.barred;
   buckets = ap (map (λ b. with_release t b (lapsed_in (is_other s) a.groups b))) rows.buckets
       ∙ each_closed v t ledger s a.groups (credits ledger) is.groups (groups_each v t ledger a.groups a.groups rows.groups (found_each a.groups is.groups)) split sound.balanced
       (λ x g. sum_at-parts (λ b. held (only x g) b.number ledger) (buckets_at v t ledger) sound.distinct) all;

@@ -45,7 +45,7 @@ parts-inserted f b (x ∷ xs) h = at (nat_lt b.until x.until) (parts-inserted f 
     at true rest = rw h refl
     at false rest = λ i. (if nat_lt 0 (f x) then one ∷ rest i else rest i)
 
-IsBelow-inserted : (next : ℕ) (b : Row) (rows : List Row) → b.number < next + 1 → IsBelow next rows → IsBelow (next + 1) (inserted b rows)
+pub IsBelow-inserted : (next : ℕ) (b : Row) (rows : List Row) → b.number < next + 1 → IsBelow next rows → IsBelow (next + 1) (inserted b rows)
 IsBelow-inserted next b [] lt h = (lt, tt)
 IsBelow-inserted next b (x ∷ xs) lt h = elim (nat_lt b.until x.until) as (λ e. IsBelow (next + 1) (if e then b ∷ x ∷ xs else x ∷ inserted b xs))
     [ true ↦ (lt, (let less : x.number < next = h.0 in omega arith, more xs h.1)) | false ↦ (let less : x.number < next = h.0 in omega arith, IsBelow-inserted next b xs lt h.1) ]
@@ -93,6 +93,7 @@ new_later t n from until scope amount lapsed ch h el ec eh = rw (el, ec, eh) (at
 
 pub IsRowsOf-credited : (ledger : Ledger) (a : AccountRows) (t from until : ℕ) (scope : Option ℕ) (amount : ℕ) → IsAccount a → IsRowsOf ledger a → a.as_of ≤ t → IsRowsOf (credited t from until scope amount ledger) (advanced t (credited_account from until scope amount a))
 IsRowsOf-credited ledger a t from until scope amount is rows le = record {
+  barred = rows.barred;
   buckets = map-inserted (later_row a t) b a.buckets (λ x. (ends_keep t (lapsed_in (is_live_in v t a.sessions) a.groups)).until x)
       ∙ (λ i. inserted (first i) (later.buckets i))
       ∙ (λ i. inserted (bucket_at v t more b') (others (credits ledger) i))

@@ -4,7 +4,7 @@ use Rattle.std.specs.Prelude.{if◌then◌else◌, ◌==◌, ◌&&◌, not}
 use Rattle.std.proofs.lemmas.Bool.Decides.{nat_tests}
 use Rattle.identifiers.proofs.Equality.{equal_names, names_equal}
 use Rattle.reserving.specs.Ledger.{Fact, Ledger, is_same, counts_before, hold_of, held}
-use Rattle.reserving.specs.Ledger.Fact.{Credit, Grant, Hold as HoldFact, End, Use, Charge, Touch, Close, Recorded}
+use Rattle.reserving.specs.Ledger.Fact.{Credit, Grant, Hold as HoldFact, End, Use, Charge, Touch, Close, Recorded, Barred}
 
 abbrev pub one_if : Bool → ℕ
 one_if b = if b then 1 else 0
@@ -29,6 +29,7 @@ hold_split p q r n (Charge a b) h = refl
 hold_split p q r n (Touch a) h = refl
 hold_split p q r n (Close a) h = refl
 hold_split p q r n (Recorded a b) h = refl
+hold_split p q r n (Barred a) h = refl
 
 before_split : (p q r : List ℕ → ℕ → Bool) (f : Fact) → IsSplit p q r → IsSplit (counts_before f p) (counts_before f q) (counts_before f r)
 before_split p q r (End s' g') h = λ s g. split_and (p s g) (q s g) (r s g) (not (is_same s s' && g == g')) (h s g)
@@ -40,6 +41,7 @@ before_split p q r (Charge a b) h = h
 before_split p q r (Touch a) h = h
 before_split p q r (Close a) h = h
 before_split p q r (Recorded a b) h = h
+before_split p q r (Barred a) h = h
 
 pub held_split : (p q r : List ℕ → ℕ → Bool) (n : ℕ) (ledger : Ledger) → IsSplit p q r → held p n ledger ≡ held q n ledger + held r n ledger
 held_split p q r n [] h = refl
@@ -72,6 +74,7 @@ hold_none p n (Charge a b) h = refl
 hold_none p n (Touch a) h = refl
 hold_none p n (Close a) h = refl
 hold_none p n (Recorded a b) h = refl
+hold_none p n (Barred a) h = refl
 
 before_none : (p : List ℕ → ℕ → Bool) (f : Fact) → ((s : List ℕ) (g : ℕ) → p s g ≡ false) → (s : List ℕ) (g : ℕ) → counts_before f p s g ≡ false
 before_none p (End s' g') h = λ s g. rw (h s g) refl
@@ -83,6 +86,7 @@ before_none p (Charge a b) h = h
 before_none p (Touch a) h = h
 before_none p (Close a) h = h
 before_none p (Recorded a b) h = h
+before_none p (Barred a) h = h
 
 pub held_none : (p : List ℕ → ℕ → Bool) (n : ℕ) (ledger : Ledger) → ((s : List ℕ) (g : ℕ) → p s g ≡ false) → held p n ledger ≡ 0
 held_none p n [] h = refl

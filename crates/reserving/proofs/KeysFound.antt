@@ -58,6 +58,9 @@ used_at s g place rows d h = sym (ap (λ o. (unwrap_or o (new_group s g)).used) 
 pub unused : (s : List ℕ) (g : ℕ) (rows : List SessionGroup) → position (is_of s g) rows ≡ None → 0 ≡ used_in s g rows
 unused s g rows h = sym (ap (λ o. (unwrap_or o (new_group s g)).used) (unplaced (is_of s g) rows h))
 
+pub reservation_at_place : (s : List ℕ) (g place : ℕ) (rows : List SessionGroup) (d : SessionGroup) → position (is_of s g) rows ≡ Some place → (get_or rows place d).reservation ≡ (unwrap_or (group_in s g rows) (new_group s g)).reservation
+reservation_at_place s g place rows d h = sym (ap (λ o. (unwrap_or o (new_group s g)).reservation) (found_group s g place rows d h))
+
 pub reserved_at : (s : List ℕ) (g place : ℕ) (rows : List SessionGroup) (d : SessionGroup) → position (is_of s g) rows ≡ Some place → holds_in (get_or rows place d).reservation ≡ reserved_in s g rows
 reserved_at s g place rows d h = sym (ap (λ o. holds_in (unwrap_or o (new_group s g)).reservation) (found_group s g place rows d h))
 

@@ -26,5 +26,10 @@ pub mod Reported
 pub mod Reserved
 pub mod ReservedCall
 pub mod StillFree
+pub mod DebitedRows
+pub mod DebitedKept
+pub mod Debited
 mod WorkedRows
 pub mod StoredRows
+pub mod Barring
+pub mod ChargeRows

@@ -27,7 +27,7 @@ use Rattle.reserving.specs.Prepared.{reservation_in}
 use Rattle.reserving.specs.Rows.{AccountRows, IsAccount, IsRowsOf, IsUnknown}
 use Rattle.reserving.proofs.Lists.{find-put, find-put_other, EachIn-put, no_some}
 use Rattle.reserving.proofs.Keys.{is_key, own_key, key_session, key_group, other_row, not_true, first_true}
-use Rattle.reserving.proofs.SettledFacts.{total-front, newest-front, any-front, any_dated-front, each_hold, held-hold_facts, held-hold_facts_other, credits-hold_facts, charged-hold_facts, IsMoved, SameSessions, SameGroup, same_session, same_live, same_touched, same_group}
+use Rattle.reserving.proofs.SettledFacts.{is_barred-front, total-front, newest-front, any-front, any_dated-front, each_hold, held-hold_facts, held-hold_facts_other, credits-hold_facts, charged-hold_facts, IsMoved, SameSessions, SameGroup, same_session, same_live, same_touched, same_group}
 use Rattle.reserving.proofs.SettledBuckets.{balance_by, with_columns}
 use Rattle.reserving.proofs.SettledComplete.{held_free}
 use Rattle.reserving.proofs.SettledRows.{used_in_is, if_none, differs_above, sum_at_none}
@@ -258,6 +258,7 @@ IsRowsOf-reserved ledger a session group units amount account rows live none =
     (not_true (is_same session s) (λ q. touched_live v t ledger s (rows.touched s) (ap (is_live v t ledger) (sym (key_session session group s group (ap (λ x. x && group == group) q ∙ own_group group))) ∙ live) nothing))
     (rows.unknown s nothing)) in
     record {
+      barred = rows.barred ∙ sym (is_barred-front (hold_facts t session group hs) before (each_hold _ t session group hs (λ b n. refl)));
       buckets = ap (held_rows group t amount) rows.buckets ∙ sym (buckets_at-reserved book t session group units amount ledger live sound.distinct);
       sessions = λ s. rows.sessions s ∙ sym (same_session v t ledger after same s);
       groups = groups-reserved book t session group units amount ledger a.groups (holds_of group t amount a.buckets) live sound.distinct free (ap (holds_of group t amount) rows.buckets) (used_in_is ledger a session group rows) rows.groups;

@@ -35,7 +35,7 @@ pub with_columns : (c : Row) (a a' r r' ch ch' x x' : ℕ) → a ≡ a' → r �
 with_columns c a a' r r' ch ch' x x' p q s t = λ i. record c { available = p i; reserved = q i; charged = s i; expired = t i }
 
 -- what is paid, s1 of h and s2 of the rest, and what is given up
-balance_by-settled : (b : Bool) (c : Row) (ch h r s1 s2 : ℕ) → ch + (r + h) ≤ c.credited → s1 ≤ h → s2 ≤ (if b then c.credited - ch - (r + h) else 0) → balance_by b c (s1 + s2 + ch) r ≡ release_by b (with_charge (with_charge_of_hold (balance_by b c ch (r + h)) s1) s2) (h - s1)
+pub balance_by-settled : (b : Bool) (c : Row) (ch h r s1 s2 : ℕ) → ch + (r + h) ≤ c.credited → s1 ≤ h → s2 ≤ (if b then c.credited - ch - (r + h) else 0) → balance_by b c (s1 + s2 + ch) r ≡ release_by b (with_charge (with_charge_of_hold (balance_by b c ch (r + h)) s1) s2) (h - s1)
 balance_by-settled true c ch h r s1 s2 w p q = with_columns c _ _ _ _ _ _ _ _ (omega arith) (omega arith) (omega arith) refl
 balance_by-settled false c ch h r s1 s2 w p q = with_columns c _ _ _ _ _ _ _ _ (omega arith) (omega arith) (omega arith) (omega arith)
 
@@ -47,7 +47,7 @@ pub balanced_le : (b : Bool) (c : Row) (ch r : ℕ) → c.credited ≡ (if b the
 balanced_le true c ch r h = omega arith
 balanced_le false c ch r h = omega arith
 
-eligible_le : (e : Bool) (a x m : ℕ) → a ≡ x → min (if e then a else 0) m ≤ x
+pub eligible_le : (e : Bool) (a x m : ℕ) → a ≡ x → min (if e then a else 0) m ≤ x
 eligible_le true a x m h = omega arith
 eligible_le false a x m h = omega arith
 

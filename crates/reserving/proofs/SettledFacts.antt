@@ -1,13 +1,13 @@
 -- What facts in front of a ledger leave of its sums and of its sessions.
 use Rattle.std.proofs.Common.{◌≡◌, ℕ, ◌+◌, Bool, true, false, List, [], ◌∷◌, ◌++◌, map, refl, sym, ap, ◌∙◌, arith, Option, Some, None}
-use Rattle.std.specs.Prelude.{if◌then◌else◌, ◌==◌, ◌&&◌, ◌||◌, not, nat_lt, is_some, option_map}
+use Rattle.std.specs.Prelude.{if◌then◌else◌, ◌==◌, ◌&&◌, ◌||◌, not, nat_lt, is_some, option_map, unwrap_or}
 use Rattle.buckets.specs.declared.holds.Hold.{Hold}
 use Rattle.buckets.specs.Row.{Row}
 use Rattle.buckets.specs.Share.{parts}
 use Rattle.buckets.proofs.Parts.{sum_at}
 use Rattle.reserving.specs.declared.session.SessionGroup.{SessionGroup}
 use Rattle.reserving.specs.declared.session.SessionState.TheVariants.{Open, Ended, NeverOpened}
-use Rattle.reserving.specs.Ledger.{Fact, Dated, Ledger, total, newest, any, any_dated, or_else, held, charged, only, last_touch, last_recording, is_closed, is_live, is_within, has_group, used, open_grant}
+use Rattle.reserving.specs.Ledger.{Fact, Dated, Ledger, bar_in, is_barred, total, newest, any, any_dated, or_else, held, charged, only, last_touch, last_recording, is_closed, is_live, is_within, has_group, used, open_grant}
 use Rattle.reserving.specs.Ledger.Fact.{Hold as HoldFact, Charge}
 use Rattle.reserving.specs.Balance.{credits, buckets_at}
 use Rattle.reserving.specs.Sessions.{session_row, session_at, holds_at, reservation_of, reservation_at, group_at}
@@ -24,6 +24,9 @@ total-front f (d ∷ ds) ledger h = (λ i. h.0 i + total-front f ds ledger h.1 i
 pub newest-front : {A : Type 0} (f : Dated → Option A) (front ledger : Ledger) → EachIn (λ d. f d ≡ None) front → newest f (front ++ ledger) ≡ newest f ledger
 newest-front f [] ledger h = refl
 newest-front f (d ∷ ds) ledger h = ap (λ o. or_else o (newest f (ds ++ ledger))) h.0 ∙ newest-front f ds ledger h.1
+
+pub is_barred-front : (front ledger : Ledger) → EachIn (λ d. bar_in d ≡ None) front → is_barred (front ++ ledger) ≡ is_barred ledger
+is_barred-front front ledger h = ap (λ o. unwrap_or o false) (newest-front bar_in front ledger h)
 
 pub any-front : (p : Fact → Bool) (front ledger : Ledger) → EachIn (λ d. p d.fact ≡ false) front → any p (front ++ ledger) ≡ any p ledger
 any-front p [] ledger h = refl
@@ -115,12 +118,17 @@ pub record SameGroup (s : List ℕ) (g : ℕ) (before after : Ledger) : Type 0 w
   pub grant : open_grant s g after ≡ open_grant s g before
   pub held : (n : ℕ) → held (only s g) n after ≡ held (only s g) n before
 
+-- so does its reservation
+pub same_reservation : (does : Row → Row) (v t : ℕ) (before after : Ledger) (s : List ℕ) (g : ℕ) → IsMoved does v t before after → SameSessions before after →
+    open_grant s g after ≡ open_grant s g before → ((n : ℕ) → held (only s g) n after ≡ held (only s g) n before) → reservation_at v t after s g ≡ reservation_at v t before s g
+same_reservation does v t before after s g m k grant e =
+    let holds : holds_at v t s g after ≡ holds_at v t s g before =
+    ap (parts (λ b. held (only s g) b.number after)) m.rows ∙ parts_same (λ n. held (only s g) n before) (λ n. held (only s g) n after) does (buckets_at v t before) m.number e in
+    λ i. (if is_within v t (k.touch s i) && not (k.closed s i) then reservation_of (holds i) (grant i) else None)
+
 pub same_group : (does : Row → Row) (v t : ℕ) (before after : Ledger) (s : List ℕ) (g : ℕ) → IsMoved does v t before after → SameSessions before after → SameGroup s g before after → group_at v t after s g ≡ group_at v t before s g
 same_group does v t before after s g m k h =
-    let holds : holds_at v t s g after ≡ holds_at v t s g before =
-    ap (parts (λ b. held (only s g) b.number after)) m.rows ∙ parts_same (λ n. held (only s g) n before) (λ n. held (only s g) n after) does (buckets_at v t before) m.number h.held in
-    let reservation : reservation_at v t after s g ≡ reservation_at v t before s g =
-    λ i. (if is_within v t (k.touch s i) && not (k.closed s i) then reservation_of (holds i) (h.grant i) else None) in
+    let reservation : reservation_at v t after s g ≡ reservation_at v t before s g = same_reservation does v t before after s g m k h.grant h.held in
     let row : (let r : SessionGroup = record { session = s; group = g; used = used s g after; reservation = reservation_at v t after s g } in r) ≡ (let r : SessionGroup = record { session = s; group = g; used = used s g before; reservation = reservation_at v t before s g } in r) =
     λ i. record { session = s; group = g; used = h.used i; reservation = reservation i } in
     λ i. (if h.named i then Some (row i) else None)

@@ -4,7 +4,7 @@ use Rattle.std.proofs.Common.{◌≡◌, ℕ, ◌+◌, Bool, true, false, List, 
 use Rattle.std.specs.Prelude.{if◌then◌else◌, ◌==◌, ◌&&◌, not}
 use Rattle.std.proofs.lemmas.Bool.Decides.{nat_tests}
 use Rattle.reserving.specs.Ledger.{Fact, Ledger, counts_before, hold_of, held, only, is_same}
-use Rattle.reserving.specs.Ledger.Fact.{Credit, Grant, Hold as HoldFact, End, Use, Charge, Touch, Close, Recorded}
+use Rattle.reserving.specs.Ledger.Fact.{Credit, Grant, Hold as HoldFact, End, Use, Charge, Touch, Close, Recorded, Barred}
 use Rattle.identifiers.proofs.Equality.{equal_names}
 
 abbrev pub one_if : Bool → ℕ
@@ -30,6 +30,7 @@ hold_split p q r n (Charge a b) h = refl
 hold_split p q r n (Touch a) h = refl
 hold_split p q r n (Close a) h = refl
 hold_split p q r n (Recorded a b) h = refl
+hold_split p q r n (Barred a) h = refl
 
 before_split : (p q r : List ℕ → ℕ → Bool) (f : Fact) → IsSplit p q r → IsSplit (counts_before f p) (counts_before f q) (counts_before f r)
 before_split p q r (End s' g') h = λ s g. split_and (p s g) (q s g) (r s g) (not (is_same s s' && g == g')) (h s g)
@@ -41,6 +42,7 @@ before_split p q r (Charge a b) h = h
 before_split p q r (Touch a) h = h
 before_split p q r (Close a) h = h
 before_split p q r (Recorded a b) h = h
+before_split p q r (Barred a) h = h
 
 pub held_split : (p q r : List ℕ → ℕ → Bool) (n : ℕ) (ledger : Ledger) → IsSplit p q r → held p n ledger ≡ held q n ledger + held r n ledger
 held_split p q r n [] h = refl

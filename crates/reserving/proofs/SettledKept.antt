@@ -35,12 +35,12 @@ IsBelow-map next does (b ∷ bs) k h = (let less : b.number < next = h.0 in omeg
 pub released_reserved : (t : ℕ) (b : Row) (n : ℕ) → (with_release t b n).reserved ≡ b.reserved - n
 released_reserved t b n = elim (nat_lt t b.until) as (λ e. (if e then record b { reserved = b.reserved - n; available = b.available + n } else record b { reserved = b.reserved - n; expired = b.expired + n }).reserved ≡ b.reserved - n) [ true ↦ refl | false ↦ refl ]
 
-settled_reserved : (holds : List Hold) (group t rated : ℕ) (rows : List Row) (b : Row) → (settled_row holds group t rated rows b).reserved ≡ b.reserved - held_in holds b
+pub settled_reserved : (holds : List Hold) (group t rated : ℕ) (rows : List Row) (b : Row) → (settled_row holds group t rated rows b).reserved ≡ b.reserved - held_in holds b
 settled_reserved holds group t rated rows b =
     let part : paid_of_hold holds rated rows b ≤ held_in holds b = omega arith in
     released_reserved t (with_charge (with_charge_of_hold b (paid_of_hold holds rated rows b)) (paid_of_rest holds group t rated rows b)) (held_in holds b - paid_of_hold holds rated rows b) ∙ omega arith
 
-settled_number : (holds : List Hold) (group t rated : ℕ) (rows : List Row) (b : Row) → (settled_row holds group t rated rows b).number ≡ b.number
+pub settled_number : (holds : List Hold) (group t rated : ℕ) (rows : List Row) (b : Row) → (settled_row holds group t rated rows b).number ≡ b.number
 settled_number holds group t rated rows b = with_release_number t (with_charge (with_charge_of_hold b (paid_of_hold holds rated rows b)) (paid_of_rest holds group t rated rows b)) (held_in holds b - paid_of_hold holds rated rows b)
 
 -- ---- what the rows hold

@@ -15,7 +15,7 @@ use Rattle.reserving.specs.declared.session.Reservation.{Reservation}
 use Rattle.reserving.specs.declared.session.Counter.{Counter}
 use Rattle.rating.specs.declared.grant.Periods.{Periods}
 use Rattle.reserving.specs.Ledger.{Fact, Dated, Ledger, or_else, open_grant, held, only, used, counter, has_group, has_counter, inner, is_live, is_same, units_in, names_group, grant_in, counts_group, blocks_in, uses_in, credits_in, any, newest}
-use Rattle.reserving.specs.Ledger.Fact.{End, Use, Charge, Credit, Grant, Hold as HoldFact, Touch, Close, Recorded}
+use Rattle.reserving.specs.Ledger.Fact.{End, Use, Charge, Credit, Grant, Hold as HoldFact, Touch, Close, Recorded, Barred}
 use Rattle.reserving.specs.Pricing.{cycle_at}
 use Rattle.reserving.specs.Keyed.{put}
 use Rattle.reserving.specs.Balance.{buckets_at}
@@ -27,7 +27,7 @@ use Rattle.reserving.specs.Rows.{AccountRows, IsAccount, IsRowsOf, IsUnknown}
 use Rattle.reserving.proofs.Lists.{find-put, find-put_other, find-map}
 use Rattle.reserving.proofs.Keys.{is_key, own_key, key_session, key_group, key_of, other_row, is_cycle, own_cycle, cycle_group, cycle_cycle, other_counter, same_tests, not_true}
 use Rattle.reserving.proofs.SettledHolds.{one_if, held_split, held_same}
-use Rattle.reserving.proofs.SettledFacts.{total-front, newest-front, any-front, any_dated-front, each_charge, held-charge_facts, charged-charge_facts, IsMoved, SameSessions, SameGroup, same_session, same_touched, same_group}
+use Rattle.reserving.proofs.SettledFacts.{is_barred-front, total-front, newest-front, any-front, any_dated-front, each_charge, held-charge_facts, charged-charge_facts, IsMoved, SameSessions, SameGroup, same_session, same_touched, same_group}
 use Rattle.reserving.proofs.SettledBuckets.{with_end, buckets_at-settled, buckets_at-ended, same_sessions-settled, same_sessions-ended}
 use Rattle.reserving.proofs.SettledComplete.{reserved_in_is}
 
@@ -43,6 +43,7 @@ none_units s g (Charge a b) h = refl
 none_units s g (Touch a) h = refl
 none_units s g (Close a) h = refl
 none_units s g (Recorded a b) h = refl
+none_units s g (Barred a) h = refl
 
 first_false : (a b : Bool) → (a || b) ≡ false → a ≡ false
 first_false true b h = h
@@ -72,7 +73,7 @@ grant_ended : (k : Bool) (o : Option (Option Periods)) → inner o ≡ None → 
 grant_ended true o h = refl
 grant_ended false o h = h
 
-open_none : (s : List ℕ) (g : ℕ) (ledger : Ledger) → has_group s g ledger ≡ false → open_grant s g ledger ≡ None
+pub open_none : (s : List ℕ) (g : ℕ) (ledger : Ledger) → has_group s g ledger ≡ false → open_grant s g ledger ≡ None
 open_none s g [] h = refl
 open_none s g (d ∷ older) h = by_fact d.at d.fact (first_false (names_group s g d.fact) (has_group s g older) h) (open_none s g older (second_false (names_group s g d.fact) (has_group s g older) h))
   where
@@ -86,6 +87,7 @@ open_none s g (d ∷ older) h = by_fact d.at d.fact (first_false (names_group s 
     by_fact at (Touch a) k r = r
     by_fact at (Close a) k r = r
     by_fact at (Recorded a b) k r = r
+    by_fact at (Barred a) k r = r
 
 either_periods : (h l : Bool) (hs : List Hold) (p : Option Periods) (used : ℕ) (s : List ℕ) (g : ℕ) → l ≡ true → (h ≡ false → p ≡ None) →
     (let x : SessionGroup = record { session = s; group = g; used = used; reservation = if l then reservation_of hs p else None } in
@@ -123,6 +125,7 @@ none_blocks f g c d h = by_fact d.at d.fact h
     by_fact at (Touch s') e = if_none (f at == c)
     by_fact at (Close s') e = if_none (f at == c)
     by_fact at (Recorded s' n) e = if_none (f at == c)
+    by_fact at (Barred b) e = if_none (f at == c)
 
 counter_none : (f : ℕ → ℕ) (g c : ℕ) (ledger : Ledger) → has_counter f g c ledger ≡ false → counter f g c ledger ≡ 0
 counter_none f g c [] h = refl
@@ -253,15 +256,15 @@ same_cycle f group g c = same_tests (is_cycle group (f group) g c) (group == g &
     (λ q. (λ i. is_cycle group (f (sym (cycle_group group (f group) g c q) i)) g c) ∙ q)
     (λ q. (λ i. is_cycle group (f (cycle_group group (f g) g c q i)) g c) ∙ q)
 
-counters-settled : (cycle_of : ℕ → ℕ → ℕ) (v t : ℕ) (session : List ℕ) (group units blocks rated : ℕ) (ledger : Ledger) (rows : List Counter) →
+-- the counters of a ledger with one use more
+pub counters_used : (cycle_of : ℕ → ℕ → ℕ) (t group blocks : ℕ) (ledger after : Ledger) (rows : List Counter) →
+    ((f : ℕ → ℕ) (g c : ℕ) → counter f g c after ≡ counter f g c ledger + (if f t == c then (if group == g then blocks else 0) else 0)) →
+    ((f : ℕ → ℕ) (g c : ℕ) → has_counter f g c after ≡ ((group == g && f t == c) || has_counter f g c ledger)) →
     count_in group (cycle_of group t) rows ≡ counter (cycle_of group) group (cycle_of group t) ledger →
     ((g c : ℕ) → counter_in g c rows ≡ counter_at (cycle_of g) ledger g c) →
-    (g c : ℕ) → counter_in g c (with_count group (cycle_of group t) blocks rows) ≡ counter_at (cycle_of g) (settled v t session group units blocks rated ledger) g c
-counters-settled cycle_of v t session group units blocks rated ledger rows so_far h g c = by_test (is_cycle group (cycle_of group t) g c) refl
+    (g c : ℕ) → counter_in g c (with_count group (cycle_of group t) blocks rows) ≡ counter_at (cycle_of g) after g c
+counters_used cycle_of t group blocks ledger after rows counts names so_far h g c = by_test (is_cycle group (cycle_of group t) g c) refl
   where
-    after : Ledger
-    after = settled v t session group units blocks rated ledger
-
     cycle : ℕ
     cycle = cycle_of group t
 
@@ -271,8 +274,8 @@ counters-settled cycle_of v t session group units blocks rated ledger rows so_fa
     own : counter_at (cycle_of group) after group cycle ≡ Some row
     own =
         let key : (group == group && cycle_of group t == cycle) ≡ true = own_cycle group cycle in
-        let named : has_counter (cycle_of group) group cycle after ≡ true = has_counter-settled (cycle_of group) group cycle v t session group units blocks rated ledger ∙ ap (λ x. x || has_counter (cycle_of group) group cycle ledger) key in
-        let count : counter (cycle_of group) group cycle after ≡ count_in group cycle rows + blocks = counter-settled (cycle_of group) group cycle v t session group units blocks rated ledger ∙ (λ i. sym so_far i + counted_once (cycle_of group t == cycle) (group == group) blocks key i) in
+        let named : has_counter (cycle_of group) group cycle after ≡ true = names (cycle_of group) group cycle ∙ ap (λ x. x || has_counter (cycle_of group) group cycle ledger) key in
+        let count : counter (cycle_of group) group cycle after ≡ count_in group cycle rows + blocks = counts (cycle_of group) group cycle ∙ (λ i. sym so_far i + counted_once (cycle_of group t == cycle) (group == group) blocks key i) in
         let same : (let r : Counter = record { group = group; cycle = cycle; blocks = counter (cycle_of group) group cycle after } in r) ≡ row = λ i. record { group = group; cycle = cycle; blocks = count i } in
         λ i. (if named i then Some (same i) else None)
 
@@ -286,13 +289,21 @@ counters-settled cycle_of v t session group units blocks rated ledger rows so_fa
         ∙ (λ i. counter_at (cycle_of (eg i)) after (eg i) (ec i))
     by_test false q =
         let key : (group == g && cycle_of g t == c) ≡ false = sym (same_cycle (λ x. cycle_of x t) group g c) ∙ q in
-        let named : has_counter (cycle_of g) g c after ≡ has_counter (cycle_of g) g c ledger = has_counter-settled (cycle_of g) g c v t session group units blocks rated ledger ∙ ap (λ x. x || has_counter (cycle_of g) g c ledger) key in
+        let named : has_counter (cycle_of g) g c after ≡ has_counter (cycle_of g) g c ledger = names (cycle_of g) g c ∙ ap (λ x. x || has_counter (cycle_of g) g c ledger) key in
         let none : (if cycle_of g t == c then (if group == g then blocks else 0) else 0) ≡ 0 = not_counted (cycle_of g t == c) (group == g) blocks key in
-        let count : counter (cycle_of g) g c after ≡ counter (cycle_of g) g c ledger = omega (arith, counter-settled (cycle_of g) g c v t session group units blocks rated ledger, none) in
+        let count : counter (cycle_of g) g c after ≡ counter (cycle_of g) g c ledger = omega (arith, counts (cycle_of g) g c, none) in
         let same : (let r : Counter = record { group = g; cycle = c; blocks = counter (cycle_of g) g c after } in r) ≡ (let r : Counter = record { group = g; cycle = c; blocks = counter (cycle_of g) g c ledger } in r) = λ i. record { group = g; cycle = c; blocks = count i } in
         find-put_other (is_counter group cycle) (is_counter g c) row rows q (other_counter group cycle g c q)
         ∙ h g c
         ∙ sym (λ i. (if named i then Some (same i) else None))
+
+counters-settled : (cycle_of : ℕ → ℕ → ℕ) (v t : ℕ) (session : List ℕ) (group units blocks rated : ℕ) (ledger : Ledger) (rows : List Counter) →
+    count_in group (cycle_of group t) rows ≡ counter (cycle_of group) group (cycle_of group t) ledger →
+    ((g c : ℕ) → counter_in g c rows ≡ counter_at (cycle_of g) ledger g c) →
+    (g c : ℕ) → counter_in g c (with_count group (cycle_of group t) blocks rows) ≡ counter_at (cycle_of g) (settled v t session group units blocks rated ledger) g c
+counters-settled cycle_of v t session group units blocks rated ledger rows so_far h =
+    counters_used cycle_of t group blocks ledger (settled v t session group units blocks rated ledger) rows
+    (λ f g c. counter-settled f g c v t session group units blocks rated ledger) (λ f g c. has_counter-settled f g c v t session group units blocks rated ledger) so_far h
 
 -- ---- the buckets' numbers
 
@@ -354,6 +365,7 @@ IsRowsOf-settled ledger a session group units blocks rated account rows live =
     let held_is : reserved_in session group a.groups ≡ holds = reserved_in_is ledger a session group account rows live in
     let is_moved : IsMoved (settled_row holds group t rated now) v t ledger after = record { rows = moved; number = settled_number holds group t rated now } in
     record {
+      barred = rows.barred ∙ sym (is_barred-front (charge_facts t hs) ledger (each_charge _ t hs (λ b n. refl)));
       buckets = (λ i. settled_rows (held_is i) group t rated (rows.buckets i)) ∙ sym moved;
       sessions = λ s. rows.sessions s ∙ sym (same_session v t ledger after same s);
       groups = groups-settled v t session group units blocks rated ledger (settled_row holds group t rated now) a.groups is_moved (used_in_is ledger a session group rows) rows.groups;
@@ -429,6 +441,7 @@ IsRowsOf-ended ledger a session group account rows live =
     let held_is : reserved_in session group a.groups ≡ holds = reserved_in_is ledger a session group account rows live in
     let is_moved : IsMoved (λ b. with_release t b (held_in holds b)) v t ledger after = record { rows = moved; number = λ b. with_release_number t b (held_in holds b) } in
     record {
+      barred = rows.barred;
       buckets = (λ i. released_rows (held_is i) t (rows.buckets i)) ∙ sym moved;
       sessions = λ s. rows.sessions s ∙ sym (same_session v t ledger after same s);
       groups = groups-ended v t session group ledger (λ b. with_release t b (held_in holds b)) a.groups is_moved rows.groups;

@@ -7,7 +7,7 @@ use Rattle.buckets.specs.Share.{parts}
 use Rattle.reserving.specs.declared.session.Session.{Session}
 use Rattle.reserving.specs.declared.session.SessionState.{SessionState}
 use Rattle.reserving.specs.declared.session.SessionState.TheVariants.{Open, NeverOpened}
-use Rattle.reserving.specs.Ledger.{Ledger, Recording, is_same, is_live, is_closed, last_touch, last_recording, or_else, charged, held, only, used, counter, has_group, has_counter, open_grant, next_bucket, next_charge}
+use Rattle.reserving.specs.Ledger.{Ledger, Recording, is_barred, is_same, is_live, is_closed, last_touch, last_recording, or_else, charged, held, only, used, counter, has_group, has_counter, open_grant, next_bucket, next_charge}
 use Rattle.reserving.specs.Balance.{credits, bucket_at, buckets_at, balance_of}
 use Rattle.reserving.specs.Sessions.{is_session, session_in, session_at, session_row, state_at, group_at, reservation_at, reservation_of, holds_at, counter_at}
 use Rattle.reserving.specs.Keyed.{put}
@@ -134,6 +134,7 @@ unknown-same s new old h e u = record {
 
 -- the rows, where the sessions' rows are shown apart
 pub record Leaves (a : AccountRows) (new old : Ledger) (rows : List Session) : Type 0 where
+  pub barred : is_barred new ≡ is_barred old
   pub money : SameMoney new old
   pub live : (n : ℕ) → held (λ s g. is_live a.book.validity a.as_of new s) n old ≡ held (λ s g. is_live a.book.validity a.as_of old s) n old
   pub reservations : (s : List ℕ) (g : ℕ) → reservation_at a.book.validity a.as_of new s g ≡ reservation_at a.book.validity a.as_of old s g
@@ -143,6 +144,7 @@ pub record Leaves (a : AccountRows) (new old : Ledger) (rows : List Session) : T
 
 pub IsRowsOf-leaves : (a : AccountRows) (new old : Ledger) (sessions : List Session) → IsRowsOf old a → Leaves a new old sessions → IsRowsOf new (record a { sessions = sessions })
 IsRowsOf-leaves a new old sessions rows h = record {
+  barred = rows.barred ∙ sym h.barred;
   buckets = rows.buckets ∙ sym (buckets_at-same a.book.validity a.as_of new old h.money h.live);
   sessions = h.sessions;
   groups = λ s g. rows.groups s g ∙ sym (group_at-same a.book.validity a.as_of new old s g h.money (h.reservations s g));
@@ -180,6 +182,7 @@ untouched (Some x) h = absurd (no_some x (h x refl))
 
 pub IsRowsOf-denied : (ledger : Ledger) (a : AccountRows) (s : List ℕ) (n t : ℕ) → IsRowsOf ledger a → session_in s a.sessions ≡ None → IsRowsOf (recorded t s n ledger) (with_session s n t NeverOpened a)
 IsRowsOf-denied ledger a s n t rows new = IsRowsOf-leaves a (recorded t s n ledger) ledger (put (is_session s) row a.sessions) rows (record {
+  barred = refl;
   money = same_recorded t s n ledger;
   live = λ m. refl;
   reservations = λ x g. reservation_at-same v u (recorded t s n ledger) ledger x g (same_recorded t s n ledger) refl;
@@ -225,6 +228,7 @@ IsRowsOf-denied ledger a s n t rows new = IsRowsOf-leaves a (recorded t s n ledg
 
 pub IsRowsOf-opened : (ledger : Ledger) (a : AccountRows) (s : List ℕ) (n t : ℕ) → IsRowsOf ledger a → session_in s a.sessions ≡ None → a.as_of ≤ t → 0 < a.book.validity → IsRowsOf (touched t s n ledger) (with_session s n t Open a)
 IsRowsOf-opened ledger a s n t rows new le some = IsRowsOf-leaves a (touched t s n ledger) ledger (put (is_session s) row a.sessions) rows (record {
+  barred = refl;
   money = same_touched t s n ledger;
   live = λ m. more m;
   reservations = λ x g. kept x g (is_same s x) refl;

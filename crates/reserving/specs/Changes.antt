@@ -19,6 +19,7 @@ use Rattle.reserving.specs.Pricing.{cycle_at, periods_at}
 use Rattle.reserving.specs.Keyed.{put}
 use Rattle.reserving.specs.Sessions.{is_session, is_of, group_in, is_counter, counter_in, is_open, is_live_in, held_by, holds_in}
 use Rattle.reserving.specs.Settlement.{reported, price_of}
+use Rattle.reserving.specs.Debiting.{untagged}
 use Rattle.reserving.specs.Rows.{AccountRows}
 
 -- ---- time goes on: sessions whose supervision time is over end, what they held is given up, and what is left
@@ -113,6 +114,25 @@ abbrev pub settled_by_rows : List ℕ → ℕ → List UsedPart → AccountRows 
 settled_by_rows s g [] a = ended_rows s g a
 settled_by_rows s g (p ∷ ps) a =
     settled_account s g (reported (p ∷ ps)) (price_in s g a.as_of (p ∷ ps) a).blocks (price_in s g a.as_of (p ∷ ps) a).amount.0 a
+
+-- ---- debits
+
+-- what an event's units cost, by the rows
+abbrev pub event_price_in : ℕ → ℕ → ℕ → AccountRows → Rated
+event_price_in g units t a = price_of a.book t g None 0 (count_in g (cycle_at a.book g t) a.counters) (untagged units)
+
+-- an event's use leaves the group's reservation as it is
+abbrev pub with_event : List ℕ → ℕ → ℕ → List SessionGroup → List SessionGroup
+with_event s g units rows =
+    put (is_of s g) (record { session = s; group = g; used = used_in s g rows + units; reservation = (group_or_new s g rows).reservation }) rows
+
+abbrev pub debited_account : List ℕ → ℕ → ℕ → ℕ → ℕ → AccountRows → AccountRows
+debited_account s g units blocks rated a = record a {
+  buckets = settled_rows [] g a.as_of rated a.buckets;
+  counters = with_count g (cycle_at a.book g a.as_of) blocks a.counters;
+  groups = with_event s g units a.groups;
+  next_charge = a.next_charge + 1;
+}
 
 -- ---- reservation
 

@@ -1,13 +1,14 @@
 -- The ledger of an account: a list of dated facts, the newest first. It only grows, at its front, and every
 -- balance is a sum over it (TS 32.296, account balance management function).
-use Rattle.std.specs.Prelude.{ℕ, ◌+◌, ◌*◌, Bool, false, not, ◌==◌, ◌&&◌, ◌||◌, nat_lt, nat_eq, if◌then◌else◌, List, [], ◌∷◌, Option, Some, None}
+use Rattle.std.specs.Prelude.{ℕ, ◌+◌, ◌*◌, Bool, false, not, ◌==◌, ◌&&◌, ◌||◌, nat_lt, nat_eq, if◌then◌else◌, List, [], ◌∷◌, Option, Some, None, unwrap_or}
 use Rattle.std.specs.Cmp.Lexicographic.{pointwise}
 use Rattle.rating.specs.declared.grant.Periods.{Periods}
 
 -- Credit: a bucket is made. Grant, Hold and End: a session gets units of a rating group, priced by the tariff
 -- periods at the grant and at the switch within its validity, from this place of the group's counter on; what is held for it of each bucket; it is over. Use and Charge: units are reported, start
 -- blocks, and are rated; what each bucket pays. Touch and Close: a request of the session is accepted; the
--- session ends. Recorded: a request of the session is kept under its number.
+-- session ends. Recorded: a request of the session is kept under its number. Barred: the account is barred, or no
+-- longer.
 pub data Fact : Type 0 where
   Credit : (number from until : ℕ) (scope : Option ℕ) (amount : ℕ) → Fact
   Grant : (session : List ℕ) (group : ℕ) (periods : Periods) (units counter : ℕ) → Fact
@@ -18,6 +19,7 @@ pub data Fact : Type 0 where
   Touch : (session : List ℕ) → Fact
   Close : (session : List ℕ) → Fact
   Recorded : (session : List ℕ) (number : ℕ) → Fact
+  Barred : (barred : Bool) → Fact
 
 pub record Dated : Type 0 where
   pub at : ℕ
@@ -47,6 +49,19 @@ newest f (d ∷ older) = or_else (f d) (newest f older)
 abbrev pub any : (Fact → Bool) → Ledger → Bool
 any p [] = false
 any p (d ∷ older) = p d.fact || any p older
+
+-- ---- the account itself
+
+abbrev pub bar_in : Dated → Option Bool
+bar_in d = barred_by d.fact
+  where
+    barred_by : Fact → Option Bool
+    barred_by (Barred barred) = Some barred
+    barred_by _ = None
+
+-- whether the account is barred: its last bar tells
+abbrev pub is_barred : Ledger → Bool
+is_barred ledger = unwrap_or (newest bar_in ledger) false
 
 -- ---- buckets
 

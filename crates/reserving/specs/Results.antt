@@ -1,6 +1,6 @@
 -- What settlements and grants answer, as a ledger tells it.
 -- Source: RFC 8506 sections 5.2 to 5.4; TS 32.299, session charging with unit reservation.
-use Rattle.std.specs.Prelude.{◌≡◌, ℕ, ◌+◌, ◌<◌, ◌≤◌, Bool, nat_lt, List, Option, None, Some}
+use Rattle.std.specs.Prelude.{◌≡◌, ℕ, ◌+◌, ◌<◌, ◌≤◌, Bool, true, false, nat_lt, List, Option, None, Some}
 use Rattle.units.specs.declared.blocks.UsedPart.{UsedPart}
 use Rattle.units.specs.Blocks.{started}
 use Rattle.tariffs.specs.Books.{Book}
@@ -15,6 +15,7 @@ use Rattle.reserving.specs.Pricing.{tariff_of, cycle_at, switch_at, validity_at,
 use Rattle.reserving.specs.Balance.{buckets_at}
 use Rattle.reserving.specs.Settlement.{report_price, missing}
 use Rattle.reserving.specs.Reservation.{reserved, grant_for}
+use Rattle.reserving.specs.Debiting.{event_price, is_covered, debit_passes, debited}
 use Rattle.reserving.specs.Rows.{AccountRows, IsRowsOf}
 
 -- the blocks that a report starts, their price, and what of it is collected and isn't
@@ -54,3 +55,20 @@ pub record IsWithin (t : Option GroupTariff) (units : ℕ) : Type 0 where
 abbrev pub IsWithinGrant : Option GroupTariff → Granted → Type 0
 IsWithinGrant t Nothing = Unit {0}
 IsWithinGrant t (Units units switch validity fewer) = IsWithin t units.0
+
+-- ---- debits
+
+-- an event's units are charged whole: their price is covered
+pub record IsDebitOf (b : Book) (t : ℕ) (session : List ℕ) (group units : ℕ) (ledger : Ledger) (after : AccountRows) (s : Settled) : Type 0 where
+  pub covered : is_covered b t group units ledger ≡ true
+  pub within : debit_passes b t session group units ledger ≡ false
+  pub blocks : s.blocks.0 ≡ (event_price b t group units ledger).blocks
+  pub rated : s.rated.0 ≡ (event_price b t group units ledger).amount.0
+  pub collected : s.collected.0 ≡ s.rated.0
+  pub uncollected : s.uncollected.0 ≡ 0
+  pub rows : IsRowsOf (debited b t session group units ledger) after
+
+-- what a debit answers, and what it makes of the account; nothing where the funds don't cover it
+abbrev pub IsDebit : Book → ℕ → List ℕ → ℕ → ℕ → Ledger → AccountRows → Option Settled → Type 0
+IsDebit b t session group units ledger after None = is_covered b t group units ledger ≡ false
+IsDebit b t session group units ledger after (Some s) = IsDebitOf b t session group units ledger after s

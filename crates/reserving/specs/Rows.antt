@@ -6,7 +6,7 @@ use Rattle.buckets.specs.Spend.{Each, IsSound, IsBelow}
 use Rattle.reserving.specs.declared.session.Session.{Session}
 use Rattle.reserving.specs.declared.session.SessionGroup.{SessionGroup}
 use Rattle.reserving.specs.declared.session.Counter.{Counter}
-use Rattle.reserving.specs.Ledger.{Ledger, charged, held, is_same, is_closed, open_grant, last_touch, last_recording, next_bucket, next_charge}
+use Rattle.reserving.specs.Ledger.{Ledger, is_barred, charged, held, is_same, is_closed, open_grant, last_touch, last_recording, next_bucket, next_charge}
 use Rattle.tariffs.specs.Books.{Book, IsBook}
 use Rattle.reserving.specs.Pricing.{cycle_at}
 use Rattle.reserving.specs.Balance.{buckets_at}
@@ -15,6 +15,7 @@ use Rattle.reserving.specs.Sessions.{is_session, session_in, session_at, is_of, 
 pub record AccountRows : Type 0 where
   pub book : Book
   pub as_of : ℕ
+  pub barred : Bool
   pub buckets : List Row
   pub counters : List Counter
   pub sessions : List Session
@@ -60,6 +61,7 @@ pub record IsUnknown (s : List ℕ) (ledger : Ledger) : Type 0 where
 -- the account's rows are the ledger's at the moment as of which they stand: each row is the ledger's, and what
 -- the ledger tells has its row
 pub record IsRowsOf (ledger : Ledger) (a : AccountRows) : Type 0 where
+  pub barred : a.barred ≡ is_barred ledger
   pub buckets : a.buckets ≡ buckets_at a.book.validity a.as_of ledger
   pub sessions : (s : List ℕ) → session_in s a.sessions ≡ session_at a.book.validity a.as_of ledger s
   pub groups : (s : List ℕ) (g : ℕ) → group_in s g a.groups ≡ group_at a.book.validity a.as_of ledger s g

@@ -13,6 +13,7 @@ use Rattle.reserving.specs.Changes.{advanced}
 
 pub record StoredRows : Type 0 where
   pub as_of : ℕ
+  pub barred : Bool
   pub buckets : List Row
   pub counters : List Counter
   pub sessions : List Session
@@ -25,6 +26,7 @@ abbrev pub priced : Book → StoredRows → AccountRows
 priced book r = record {
   book = book;
   as_of = r.as_of;
+  barred = r.barred;
   buckets = r.buckets;
   counters = r.counters;
   sessions = r.sessions;
@@ -37,6 +39,7 @@ priced book r = record {
 abbrev pub stored : AccountRows → StoredRows
 stored a = record {
   as_of = a.as_of;
+  barred = a.barred;
   buckets = a.buckets;
   counters = a.counters;
   sessions = a.sessions;

@@ -1,4 +1,5 @@
-ghost use Rattle.std.specs.Prelude.{◌≡◌, [], None};
+ghost use Rattle.std.specs.Prelude.{◌≡◌, [], None, false};
+ghost use Rattle.reserving.specs.Ledger.{Ledger, is_barred};
 ghost use Rattle.reserving.specs.Sessions.{is_live_in};
 ghost use Rattle.reserving.specs.Rows.{AccountRows, IsAccount, IsRowsOf};
 
@@ -17,6 +18,7 @@ use units::Moment;
 pub struct Account<'b> {
     pub(crate) book: &'b TariffBook,
     pub(crate) as_of: Moment,
+    pub(crate) barred: bool,
     pub(crate) purse: Purse,
     pub(crate) counters: Vec<Counter>,
     pub(crate) sessions: Vec<Session>,
@@ -34,6 +36,7 @@ impl<'b> Model for Account<'b> {
     ghost view = { λ a. record {
       book = a.book.now;
       as_of = a.as_of;
+      barred = a.barred;
       buckets = a.purse;
       counters = a.counters.items;
       sessions = a.sessions.items;
@@ -45,6 +48,7 @@ impl<'b> Model for Account<'b> {
     ghost invariant = { λ a. IsAccount (record {
       book = a.book.now;
       as_of = a.as_of;
+      barred = a.barred;
       buckets = a.purse;
       counters = a.counters.items;
       sessions = a.sessions.items;
@@ -61,6 +65,7 @@ impl<'b> Account<'b> {
         ensures rows { result ≡ record {
           book = book.now;
           as_of = 0;
+          barred = false;
           buckets = [];
           counters = [];
           sessions = [];
@@ -73,6 +78,7 @@ impl<'b> Account<'b> {
         Account {
             book,
             as_of: Moment::first(),
+            barred: false,
             purse: Purse::new(alloc),
             counters: Vec::new(alloc),
             sessions: Vec::new(alloc),
@@ -129,8 +135,24 @@ impl<'b> Account<'b> {
 
     /// The moment of its last change.
     pub fn as_of(&self) -> Moment
-        ensures { result ≡ self.now.as_of }
+        ensures value { result ≡ self.now.as_of }
+        ensures kept { IsAccount self.now }
     {
         self.as_of
+    }
+
+    /// Whether it is barred: it is granted and debited nothing (profile).
+    pub fn is_barred(&self) -> bool
+        ensures value { result ≡ self.now.barred }
+        ensures ledger { (ledger : Ledger) → IsRowsOf ledger self.now → result ≡ is_barred ledger }
+    {
+        self.barred
+    }
+
+    /// The number of its next charge: one more than the greatest number where there can be none.
+    pub fn next_charge(&self) -> u64
+        ensures { result ≡ self.now.next_charge }
+    {
+        self.next_charge
     }
 }

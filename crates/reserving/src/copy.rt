@@ -14,6 +14,7 @@ impl<'b> Account<'b> {
         Ok(Account {
             book: self.book,
             as_of: self.as_of,
+            barred: self.barred,
             purse: copy_of_purse(&self.purse)?,
             counters: copy_of_counters(&self.counters)?,
             sessions: copy_of_sessions(&self.sessions)?,

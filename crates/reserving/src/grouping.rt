@@ -3,7 +3,7 @@
 ghost use Rattle.std.specs.Prelude.{◌≡◌, ℕ, ◌+◌, ◌≤◌, ◌^◌, ◌<◌, true, is_some, OnOk, OnErr, position, map, option_map, length, vec_len, vec_capacity};
 ghost use Rattle.reserving.specs.Sessions.{is_of, group_in, is_counter, counter_in, holds_in};
 ghost use Rattle.reserving.specs.Rows.{AreApart};
-ghost use Rattle.reserving.specs.Changes.{used_in, reserved_in, periods_in, count_in, with_use, with_count, with_reservation, ended_group};
+ghost use Rattle.reserving.specs.Changes.{used_in, reserved_in, periods_in, count_in, with_use, with_event, with_count, with_reservation, ended_group};
 ghost use Rattle.reserving.specs.Prepared.{with_group, with_counter};
 
 use crate::session::{Counter, Reservation, SessionGroup};
@@ -139,6 +139,23 @@ pub(crate) fn use_group(
     let row = &mut groups[place];
     row.used += units;
     holds_of(alloc, row.reservation.take())
+}
+
+/// Counts a use in the row of a session's group, which keeps its reservation.
+pub(crate) fn count_units(
+    groups: &mut Vec<SessionGroup>,
+    session: &SessionId,
+    group: u32,
+    units: u64,
+)
+    requires there { is_some (group_in session.now group groups.old.items) ≡ true }
+    requires fits { used_in session.now group groups.old.items + units < 2 ^ 64 }
+    ensures { groups.new.items ≡ with_event session.now group units groups.old.items }
+{
+    let Some(place) = place_of(groups, session, group) else {
+        unreachable!();
+    };
+    groups[place].used += units;
 }
 
 /// Counts the blocks of a use in the row of a counter.

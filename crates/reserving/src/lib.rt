@@ -3,8 +3,11 @@
 
 mod account;
 mod advance;
+mod bar;
+mod charge;
 mod copy;
 mod credit;
+mod debit;
 mod fault;
 mod funds;
 mod grouping;
@@ -17,6 +20,7 @@ mod settle;
 mod stored;
 
 pub use crate::account::Account;
+pub use crate::charge::ChargeRow;
 pub use crate::fault::AccountFault;
 pub use crate::laws::going_on;
 pub use crate::reserve::Granted;

@@ -44,12 +44,12 @@ const MOST_COUNTED: u128 = 4_000_000_000_000_000_000;
 /// The greatest number of a charge.
 const LAST_CHARGE: u64 = 4_294_967_295;
 
-/// A report as it is rated: its units, the blocks that they start, and what these cost.
+/// A use as it is rated: its units, the blocks that they start, and what these cost.
 #[derive(Clone, Copy)]
-struct RatedUse {
-    units: Units,
-    blocks: Blocks,
-    amount: Amount,
+pub(crate) struct RatedUse {
+    pub(crate) units: Units,
+    pub(crate) blocks: Blocks,
+    pub(crate) amount: Amount,
 }
 
 impl<'b> Account<'b> {
@@ -109,7 +109,12 @@ impl<'b> Account<'b> {
     }
 
     /// Makes the rows that a settlement writes to. At a fault, which is want of memory, nothing has changed.
-    fn make_rows(&mut self, session: &SessionId, group: u32, cycle: u32) -> Result<(), AccountFault>
+    pub(crate) fn make_rows(
+        &mut self,
+        session: &SessionId,
+        group: u32,
+        cycle: u32,
+    ) -> Result<(), AccountFault>
         ensures ok { OnOk result (self.new ≡ with_rows session.now group cycle self.old) }
         ensures err { OnErr result (self.new ≡ self.old) }
         ensures memory { OnErr result (result ≡ Err AccountFault.Memory) }
@@ -161,12 +166,33 @@ impl<'b> Account<'b> {
         let tally = tally_of(parts);
         let place = self.place_at(group, moment);
         let rated = self.price(session, group, used, place, &tally, moment);
-        let fits = rated.blocks <= MOST_COUNTED && place as u128 + rated.blocks <= MOST_COUNTED;
-        if !fits || LAST_CHARGE < self.next_charge {
+        self.within_limits(session, group, Units(units as u64), rated, moment)
+    }
+
+    /// A use that is rated; None where a stored number would pass its limit.
+    pub(crate) fn within_limits(
+        &self,
+        session: &SessionId,
+        group: u32,
+        units: Units,
+        rated: Rated,
+        moment: Moment,
+    ) -> Option<RatedUse>
+        ensures account { IsAccount self.now }
+        ensures none { result ≡ None → passes (used_in session.now group self.now.groups) units.0 (count_in group (cycle_at self.now.book group moment) self.now.counters) rated.blocks self.now.next_charge ≡ true }
+        ensures some { IfSome result (λ r. passes (used_in session.now group self.now.groups) units.0 (count_in group (cycle_at self.now.book group moment) self.now.counters) rated.blocks self.now.next_charge ≡ false) }
+        ensures units { IfSome result (λ r. r.units ≡ units) }
+        ensures blocks { IfSome result (λ r. r.blocks.0 ≡ rated.blocks) }
+        ensures amount { IfSome result (λ r. r.amount ≡ rated.amount) }
+    {
+        let used = grouping::used_of(&self.groups, session, group) as u128 + units.0 as u128;
+        let place = self.place_at(group, moment);
+        let counted = rated.blocks <= MOST_COUNTED && place as u128 + rated.blocks <= MOST_COUNTED;
+        if MOST_USED < used || !counted || LAST_CHARGE < self.next_charge {
             return None;
         }
         Some(RatedUse {
-            units: Units(units as u64),
+            units,
             blocks: Blocks(rated.blocks as u64),
             amount: rated.amount,
         })

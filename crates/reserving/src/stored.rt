@@ -17,6 +17,7 @@ use units::Moment;
 #[derive(Drop)]
 pub struct StoredAccount {
     as_of: Moment,
+    barred: bool,
     purse: Purse,
     counters: Vec<Counter>,
     sessions: Vec<Session>,
@@ -33,6 +34,7 @@ impl Model for StoredAccount {
 
     ghost view = { λ a. record {
       as_of = a.as_of;
+      barred = a.barred;
       buckets = a.purse;
       counters = a.counters.items;
       sessions = a.sessions.items;
@@ -43,6 +45,7 @@ impl Model for StoredAccount {
 
     ghost invariant = { λ a. IsStored (record {
       as_of = a.as_of;
+      barred = a.barred;
       buckets = a.purse;
       counters = a.counters.items;
       sessions = a.sessions.items;
@@ -58,6 +61,13 @@ impl StoredAccount {
         ensures { result ≡ self.now.as_of }
     {
         self.as_of
+    }
+
+    /// Whether it is barred (profile).
+    pub fn is_barred(&self) -> bool
+        ensures { result ≡ self.now.barred }
+    {
+        self.barred
     }
 
     /// Its purse.
@@ -110,6 +120,7 @@ impl StoredAccount {
         Ok(Account {
             book,
             as_of: self.as_of,
+            barred: self.barred,
             purse: copy_of_purse(&self.purse)?,
             counters: copy_of_counters(&self.counters)?,
             sessions: copy_of_sessions(&self.sessions)?,
@@ -146,6 +157,7 @@ impl<'b> Account<'b> {
         let Account {
             book: _,
             as_of,
+            barred,
             purse,
             counters,
             sessions,
@@ -156,6 +168,7 @@ impl<'b> Account<'b> {
         } = self;
         StoredAccount {
             as_of,
+            barred,
             purse,
             counters,
             sessions,

@@ -10,7 +10,7 @@ ghost use Rattle.std.specs.Prelude.{◌≡◌, true, false, None};
 ghost use Rattle.reserving.specs.Sessions.{session_in};
 ghost use Rattle.reserving.specs.Prepared.{reservation_in};
 
-use crate::{Account, Granted, Session, SessionGroup};
+use crate::{Account, Granted, Session, SessionGroup, Settled};
 use identifiers::SessionId;
 use std::alloc::Global;
 use std::process::Abort;
@@ -239,7 +239,14 @@ fn reserve(
     described(alloc, account.reserve(&id, group, Some(units), at)?)
 }
 
-/// `settle SESSION GROUP PARTS`: the blocks, their price, and what of it is collected and isn't.
+/// The blocks, their price, and what of it is collected and isn't.
+fn charged(alloc: Global, settled: Settled) -> Result<String, Fail> {
+    let price = format!(in alloc; "{} {}", settled.blocks.0, settled.rated.0)?;
+    let (collected, uncollected) = (settled.collected.0, settled.uncollected.0);
+    Ok(format!(in alloc; "{} {} {}", price, collected, uncollected)?)
+}
+
+/// `settle SESSION GROUP PARTS`: what is charged.
 fn settle(
     rt: &impl Abort,
     alloc: Global,
@@ -252,10 +259,34 @@ fn settle(
     let (id, group) = (session(alloc, id)?, group.parse::<u32>()?);
     let parts = report(alloc, words)?;
     assert!(rt; account.as_of() <= at && account.is_live(&id, at));
-    let settled = account.settle(&id, group, &parts, at)?;
-    let price = format!(in alloc; "{} {}", settled.blocks.0, settled.rated.0)?;
-    let (collected, uncollected) = (settled.collected.0, settled.uncollected.0);
-    Ok(format!(in alloc; "{} {} {}", price, collected, uncollected)?)
+    charged(alloc, account.settle(&id, group, &parts, at)?)
+}
+
+/// `debit SESSION GROUP UNITS`: what is charged, if the funds cover it.
+fn debit(
+    rt: &impl Abort,
+    alloc: Global,
+    account: &mut Account,
+    words: &str,
+    at: Moment,
+) -> Result<String, Fail> {
+    let (id, words) = words.split_once(" ").ok_or("a session")?;
+    let (group, units) = words.split_once(" ").ok_or("a group and units")?;
+    let (id, group) = (session(alloc, id)?, group.parse::<u32>()?);
+    let units = Units(units.parse::<u64>()?);
+    assert!(rt; account.as_of() <= at);
+    match account.debit(&id, group, units, at)? {
+        Some(settled) => charged(alloc, settled),
+        None => Ok(String::from_str(alloc, "not covered")?),
+    }
+}
+
+/// `quote GROUP UNITS`: what they would cost as an event.
+fn quote(alloc: Global, account: &Account, words: &str, at: Moment) -> Result<String, Fail> {
+    let (group, units) = words.split_once(" ").ok_or("a group and units")?;
+    let units = Units(units.parse::<u64>()?);
+    let price = account.quote(group.parse::<u32>()?, units, at);
+    Ok(format!(in alloc; "{}", price.0)?)
 }
 
 /// `funds GROUP`, and whether 600 units of it would be granted.
@@ -306,6 +337,19 @@ fn advance(
     Ok(String::from_str(alloc, "advanced")?)
 }
 
+/// `bar on` or `bar off`: whether the account is barred then.
+fn bar(
+    rt: &impl Abort,
+    alloc: Global,
+    account: &mut Account,
+    word: &str,
+    at: Moment,
+) -> Result<String, Fail> {
+    assert!(rt; account.as_of() <= at);
+    account.set_barred(word == "on", at);
+    Ok(format!(in alloc; "{}", account.is_barred())?)
+}
+
 /// What a call gives.
 fn outcome(
     rt: &impl Abort,
@@ -323,6 +367,9 @@ fn outcome(
         "close" => close(rt, alloc, account, words, at),
         "reserve" => reserve(rt, alloc, account, words, at),
         "settle" => settle(rt, alloc, account, words, at),
+        "debit" => debit(rt, alloc, account, words, at),
+        "quote" => quote(alloc, account, words, at),
+        "bar" => bar(rt, alloc, account, words, at),
         "funds" => funds(rt, alloc, account, words, at),
         "session" => told(alloc, account, words, at),
         "counters" => counters(alloc, account),
@@ -469,4 +516,57 @@ const TWO_GROUPS: &str = "1767607200 credit 4102444800 500000 -> 1 (500000; 5000
 #[test]
 fn services_of_two_groups(rt: HostRuntime) -> Result<(), Fail> {
     try_all(&rt, rt.alloc(), TWO_GROUPS)
+}
+
+/// A barred account keeps what it holds, until its session's time is over.
+const BARRED: &str = "1767607200 credit 4102444800 1000000 -> 1 (1000000; 1000000, 0, 0, 0)
+1767607200 open s20 -> opened (1000000; 1000000, 0, 0, 0)
+1767607200 reserve s20 10 600 -> 600 None 3600 all (1000000; 0, 1000000, 0, 0)
+1767607260 bar on -> true (1000000; 0, 1000000, 0, 0)
+1767614399 bar on -> true (1000000; 0, 1000000, 0, 0)
+1767614400 bar off -> false (1000000; 1000000, 0, 0, 0)";
+
+#[test]
+fn an_account_that_is_barred(rt: HostRuntime) -> Result<(), Fail> {
+    try_all(&rt, rt.alloc(), BARRED)
+}
+
+/// An event of 90,000 micro-units isn't charged where 89,999 are there. With one more it is, and with no more, to both
+/// buckets in their order.
+const EVENTS: &str = "1767571200 credit 4102444800 89999 -> 1 (89999; 89999, 0, 0, 0)
+1767607200 quote 30 1 -> 90000 (89999; 89999, 0, 0, 0)
+1767607200 debit e8 30 1 -> not covered (89999; 89999, 0, 0, 0)
+1767607200 counters of all ->  (89999; 89999, 0, 0, 0)
+1767607200 credit 4102444800 1 -> 2 (89999; 89999, 0, 0, 0) (1; 1, 0, 0, 0)
+1767607200 debit e8 30 1 -> 1 90000 90000 0 (89999; 0, 0, 89999, 0) (1; 0, 0, 1, 0)
+1767607200 counters of all -> 30 0 1; (89999; 0, 0, 89999, 0) (1; 0, 0, 1, 0)";
+
+#[test]
+fn an_event_that_is_just_covered(rt: HostRuntime) -> Result<(), Fail> {
+    try_all(&rt, rt.alloc(), EVENTS)
+}
+
+/// An event is charged whole from one bucket.
+const EVENT: &str = "1767571200 credit 4102444800 90000 -> 1 (90000; 90000, 0, 0, 0)
+1767607200 debit e8 30 1 -> 1 90000 90000 0 (90000; 0, 0, 90000, 0)";
+
+#[test]
+fn an_event_of_one_bucket(rt: HostRuntime) -> Result<(), Fail> {
+    try_all(&rt, rt.alloc(), EVENT)
+}
+
+/// What is held isn't there for an event, and its charge leaves what is held. Each event starts a block of its own,
+/// whatever was used before.
+const BESIDE: &str = "1767607200 credit 4102444800 350000 -> 1 (350000; 350000, 0, 0, 0)
+1767607200 open s21 -> opened (350000; 350000, 0, 0, 0)
+1767607200 reserve s21 10 60 -> 60 None 3600 all (350000; 250000, 100000, 0, 0)
+1767607200 debit s21 10 1 -> 1 100000 100000 0 (350000; 150000, 100000, 100000, 0)
+1767607200 quote 10 1 -> 100000 (350000; 150000, 100000, 100000, 0)
+1767607200 debit s21 10 61 -> not covered (350000; 150000, 100000, 100000, 0)
+1767607260 settle s21 10 59 -> 0 0 0 0 (350000; 250000, 0, 100000, 0)
+1767607260 debit s21 10 61 -> 2 200000 200000 0 (350000; 50000, 0, 300000, 0)";
+
+#[test]
+fn events_beside_a_reservation(rt: HostRuntime) -> Result<(), Fail> {
+    try_all(&rt, rt.alloc(), BESIDE)
 }

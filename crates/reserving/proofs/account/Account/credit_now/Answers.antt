@@ -10,6 +10,7 @@ abbrev rows_of : (c : goal.After-self-1) → AccountRows
 rows_of c = record {
   book = c.self.inside.book.now;
   as_of = c.self.inside.as_of;
+  barred = c.self.inside.barred;
   buckets = c.self.inside.purse;
   counters = c.self.inside.counters.items;
   sessions = c.self.inside.sessions.items;

@@ -9,6 +9,7 @@ invariant_of-self-2 c =
     let a : AccountRows = record {
       book = c.self.inside.book.now;
       as_of = c.self.inside.as_of;
+      barred = c.self.inside.barred;
       buckets = c.self.inside.purse;
       counters = c.self.inside.counters.items;
       sessions = c.self.inside.sessions.items;

@@ -17,6 +17,7 @@ invariant_of-self c =
     let a : AccountRows = record {
       book = c.self.inside.book.now;
       as_of = c.self.inside.as_of;
+      barred = c.self.inside.barred;
       buckets = c.self.inside.purse;
       counters = c.self.inside.counters.items;
       sessions = c.self.inside.sessions.items;

@@ -16,6 +16,7 @@ lapse_groups-requires c =
 abbrev rows_of : (c : goal.After-moment-1) → StoredRows
 rows_of c = record {
   as_of = c.self.inside.as_of;
+  barred = c.self.inside.barred;
   buckets = c.self.inside.purse;
   counters = c.self.inside.counters.items;
   sessions = c.self.inside.sessions.items;
@@ -28,6 +29,7 @@ abbrev after : (c : goal.After-moment-1) → AccountRows
 after c = record {
   book = c.args.book.now;
   as_of = c.args.moment;
+  barred = c.self.inside.barred;
   buckets = c.expire.new.self;
   counters = c.self.inside.counters.items;
   sessions = c.lapse_sessions.new.sessions.items;

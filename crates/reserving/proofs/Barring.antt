@@ -1,0 +1,64 @@
+-- The account is barred, or no longer: what that leaves of the rows.
+use Rattle.std.proofs.Common.{◌≡◌, ℕ, ◌+◌, Bool, true, false, refl, sym, ◌∙◌, arith}
+use Rattle.std.specs.Prelude.{if◌then◌else◌, ◌==◌}
+use Rattle.reserving.specs.Ledger.{Ledger, counter}
+use Rattle.reserving.specs.Pricing.{cycle_at}
+use Rattle.reserving.specs.Rows.{AccountRows, IsAccount, IsRowsOf}
+use Rattle.reserving.specs.Requests.{with_bar}
+use Rattle.reserving.proofs.Touching.{SameMoney, buckets_at-same, group_at-same, reservation_at-same, counter_at-same, unknown-same}
+
+pub same_barred : (t : ℕ) (barred : Bool) (ledger : Ledger) → SameMoney (with_bar t barred ledger) ledger
+same_barred t barred ledger = record {
+  charged = λ m. omega arith;
+  held = λ p m. omega arith;
+  credits = refl;
+  used = λ x g. omega arith;
+  has_group = λ x g. refl;
+  open_grant = λ x g. refl;
+  counter = λ f g c. none (f t == c) (counter f g c ledger);
+  has_counter = λ f g c. refl;
+  next_bucket = omega arith;
+  next_charge = omega arith;
+}
+  where
+    none : (b : Bool) (m : ℕ) → (if b then 0 else 0) + m ≡ m
+    none true m = omega arith
+    none false m = omega arith
+
+pub IsRowsOf-barred : (ledger : Ledger) (a : AccountRows) (t : ℕ) (barred : Bool) → IsRowsOf ledger a → IsRowsOf (with_bar t barred ledger) (record a { barred = barred })
+IsRowsOf-barred ledger a t barred rows = record {
+  barred = refl;
+  buckets = rows.buckets ∙ sym (buckets_at-same a.book.validity a.as_of more ledger same (λ n. refl));
+  sessions = rows.sessions;
+  groups = λ s g. rows.groups s g ∙ sym (group_at-same a.book.validity a.as_of more ledger s g same (reservation_at-same a.book.validity a.as_of more ledger s g same refl));
+  counters = λ g c. rows.counters g c ∙ sym (counter_at-same (cycle_at a.book g) more ledger g c same);
+  next_bucket = rows.next_bucket ∙ sym same.next_bucket;
+  next_charge = rows.next_charge ∙ sym same.next_charge;
+  touched = rows.touched;
+  unknown = λ s e. unknown-same s more ledger same refl (rows.unknown s e);
+  fresh = λ n le. same.charged n ∙ rows.fresh n le;
+  free = λ n p le. same.held p n ∙ rows.free n p le;
+}
+  where
+    more : Ledger
+    more = with_bar t barred ledger
+
+    same : SameMoney more ledger
+    same = same_barred t barred ledger
+
+-- what each account keeps doesn't speak of the bar
+pub IsAccount-barred : (a : AccountRows) (barred : Bool) → IsAccount a → IsAccount (record a { barred = barred })
+IsAccount-barred a barred is = record {
+  book = is.book;
+  sound = is.sound;
+  below = is.below;
+  next_bucket = is.next_bucket;
+  next_charge = is.next_charge;
+  sessions = is.sessions;
+  groups = is.groups;
+  counters = is.counters;
+  used = is.used;
+  counted = is.counted;
+  held = is.held;
+  named = is.named;
+}

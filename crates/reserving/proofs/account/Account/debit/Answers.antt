@@ -1,0 +1,73 @@
+use Rattle.std.proofs.Common.{◌≡◌, true, false, sym, ap, ◌∙◌, arith}
+use Rattle.std.specs.Ordering.{is_lt, nat_cmp}
+use Rattle.units.specs.declared.blocks.Units.{Units}
+use Rattle.units.specs.declared.money.Amount.{Amount}
+use Rattle.rating.specs.declared.report.Rated.{Rated}
+use Rattle.reserving.specs.Pricing.{cycle_at}
+use Rattle.reserving.specs.Settlement.{passes}
+use Rattle.reserving.specs.Sessions.{session_in}
+use Rattle.reserving.specs.Changes.{advanced, used_in, count_in, event_price_in, debited_account}
+use Rattle.reserving.specs.Rows.{AccountRows}
+use Rattle.reserving.proofs.Advancing.{session_in-advanced}
+use Rattle.reserving.proofs.SettledCall.{within_used, within_counted, there_later, counter_there, used_middle, count_middle}
+use Rattle.reserving.proofs.ChargeRows.{charge-numbered}
+use Rattle.reserving.proofs.Debited.{covered_is, debit_passes_is, debit_is}
+use Rattle.reserving.proofs.account.Account.debit.Goals as goal
+
+pub returns-then-lt-clause-debit : goal.returns-then-lt-clause-debit
+returns-then-lt-clause-debit c = λ ledger rows.
+    let price : c.event_price-price.result.amount.0 ≡ (event_price_in c.args.group c.args.units.0 c.args.moment c.args.self.now).amount.0 = ap (λ (x : Rated). x.amount.0) c.event_price-price.ensures in
+    covered_is true ledger c.args.self.now c.args.group c.args.units.0 c.args.moment c.funds.result.0 c.event_price-price.result.amount.0 rows (c.funds.ensures.ledger ledger rows) price
+    (sym c.lt.ensures ∙ c.if-lt.true)
+
+pub returns-in_default-clause-limit : goal.returns-in_default-clause-limit
+returns-in_default-clause-limit c = λ e ledger rows.
+    let a : AccountRows = c.args.self.now in
+    let price : c.event_price-price.result.amount.0 ≡ (event_price_in c.args.group c.args.units.0 c.args.moment c.args.self.now).amount.0 = ap (λ (x : Rated). x.amount.0) c.event_price-price.ensures in (
+      covered_is false ledger c.args.self.now c.args.group c.args.units.0 c.args.moment c.funds.result.0 c.event_price-price.result.amount.0 rows (c.funds.ensures.ledger ledger rows) price (sym c.lt.ensures ∙ c.if-lt.false),
+      debit_passes_is ledger c.args.self.now c.args.session.now c.args.group c.args.units.0 c.args.moment rows
+          ∙ (λ i. passes (used_in c.args.session.now c.args.group a.groups) c.args.units.0 (count_in c.args.group (cycle_at a.book c.args.group c.args.moment) a.counters) (sym c.event_price-price.ensures i).blocks a.next_charge)
+          ∙ c.within_limits.ensures.none c.in_default.is,
+    )
+
+pub charge_use-charged-requires-clause-group : goal.charge_use-charged-requires-clause-group
+charge_use-charged-requires-clause-group c = there_later c.args.self.now c.advance.new.self c.args.session.now c.args.group c.cycle_at-cycle.result c.args.moment (c.advance.ensures.rows ∙ ap (advanced c.args.moment) c.in_ok-make_rows.ensures.ok)
+
+pub charge_use-charged-requires-clause-counter : goal.charge_use-charged-requires-clause-counter
+charge_use-charged-requires-clause-counter c = counter_there c.args.self.now c.advance.new.self c.args.session.now c.args.group c.cycle_at-cycle.result c.args.moment (c.advance.ensures.rows ∙ ap (advanced c.args.moment) c.in_ok-make_rows.ensures.ok)
+
+pub charge_use-charged-requires-clause-used : goal.charge_use-charged-requires-clause-used
+charge_use-charged-requires-clause-used c =
+    let same : used_in c.args.session.now c.args.group c.advance.new.self.groups ≡ used_in c.args.session.now c.args.group c.args.self.now.groups = used_middle c.args.self.now c.advance.new.self c.args.session.now c.args.group c.cycle_at-cycle.result c.args.moment (c.advance.ensures.rows ∙ ap (advanced c.args.moment) c.in_ok-make_rows.ensures.ok) in
+    let units : c.in-Some.rated.units.0 ≡ c.args.units.0 = ap (λ (x : Units). x.0) c.in-Some.ensures.units in
+    omega (arith, same, units, within_used (used_in c.args.session.now c.args.group c.args.self.now.groups) c.args.units.0 (count_in c.args.group (cycle_at c.args.self.now.book c.args.group c.args.moment) c.args.self.now.counters) c.event_price-price.result.blocks c.args.self.now.next_charge c.in-Some.ensures.some)
+
+pub charge_use-charged-requires-clause-counted : goal.charge_use-charged-requires-clause-counted
+charge_use-charged-requires-clause-counted c =
+    let cycle : count_in c.args.group c.cycle_at-cycle.result c.args.self.now.counters ≡ count_in c.args.group (cycle_at c.args.self.now.book c.args.group c.args.moment) c.args.self.now.counters = ap (λ x. count_in c.args.group x c.args.self.now.counters) c.cycle_at-cycle.ensures in
+    let same : count_in c.args.group c.cycle_at-cycle.result c.advance.new.self.counters ≡ count_in c.args.group c.cycle_at-cycle.result c.args.self.now.counters = count_middle c.args.self.now c.advance.new.self c.args.session.now c.args.group c.cycle_at-cycle.result c.args.moment (c.advance.ensures.rows ∙ ap (advanced c.args.moment) c.in_ok-make_rows.ensures.ok) in
+    omega (arith, same, cycle, c.in-Some.ensures.blocks, within_counted (used_in c.args.session.now c.args.group c.args.self.now.groups) c.args.units.0 (count_in c.args.group (cycle_at c.args.self.now.book c.args.group c.args.moment) c.args.self.now.counters) c.event_price-price.result.blocks c.args.self.now.next_charge c.in-Some.ensures.some)
+
+pub returns-clause-debit : goal.returns-clause-debit
+returns-clause-debit c = λ ledger rows.
+    let a : AccountRows = c.args.self.now in
+    let price : c.in-Some.rated.amount.0 ≡ (event_price_in c.args.group c.args.units.0 c.args.moment a).amount.0 = ap (λ (x : Amount). x.0) c.in-Some.ensures.amount ∙ ap (λ (x : Rated). x.amount.0) c.event_price-price.ensures in
+    let blocks : c.in-Some.rated.blocks.0 ≡ (event_price_in c.args.group c.args.units.0 c.args.moment a).blocks = c.in-Some.ensures.blocks ∙ ap (λ (x : Rated). x.blocks) c.event_price-price.ensures in
+    debit_is ledger a c.advance.new.self c.charge_use-charged.new.self c.args.session.now c.args.group c.cycle_at-cycle.result c.args.moment c.args.units.0 c.funds.result.0 _
+    c.in-Some.ensures.account rows c.requires c.cycle_at-cycle.ensures (c.funds.ensures.ledger ledger rows)
+    (ap (λ (x : Amount). is_lt (nat_cmp c.funds.result.0 x.0)) c.in-Some.ensures.amount ∙ sym c.lt.ensures ∙ c.if-lt.false)
+    (ap (λ (x : Rated). passes (used_in c.args.session.now c.args.group a.groups) c.args.units.0 (count_in c.args.group (cycle_at a.book c.args.group c.args.moment) a.counters) x.blocks a.next_charge) (sym c.event_price-price.ensures) ∙ c.in-Some.ensures.some)
+    blocks price
+    (c.advance.ensures.rows ∙ ap (advanced c.args.moment) c.in_ok-make_rows.ensures.ok)
+    (c.charge_use-charged.ensures.rows ∙ (λ i. debited_account c.args.session.now c.args.group (c.in-Some.ensures.units i).0 c.in-Some.rated.blocks.0 c.in-Some.rated.amount.0 c.advance.new.self))
+    c.charge_use-charged.ensures.uncollected c.charge_use-charged.ensures.collected
+
+pub returns-clause-new : goal.returns-clause-new
+returns-clause-new c = λ x h.
+    let middle : c.charge_use-charged.new.self.sessions ≡ (advanced c.args.moment c.args.self.now).sessions =
+    ap (λ (a : AccountRows). a.sessions) (c.charge_use-charged.ensures.rows ∙ ap (debited_account c.args.session.now c.args.group c.in-Some.rated.units.0 c.in-Some.rated.blocks.0 c.in-Some.rated.amount.0) (c.advance.ensures.rows ∙ ap (advanced c.args.moment) c.in_ok-make_rows.ensures.ok)) in
+    ap (session_in x) middle ∙ session_in-advanced x c.args.moment c.args.self.now h
+
+pub returns-clause-number : goal.returns-clause-number
+returns-clause-number c =
+    charge-numbered (used_in c.args.session.now c.args.group c.args.self.now.groups) c.args.units.0 (count_in c.args.group (cycle_at c.args.self.now.book c.args.group c.args.moment) c.args.self.now.counters) c.event_price-price.result.blocks c.args.self.now.next_charge c.in-Some.ensures.some

@@ -1,0 +1,8 @@
+use Rattle.std.proofs.Common.{ap, ◌∙◌}
+use Rattle.rating.specs.declared.report.Rated.{Rated}
+use Rattle.reserving.proofs.Debited.{event_price_is}
+use Rattle.reserving.proofs.account.Account.quote.Goals as goal
+
+pub returns-clause-ledger : goal.returns-clause-ledger
+returns-clause-ledger c = λ ledger rows.
+    ap (λ (x : Rated). x.amount.0) (c.event_price.ensures ∙ event_price_is ledger c.args.self.now c.args.group c.args.units.0 c.args.moment rows)

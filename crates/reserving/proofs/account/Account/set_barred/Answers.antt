@@ -1,0 +1,10 @@
+use Rattle.std.proofs.Common.{sym, subst}
+use Rattle.reserving.specs.Rows.{AccountRows, IsRowsOf}
+use Rattle.reserving.specs.Requests.{with_bar}
+use Rattle.reserving.proofs.Barring.{IsRowsOf-barred}
+use Rattle.reserving.proofs.account.Account.set_barred.Goals as goal
+
+pub returns-clause-ledger : goal.returns-clause-ledger
+returns-clause-ledger c = λ ledger rows.
+    subst (λ (a : AccountRows). IsRowsOf (with_bar c.args.moment c.args.barred ledger) (record a { barred = c.args.barred })) (sym c.self.view_is)
+    (IsRowsOf-barred ledger c.advance.new.self c.args.moment c.args.barred (c.advance.ensures.ledger ledger rows))

@@ -1,0 +1,23 @@
+use identifiers::SessionId;
+use units::{Amount, Blocks, Moment};
+
+/// What a report or a debit came to, as it is kept: what is collected and what isn't sum to the rated amount.
+#[derive(Clone, Debug, Drop)]
+pub struct ChargeRow {
+    /// Its number within the account, from 1.
+    pub number: u32,
+    /// When it was charged.
+    pub moment: Moment,
+    /// The session that used the units.
+    pub session: SessionId,
+    /// Rating-Group (RFC 8506 section 8.29).
+    pub group: u32,
+    /// The blocks that it started.
+    pub blocks: Blocks,
+    /// What they cost.
+    pub rated: Amount,
+    /// What the reservation's holds and the eligible buckets paid.
+    pub collected: Amount,
+    /// What they didn't reach.
+    pub uncollected: Amount,
+}

@@ -1,0 +1,126 @@
+ghost use Rattle.std.specs.Prelude.{◌≡◌, ◌+◌, ◌≤◌, ◌<◌, ℕ, true, None, List, [], is_some, OnErr, IfOk, IfSome, Err};
+ghost use Rattle.buckets.specs.Holding.{uncollected};
+ghost use Rattle.reserving.specs.Ledger.{Ledger};
+ghost use Rattle.reserving.specs.Pricing.{cycle_at};
+ghost use Rattle.reserving.specs.Sessions.{session_in, group_in, counter_in};
+ghost use Rattle.reserving.specs.Debiting.{event_price, is_covered, debit_passes};
+ghost use Rattle.reserving.specs.Rows.{IsRowsOf};
+ghost use Rattle.reserving.specs.Results.{IsDebit};
+ghost use Rattle.reserving.specs.Changes.{used_in, count_in, event_price_in, debited_account};
+
+use crate::account::Account;
+use crate::fault::AccountFault;
+use crate::grouping;
+use crate::pricing::{Tally, price};
+use crate::settle::{RatedUse, Settled};
+use buckets::{Charged, Holds};
+use identifiers::SessionId;
+use rating::{Periods, Rated};
+use units::{Amount, Moment, Units};
+
+impl<'b> Account<'b> {
+    /// What the units of an event cost: they start blocks from no use on, at the period of the moment (RFC 8506 section
+    /// 6.1; TS 32.296, rating function). It takes no memory and changes nothing.
+    pub fn quote(&self, group: u32, units: Units, moment: Moment) -> Amount
+        ensures rows { result.0 ≡ (event_price_in group units.0 moment self.now).amount.0 }
+        ensures ledger { (ledger : Ledger) → IsRowsOf ledger self.now →
+            result.0 ≡ (event_price self.now.book moment group units.0 ledger).amount.0 }
+    {
+        self.event_price(group, units, moment).amount
+    }
+
+    /// The blocks that an event's units start, and what these cost. A group that the book doesn't have costs nothing.
+    fn event_price(&self, group: u32, units: Units, moment: Moment) -> Rated
+        ensures { result ≡ event_price_in group units.0 moment self.now }
+    {
+        let Some(tariff) = self.book.tariff(group) else {
+            return Rated {
+                amount: Amount(0),
+                blocks: 0,
+            };
+        };
+        let period = self.book.period_at(moment);
+        let periods = Periods {
+            before: period,
+            after: period,
+        };
+        let tally = Tally {
+            untagged: units.0 as u128,
+            before: 0,
+            indeterminate: 0,
+            after: 0,
+        };
+        price(tariff, periods, 0, self.place_at(group, moment), &tally)
+    }
+
+    /// Charges the units of an event at once, where the eligible buckets cover their price whole (RFC 8506 section 6.3;
+    /// TS 32.299, immediate event charging). None: they don't, and nothing has changed.
+    ///
+    /// At a fault nothing has changed: `Limit` where the price is covered and the session's use, the group's counter or
+    /// the number of the charge would pass its limit, else `Memory`.
+    pub fn debit(
+        &mut self,
+        session: &SessionId,
+        group: u32,
+        units: Units,
+        moment: Moment,
+    ) -> Result<Option<Settled>, AccountFault>
+        requires { self.old.as_of ≤ moment }
+        ensures debit { IfOk result (λ s. (ledger : Ledger) → IsRowsOf ledger self.old →
+            IsDebit self.old.book moment session.now group units.0 ledger self.new s) }
+        ensures limit { result ≡ Err AccountFault.Limit → (ledger : Ledger) → IsRowsOf ledger self.old →
+            (is_covered self.old.book moment group units.0 ledger ≡ true) × (debit_passes self.old.book moment session.now group units.0 ledger ≡ true) }
+        ensures uncovered { IfOk result (λ s. s ≡ None → self.new ≡ self.old) }
+        ensures number { IfOk result (λ s. IfSome s (λ given. self.old.next_charge ≤ 4_294_967_295)) }
+        ensures as_of { IfOk result (λ s. IfSome s (λ given. self.new.as_of ≡ moment)) }
+        ensures new { IfOk result (λ s. (x : List ℕ) → session_in x self.old.sessions ≡ None → session_in x self.new.sessions ≡ None) }
+        ensures tariff { self.new.book ≡ self.old.book }
+        ensures err { OnErr result (self.new ≡ self.old) }
+    {
+        let price = self.event_price(group, units, moment);
+        if self.funds(group, moment) < price.amount {
+            return Ok(None);
+        }
+        let Some(rated) = self.within_limits(session, group, units, price, moment) else {
+            return Err(AccountFault::Limit);
+        };
+        let cycle = self.cycle_at(group, moment);
+        self.make_rows(session, group, cycle)?;
+        self.advance(moment);
+        let charged = self.charge_use(session, group, cycle, rated);
+        Ok(Some(Settled {
+            blocks: rated.blocks,
+            rated: rated.amount,
+            collected: charged.collected,
+            uncollected: charged.uncollected,
+        }))
+    }
+
+    /// Charges a use to what is eligible, in rows that are there.
+    fn charge_use(
+        &mut self,
+        session: &SessionId,
+        group: u32,
+        cycle: u32,
+        rated: RatedUse,
+    ) -> Charged
+        requires group { is_some (group_in session.now group self.old.groups) ≡ true }
+        requires counter { is_some (counter_in group cycle self.old.counters) ≡ true }
+        requires cycle { cycle ≡ cycle_at self.old.book group self.old.as_of }
+        requires used { used_in session.now group self.old.groups + rated.units.0 ≤ 1_000_000_000_000_000_000 }
+        requires counted { count_in group cycle self.old.counters + rated.blocks.0 ≤ 4_000_000_000_000_000_000 }
+        requires charges { self.old.next_charge < 4_294_967_296 }
+        ensures rows { self.new ≡ debited_account session.now group rated.units.0 rated.blocks.0 rated.amount.0 self.old }
+        ensures uncollected { result.uncollected.0 ≡ uncollected [] group self.old.as_of rated.amount.0 self.old.buckets }
+        ensures collected { result.collected.0 + result.uncollected.0 ≡ rated.amount.0 }
+    {
+        grouping::count_units(&mut self.groups, session, group, rated.units.0);
+        let none_held = Holds::none(self.alloc);
+        let charged = self
+            .purse
+            .settle(none_held, group, self.as_of, rated.amount);
+        grouping::count_blocks(&mut self.counters, group, cycle, rated.blocks.0);
+        self.next_charge += 1;
+        charged
+    }
+}
