@@ -5,16 +5,17 @@ use Rattle.std.specs.List.{find}
 use Rattle.std.specs.HashMap.{get}
 use Rattle.std.specs.Cmp.Lexicographic.{bytes_decides}
 use Rattle.commands.specs.Alike.{same_name}
+use Rattle.reserving.specs.declared.charge.ChargeRow.{ChargeRow}
 use Rattle.reserving.specs.Keyed.{put}
+use Rattle.reserving.specs.Stored.{StoredRows}
 use Rattle.reserving.proofs.Lists.{find-passes, find-put, find-put_other}
 use Rattle.reserving.proofs.KeysFound.{placed, unplaced, put-none}
 use Rattle.keepers.specs.declared.key.Key.{Key}
 use Rattle.keepers.specs.declared.key.KeptAnswer.{KeptAnswer}
 use Rattle.keepers.specs.declared.entries.Entry.{Entry}
 use Rattle.keepers.specs.Keys.{same_key}
-use Rattle.keepers.specs.Tables.{AccountRow}
 use Rattle.keepers.specs.Change.{kept_after}
-use Rattle.keepers.specs.Memory.{is_entry, entry_in, row_of_entry, answer_of_entry}
+use Rattle.keepers.specs.Memory.{is_entry, entry_in, rows_of_entry, answer_of_entry, charges_of_entry}
 
 pub on_err : {T E P : Type 0} (r : Result T E) → P → OnErr r P
 on_err (Ok x) p = tt
@@ -44,11 +45,11 @@ entry_put n a e xs number = at (same_name n a) refl
         ∙ find-put (is_entry n) e xs ((bytes_decides e.number n).1 number)
     at false h = find-put_other (is_entry n) (is_entry a) e xs (ap (λ m. same_name m a) number ∙ h) (other h)
 
-pub rows_put : (n a : List ℕ) (e : Entry) (row : AccountRow) (xs : List Entry) → e.number ≡ n → row_of_entry e ≡ row →
-    option_map row_of_entry (entry_in a (put (is_entry n) e xs)) ≡ (if same_name n a then Some row else option_map row_of_entry (entry_in a xs))
-rows_put n a e row xs number is = ap (option_map row_of_entry) (entry_put n a e xs number) ∙ at (same_name n a)
+pub rows_put : (n a : List ℕ) (e : Entry) (rows : StoredRows) (xs : List Entry) → e.number ≡ n → rows_of_entry e ≡ rows →
+    option_map rows_of_entry (entry_in a (put (is_entry n) e xs)) ≡ (if same_name n a then Some rows else option_map rows_of_entry (entry_in a xs))
+rows_put n a e rows xs number is = ap (option_map rows_of_entry) (entry_put n a e xs number) ∙ at (same_name n a)
   where
-    at : (t : Bool) → option_map row_of_entry (if t then Some e else entry_in a xs) ≡ (if t then Some row else option_map row_of_entry (entry_in a xs))
+    at : (t : Bool) → option_map rows_of_entry (if t then Some e else entry_in a xs) ≡ (if t then Some rows else option_map rows_of_entry (entry_in a xs))
     at true = ap Some is
     at false = refl
 
@@ -59,6 +60,14 @@ answers_put n a k e kept xs number is = ap (answer_of_entry k) (entry_put n a e 
   where
     at : (t : Bool) → same_name n a ≡ t → answer_of_entry k (if t then Some e else entry_in a xs) ≡ (if t then kept_after kept k (answer_of_entry k (entry_in a xs)) else answer_of_entry k (entry_in a xs))
     at true h = is k ∙ ap (λ m. kept_after kept k (answer_of_entry k (entry_in m xs))) ((bytes_decides n a).0 h)
+    at false h = refl
+
+pub charges_put : (n a : List ℕ) (e : Entry) (more : List ChargeRow) (xs : List Entry) → e.number ≡ n → e.charges.items ≡ charges_of_entry (entry_in n xs) ++ more →
+    charges_of_entry (entry_in a (put (is_entry n) e xs)) ≡ (if same_name n a then charges_of_entry (entry_in a xs) ++ more else charges_of_entry (entry_in a xs))
+charges_put n a e more xs number is = ap charges_of_entry (entry_put n a e xs number) ∙ at (same_name n a) refl
+  where
+    at : (t : Bool) → same_name n a ≡ t → charges_of_entry (if t then Some e else entry_in a xs) ≡ (if t then charges_of_entry (entry_in a xs) ++ more else charges_of_entry (entry_in a xs))
+    at true h = is ∙ ap (λ m. charges_of_entry (entry_in m xs) ++ more) ((bytes_decides n a).0 h)
     at false h = refl
 
 pub length-put : {A : Type 0} (p : A → Bool) (x : A) (xs : List A) → length (put p x xs) ≡ (if is_some (find p xs) then length xs else length xs + 1)
@@ -76,12 +85,12 @@ length-put p x (y ∷ ys) = at (p y) (length-put p x ys)
 
 -- ---- an account that is put as it was
 
-pub rows_stay : (n a : List ℕ) (e old : Entry) (xs : List Entry) → IsFound n old xs → e.number ≡ n → row_of_entry e ≡ row_of_entry old →
-    option_map row_of_entry (entry_in a (put (is_entry n) e xs)) ≡ option_map row_of_entry (entry_in a xs)
-rows_stay n a e old xs there number is = rows_put n a e (row_of_entry old) xs number is ∙ at (same_name n a) refl
+pub rows_stay : (n a : List ℕ) (e old : Entry) (xs : List Entry) → IsFound n old xs → e.number ≡ n → rows_of_entry e ≡ rows_of_entry old →
+    option_map rows_of_entry (entry_in a (put (is_entry n) e xs)) ≡ option_map rows_of_entry (entry_in a xs)
+rows_stay n a e old xs there number is = rows_put n a e (rows_of_entry old) xs number is ∙ at (same_name n a) refl
   where
-    at : (t : Bool) → same_name n a ≡ t → (if t then Some (row_of_entry old) else option_map row_of_entry (entry_in a xs)) ≡ option_map row_of_entry (entry_in a xs)
-    at true h = ap (option_map row_of_entry) (sym there.found ∙ ap (λ m. entry_in m xs) ((bytes_decides n a).0 h))
+    at : (t : Bool) → same_name n a ≡ t → (if t then Some (rows_of_entry old) else option_map rows_of_entry (entry_in a xs)) ≡ option_map rows_of_entry (entry_in a xs)
+    at true h = ap (option_map rows_of_entry) (sym there.found ∙ ap (λ m. entry_in m xs) ((bytes_decides n a).0 h))
     at false h = refl
 
 pub answers_stay : (n a : List ℕ) (k : Key) (e old : Entry) (xs : List Entry) → IsFound n old xs → e.number ≡ n →
@@ -94,6 +103,14 @@ answers_stay n a k e old xs there number is =
     at true = refl
     at false = refl
 
+pub charges_stay : (n a : List ℕ) (e old : Entry) (xs : List Entry) → IsFound n old xs → e.number ≡ n → e.charges.items ≡ old.charges.items →
+    charges_of_entry (entry_in a (put (is_entry n) e xs)) ≡ charges_of_entry (entry_in a xs)
+charges_stay n a e old xs there number is = ap charges_of_entry (entry_put n a e xs number) ∙ at (same_name n a) refl
+  where
+    at : (t : Bool) → same_name n a ≡ t → charges_of_entry (if t then Some e else entry_in a xs) ≡ charges_of_entry (entry_in a xs)
+    at true h = is ∙ ap charges_of_entry (sym there.found ∙ ap (λ m. entry_in m xs) ((bytes_decides n a).0 h))
+    at false h = refl
+
 -- ---- at the place where it was found
 
 module _ (n : List ℕ) (place : ℕ) (xs : List Entry) (old e : Entry) (at : position (is_entry n) xs ≡ Some place) (is : old ≡ get_or xs place old) (number : e.number ≡ old.number) where
@@ -103,9 +120,9 @@ module _ (n : List ℕ) (place : ℕ) (xs : List Entry) (old e : Entry) (at : po
   set_put : set xs place e ≡ put (is_entry n) e xs
   set_put = sym (placed (is_entry n) e place xs at).put
 
-  pub rows_written : (a : List ℕ) (row : AccountRow) → row_of_entry e ≡ row →
-      option_map row_of_entry (entry_in a (set xs place e)) ≡ (if same_name n a then Some row else option_map row_of_entry (entry_in a xs))
-  rows_written a row same = ap (λ ys. option_map row_of_entry (entry_in a ys)) set_put ∙ rows_put n a e row xs (number ∙ there.number) same
+  pub rows_written : (a : List ℕ) (rows : StoredRows) → rows_of_entry e ≡ rows →
+      option_map rows_of_entry (entry_in a (set xs place e)) ≡ (if same_name n a then Some rows else option_map rows_of_entry (entry_in a xs))
+  rows_written a rows same = ap (λ ys. option_map rows_of_entry (entry_in a ys)) set_put ∙ rows_put n a e rows xs (number ∙ there.number) same
 
   pub answers_written : (kept : Option KeptAnswer) (a : List ℕ) (k : Key) → ((q : Key) → get same_key e.answers q ≡ kept_after kept q (get same_key old.answers q)) →
       answer_of_entry k (entry_in a (set xs place e)) ≡ (if same_name n a then kept_after kept k (answer_of_entry k (entry_in a xs)) else answer_of_entry k (entry_in a xs))
@@ -113,14 +130,23 @@ module _ (n : List ℕ) (place : ℕ) (xs : List Entry) (old e : Entry) (at : po
       ap (λ ys. answer_of_entry k (entry_in a ys)) set_put
       ∙ answers_put n a k e kept xs (number ∙ there.number) (λ q. same q ∙ ap (λ o. kept_after kept q (answer_of_entry q o)) (sym there.found))
 
+  pub charges_written : (more : List ChargeRow) (a : List ℕ) → e.charges.items ≡ old.charges.items ++ more →
+      charges_of_entry (entry_in a (set xs place e)) ≡ (if same_name n a then charges_of_entry (entry_in a xs) ++ more else charges_of_entry (entry_in a xs))
+  charges_written more a same =
+      ap (λ ys. charges_of_entry (entry_in a ys)) set_put
+      ∙ charges_put n a e more xs (number ∙ there.number) (same ∙ ap (λ o. charges_of_entry o ++ more) (sym there.found))
+
   pub count_written : length (set xs place e) ≡ (if is_some (entry_in n xs) then length xs else length xs + 1)
   count_written = ap length set_put ∙ length-put (is_entry n) e xs
 
-  pub rows_left : (a : List ℕ) → row_of_entry e ≡ row_of_entry old → option_map row_of_entry (entry_in a (set xs place e)) ≡ option_map row_of_entry (entry_in a xs)
-  rows_left a same = ap (λ ys. option_map row_of_entry (entry_in a ys)) set_put ∙ rows_stay n a e old xs there (number ∙ there.number) same
+  pub rows_left : (a : List ℕ) → rows_of_entry e ≡ rows_of_entry old → option_map rows_of_entry (entry_in a (set xs place e)) ≡ option_map rows_of_entry (entry_in a xs)
+  rows_left a same = ap (λ ys. option_map rows_of_entry (entry_in a ys)) set_put ∙ rows_stay n a e old xs there (number ∙ there.number) same
 
   pub answers_left : (a : List ℕ) (k : Key) → ((q : Key) → get same_key e.answers q ≡ get same_key old.answers q) → answer_of_entry k (entry_in a (set xs place e)) ≡ answer_of_entry k (entry_in a xs)
   answers_left a k same = ap (λ ys. answer_of_entry k (entry_in a ys)) set_put ∙ answers_stay n a k e old xs there (number ∙ there.number) same
+
+  pub charges_left : (a : List ℕ) → e.charges.items ≡ old.charges.items → charges_of_entry (entry_in a (set xs place e)) ≡ charges_of_entry (entry_in a xs)
+  charges_left a same = ap (λ ys. charges_of_entry (entry_in a ys)) set_put ∙ charges_stay n a e old xs there (number ∙ there.number) same
 
 -- ---- a new account
 
@@ -128,14 +154,19 @@ module _ (n : List ℕ) (xs : List Entry) (e : Entry) (none : position (is_entry
   push_put : xs ++ e ∷ [] ≡ put (is_entry n) e xs
   push_put = sym (put-none (is_entry n) e xs (unplaced (is_entry n) xs none))
 
-  pub rows_added : (a : List ℕ) → option_map row_of_entry (entry_in a (xs ++ e ∷ [])) ≡ (if same_name n a then Some (row_of_entry e) else option_map row_of_entry (entry_in a xs))
-  rows_added a = ap (λ ys. option_map row_of_entry (entry_in a ys)) push_put ∙ rows_put n a e (row_of_entry e) xs number refl
+  pub rows_added : (a : List ℕ) → option_map rows_of_entry (entry_in a (xs ++ e ∷ [])) ≡ (if same_name n a then Some (rows_of_entry e) else option_map rows_of_entry (entry_in a xs))
+  rows_added a = ap (λ ys. option_map rows_of_entry (entry_in a ys)) push_put ∙ rows_put n a e (rows_of_entry e) xs number refl
 
   pub answers_added : (kept : Option KeptAnswer) (a : List ℕ) (k : Key) → ((q : Key) → get same_key e.answers q ≡ kept_after kept q None) →
       answer_of_entry k (entry_in a (xs ++ e ∷ [])) ≡ (if same_name n a then kept_after kept k (answer_of_entry k (entry_in a xs)) else answer_of_entry k (entry_in a xs))
   answers_added kept a k same =
       ap (λ ys. answer_of_entry k (entry_in a ys)) push_put
       ∙ answers_put n a k e kept xs number (λ q. same q ∙ ap (λ o. kept_after kept q (answer_of_entry q o)) (sym (unplaced (is_entry n) xs none)))
+
+  pub charges_added : (a : List ℕ) → charges_of_entry (entry_in a (xs ++ e ∷ [])) ≡ (if same_name n a then charges_of_entry (entry_in a xs) ++ e.charges.items else charges_of_entry (entry_in a xs))
+  charges_added a =
+      ap (λ ys. charges_of_entry (entry_in a ys)) push_put
+      ∙ charges_put n a e e.charges.items xs number (ap (λ o. charges_of_entry o ++ e.charges.items) (sym (unplaced (is_entry n) xs none)))
 
   pub count_added : length (xs ++ e ∷ []) ≡ (if is_some (entry_in n xs) then length xs else length xs + 1)
   count_added = ap length push_put ∙ length-put (is_entry n) e xs

@@ -1,27 +1,28 @@
--- Accepted commands, the newest first: the notes that they leave of each account, and the tables that hold them.
+-- Accepted commands, the newest first: the history that they leave of each account, and the tables that hold it.
 -- Source: profile.
-use Rattle.std.specs.Prelude.{◌≡◌, ℕ, ◌+◌, ◌≤◌, Bool, true, false, if◌then◌else◌, List, [], ◌∷◌, ◌++◌, Option, Some, None}
+use Rattle.std.specs.Prelude.{◌≡◌, ℕ, ◌+◌, ◌≤◌, Bool, true, false, if◌then◌else◌, List, [], ◌∷◌, Option, Some, None}
 use Rattle.commands.specs.Alike.{same_name}
 use Rattle.commands.specs.declared.command.Command.{Command}
 use Rattle.commands.specs.declared.command.Command.TheVariants as command
 use Rattle.commands.specs.declared.answer.Answer.{Answer}
 use Rattle.tariffs.specs.Books.{Book}
 use Rattle.reserving.specs.Rows.{IsRowsOf}
-use Rattle.reserving.specs.Stored.{IsStored, priced}
+use Rattle.reserving.specs.Charges.{charge_rows}
+use Rattle.reserving.specs.Stored.{StoredRows, IsStored, priced}
 use Rattle.keepers.specs.declared.key.Key.{Key}
-use Rattle.keepers.specs.Tables.{Tables, AccountRow}
-use Rattle.keepers.specs.Noted.{Note, is_opened, is_barred, money, kept_under}
+use Rattle.keepers.specs.Tables.{Tables}
+use Rattle.keepers.specs.Histories.{History, no_history, kept_under}
 
 -- a command with its moment
 pub record Accepted : Type 0 where
   pub moment : ℕ
   pub command : Command
 
--- what a command is answered on an account's notes, whether it is accepted, and what it adds to them, the newest first
+-- what a command is answered on an account's history, whether it is accepted, and the history after it
 pub record Outcome : Type 0 where
   pub answer : Answer
   pub accepted : Bool
-  pub adds : List Note
+  pub after : History
 
 -- the account that a command names
 abbrev pub account_of : Command → Option (List ℕ)
@@ -76,33 +77,33 @@ abbrev pub own : List ℕ → List Accepted → List Accepted
 own a [] = []
 own a (d ∷ before) = if names a (account_of d.command) then d ∷ own a before else own a before
 
--- an account's row holds what its notes tell at a moment
-pub record IsHeld (book : Book) (t : ℕ) (notes : List Note) (row : AccountRow) : Type 0 where
-  pub barred : row.barred ≡ is_barred notes
-  pub moment : row.rows.as_of ≡ t
-  pub rows : IsRowsOf (money notes) (priced book row.rows)
-  -- and keeps what each account keeps
-  pub kept : IsStored row.rows
+-- an account's rows are those of its history at a moment
+pub record IsHeld (book : Book) (t : ℕ) (history : History) (account : StoredRows) : Type 0 where
+  pub moment : account.as_of ≡ t
+  pub rows : IsRowsOf history.ledger (priced book account)
+  -- and keep what each account keeps
+  pub kept : IsStored account
 
-abbrev pub IsRow : Book → ℕ → List Note → Option AccountRow → Type 0
-IsRow book t notes None = is_opened notes ≡ false
-IsRow book t notes (Some row) = (is_opened notes ≡ true) × IsHeld book t notes row
+abbrev pub IsRow : Book → ℕ → History → Option StoredRows → Type 0
+IsRow book t history None = history.opened ≡ false
+IsRow book t history (Some rows) = (history.opened ≡ true) × IsHeld book t history rows
 
--- by what commands come to on an account's notes
-module _ (outcome : List Note → Command → ℕ → Outcome) where
-  -- the account's notes
-  abbrev pub notes_of : List ℕ → List Accepted → List Note
-  notes_of a [] = []
-  notes_of a (d ∷ before) =
+-- by what commands come to on an account's history
+module _ (outcome : History → Command → ℕ → Outcome) where
+  -- the account's history
+  abbrev pub history_of : List ℕ → List Accepted → History
+  history_of a [] = no_history
+  history_of a (d ∷ before) =
       if names a (account_of d.command)
-      then (outcome (notes_of a before) d.command d.moment).adds ++ notes_of a before
-      else notes_of a before
+      then (outcome (history_of a before) d.command d.moment).after
+      else history_of a before
 
   -- ---- tables
 
   -- the tables of the accepted commands
   pub record AreTablesOf (book : Book) (list : List Accepted) (tables : Tables) : Type 0 where
     pub last : tables.last ≡ last_moment list
-    pub accounts : (a : List ℕ) → IsRow book (as_of a list) (notes_of a list) (tables.accounts a)
-    pub answers : (a : List ℕ) (k : Key) → tables.answers a k ≡ kept_under k (notes_of a list)
+    pub accounts : (a : List ℕ) → IsRow book (as_of a list) (history_of a list) (tables.accounts a)
+    pub answers : (a : List ℕ) (k : Key) → tables.answers a k ≡ kept_under k (history_of a list)
+    pub charges : (a : List ℕ) → tables.charges a ≡ charge_rows (history_of a list).ledger
     pub count : tables.count ≡ account_count list

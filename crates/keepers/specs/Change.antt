@@ -1,26 +1,22 @@
 -- What a keeper loads, and what a commit and a sweep leave.
 -- Source: profile.
-use Rattle.std.specs.Prelude.{ℕ, ◌+◌, Option, Some, None, List, is_some, if◌then◌else◌, option_map}
+use Rattle.std.specs.Prelude.{ℕ, ◌+◌, ◌++◌, Option, Some, None, List, is_some, if◌then◌else◌, option_map}
 use Rattle.commands.specs.Alike.{same_name}
 use Rattle.tariffs.specs.Books.{Book}
-use Rattle.reserving.specs.Stored.{stored, priced, advanced_stored}
+use Rattle.reserving.specs.Stored.{StoredRows, stored, priced, advanced_stored}
 use Rattle.keepers.specs.declared.key.Key.{Key}
 use Rattle.keepers.specs.declared.key.KeptAnswer.{KeptAnswer}
 use Rattle.keepers.specs.declared.loaded.Loaded.{Loaded}
 use Rattle.keepers.specs.declared.loaded.Change.{Change}
 use Rattle.keepers.specs.Keys.{same_key, key_of}
-use Rattle.keepers.specs.Tables.{Tables, AccountRow}
+use Rattle.keepers.specs.Tables.{Tables}
 
 -- an account as it is loaded: its rows, priced by the book
-abbrev pub loaded_row : Book → List ℕ → AccountRow → Loaded
-loaded_row book a row = record { number = a; barred = row.barred; account = priced book row.rows }
+abbrev pub loaded_from : Book → List ℕ → StoredRows → Loaded
+loaded_from book a rows = record { number = a; account = priced book rows }
 
-abbrev pub loaded : Book → List ℕ → Option AccountRow → Option Loaded
-loaded book a row = option_map (loaded_row book a) row
-
--- an account as it is kept
-abbrev pub row_of : Loaded → AccountRow
-row_of x = record { barred = x.barred; rows = stored x.account }
+abbrev pub loaded : Book → List ℕ → Option StoredRows → Option Loaded
+loaded book a rows = option_map (loaded_from book a) rows
 
 -- what is found under a key once an answer more is kept
 abbrev pub kept_after : Option KeptAnswer → Key → Option KeptAnswer → Option KeptAnswer
@@ -31,14 +27,12 @@ kept_after (Some kept) k before = if same_key (key_of kept.content) k then Some 
 abbrev pub changed : Change → Tables → Tables
 changed change tables = record {
   last = change.moment;
-  accounts = λ a. if same_name change.account.number a then Some (row_of change.account) else tables.accounts a;
+  accounts = λ a. if same_name change.account.number a then Some (stored change.account.account) else tables.accounts a;
   answers = λ a k. if same_name change.account.number a then kept_after change.kept k (tables.answers a k) else tables.answers a k;
+  charges = λ a. if same_name change.account.number a then tables.charges a ++ change.charges.items else tables.charges a;
   count = if is_some (tables.accounts change.account.number) then tables.count else tables.count + 1;
 }
 
-abbrev pub advanced_row : Book → ℕ → AccountRow → AccountRow
-advanced_row book t row = record row { rows = advanced_stored book t row.rows }
-
 -- the tables with each account at a moment
 abbrev pub swept : Book → ℕ → Tables → Tables
-swept book t tables = record tables { last = t; accounts = λ a. option_map (advanced_row book t) (tables.accounts a) }
+swept book t tables = record tables { last = t; accounts = λ a. option_map (advanced_stored book t) (tables.accounts a) }

@@ -4,5 +4,5 @@ pub mod Tables
 pub mod Change
 pub mod Memory
 pub mod Failing
-pub mod Noted
+pub mod Histories
 pub mod Accepted

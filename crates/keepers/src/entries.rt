@@ -1,18 +1,17 @@
-//! The accounts of the keeper in memory, each with its kept answers.
+//! The accounts of the keeper in memory, each with its charges and its kept answers.
 
-ghost use Rattle.std.specs.Prelude.{◌≡◌, ◌<◌, ◌^◌, ◌+◌, ℕ, List, Some, is_some, IfOk, OnOk, OnErr, map, length, position, option_map, if◌then◌else◌};
+ghost use Rattle.std.specs.Prelude.{◌≡◌, ◌<◌, ◌^◌, ◌+◌, ◌++◌, ℕ, List, Some, is_some, IfOk, OnOk, OnErr, map, length, position, option_map, if◌then◌else◌};
 ghost use Rattle.std.specs.HashMap.{get};
 ghost use Rattle.commands.specs.Alike.{same_name};
-ghost use Rattle.reserving.specs.Stored.{priced};
 ghost use Rattle.keepers.specs.declared.key.Key.{Key};
 ghost use Rattle.keepers.specs.Keys.{same_key};
 ghost use Rattle.keepers.specs.Change.{loaded, kept_after};
-ghost use Rattle.keepers.specs.Memory.{is_entry, entry_in, row_of_entry, answer_of_entry, advanced_entry};
+ghost use Rattle.keepers.specs.Memory.{is_entry, entry_in, rows_of_entry, answer_of_entry, charges_of_entry, advanced_entry};
 
 use crate::key::{KeptAnswer, Key};
 use crate::loaded::Loaded;
 use identifiers::AccountNumber;
-use reserving::StoredAccount;
+use reserving::{ChargeRow, StoredAccount};
 use std::alloc::{AllocError, Global};
 use std::collections::HashMap;
 use tariffs::TariffBook;
@@ -22,8 +21,8 @@ use units::Moment;
 #[derive(Drop)]
 pub(crate) struct Entry {
     pub(crate) number: AccountNumber,
-    pub(crate) barred: bool,
     pub(crate) rows: StoredAccount,
+    pub(crate) charges: Vec<ChargeRow>,
     pub(crate) answers: HashMap<Key, KeptAnswer>,
 }
 
@@ -40,7 +39,7 @@ pub(crate) fn load_entry<'b>(
     book: &'b TariffBook,
     number: &AccountNumber,
 ) -> Result<Option<Loaded<'b>>, AllocError>
-    ensures { IfOk result (λ found. found ≡ loaded book.now number.now (option_map row_of_entry (entry_in number.now entries.now))) }
+    ensures { IfOk result (λ found. found ≡ loaded book.now number.now (option_map rows_of_entry (entry_in number.now entries.now))) }
 {
     let Some(place) = place_of(entries, number) else {
         return Ok(None);
@@ -48,11 +47,7 @@ pub(crate) fn load_entry<'b>(
     let entry = &entries[place];
     let number = number.clone()?;
     let account = entry.rows.load(book)?;
-    Ok(Some(Loaded {
-        number,
-        barred: entry.barred,
-        account,
-    }))
+    Ok(Some(Loaded { number, account }))
 }
 
 /// A copy of what is kept under a key of the account of this number.
@@ -85,57 +80,74 @@ fn keep(answers: &mut HashMap<Key, KeptAnswer>, kept: Option<KeptAnswer>) -> Res
     Ok(())
 }
 
-/// Writes the row of an account that is there, and keeps an answer. At a fault nothing has changed.
+/// Writes the rows of an account that is there, its further charges and an answer. The room is taken first: at a fault
+/// nothing has changed.
 fn write_entry(
     entry: &mut Entry,
-    barred: bool,
     rows: StoredAccount,
+    mut charges: Vec<ChargeRow>,
     kept: Option<KeptAnswer>,
 ) -> Result<(), AllocError>
     ensures number { entry.new.number ≡ entry.old.number }
-    ensures row { OnOk result (row_of_entry entry.new ≡ record { barred = barred; rows = rows }) }
+    ensures rows { OnOk result (entry.new.rows ≡ rows) }
     ensures answers { OnOk result ((k : Key) → get same_key entry.new.answers k ≡ kept_after kept k (get same_key entry.old.answers k)) }
-    ensures err_row { OnErr result (row_of_entry entry.new ≡ row_of_entry entry.old) }
+    ensures charges { OnOk result (entry.new.charges.items ≡ entry.old.charges.items ++ charges.items) }
+    ensures err_rows { OnErr result (entry.new.rows ≡ entry.old.rows) }
     ensures err_answers { OnErr result ((k : Key) → get same_key entry.new.answers k ≡ get same_key entry.old.answers k) }
+    ensures err_charges { OnErr result (entry.new.charges.items ≡ entry.old.charges.items) }
 {
+    entry.charges.reserve(charges.len())?;
     keep(&mut entry.answers, kept)?;
-    entry.barred = barred;
+    entry.charges.append(&mut charges)?;
     entry.rows = rows;
     Ok(())
 }
 
-/// Writes the row of an account, which is new where there is none of its number, and keeps an answer. At a fault
-/// nothing has changed.
+/// Writes the rows of an account, which is new where there is none of its number, its further charges and an answer. At
+/// a fault nothing has changed.
 pub(crate) fn put_entry(
     alloc: Global,
     entries: &mut Vec<Entry>,
     number: AccountNumber,
-    barred: bool,
     rows: StoredAccount,
+    charges: Vec<ChargeRow>,
     kept: Option<KeptAnswer>,
 ) -> Result<(), AllocError>
-    ensures accounts { OnOk result ((a : List ℕ) → option_map row_of_entry (entry_in a entries.new.items) ≡
-        (if same_name number a then Some (record { barred = barred; rows = rows }) else option_map row_of_entry (entry_in a entries.old.items))) }
+    ensures accounts { OnOk result ((a : List ℕ) → option_map rows_of_entry (entry_in a entries.new.items) ≡
+        (if same_name number a then Some rows else option_map rows_of_entry (entry_in a entries.old.items))) }
     ensures answers { OnOk result ((a : List ℕ) (k : Key) → answer_of_entry k (entry_in a entries.new.items) ≡
         (if same_name number a then kept_after kept k (answer_of_entry k (entry_in a entries.old.items)) else answer_of_entry k (entry_in a entries.old.items))) }
+    ensures charges { OnOk result ((a : List ℕ) → charges_of_entry (entry_in a entries.new.items) ≡
+        (if same_name number a then charges_of_entry (entry_in a entries.old.items) ++ charges.items else charges_of_entry (entry_in a entries.old.items))) }
     ensures count { OnOk result (length entries.new.items ≡ (if is_some (entry_in number entries.old.items) then length entries.old.items else length entries.old.items + 1)) }
-    ensures err_accounts { OnErr result ((a : List ℕ) → option_map row_of_entry (entry_in a entries.new.items) ≡ option_map row_of_entry (entry_in a entries.old.items)) }
+    ensures err_accounts { OnErr result ((a : List ℕ) → option_map rows_of_entry (entry_in a entries.new.items) ≡ option_map rows_of_entry (entry_in a entries.old.items)) }
     ensures err_answers { OnErr result ((a : List ℕ) (k : Key) → answer_of_entry k (entry_in a entries.new.items) ≡ answer_of_entry k (entry_in a entries.old.items)) }
+    ensures err_charges { OnErr result ((a : List ℕ) → charges_of_entry (entry_in a entries.new.items) ≡ charges_of_entry (entry_in a entries.old.items)) }
     ensures err_count { OnErr result (length entries.new.items ≡ length entries.old.items) }
 {
     if let Some(place) = place_of(entries, &number) {
-        write_entry(&mut entries[place], barred, rows, kept)?;
+        write_entry(&mut entries[place], rows, charges, kept)?;
         return Ok(());
     }
     let mut answers = HashMap::new(alloc);
     keep(&mut answers, kept)?;
     entries.push(Entry {
         number,
-        barred,
         rows,
+        charges,
         answers,
     })?;
     Ok(())
+}
+
+/// The charges of the account of this number, in order; none where there is no such account.
+pub(crate) fn charges_in<'e>(entries: &'e [Entry], number: &AccountNumber) -> &'e [ChargeRow]
+    ensures { result.now ≡ charges_of_entry (entry_in number.now entries.now) }
+{
+    match place_of(entries, number) {
+        Some(place) => entries[place].charges.as_slice(),
+        None => &[],
+    }
 }
 
 /// Brings each account to the moment.

@@ -116,6 +116,7 @@ impl<K: Keeper> Keeper for Failing<K> {
             let Change {
                 moment: _,
                 account,
+                charges: _,
                 kept: _,
             } = change;
             self.inner.abandon(account);

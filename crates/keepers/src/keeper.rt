@@ -10,7 +10,7 @@ use identifiers::AccountNumber;
 use tariffs::TariffBook;
 use units::Moment;
 
-/// What keeps the rows of accounts and the kept answers.
+/// What keeps the rows of accounts, their charges and the kept answers.
 ///
 /// Contracts see its content as tables. What a call says of them it says where the store is clean after it, and a
 /// store that is clean was clean before. A store fault comes only where the store failed in the call.

@@ -1,12 +1,15 @@
 ghost use Rattle.std.specs.Prelude.{◌≡◌};
 ghost use Rattle.keepers.specs.Tables.{no_tables};
 
-use crate::entries::{Entry, advance_entries, count_of, find_kept, load_entry, put_entry};
+use crate::entries::{
+    Entry, advance_entries, charges_in, count_of, find_kept, load_entry, put_entry,
+};
 use crate::fault::StoreFault;
 use crate::keeper::Keeper;
 use crate::key::{KeptAnswer, Key};
 use crate::loaded::{Change, Loaded};
 use identifiers::AccountNumber;
+use reserving::ChargeRow;
 use std::alloc::Global;
 use tariffs::TariffBook;
 use units::Moment;
@@ -29,6 +32,13 @@ impl MemoryKeeper {
             entries: Vec::new(alloc),
             alloc,
         }
+    }
+
+    /// The charges of an account, in order; none where there is no such account.
+    pub fn charges(&self, account: &AccountNumber) -> &[ChargeRow]
+        ensures { result.now ≡ (⟦<MemoryKeeper as Keeper>⟧.content self.now).charges account.now }
+    {
+        charges_in(&self.entries, account)
     }
 }
 
@@ -73,15 +83,12 @@ impl Keeper for MemoryKeeper {
         let Change {
             moment,
             account,
+            charges,
             kept,
         } = change;
-        let Loaded {
-            number,
-            barred,
-            account,
-        } = account;
+        let Loaded { number, account } = account;
         let rows = account.into_stored();
-        put_entry(self.alloc, &mut self.entries, number, barred, rows, kept)?;
+        put_entry(self.alloc, &mut self.entries, number, rows, charges, kept)?;
         self.last = moment;
         Ok(())
     }
@@ -89,7 +96,6 @@ impl Keeper for MemoryKeeper {
     fn abandon<'b>(&mut self, loaded: Loaded<'b>) {
         let Loaded {
             number: _,
-            barred: _,
             account: _,
         } = loaded;
     }

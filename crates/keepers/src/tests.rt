@@ -6,12 +6,12 @@ use crate::{
 };
 use commands::{Answer, Content, Credit};
 use identifiers::{AccountNumber, Reference, SessionId};
-use reserving::Account;
+use reserving::{Account, ChargeRow};
 use std::alloc::Global;
 use std::process::Abort;
 use std::test::Fail;
 use tariffs::TariffBook;
-use units::{Moment, Money};
+use units::{Amount, Blocks, Moment, Money};
 
 const END: u64 = 1_767_607_800;
 
@@ -80,7 +80,7 @@ fn sight_of(loaded: &Loaded) -> Seen {
         expired = bucket.expired();
     }
     Seen {
-        barred: loaded.barred,
+        barred: loaded.account.is_barred(),
         as_of: loaded.account.as_of().seconds(),
         available,
         expired,
@@ -114,17 +114,15 @@ fn open<K: Keeper>(
     account.advance(moment);
     keeper.commit(Change {
         moment,
-        account: Loaded {
-            number,
-            barred: false,
-            account,
-        },
+        account: Loaded { number, account },
+        charges: Vec::new(alloc),
         kept: None,
     })
 }
 
-/// Credits an account, bars it, and keeps the answer.
+/// Credits an account and keeps the answer.
 fn give<K: Keeper>(
+    alloc: Global,
     keeper: &mut K,
     book: &TariffBook,
     credit: &Credit,
@@ -146,12 +144,69 @@ fn give<K: Keeper>(
         keeper.abandon(loaded);
         return Err(StoreFault::Memory);
     };
-    loaded.barred = true;
     let answer = Answer::Bucket(bucket);
     keeper.commit(Change {
         moment,
         account: loaded,
+        charges: Vec::new(alloc),
         kept: Some(KeptAnswer { content, answer }),
+    })
+}
+
+/// Bars an account.
+fn bar<K: Keeper>(
+    alloc: Global,
+    keeper: &mut K,
+    book: &TariffBook,
+    number: &AccountNumber,
+    moment: Moment,
+) -> Result<(), StoreFault> {
+    let Some(mut loaded) = keeper.load(book, number)? else {
+        return Ok(());
+    };
+    if moment < loaded.account.as_of() {
+        keeper.abandon(loaded);
+        return Ok(());
+    }
+    loaded.account.set_barred(true, moment);
+    keeper.commit(Change {
+        moment,
+        account: loaded,
+        charges: Vec::new(alloc),
+        kept: None,
+    })
+}
+
+/// What a minute comes to.
+fn minute(alloc: Global, number: u32, moment: Moment) -> Result<ChargeRow, Fail> {
+    Ok(ChargeRow {
+        number,
+        moment,
+        session: SessionId::new(alloc, "s1")?.ok_or("a session")?,
+        group: 10,
+        blocks: Blocks(1),
+        rated: Amount(100_000),
+        collected: Amount(100_000),
+        uncollected: Amount(0),
+    })
+}
+
+/// Commits an account as it is with these charges.
+fn charge<K: Keeper>(
+    keeper: &mut K,
+    book: &TariffBook,
+    number: &AccountNumber,
+    moment: Moment,
+    charges: Vec<ChargeRow>,
+) -> Result<(), StoreFault> {
+    let Some(account) = keeper.load(book, number)? else {
+        return Ok(());
+    };
+    keeper.commit(Change {
+        moment,
+        account,
+        charges,
+        kept: None,
     })
 }
 
@@ -211,7 +266,38 @@ fn given<K: Keeper>(
     let (name, at) = words.split_once(" ").ok_or("a reference and a moment")?;
     let credit = credit(alloc, name)?;
     let at = moment(at.parse::<u64>()?)?;
-    done(alloc, give(keeper, book, &credit, at))
+    done(alloc, give(alloc, keeper, book, &credit, at))
+}
+
+/// `bar ACCOUNT MOMENT`.
+fn barred<K: Keeper>(
+    alloc: Global,
+    keeper: &mut K,
+    book: &TariffBook,
+    words: &str,
+) -> Result<String, Fail> {
+    let (number, at) = words.split_once(" ").ok_or("an account and a moment")?;
+    let number = account(alloc, number)?;
+    let at = moment(at.parse::<u64>()?)?;
+    done(alloc, bar(alloc, keeper, book, &number, at))
+}
+
+/// `charge ACCOUNT MOMENT NUMBER`: two minutes in one change, numbered from this number on.
+fn charged<K: Keeper>(
+    alloc: Global,
+    keeper: &mut K,
+    book: &TariffBook,
+    words: &str,
+) -> Result<String, Fail> {
+    let (number, words) = words.split_once(" ").ok_or("an account")?;
+    let (at, first) = words.split_once(" ").ok_or("a moment and a number")?;
+    let number = account(alloc, number)?;
+    let at = moment(at.parse::<u64>()?)?;
+    let first = first.parse::<u32>()?;
+    let mut charges = Vec::new(alloc);
+    charges.push(minute(alloc, first, at)?)?;
+    charges.push(minute(alloc, first.saturating_add(1), at)?)?;
+    done(alloc, charge(keeper, book, &number, at, charges))
 }
 
 /// `see ACCOUNT`: whether it is barred, its moment, what is available and what is expired.
@@ -262,6 +348,8 @@ fn outcome<K: Keeper>(
     match call {
         "open" => opened(alloc, keeper, book, words),
         "give" => given(alloc, keeper, book, words),
+        "bar" => barred(alloc, keeper, book, words),
+        "charge" => charged(alloc, keeper, book, words),
         "see" => told(alloc, keeper, book, words),
         "kept" => kept(alloc, keeper, words),
         "sweep" => counted(alloc, keeper.sweep(book, moment(words.parse::<u64>()?)?)),
@@ -292,13 +380,16 @@ sweep 1767607200 -> 0
 open 49151 1767607200 -> done
 see 49151 -> false 1767607200 0 0
 give v1 1767607200 -> done
-see 49151 -> true 1767607200 150000 0
+see 49151 -> false 1767607200 150000 0
 last moment -> 1767607200
 kept 49151 v1 -> Some(1)
 kept 49151 v2 -> None
 kept 49152 v1 -> None
 see 49152 -> none
 open 49152 1767607200 -> done
+bar 49151 1767607260 -> done
+see 49151 -> true 1767607260 150000 0
+see 49152 -> false 1767607200 0 0
 sweep 1767607800 -> 2
 see 49151 -> true 1767607800 0 150000
 last moment -> 1767607800
@@ -327,10 +418,52 @@ fn keys(rt: HostRuntime) -> Result<(), Fail> {
     Ok(())
 }
 
-/// The call after so many others fails: nothing has changed by it, and the count rose.
-fn fails_after(rt: &impl Abort, alloc: Global, calls: u64, lines: &str) -> Result<(), Fail> {
+/// The numbers and moments of an account's charges.
+fn charges_of(alloc: Global, keeper: &MemoryKeeper, word: &str) -> Result<String, Fail> {
+    let number = account(alloc, word)?;
+    let mut text = String::new(alloc);
+    for row in keeper.charges(&number) {
+        let piece = format!(in alloc; "{} at {};", row.number, row.moment.seconds())?;
+        text.push_str(piece.as_str())?;
+    }
+    Ok(text)
+}
+
+const CHARGED: &str = "open 49151 1767607200 -> done
+open 49152 1767607200 -> done
+charge 49151 1767607200 1 -> done
+give v1 1767607200 -> done
+charge 49153 1767607200 1 -> done
+charge 49151 1767607260 3 -> done
+sweep 1767607800 -> 2";
+
+#[test]
+fn charges_in_their_order(rt: HostRuntime) -> Result<(), Fail> {
+    let mut keeper = MemoryKeeper::new(rt.alloc());
+    try_all(&rt, rt.alloc(), &mut keeper, CHARGED)?;
+    let first = charges_of(rt.alloc(), &keeper, "49151")?;
+    let expected = "1 at 1767607200;2 at 1767607200;3 at 1767607260;4 at 1767607260;";
+    assert_eq!(rt; first.as_str(), expected);
+    let second = charges_of(rt.alloc(), &keeper, "49152")?;
+    let third = charges_of(rt.alloc(), &keeper, "49153")?;
+    assert!(rt; second.is_empty() && third.is_empty());
+    Ok(())
+}
+
+/// The call after so many others fails: nothing has changed by it, and the count rose. Then these are the charges.
+fn fails_after(
+    rt: &impl Abort,
+    alloc: Global,
+    calls: u64,
+    lines: &str,
+    charges: &str,
+) -> Result<(), Fail> {
     let mut keeper = Failing::new(MemoryKeeper::new(alloc), calls);
-    try_all(rt, alloc, &mut keeper, lines)
+    try_all(rt, alloc, &mut keeper, lines)?;
+    let keeper = keeper.into_inner();
+    let left = charges_of(alloc, &keeper, "49151")?;
+    assert_eq!(rt; left.as_str(), charges);
+    Ok(())
 }
 
 const FIRST_FAILS: &str = "open 49151 1767607200 -> fault 2
@@ -348,14 +481,24 @@ const FOURTH_FAILS: &str = "open 49151 1767607200 -> done
 give v1 1767607200 -> done
 sweep 1767607800 -> fault 2
 failures of all -> 1
-see 49151 -> true 1767607200 150000 0
+see 49151 -> false 1767607200 150000 0
 sweep 1767607800 -> 1
-see 49151 -> true 1767607800 0 150000";
+see 49151 -> false 1767607800 0 150000";
+
+const FIFTH_FAILS: &str = "open 49151 1767607200 -> done
+charge 49151 1767607200 1 -> done
+charge 49151 1767607260 3 -> fault 2
+failures of all -> 1
+last moment -> 1767607200
+charge 49151 1767607320 3 -> done
+last moment -> 1767607320";
 
 #[test]
 fn a_store_that_fails_at_a_call(rt: HostRuntime) -> Result<(), Fail> {
-    fails_after(&rt, rt.alloc(), 0, FIRST_FAILS)?;
-    fails_after(&rt, rt.alloc(), 1, SECOND_FAILS)?;
-    fails_after(&rt, rt.alloc(), 2, SECOND_FAILS)?;
-    fails_after(&rt, rt.alloc(), 3, FOURTH_FAILS)
+    fails_after(&rt, rt.alloc(), 0, FIRST_FAILS, "")?;
+    fails_after(&rt, rt.alloc(), 1, SECOND_FAILS, "")?;
+    fails_after(&rt, rt.alloc(), 2, SECOND_FAILS, "")?;
+    fails_after(&rt, rt.alloc(), 3, FOURTH_FAILS, "")?;
+    let charges = "1 at 1767607200;2 at 1767607200;3 at 1767607320;4 at 1767607320;";
+    fails_after(&rt, rt.alloc(), 4, FIFTH_FAILS, charges)
 }
