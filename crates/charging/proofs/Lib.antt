@@ -1,5 +1,0 @@
-pub mod Services
-pub mod Granted
-pub mod Looked
-pub mod Alive
-pub mod Sums

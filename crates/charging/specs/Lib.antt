@@ -1,8 +1,0 @@
-pub mod Recorded
-pub mod Reports
-pub mod Granting
-pub mod Settling
-pub mod Decisions
-pub mod Free
-pub mod Follows
-pub mod Known

@@ -1,0 +1,50 @@
+-- The answer of a service that units are reserved for.
+use Rattle.std.proofs.Common.{◌≡◌, ℕ, ◌<◌, Bool, true, false, List, refl, sym, ap, ◌∙◌, subst, Option, Some, Result, Ok, Err, arith}
+use Rattle.std.specs.Prelude.{if◌then◌else◌, nat_lt, OnOk}
+use Rattle.std.proofs.lemmas.Bool.Decides.{nat_tests}
+use Rattle.commands.specs.declared.answer.ServiceFailure.TheVariants.{CreditLimitReached}
+use Rattle.commands.specs.declared.answer.ServiceOutcome.{ServiceOutcome}
+use Rattle.commands.specs.declared.answer.ServiceOutcome.TheVariants as service
+use Rattle.tariffs.specs.Books.{Book}
+use Rattle.tariffs.specs.Tariffs.{GroupTariff}
+use Rattle.rating.specs.declared.grant.Grant.{Grant}
+use Rattle.reserving.specs.Ledger.{Ledger, used}
+use Rattle.reserving.specs.Pricing.{tariff_of, wanted_units, wanted_with}
+use Rattle.reserving.specs.Reservation.{reserved, grant_for}
+use Rattle.reserving.specs.Results.{IsGrantOf}
+use Rattle.reserving.specs.Rows.{AccountRows, IsRowsOf}
+use Rattle.decisions.specs.Granting.{Answered, final_unit, grant_answer, granted_with, granted_units}
+use Rattle.decisions.specs.Follows.{Grants}
+
+at_least_one : (n : ℕ) → 0 < n → nat_lt 0 n ≡ true
+at_least_one n h = grind (arith, nat_tests)
+
+-- what is answered of these units
+abbrev pub units_outcome : GroupTariff → ℕ → Option ℕ → ℕ → Bool → ServiceOutcome
+units_outcome tariff given switch validity fewer = service.Granted (record { quantity = record { kind = tariff.unit; units = given }; switch = switch; validity = validity; last = final_unit tariff fewer })
+
+grants_some : (b : Book) (tariff : GroupTariff) (t : ℕ) (s : List ℕ) (g : ℕ) (asked : Option ℕ) (grant : Grant) (ledger : Ledger) (a : AccountRows) →
+    0 < grant.units.0 → IsRowsOf (reserved b t s g grant.units.0 grant.amount.0 ledger) a → Grants (grant_answer b tariff t grant.units.0 asked) (granted_with b tariff t s g asked grant ledger) a
+grants_some b tariff t s g asked grant ledger a some rows = at (nat_lt 0 grant.units.0) (at_least_one grant.units.0 some)
+  where
+    at : (c : Bool) → c ≡ true → Grants (grant_answer b tariff t grant.units.0 asked) (if c then (let y : Answered = record { outcome = grant_answer b tariff t grant.units.0 asked; after = reserved b t s g grant.units.0 grant.amount.0 ledger } in y) else (let y : Answered = record { outcome = service.Failed CreditLimitReached; after = ledger } in y)) a
+    at true e = record { same = refl; rows = rows }
+    at false e = absurd (let no : false ≡ true = e in cc)
+
+-- units that are reserved are the service's grant
+pub grants_units : (b : Book) (tariff : GroupTariff) (t : ℕ) (s : List ℕ) (g : ℕ) (asked : Option ℕ) (ledger : Ledger) (a : AccountRows) (given : ℕ) (switch : Option ℕ) (validity : ℕ) (fewer : Bool) (outcome : ServiceOutcome) →
+    Some tariff ≡ tariff_of b g → IsGrantOf b t s g asked ledger a given switch validity fewer → outcome ≡ units_outcome tariff given switch validity fewer →
+    Grants outcome (granted_units b tariff t s g asked ledger) a
+grants_units b tariff t s g asked ledger a given switch validity fewer outcome known is same =
+    let grant : Grant = grant_for b t g (used s g ledger) asked ledger in
+    let final : fewer ≡ nat_lt given (wanted_units tariff asked) = is.fewer ∙ ap (λ o. nat_lt given (wanted_with o asked)) (sym known) in
+    let answer : outcome ≡ grant_answer b tariff t grant.units.0 asked =
+    same ∙ (λ i. units_outcome tariff given (is.switch i) (is.validity i) (final i)) ∙ ap (λ n. grant_answer b tariff t n asked) is.units in
+    let some : 0 < grant.units.0 = subst (λ n. 0 < n) is.units is.some in
+    let rows : IsRowsOf (reserved b t s g grant.units.0 grant.amount.0 ledger) a = subst (λ n. IsRowsOf (reserved b t s g n grant.amount.0 ledger) a) is.units is.rows in
+    subst (λ o. Grants o (granted_units b tariff t s g asked ledger) a) (sym answer) (grants_some b tariff t s g asked grant ledger a some rows)
+
+-- what holds anyway holds at an answer
+pub on_ok : {A E P : Type 0} (r : Result A E) → P → OnOk r P
+on_ok (Ok x) h = h
+on_ok (Err e) h = tt

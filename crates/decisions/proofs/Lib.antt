@@ -1,0 +1,9 @@
+pub mod Services
+pub mod Granted
+pub mod Rulings
+pub mod Charged
+pub mod Reading
+pub mod Priced
+pub mod Looked
+pub mod Alive
+pub mod Sums

@@ -1,0 +1,8 @@
+use Rattle.std.proofs.Common.{◌≡◌, drop}
+use Rattle.reserving.specs.Ledger.{Ledger}
+use Rattle.reserving.specs.Rows.{IsRowsOf}
+use Rattle.decisions.specs.Granting.{any_grants}
+use Rattle.decisions.proofs.granting.any_grants.Given as goal
+
+abbrev pub invariant-loop-service : goal.invariant-loop-service
+invariant-loop-service l = (ledger : Ledger) → IsRowsOf ledger l.account → any_grants l.account.book l.moment ledger l.services ≡ any_grants l.account.book l.moment ledger (drop l.service-index l.services)

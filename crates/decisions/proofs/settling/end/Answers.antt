@@ -1,0 +1,22 @@
+use Rattle.std.proofs.Common.{◌≡◌, ◌<◌, true, map, sym, subst, arith}
+use Rattle.reserving.specs.Sessions.{is_live_in}
+use Rattle.tariffs.specs.Books.{Book, IsBook}
+use Rattle.reserving.specs.Requests.{touched}
+use Rattle.reserving.specs.Rows.{AccountRows}
+use Rattle.reserving.specs.Changes.{lapse}
+use Rattle.decisions.proofs.Alive.{live_lapsed, live_touched}
+use Rattle.decisions.proofs.settling.end.Goals as goal
+
+pub close-requires-clause-live : goal.close-requires-clause-live
+close-requires-clause-live c =
+    let a : AccountRows = c.args.account.now in
+    let ranges : IsBook c.book.result.now = c.validity-ranges.ensures.book in
+    let lower : 0 < c.book.result.now.validity = omega (arith, ranges.some_validity) in
+    let some : 0 < a.book.validity = subst (λ (book : Book). 0 < book.validity) c.book.ensures lower in
+    subst (λ (r : AccountRows). is_live_in r.book.validity c.args.moment r.sessions c.args.session.now ≡ true) (sym c.touch.ensures.rows)
+    (live_touched a.book.validity c.args.moment c.args.number c.args.session.now (map (lapse a.book.validity c.args.moment) a.sessions) some
+    (live_lapsed a.book.validity c.args.moment a.sessions c.args.session.now c.requires.live))
+
+pub returns-clause-ledger : goal.returns-clause-ledger
+returns-clause-ledger c = λ ledger rows.
+    c.close.ensures.ledger (touched c.args.moment c.args.session.now c.args.number ledger) (c.touch.ensures.ledger ledger rows)

@@ -1,0 +1,10 @@
+pub mod Recorded
+pub mod Decided
+pub mod Events
+pub mod Reports
+pub mod Granting
+pub mod Settling
+pub mod Decisions
+pub mod Free
+pub mod Follows
+pub mod Known

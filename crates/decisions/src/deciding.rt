@@ -1,0 +1,275 @@
+ghost use Rattle.std.specs.Prelude.{◌≡◌, ◌≤◌, ℕ, true, false, [], None, Some, is_some, IfOk, IfErr, IfSome, OnOk, ◌++◌, if◌then◌else◌};
+ghost use Rattle.reserving.specs.Ledger.{Ledger};
+ghost use Rattle.reserving.specs.Rows.{IsRowsOf};
+ghost use Rattle.reserving.specs.Charges.{charge_rows};
+ghost use Rattle.reserving.specs.Sessions.{is_live_in};
+ghost use Rattle.commands.specs.Services.{groups_differ};
+ghost use Rattle.commands.specs.declared.request.Ask.TheVariants as ask;
+ghost use Rattle.decisions.specs.Free.{AreFree};
+ghost use Rattle.decisions.specs.Follows.{Follows, Settles, IsRefusal};
+ghost use Rattle.decisions.specs.Events.{event_decision};
+ghost use Rattle.decisions.specs.Decisions.{decision, decided, initial_decision, update_decision, termination_decision, answer_of, is_read};
+
+use crate::answering::settled_answers;
+use crate::events::{debit, refund};
+use crate::granting::{open_unless_barred, renew};
+use crate::reads::{checked, priced};
+use crate::refusing::{early_refusal, initial_refusal};
+use crate::ruling::Ruling;
+use crate::settling::{end, settle_services};
+use commands::{Ask, Event, EventAction, Failure, Outcome, Request, RequestAnswer, Service};
+use identifiers::SessionId;
+use reserving::{Account, AccountFault, ChargeRow};
+use std::alloc::{AllocError, Global};
+use units::Moment;
+
+/// What a request comes to.
+#[derive(Drop)]
+pub struct Decided {
+    /// What it is answered.
+    pub answer: RequestAnswer,
+    /// Whether it is accepted: then the account has changed and the answer is to be kept.
+    pub accepted: bool,
+    /// The charges that it made, in order.
+    pub charges: Vec<ChargeRow>,
+}
+
+fn initial(
+    alloc: Global,
+    account: &mut Account,
+    session: &SessionId,
+    number: u32,
+    services: &[Service],
+    moment: Moment,
+) -> Result<Ruling, AllocError>
+    requires apart { groups_differ services.now ≡ true }
+    requires later { account.old.as_of ≤ moment }
+    ensures follows { IfOk result (λ r. Follows account.old account.new r.outcome r.accepted r.charges.items (initial_decision account.old.book moment session.now number services.now)) }
+    ensures moment { IfOk result (λ r. account.new.as_of ≡ if r.accepted then moment else account.old.as_of) }
+    ensures tariff { account.new.book ≡ account.old.book }
+    ensures same { IfOk result (λ r. r.accepted ≡ false → account.new ≡ account.old) }
+    ensures unwritten { IfOk result (λ r. r.accepted ≡ false → r.charges.items ≡ []) }
+{
+    if let Some(failure) = initial_refusal(account, session, services) {
+        return Ok(Ruling::refused(alloc, failure));
+    }
+    open_unless_barred(alloc, account, session, number, services, moment)
+}
+
+/// Settles the services of a session's update or termination, and answers their charges; or why it is refused.
+fn settle_or_refuse(
+    alloc: Global,
+    account: &mut Account,
+    session: &SessionId,
+    number: u32,
+    services: &[Service],
+    moment: Moment,
+) -> Result<Result<Vec<ChargeRow>, Failure>, AllocError>
+    requires later { account.old.as_of ≤ moment }
+    ensures unrefused { IfOk result (λ r. IfOk r (λ charges. IsRefusal None account.old moment session.now number services.now)) }
+    ensures settles { IfOk result (λ r. IfOk r (λ charges. Settles charges.items account.old account.new moment session.now services.now)) }
+    ensures refused { IfOk result (λ r. IfErr r (λ failure. IsRefusal (Some failure) account.old moment session.now number services.now)) }
+    ensures same { IfOk result (λ r. IfErr r (λ failure. account.new ≡ account.old)) }
+    ensures live { IfOk result (λ r. OnOk r (is_live_in account.new.book.validity moment account.new.sessions session.now ≡ true)) }
+    ensures free { IfOk result (λ r. OnOk r (AreFree account.old.book session.now services.now account.new.groups)) }
+    ensures later { account.new.as_of ≤ moment }
+    ensures tariff { account.new.book ≡ account.old.book }
+{
+    if let Some(failure) = early_refusal(account, session, number, services, moment) {
+        return Ok(Err(failure));
+    }
+    match settle_services(alloc, account, session, services, moment) {
+        Ok(charges) => Ok(Ok(charges)),
+        Err(AccountFault::Limit) => Ok(Err(Failure::UnableToComply)),
+        Err(AccountFault::Memory) => Err(AllocError),
+    }
+}
+
+fn update(
+    alloc: Global,
+    account: &mut Account,
+    session: &SessionId,
+    number: u32,
+    services: &[Service],
+    moment: Moment,
+) -> Result<Ruling, AllocError>
+    requires apart { groups_differ services.now ≡ true }
+    requires later { account.old.as_of ≤ moment }
+    ensures follows { IfOk result (λ r. Follows account.old account.new r.outcome r.accepted r.charges.items (update_decision account.old.book moment session.now number services.now)) }
+    ensures moment { IfOk result (λ r. account.new.as_of ≡ if r.accepted then moment else account.old.as_of) }
+    ensures tariff { account.new.book ≡ account.old.book }
+    ensures same { IfOk result (λ r. r.accepted ≡ false → account.new ≡ account.old) }
+    ensures unwritten { IfOk result (λ r. r.accepted ≡ false → r.charges.items ≡ []) }
+{
+    let charges = match settle_or_refuse(alloc, account, session, number, services, moment)? {
+        Ok(charges) => charges,
+        Err(failure) => return Ok(Ruling::refused(alloc, failure)),
+    };
+    let answers = renew(alloc, account, session, number, services, moment)?;
+    Ok(Ruling::accepted(Outcome::Services(answers), charges))
+}
+
+fn terminate(
+    alloc: Global,
+    account: &mut Account,
+    session: &SessionId,
+    number: u32,
+    services: &[Service],
+    moment: Moment,
+) -> Result<Ruling, AllocError>
+    requires later { account.old.as_of ≤ moment }
+    ensures follows { IfOk result (λ r. Follows account.old account.new r.outcome r.accepted r.charges.items (termination_decision account.old.book moment session.now number services.now)) }
+    ensures moment { IfOk result (λ r. account.new.as_of ≡ if r.accepted then moment else account.old.as_of) }
+    ensures tariff { account.new.book ≡ account.old.book }
+    ensures same { IfOk result (λ r. r.accepted ≡ false → account.new ≡ account.old) }
+    ensures unwritten { IfOk result (λ r. r.accepted ≡ false → r.charges.items ≡ []) }
+{
+    let charges = match settle_or_refuse(alloc, account, session, number, services, moment)? {
+        Ok(charges) => charges,
+        Err(failure) => return Ok(Ruling::refused(alloc, failure)),
+    };
+    let answers = settled_answers(alloc, account.book(), services)?;
+    end(account, session, number, moment);
+    Ok(Ruling::accepted(Outcome::Services(answers), charges))
+}
+
+fn decide_event(
+    alloc: Global,
+    account: &mut Account,
+    session: &SessionId,
+    number: u32,
+    event: &Event,
+    moment: Moment,
+) -> Result<Ruling, AllocError>
+    requires later { account.old.as_of ≤ moment }
+    ensures follows { IfOk result (λ r. Follows account.old account.new r.outcome r.accepted r.charges.items (event_decision account.old.book moment session.now number event.now)) }
+    ensures moment { IfOk result (λ r. account.new.as_of ≡ if r.accepted then moment else account.old.as_of) }
+    ensures tariff { account.new.book ≡ account.old.book }
+    ensures same { IfOk result (λ r. r.accepted ≡ false → account.new ≡ account.old) }
+    ensures unwritten { IfOk result (λ r. r.accepted ≡ false → r.charges.items ≡ []) }
+{
+    match event.action {
+        EventAction::DirectDebiting => debit(alloc, account, session, number, event, moment),
+        EventAction::CheckBalance => {
+            let outcome = checked(account, event, moment);
+            Ok(Ruling::told(alloc, outcome))
+        }
+        EventAction::PriceEnquiry => {
+            let outcome = priced(account, event, moment);
+            Ok(Ruling::told(alloc, outcome))
+        }
+    }
+}
+
+fn decide_ask(
+    alloc: Global,
+    account: &mut Account,
+    session: &SessionId,
+    number: u32,
+    ask: &Ask,
+    moment: Moment,
+) -> Result<Ruling, AllocError>
+    requires later { account.old.as_of ≤ moment }
+    ensures follows { IfOk result (λ r. Follows account.old account.new r.outcome r.accepted r.charges.items (decided account.old.book moment session.now number ask.now)) }
+    ensures moment { IfOk result (λ r. account.new.as_of ≡ if r.accepted then moment else account.old.as_of) }
+    ensures tariff { account.new.book ≡ account.old.book }
+    ensures same { IfOk result (λ r. r.accepted ≡ false → account.new ≡ account.old) }
+    ensures unwritten { IfOk result (λ r. r.accepted ≡ false → r.charges.items ≡ []) }
+{
+    match ask {
+        Ask::Initial(services) => {
+            initial(alloc, account, session, number, services.as_slice(), moment)
+        }
+        Ask::Update(services) => {
+            update(alloc, account, session, number, services.as_slice(), moment)
+        }
+        Ask::Termination(services) => {
+            terminate(alloc, account, session, number, services.as_slice(), moment)
+        }
+        Ask::Event(event) => decide_event(alloc, account, session, number, event, moment),
+        Ask::Refund(money) => refund(alloc, account, session, number, *money, moment),
+    }
+}
+
+/// The answer to a request, under its names.
+fn answer_to(request: &Request, session: SessionId, outcome: Outcome) -> RequestAnswer
+    requires { session ≡ request.now.session }
+    ensures { result ≡ answer_of request.now outcome }
+{
+    RequestAnswer {
+        session,
+        kind: request.kind(),
+        number: request.number,
+        outcome,
+    }
+}
+
+/// Decides a request on an account in the order of decisions, and answers it (RFC 8506 sections 5.1, 6 and 9).
+///
+/// The request's number has no kept answer in its session: the caller looks for those before. A refused request
+/// changes nothing, nor does a check or an enquiry.
+///
+/// # Errors
+/// Want of memory. Then the account is to be given up: it may be changed in part.
+pub fn decide(
+    alloc: Global,
+    account: &mut Account,
+    request: &Request,
+    moment: Moment,
+) -> Result<Decided, AllocError>
+    requires later { account.old.as_of ≤ moment }
+    ensures answer { IfOk result (λ d. (ledger : Ledger) → IsRowsOf ledger account.old →
+        d.answer ≡ answer_of request.now (decision account.old.book moment request.now ledger).outcome) }
+    ensures accepted { IfOk result (λ d. (ledger : Ledger) → IsRowsOf ledger account.old →
+        d.accepted ≡ (decision account.old.book moment request.now ledger).accepted) }
+    ensures rows { IfOk result (λ d. (ledger : Ledger) → IsRowsOf ledger account.old →
+        IsRowsOf (decision account.old.book moment request.now ledger).after account.new) }
+    ensures charges { IfOk result (λ d. (ledger : Ledger) → IsRowsOf ledger account.old →
+        charge_rows (decision account.old.book moment request.now ledger).after ≡ charge_rows ledger ++ d.charges.items) }
+    ensures moment { IfOk result (λ d. account.new.as_of ≡ if d.accepted then moment else account.old.as_of) }
+    ensures tariff { account.new.book ≡ account.old.book }
+    ensures same { IfOk result (λ d. d.accepted ≡ false → account.new ≡ account.old) }
+    ensures unwritten { IfOk result (λ d. d.accepted ≡ false → d.charges.items ≡ []) }
+{
+    let session = request.session.clone()?;
+    let ruling = decide_ask(
+        alloc,
+        account,
+        &request.session,
+        request.number,
+        &request.ask,
+        moment,
+    )?;
+    Ok(Decided {
+        answer: answer_to(request, session, ruling.outcome),
+        accepted: ruling.accepted,
+        charges: ruling.charges,
+    })
+}
+
+/// Answers a check of the balance or a price enquiry (RFC 8506 sections 6.1 and 6.2), which changes nothing and is kept
+/// nowhere. None: the request is none of these, and is to be decided.
+///
+/// # Errors
+/// Want of memory.
+pub fn read(
+    account: &Account,
+    request: &Request,
+    moment: Moment,
+) -> Result<Option<RequestAnswer>, AllocError>
+    requires later { account.now.as_of ≤ moment }
+    ensures answer { IfOk result (λ r. IfSome r (λ answer. (ledger : Ledger) → IsRowsOf ledger account.now →
+        answer ≡ answer_of request.now (decision account.now.book moment request.now ledger).outcome)) }
+    ensures read { IfOk result (λ r. is_some r ≡ is_read request.now.ask) }
+{
+    let Ask::Event(event) = &request.ask else {
+        return Ok(None);
+    };
+    let outcome = match event.action {
+        EventAction::DirectDebiting => return Ok(None),
+        EventAction::CheckBalance => checked(account, event, moment),
+        EventAction::PriceEnquiry => priced(account, event, moment),
+    };
+    let session = request.session.clone()?;
+    Ok(Some(answer_to(request, session, outcome)))
+}

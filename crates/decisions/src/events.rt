@@ -1,0 +1,185 @@
+//! Debits and refunds.
+
+ghost use Rattle.std.specs.Prelude.{◌≡◌, ◌≤◌, None, Some, IfOk, OnOk, true, false, [], ◌∷◌, if◌then◌else◌};
+ghost use Rattle.commands.specs.declared.answer.ServiceOutcome.TheVariants as service;
+ghost use Rattle.reserving.specs.Sessions.{session_in};
+ghost use Rattle.reserving.specs.Pricing.{tariff_of};
+ghost use Rattle.decisions.specs.Reports.{asks_other};
+ghost use Rattle.decisions.specs.Events.{event_fault, charged_if_covered, charged_unless_barred, debit_decision, event_units, refunded, refund_decision};
+ghost use Rattle.decisions.specs.Follows.{Follows};
+
+use crate::charges::charge_row;
+use crate::looking::tariff_of;
+use crate::refusing::{debit_refusal, refund_refusal};
+use crate::reports::event_quantity;
+use crate::ruling::{Ruling, deny};
+use commands::{
+    Event, Failure, Outcome, Quantity, Refund, ServiceAnswer, ServiceAnswers, ServiceFailure,
+    ServiceOutcome,
+};
+use identifiers::SessionId;
+use reserving::{Account, AccountFault, ChargeRow};
+use std::alloc::{AllocError, Global};
+use tariffs::Tariff;
+use units::{Moment, Units};
+
+/// The ruling on units of an event that were charged.
+fn charged(
+    alloc: Global,
+    group: u32,
+    quantity: Quantity,
+    row: ChargeRow,
+) -> Result<Ruling, AllocError>
+    ensures outcome { IfOk result (λ r. r.outcome ≡ Outcome.Services (record { group = group; outcome = service.Debited quantity } ∷ [])) }
+    ensures accepted { IfOk result (λ r. r.accepted ≡ true) }
+    ensures charges { IfOk result (λ r. r.charges.items ≡ row ∷ []) }
+{
+    let outcome = ServiceOutcome::Debited(quantity);
+    let mut answers = Vec::new(alloc);
+    answers.push(ServiceAnswer { group, outcome })?;
+    let mut charges = Vec::new(alloc);
+    charges.push(row)?;
+    let services = Outcome::Services(ServiceAnswers::new(answers));
+    Ok(Ruling::accepted(services, charges))
+}
+
+/// Charges the units of an event of a group with this tariff, where the account covers their price; else the event is
+/// denied.
+fn charge(
+    alloc: Global,
+    account: &mut Account,
+    session: &SessionId,
+    number: u32,
+    tariff: &Tariff,
+    event: &Event,
+    moment: Moment,
+) -> Result<Ruling, AllocError>
+    requires later { account.old.as_of ≤ moment }
+    requires new { session_in session.now account.old.sessions ≡ None }
+    requires kind { asks_other tariff.now.unit (Some event.now.requested) ≡ false }
+    ensures follows { IfOk result (λ r. Follows account.old account.new r.outcome r.accepted r.charges.items
+        (charged_if_covered account.old.book tariff.now moment session.now number event.now.group (event_units tariff.now event.now.requested))) }
+    ensures moment { IfOk result (λ r. account.new.as_of ≡ if r.accepted then moment else account.old.as_of) }
+    ensures tariff { account.new.book ≡ account.old.book }
+    ensures same { IfOk result (λ r. r.accepted ≡ false → account.new ≡ account.old) }
+    ensures unwritten { IfOk result (λ r. r.accepted ≡ false → r.charges.items ≡ []) }
+{
+    let quantity = event_quantity(tariff, &event.requested);
+    let next = account.next_charge();
+    let settled = match account.debit(session, event.group, Units(quantity.units()), moment) {
+        Ok(Some(settled)) => settled,
+        Ok(None) => {
+            let why = ServiceFailure::CreditLimitReached;
+            return deny(alloc, account, session, number, why, moment);
+        }
+        Err(AccountFault::Limit) => return Ok(Ruling::refused(alloc, Failure::UnableToComply)),
+        Err(AccountFault::Memory) => return Err(AllocError),
+    };
+    let Ok(()) = account.deny(session, number, moment) else {
+        return Err(AllocError);
+    };
+    let name = session.clone()?;
+    let row = charge_row(next as u32, name, event.group, settled, moment);
+    charged(alloc, event.group, quantity, row)
+}
+
+/// Charges an event's units unless the account is barred, the rating group unknown, or its money too little.
+fn charge_unless_denied(
+    alloc: Global,
+    account: &mut Account,
+    session: &SessionId,
+    number: u32,
+    event: &Event,
+    moment: Moment,
+) -> Result<Ruling, AllocError>
+    requires later { account.old.as_of ≤ moment }
+    requires new { session_in session.now account.old.sessions ≡ None }
+    requires units { event_fault account.old.book event.now ≡ None }
+    ensures follows { IfOk result (λ r. Follows account.old account.new r.outcome r.accepted r.charges.items (charged_unless_barred account.old.book moment session.now number event.now)) }
+    ensures moment { IfOk result (λ r. account.new.as_of ≡ if r.accepted then moment else account.old.as_of) }
+    ensures tariff { account.new.book ≡ account.old.book }
+    ensures same { IfOk result (λ r. r.accepted ≡ false → account.new ≡ account.old) }
+    ensures unwritten { IfOk result (λ r. r.accepted ≡ false → r.charges.items ≡ []) }
+{
+    if account.is_barred() {
+        let why = ServiceFailure::EndUserServiceDenied;
+        return deny(alloc, account, session, number, why, moment);
+    }
+    let Some(tariff) = tariff_of(account, event.group) else {
+        let why = ServiceFailure::RatingFailed;
+        return deny(alloc, account, session, number, why, moment);
+    };
+    charge(alloc, account, session, number, tariff, event, moment)
+}
+
+/// Decides a debit: an event's units are charged at once (RFC 8506 section 6.3; TS 32.299, immediate event charging).
+pub(crate) fn debit(
+    alloc: Global,
+    account: &mut Account,
+    session: &SessionId,
+    number: u32,
+    event: &Event,
+    moment: Moment,
+) -> Result<Ruling, AllocError>
+    requires later { account.old.as_of ≤ moment }
+    ensures follows { IfOk result (λ r. Follows account.old account.new r.outcome r.accepted r.charges.items (debit_decision account.old.book moment session.now number event.now)) }
+    ensures moment { IfOk result (λ r. account.new.as_of ≡ if r.accepted then moment else account.old.as_of) }
+    ensures tariff { account.new.book ≡ account.old.book }
+    ensures same { IfOk result (λ r. r.accepted ≡ false → account.new ≡ account.old) }
+    ensures unwritten { IfOk result (λ r. r.accepted ≡ false → r.charges.items ≡ []) }
+{
+    if let Some(failure) = debit_refusal(account, session, event) {
+        return Ok(Ruling::refused(alloc, failure));
+    }
+    charge_unless_denied(alloc, account, session, number, event, moment)
+}
+
+/// Pays money back into a bucket for all rating groups, from the moment on, without an end.
+fn pay_back(
+    alloc: Global,
+    account: &mut Account,
+    session: &SessionId,
+    number: u32,
+    refund: Refund,
+    moment: Moment,
+) -> Result<Ruling, AllocError>
+    requires later { account.old.as_of ≤ moment }
+    requires new { session_in session.now account.old.sessions ≡ None }
+    ensures follows { IfOk result (λ r. Follows account.old account.new r.outcome r.accepted r.charges.items (refunded moment session.now number refund)) }
+    ensures moment { IfOk result (λ r. account.new.as_of ≡ if r.accepted then moment else account.old.as_of) }
+    ensures tariff { account.new.book ≡ account.old.book }
+    ensures same { IfOk result (λ r. r.accepted ≡ false → account.new ≡ account.old) }
+    ensures unwritten { IfOk result (λ r. r.accepted ≡ false → r.charges.items ≡ []) }
+{
+    match account.credit(moment, Moment::no_end(), None, refund.money(), moment) {
+        Ok(_) => {}
+        Err(AccountFault::Limit) => return Ok(Ruling::refused(alloc, Failure::UnableToComply)),
+        Err(AccountFault::Memory) => return Err(AllocError),
+    }
+    let Ok(()) = account.deny(session, number, moment) else {
+        return Err(AllocError);
+    };
+    Ok(Ruling::accepted(Outcome::Refunded, Vec::new(alloc)))
+}
+
+/// Decides a refund of money (RFC 8506 section 6.4).
+pub(crate) fn refund(
+    alloc: Global,
+    account: &mut Account,
+    session: &SessionId,
+    number: u32,
+    refund: Refund,
+    moment: Moment,
+) -> Result<Ruling, AllocError>
+    requires later { account.old.as_of ≤ moment }
+    ensures follows { IfOk result (λ r. Follows account.old account.new r.outcome r.accepted r.charges.items (refund_decision account.old.book moment session.now number refund)) }
+    ensures moment { IfOk result (λ r. account.new.as_of ≡ if r.accepted then moment else account.old.as_of) }
+    ensures tariff { account.new.book ≡ account.old.book }
+    ensures same { IfOk result (λ r. r.accepted ≡ false → account.new ≡ account.old) }
+    ensures unwritten { IfOk result (λ r. r.accepted ≡ false → r.charges.items ≡ []) }
+{
+    if let Some(failure) = refund_refusal(account, session, refund) {
+        return Ok(Ruling::refused(alloc, failure));
+    }
+    pay_back(alloc, account, session, number, refund, moment)
+}

@@ -1,0 +1,57 @@
+//! Checks of the balance and price enquiries: they change nothing.
+
+ghost use Rattle.std.specs.Prelude.{◌≡◌, ◌≤◌, ◌<◌, ◌^◌, ℕ, None, Some};
+ghost use Rattle.reserving.specs.Ledger.{Ledger};
+ghost use Rattle.reserving.specs.Rows.{IsRowsOf};
+ghost use Rattle.decisions.specs.Events.{balance_of, check_decision, enquiry_decision};
+
+use crate::looking::tariff_of;
+use crate::refusing::event_refusal;
+use crate::reports::event_quantity;
+use commands::{Balance, Cost, Event, Failure, Outcome, ServiceFailure};
+use reserving::Account;
+use units::{Moment, Units};
+
+fn balance(covered: bool) -> Balance
+    ensures { result ≡ balance_of covered }
+{
+    if covered {
+        Balance::EnoughCredit
+    } else {
+        Balance::NoCredit
+    }
+}
+
+/// Whether the account could pay for an event's units (CHECK_BALANCE, RFC 8506 section 6.2).
+pub(crate) fn checked(account: &Account, event: &Event, moment: Moment) -> Outcome
+    requires later { account.now.as_of ≤ moment }
+    ensures { (ledger : Ledger) → IsRowsOf ledger account.now → result ≡ (check_decision account.now.book moment event.now ledger).outcome }
+{
+    if let Some(failure) = event_refusal(account, event) {
+        return Outcome::Failed(failure);
+    }
+    let Some(tariff) = tariff_of(account, event.group) else {
+        return Outcome::Failed(Failure::Denied(ServiceFailure::RatingFailed));
+    };
+    let quantity = event_quantity(tariff, &event.requested);
+    let price = account.quote(event.group, Units(quantity.units()), moment);
+    Outcome::Checked(balance(price <= account.funds(event.group, moment)))
+}
+
+/// What an event's units would cost (PRICE_ENQUIRY, RFC 8506 section 6.1).
+pub(crate) fn priced(account: &Account, event: &Event, moment: Moment) -> Outcome
+    ensures { (ledger : Ledger) → IsRowsOf ledger account.now → result ≡ (enquiry_decision account.now.book moment event.now ledger).outcome }
+{
+    if let Some(failure) = event_refusal(account, event) {
+        return Outcome::Failed(failure);
+    }
+    let Some(tariff) = tariff_of(account, event.group) else {
+        return Outcome::Failed(Failure::Denied(ServiceFailure::RatingFailed));
+    };
+    let quantity = event_quantity(tariff, &event.requested);
+    let price = account.quote(event.group, Units(quantity.units()), moment);
+    Outcome::Priced(Cost {
+        micros: price.0 as u64,
+        currency: account.book().currency(),
+    })
+}

@@ -1,0 +1,139 @@
+//! Why requests are refused.
+
+ghost use Rattle.std.specs.Prelude.{◌≡◌, ◌≤◌, true, None, option_map};
+ghost use Rattle.reserving.specs.Ledger.{Ledger, used};
+ghost use Rattle.reserving.specs.Sessions.{is_live_in, session_in};
+ghost use Rattle.reserving.specs.Rows.{IsRowsOf};
+ghost use Rattle.reserving.specs.Pricing.{tariff_of};
+ghost use Rattle.decisions.specs.Free.{AreFree};
+ghost use Rattle.decisions.specs.Reports.{wrong_units, units_fault};
+ghost use Rattle.decisions.specs.Decided.{invalid};
+ghost use Rattle.decisions.specs.Decisions.{initial_refusal, early_refusal};
+ghost use Rattle.decisions.specs.Events.{event_fault, read_refusal, debit_refusal, refund_refusal};
+
+use crate::looking::{has_record, is_late, is_recorded, tariff_of, used_of};
+use crate::reports::{wrong_event, wrong_units};
+use commands::{Avp, Event, Failure, Refund, Service};
+use identifiers::SessionId;
+use reserving::Account;
+use units::Moment;
+
+/// What is wrong with the units of a service, where its group has a tariff.
+fn service_fault(account: &Account, session: &SessionId, service: &Service) -> Option<Avp>
+    ensures { (ledger : Ledger) → IsRowsOf ledger account.now →
+        result ≡ wrong_units (tariff_of account.now.book service.now.group) (used session.now service.now.group ledger) service.now }
+{
+    let tariff = tariff_of(account, service.group)?;
+    let used = used_of(account, session, service.group);
+    wrong_units(tariff, used, service)
+}
+
+/// What is wrong with the units of a request's services: the first fault is told.
+fn wrong_report(account: &Account, session: &SessionId, services: &[Service]) -> Option<Avp>
+    ensures { (ledger : Ledger) → IsRowsOf ledger account.now → result ≡ units_fault account.now.book session.now ledger services.now }
+{
+    for service in services {
+        if let Some(avp) = service_fault(account, session, service) {
+            return Some(avp);
+        }
+    }
+    None
+}
+
+fn invalid_report(account: &Account, session: &SessionId, services: &[Service]) -> Option<Failure>
+    ensures { (ledger : Ledger) → IsRowsOf ledger account.now → result ≡ option_map invalid (units_fault account.now.book session.now ledger services.now) }
+{
+    match wrong_report(account, session, services) {
+        Some(avp) => Some(Failure::InvalidAvpValue(avp)),
+        None => None,
+    }
+}
+
+/// Why an initial request is refused.
+pub(crate) fn initial_refusal(
+    account: &Account,
+    session: &SessionId,
+    services: &[Service],
+) -> Option<Failure>
+    ensures ledger { (ledger : Ledger) → IsRowsOf ledger account.now → result ≡ initial_refusal account.now.book session.now services.now ledger }
+    ensures new { result ≡ None → session_in session.now account.now.sessions ≡ None }
+    ensures free { result ≡ None → AreFree account.now.book session.now services.now account.now.groups }
+{
+    if is_recorded(account, session, services) {
+        return Some(Failure::InvalidAvpValue(Avp::SessionId));
+    }
+    invalid_report(account, session, services)
+}
+
+/// Why an update or a termination is refused before anything is settled.
+pub(crate) fn early_refusal(
+    account: &Account,
+    session: &SessionId,
+    number: u32,
+    services: &[Service],
+    moment: Moment,
+) -> Option<Failure>
+    requires later { account.now.as_of ≤ moment }
+    ensures ledger { (ledger : Ledger) → IsRowsOf ledger account.now → result ≡ early_refusal account.now.book moment session.now number services.now ledger }
+    ensures live { result ≡ None → is_live_in account.now.book.validity moment account.now.sessions session.now ≡ true }
+{
+    if !account.is_live(session, moment) {
+        return Some(Failure::UnknownSessionId);
+    }
+    if is_late(account, session, number) {
+        return Some(Failure::InvalidAvpValue(Avp::RequestNumber));
+    }
+    invalid_report(account, session, services)
+}
+
+fn event_fault(account: &Account, event: &Event) -> Option<Avp>
+    ensures { result ≡ event_fault account.now.book event.now }
+{
+    let tariff = tariff_of(account, event.group)?;
+    wrong_event(tariff, &event.requested)
+}
+
+/// Why an event is refused for its units.
+pub(crate) fn event_refusal(account: &Account, event: &Event) -> Option<Failure>
+    ensures refusal { result ≡ read_refusal account.now.book event.now }
+    ensures units { result ≡ None → event_fault account.now.book event.now ≡ None }
+{
+    match event_fault(account, event) {
+        Some(avp) => Some(Failure::InvalidAvpValue(avp)),
+        None => None,
+    }
+}
+
+/// Why a debit is refused.
+pub(crate) fn debit_refusal(
+    account: &Account,
+    session: &SessionId,
+    event: &Event,
+) -> Option<Failure>
+    ensures ledger { (ledger : Ledger) → IsRowsOf ledger account.now → result ≡ debit_refusal account.now.book session.now event.now ledger }
+    ensures new { result ≡ None → session_in session.now account.now.sessions ≡ None }
+    ensures units { result ≡ None → event_fault account.now.book event.now ≡ None }
+{
+    if has_record(account, session) {
+        return Some(Failure::InvalidAvpValue(Avp::SessionId));
+    }
+    event_refusal(account, event)
+}
+
+/// Why a refund is refused.
+pub(crate) fn refund_refusal(
+    account: &Account,
+    session: &SessionId,
+    refund: Refund,
+) -> Option<Failure>
+    ensures ledger { (ledger : Ledger) → IsRowsOf ledger account.now → result ≡ refund_refusal account.now.book session.now refund ledger }
+    ensures new { result ≡ None → session_in session.now account.now.sessions ≡ None }
+{
+    if has_record(account, session) {
+        return Some(Failure::InvalidAvpValue(Avp::SessionId));
+    }
+    if refund.currency() != account.book().currency() {
+        return Some(Failure::InvalidAvpValue(Avp::CurrencyCode));
+    }
+    None
+}
