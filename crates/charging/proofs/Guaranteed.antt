@@ -1,0 +1,122 @@
+-- A report within its grant is collected whole.
+use Rattle.std.proofs.Common.{◌≡◌, ℕ, ◌≤◌, true, List, [], ◌∷◌, ◌++◌, refl, sym, ap, subst, ◌∙◌, arith, Option, Some}
+use Rattle.std.specs.Prelude.{unwrap_or}
+use Rattle.calendar.specs.Timetable.{period_at}
+use Rattle.tariffs.specs.Books.{Book, IsBook}
+use Rattle.rating.specs.declared.grant.Grant.{Grant as RatedGrant}
+use Rattle.units.specs.declared.blocks.UsedPart.{UsedPart}
+use Rattle.buckets.specs.declared.holds.Hold.{Hold}
+use Rattle.buckets.specs.Row.{Row}
+use Rattle.buckets.specs.Share.{parts}
+use Rattle.buckets.specs.Holding.{held_sum, holds_of, paid, uncollected}
+use Rattle.reserving.specs.Ledger.{Fact, Ledger, used, counter, held, only, next_bucket}
+use Rattle.reserving.specs.Ledger.Fact.{Touch, Close, Recorded, Barred}
+use Rattle.reserving.specs.Pricing.{tariff_of, cycle_at, one_period, rated_with}
+use Rattle.reserving.specs.Balance.{credits, buckets_at}
+use Rattle.reserving.specs.Sessions.{holds_at}
+use Rattle.reserving.specs.Settlement.{reported, report_price, charge_facts, settled_by}
+use Rattle.reserving.specs.Reservation.{hold_facts, grant_for}
+use Rattle.charging.specs.Quotas.{OpenGrant, grant_open, IsWithinGrant, AreQuotasPaid}
+use Rattle.charging.proofs.BucketSums.{sum_by-moved, held_sum-parts}
+use Rattle.charging.proofs.Steps.{is_quiet, with_grant, granted, Keeps}
+use Rattle.charging.proofs.Credited.{AreCredited, distinct}
+use Rattle.charging.proofs.Paying.{IsPaying, keeps_paying, before_charges-charges}
+use Rattle.charging.proofs.GrantPrices.{grant_price, report_within}
+use Rattle.charging.proofs.GrantsLeft.{held_together}
+use Rattle.charging.proofs.GrantsHeld.{has_blocks, IsCovered, AreCovered, covered_none, covered_quiet, covered_credit, covered_settle, covered_debit, covered_grant}
+
+-- what each ledger of an account keeps: it is paid, its open grants are covered, and its uses within them are collected
+pub record IsGuaranteed (b : Book) (ledger : Ledger) : Type 0 where
+  pub paying : IsPaying b ledger
+  pub covered : AreCovered b ledger
+  pub quotas : AreQuotasPaid b ledger
+
+-- ---- facts that are no uses
+
+AreQuotasPaid-charges : (b : Book) (t : ℕ) (hs : List Hold) (ledger : Ledger) → AreQuotasPaid b ledger → AreQuotasPaid b (charge_facts t hs ++ ledger)
+AreQuotasPaid-charges b t [] ledger h = h
+AreQuotasPaid-charges b t (x ∷ xs) ledger h = (tt, AreQuotasPaid-charges b t xs ledger h)
+
+AreQuotasPaid-holds : (b : Book) (t : ℕ) (s : List ℕ) (g : ℕ) (hs : List Hold) (ledger : Ledger) → AreQuotasPaid b ledger → AreQuotasPaid b (hold_facts t s g hs ++ ledger)
+AreQuotasPaid-holds b t s g [] ledger h = h
+AreQuotasPaid-holds b t s g (x ∷ xs) ledger h = (tt, AreQuotasPaid-holds b t s g xs ledger h)
+
+quiet_quotas : (b : Book) (t : ℕ) (f : Fact) (ledger : Ledger) → is_quiet f ≡ true → AreQuotasPaid b ledger → AreQuotasPaid b (record { at = t; fact = f } ∷ ledger)
+quiet_quotas b t (Touch s) ledger q h = (tt, h)
+quiet_quotas b t (Close s) ledger q h = (tt, h)
+quiet_quotas b t (Recorded s n) ledger q h = (tt, h)
+quiet_quotas b t (Barred x) ledger q h = (tt, h)
+quiet_quotas b t _ ledger q h = cc
+
+-- ---- a report
+
+-- what a session's reservation has together is what is held for it
+held_at : (v t : ℕ) (s : List ℕ) (g : ℕ) (ledger : Ledger) → AreCredited (credits ledger) (next_bucket ledger) → held_sum (holds_at v t s g ledger) (buckets_at v t ledger) ≡ held_together s g ledger
+held_at v t s g ledger made =
+    held_sum-parts (λ c. held (only s g) c.number ledger) (buckets_at v t ledger) (distinct v t ledger made)
+    ∙ sum_by-moved (λ n. held (only s g) n ledger) v t ledger (credits ledger)
+
+within_grant : (b : Book) → IsBook b → (t : ℕ) (s : List ℕ) (g : ℕ) (used_parts : List UsedPart) (ledger : Ledger) → IsGuaranteed b ledger →
+    (x : OpenGrant) → grant_open s g ledger ≡ Some x → reported used_parts ≤ x.units → counter (cycle_at b g) g (cycle_at b g t) ledger ≡ x.counter →
+    uncollected (holds_at b.validity t s g ledger) g t (report_price b t s g used_parts ledger).amount.0 (buckets_at b.validity t ledger) ≡ 0
+within_grant b is t s g used_parts ledger h x e le place_is =
+    let covered : IsCovered b s g ledger x = h.covered s g x e in
+    let place : ℕ = counter (cycle_at b g) g (cycle_at b g t) ledger in
+    let before : ℕ = used s g ledger in
+    let price : (report_price b t s g used_parts ledger).amount.0 ≡ (rated_with (tariff_of b g) covered.periods before place used_parts).amount.0 =
+    ap (λ o. (rated_with (tariff_of b g) (unwrap_or o (one_period (period_at b.calendar t))) before place used_parts).amount.0) covered.granted in
+    let most : (rated_with (tariff_of b g) covered.periods before place used_parts).amount.0 ≤ grant_price (tariff_of b g) covered.periods before place x.units =
+    report_within (tariff_of b g) covered.periods before place x.units used_parts (has_blocks b is g) le in
+    let moved : grant_price (tariff_of b g) covered.periods before place x.units ≡ grant_price (tariff_of b g) covered.periods before x.counter x.units =
+    ap (λ n. grant_price (tariff_of b g) covered.periods before n x.units) place_is in
+    omega (arith, price, most, moved, covered.held, held_at b.validity t s g ledger h.paying.credits)
+
+settled_quotas : (b : Book) → IsBook b → (t : ℕ) (s : List ℕ) (g : ℕ) (used_parts : List UsedPart) (ledger : Ledger) → IsGuaranteed b ledger → AreQuotasPaid b (settled_by b t s g used_parts ledger)
+settled_quotas b is t s g [] ledger h = (tt, h.quotas)
+settled_quotas b is t s g (p ∷ ps) ledger h = (
+  tt,
+  (
+    subst (IsWithinGrant b t s g (reported (p ∷ ps)) (uncollected holds g t rated rows)) (sym (before_charges-charges t hs ledger h.paying.begins)) (within_grant b is t s g (p ∷ ps) ledger h),
+    AreQuotasPaid-charges b t hs ledger h.quotas,
+  ),
+)
+  where
+    rows : List Row
+    rows = buckets_at b.validity t ledger
+
+    holds : List Hold
+    holds = holds_at b.validity t s g ledger
+
+    rated : ℕ
+    rated = (report_price b t s g (p ∷ ps) ledger).amount.0
+
+    hs : List Hold
+    hs = parts (paid holds g t rated rows) rows
+
+granted_quotas : (b : Book) (t : ℕ) (s : List ℕ) (g : ℕ) (asked : Option ℕ) (ledger : Ledger) → AreQuotasPaid b ledger → AreQuotasPaid b (granted b t s g asked ledger)
+granted_quotas b t s g asked ledger h =
+    let grant : RatedGrant = grant_for b t g (used s g ledger) asked ledger in
+    AreQuotasPaid-holds b t s g (holds_of g t grant.amount.0 (buckets_at b.validity t ledger)) (with_grant b t s g grant.units.0 ledger) (tt, h)
+
+-- ---- each step
+
+pub keeps_guaranteed : (b : Book) → IsBook b → Keeps b (IsGuaranteed b)
+keeps_guaranteed b is = record {
+  none = record { paying = paying.none; covered = covered_none b; quotas = tt };
+  quiet = λ t f ledger q h. record { paying = paying.quiet t f ledger q h.paying; covered = covered_quiet b t f ledger q h.covered; quotas = quiet_quotas b t f ledger q h.quotas };
+  credit = λ t from until scope amount ledger h. record { paying = paying.credit t from until scope amount ledger h.paying; covered = covered_credit b t from until scope amount ledger h.covered; quotas = (tt, h.quotas) };
+  settle = λ t s g used_parts ledger h. record { paying = paying.settle t s g used_parts ledger h.paying; covered = covered_settle b t s g used_parts ledger h.covered; quotas = settled_quotas b is t s g used_parts ledger h };
+  grant = λ t s g asked ledger recorded h. record {
+    paying = paying.grant t s g asked ledger recorded h.paying;
+    covered = covered_grant b is t s g asked ledger h.paying.credits recorded h.covered;
+    quotas = granted_quotas b t s g asked ledger h.quotas;
+  };
+  debit = λ t s g units ledger new covered h. record {
+    paying = paying.debit t s g units ledger new covered h.paying;
+    covered = covered_debit b t s g units ledger new h.covered;
+    quotas = (λ x e le place. refl, AreQuotasPaid-charges b t _ ledger h.quotas);
+  };
+}
+  where
+    paying : Keeps b (IsPaying b)
+    paying = keeps_paying b

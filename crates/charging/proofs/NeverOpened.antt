@@ -1,0 +1,92 @@
+-- An account that was never opened has an empty ledger.
+use Rattle.std.proofs.Common.{◌≡◌, ℕ, Bool, true, false, true≢false, List, [], ◌∷◌, refl, sym, subst, ◌∙◌, Option, Some, None}
+use Rattle.std.specs.Prelude.{if◌then◌else◌}
+use Rattle.commands.specs.declared.command.Command.{Command}
+use Rattle.commands.specs.declared.command.Command.TheVariants as command
+use Rattle.commands.specs.declared.answer.Answer.{Answer}
+use Rattle.commands.specs.declared.answer.Answer.TheVariants as answer
+use Rattle.commands.specs.declared.answer.Failure.TheVariants.{InvalidAvpValue}
+use Rattle.commands.specs.declared.answer.Refusal.TheVariants.{ContentDiffers, OutOfRange}
+use Rattle.commands.specs.declared.avp.Avp.TheVariants.{RequestNumber}
+use Rattle.commands.specs.declared.command.Content.{Content}
+use Rattle.commands.specs.declared.command.Content.TheVariants as content
+use Rattle.commands.specs.declared.command.Credit.{Credit}
+use Rattle.commands.specs.declared.request.Request.{Request}
+use Rattle.tariffs.specs.Books.{Book}
+use Rattle.reserving.specs.Ledger.{next_bucket}
+use Rattle.reserving.specs.Requests.{credited}
+use Rattle.reserving.specs.Stored.{StoredRows}
+use Rattle.decisions.specs.Decided.{Decision}
+use Rattle.decisions.specs.Decisions.{decision, answer_of, is_read}
+use Rattle.keepers.specs.declared.key.KeptAnswer.{KeptAnswer}
+use Rattle.keepers.specs.Keys.{key_of}
+use Rattle.keepers.specs.Tables.{Tables}
+use Rattle.keepers.specs.Histories.{History, kept_under}
+use Rattle.keepers.specs.Accepted.{Accepted, Outcome, account_of, names, as_of, IsRow}
+use Rattle.charging.specs.Outcomes.{outcome, opened_outcome, unopened_outcome, told, keeping, unless_kept, failed, decided_by, request_outcome, from_of, until_of, is_out_of_range, new_credit}
+use Rattle.charging.specs.Served.{history, AreTables}
+
+-- ---- an account that is there stays
+
+kept_stays : (o : Option KeptAnswer) (new : Content) (conflict : Answer) (h : History) (fresh : Outcome) → fresh.after.opened ≡ h.opened → (unless_kept o new conflict h fresh).after.opened ≡ h.opened
+kept_stays None new conflict h fresh e = e
+kept_stays (Some kept) new conflict h fresh e = refl
+
+decided_stays : (r : Request) (d : Decision) (h : History) → (decided_by r d h).after.opened ≡ h.opened
+decided_stays r d h = at d.accepted
+  where
+    at : (v : Bool) → (if v then keeping (content.Request r) (answer.Request (answer_of r d.outcome)) d.after h else told (answer.Request (answer_of r d.outcome)) h).after.opened ≡ h.opened
+    at true = refl
+    at false = refl
+
+request_stays : (b : Book) (r : Request) (t : ℕ) (h : History) → (request_outcome b r t h).after.opened ≡ h.opened
+request_stays b r t h = at (is_read r.ask)
+  where
+    at : (v : Bool) → (if v then told (answer.Request (answer_of r (decision b t r h.ledger).outcome)) h else unless_kept (kept_under (key_of (content.Request r)) h) (content.Request r) (failed r (InvalidAvpValue RequestNumber)) h (decided_by r (decision b t r h.ledger) h)).after.opened ≡ h.opened
+    at true = refl
+    at false = kept_stays (kept_under (key_of (content.Request r)) h) (content.Request r) (failed r (InvalidAvpValue RequestNumber)) h (decided_by r (decision b t r h.ledger) h) (decided_stays r (decision b t r h.ledger) h)
+
+credit_stays : (c : Credit) (t : ℕ) (h : History) → (new_credit c t h).after.opened ≡ h.opened
+credit_stays c t h = at (is_out_of_range c t h.ledger)
+  where
+    at : (v : Bool) → (if v then told (answer.Refused OutOfRange) h else keeping (content.Credit c) (answer.Bucket (next_bucket h.ledger)) (credited t (from_of c t) (until_of c) c.scope c.amount h.ledger) h).after.opened ≡ h.opened
+    at true = refl
+    at false = refl
+
+opened_stays : (b : Book) (h : History) (c : Command) (t : ℕ) → (opened_outcome b h c t).after.opened ≡ h.opened
+opened_stays b h (command.Ccr r) t = request_stays b r t h
+opened_stays b h (command.OpenAccount n) t = refl
+opened_stays b h (command.Credit c) t = kept_stays (kept_under (key_of (content.Credit c)) h) (content.Credit c) (answer.Refused ContentDiffers) h (new_credit c t h) (credit_stays c t h)
+opened_stays b h (command.Bar n) t = refl
+opened_stays b h (command.Unbar n) t = refl
+opened_stays b h command.Sweep t = refl
+
+-- ---- before it is opened nothing is written
+
+unopened_ledger : (h : History) (c : Command) → h.ledger ≡ [] → (unopened_outcome h c).after.ledger ≡ []
+unopened_ledger h (command.Ccr r) e = e
+unopened_ledger h (command.OpenAccount n) e = e
+unopened_ledger h (command.Credit c) e = e
+unopened_ledger h (command.Bar n) e = e
+unopened_ledger h (command.Unbar n) e = e
+unopened_ledger h command.Sweep e = e
+
+outcome_ledger : (b : Book) (h : History) (c : Command) (t : ℕ) → (h.opened ≡ false → h.ledger ≡ []) → (outcome b h c t).after.opened ≡ false → (outcome b h c t).after.ledger ≡ []
+outcome_ledger b h c t empty = at h.opened refl
+  where
+    at : (v : Bool) → h.opened ≡ v → (if v then opened_outcome b h c t else unopened_outcome h c).after.opened ≡ false → (if v then opened_outcome b h c t else unopened_outcome h c).after.ledger ≡ []
+    at true opened e = absurd (true≢false (sym opened ∙ sym (opened_stays b h c t) ∙ e))
+    at false opened e = unopened_ledger h c (empty opened)
+
+pub unopened-ledger : (b : Book) (a : List ℕ) (list : List Accepted) → (history b a list).opened ≡ false → (history b a list).ledger ≡ []
+unopened-ledger b a [] e = refl
+unopened-ledger b a (d ∷ before) e = at (names a (account_of d.command)) (unopened-ledger b a before) e
+  where
+    at : (v : Bool) → ((history b a before).opened ≡ false → (history b a before).ledger ≡ []) → (if v then (outcome b (history b a before) d.command d.moment).after else history b a before).opened ≡ false →
+        (if v then (outcome b (history b a before) d.command d.moment).after else history b a before).ledger ≡ []
+    at true empty closed = outcome_ledger b (history b a before) d.command d.moment empty closed
+    at false empty closed = empty closed
+
+-- an account that isn't in the tables wasn't opened
+pub closed : (b : Book) (a : List ℕ) (list : List Accepted) (tables : Tables) → AreTables b list tables → tables.accounts a ≡ None → (history b a list).opened ≡ false
+closed b a list tables is none = subst (λ (o : Option StoredRows). IsRow b (as_of a list) (history b a list) o) none (is.accounts a)

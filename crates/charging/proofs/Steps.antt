@@ -1,0 +1,39 @@
+-- What each step of a ledger keeps, every ledger of an account keeps.
+use Rattle.std.proofs.Common.{◌≡◌, ℕ, Bool, true, false, List, [], ◌∷◌, Option, None}
+use Rattle.units.specs.declared.blocks.UsedPart.{UsedPart}
+use Rattle.tariffs.specs.Books.{Book}
+use Rattle.rating.specs.declared.grant.Grant.{Grant as RatedGrant}
+use Rattle.reserving.specs.Ledger.{Fact, Ledger, last_recording, used, counter}
+use Rattle.reserving.specs.Ledger.Fact.{Grant, Touch, Close, Recorded, Barred}
+use Rattle.reserving.specs.Pricing.{cycle_at, periods_at}
+use Rattle.reserving.specs.Requests.{credited}
+use Rattle.reserving.specs.Settlement.{settled_by}
+use Rattle.reserving.specs.Reservation.{reserved, grant_for}
+use Rattle.reserving.specs.Debiting.{debited, is_covered}
+
+-- facts that speak neither of buckets nor of groups
+abbrev pub is_quiet : Fact → Bool
+is_quiet (Touch session) = true
+is_quiet (Close session) = true
+is_quiet (Recorded session number) = true
+is_quiet (Barred barred) = true
+is_quiet _ = false
+
+-- a grant's first fact, before its holds
+abbrev pub with_grant : Book → ℕ → List ℕ → ℕ → ℕ → Ledger → Ledger
+with_grant b t s g units ledger = record { at = t; fact = Grant s g (periods_at b t) units (counter (cycle_at b g) g (cycle_at b g t) ledger) } ∷ ledger
+
+-- the ledger with the grant of a session's group, as far as the funds cover it
+abbrev pub granted : Book → ℕ → List ℕ → ℕ → Option ℕ → Ledger → Ledger
+granted b t s g asked ledger = let grant : RatedGrant = grant_for b t g (used s g ledger) asked ledger in reserved b t s g grant.units.0 grant.amount.0 ledger
+
+-- a property of ledgers is kept by each step that an account's commands take
+pub record Keeps (b : Book) (P : Ledger → Type 0) : Type 0 where
+  pub none : P []
+  pub quiet : (t : ℕ) (f : Fact) (ledger : Ledger) → is_quiet f ≡ true → P ledger → P (record { at = t; fact = f } ∷ ledger)
+  pub credit : (t from until : ℕ) (scope : Option ℕ) (amount : ℕ) (ledger : Ledger) → P ledger → P (credited t from until scope amount ledger)
+  pub settle : (t : ℕ) (s : List ℕ) (g : ℕ) (used_parts : List UsedPart) (ledger : Ledger) → P ledger → P (settled_by b t s g used_parts ledger)
+  -- of a session that is recorded
+  pub grant : (t : ℕ) (s : List ℕ) (g : ℕ) (asked : Option ℕ) (ledger : Ledger) → (last_recording s ledger ≡ None → ⊥) → P ledger → P (granted b t s g asked ledger)
+  -- of an event whose name isn't recorded yet
+  pub debit : (t : ℕ) (s : List ℕ) (g units : ℕ) (ledger : Ledger) → last_recording s ledger ≡ None → is_covered b t g units ledger ≡ true → P ledger → P (debited b t s g units ledger)

@@ -1,0 +1,5 @@
+use Rattle.charging.proofs.Repeated.{answers-once}
+use Rattle.charging.proofs.laws.repeats.Goals as goal
+
+pub returns : goal.returns
+returns c = answers-once

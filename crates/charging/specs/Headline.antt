@@ -1,0 +1,38 @@
+-- The promise of a run, account by account: its buckets and its charges are sums of its ledger, and each use was paid as
+-- the rules say (TS 32.296, account balance management function; RFC 8506 section 5.3).
+use Rattle.std.specs.Prelude.{◌≡◌, ℕ, List, Option, Some, take, length}
+use Rattle.commands.specs.declared.answer.Answer.{Answer}
+use Rattle.buckets.specs.Row.{IsBalanced}
+use Rattle.buckets.specs.Spend.{Each}
+use Rattle.tariffs.specs.Books.{Book}
+use Rattle.reserving.specs.declared.charge.ChargeRow.{ChargeRow}
+use Rattle.reserving.specs.Ledger.{Ledger}
+use Rattle.reserving.specs.Balance.{buckets_at}
+use Rattle.reserving.specs.Charges.{charge_rows}
+use Rattle.reserving.specs.Stored.{StoredRows}
+use Rattle.keepers.specs.Tables.{Tables}
+use Rattle.keepers.specs.Accepted.{Accepted, IsInTime}
+use Rattle.charging.specs.declared.running.DatedCommand.{DatedCommand}
+use Rattle.charging.specs.Served.{AreTables, history}
+use Rattle.charging.specs.Runs.{after_commands}
+use Rattle.charging.specs.Paid.{ArePaid}
+use Rattle.charging.specs.Quotas.{AreQuotasPaid}
+
+pub record IsAccounted (b : Book) (ledger : Ledger) (rows : StoredRows) (told : List ChargeRow) : Type 0 where
+  -- each bucket is what the ledger sums to, as of the account's last command
+  pub buckets : rows.buckets ≡ buckets_at b.validity rows.as_of ledger
+  -- what was credited is available, reserved, charged or expired
+  pub balanced : Each IsBalanced rows.buckets
+  -- the charges are the ledger's uses, in order
+  pub charges : told ≡ charge_rows ledger
+  -- of each use what is collected and what isn't are the price of the blocks that it started, and something isn't only
+  -- where its reservation and every eligible bucket are empty
+  pub paid : ArePaid b ledger
+  -- a use within its grant is collected whole
+  pub quotas : AreQuotasPaid b ledger
+
+-- so each account after a run, for every list of accepted commands whose tables the keeper held before it
+abbrev pub AreAccounted : Book → List DatedCommand → Tables → Tables → List Answer → Type 0
+AreAccounted b commands old new given =
+    (list : List Accepted) → IsInTime list → AreTables b list old → (a : List ℕ) (rows : StoredRows) → new.accounts a ≡ Some rows →
+    IsAccounted b (history b a (after_commands b list (take (length given) commands))).ledger rows (new.charges a)

@@ -1,0 +1,9 @@
+pub mod Outcomes
+pub mod Served
+pub mod Stepping
+pub mod Runs
+pub mod Paid
+pub mod Quotas
+pub mod Isolation
+pub mod Repeats
+pub mod Headline

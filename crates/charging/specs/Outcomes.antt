@@ -1,0 +1,124 @@
+-- What a command comes to on the history of the account that it names: its answer, whether it is accepted, and the
+-- history after it (requests: RFC 8506; operators' commands, keys and repeats: profile).
+use Rattle.std.specs.Prelude.{ℕ, ◌==◌, ◌||◌, nat_le, nat_lt, Bool, true, false, if◌then◌else◌, ◌∷◌, Option, Some, None, unwrap_or}
+use Rattle.commands.specs.Alike.{same_request, same_credit}
+use Rattle.commands.specs.declared.avp.Avp.TheVariants.{RequestNumber}
+use Rattle.commands.specs.declared.answer.Answer.{Answer}
+use Rattle.commands.specs.declared.answer.Answer.TheVariants as answer
+use Rattle.commands.specs.declared.answer.Failure.{Failure}
+use Rattle.commands.specs.declared.answer.Failure.TheVariants.{UserUnknown, InvalidAvpValue}
+use Rattle.commands.specs.declared.answer.Outcome.TheVariants.{Failed}
+use Rattle.commands.specs.declared.answer.Refusal.TheVariants.{AccountExists, AccountUnknown, ContentDiffers, OutOfRange}
+use Rattle.commands.specs.declared.command.Command.{Command}
+use Rattle.commands.specs.declared.command.Command.TheVariants as command
+use Rattle.commands.specs.declared.command.Content.{Content}
+use Rattle.commands.specs.declared.command.Content.TheVariants as content
+use Rattle.commands.specs.declared.command.Credit.{Credit}
+use Rattle.commands.specs.declared.request.Request.{Request}
+use Rattle.tariffs.specs.Books.{Book}
+use Rattle.reserving.specs.Ledger.{Ledger, next_bucket}
+use Rattle.reserving.specs.Requests.{credited, with_bar}
+use Rattle.decisions.specs.Decided.{Decision}
+use Rattle.decisions.specs.Decisions.{decision, answer_of, is_read}
+use Rattle.keepers.specs.declared.key.KeptAnswer.{KeptAnswer}
+use Rattle.keepers.specs.Keys.{key_of}
+use Rattle.keepers.specs.Histories.{History, kept_under}
+use Rattle.keepers.specs.Accepted.{Outcome}
+
+-- an answer that changes nothing
+abbrev pub told : Answer → History → Outcome
+told given h = record { answer = given; accepted = false; after = h }
+
+-- an accepted command without a key
+abbrev pub done : Answer → History → Outcome
+done given after = record { answer = given; accepted = true; after = after }
+
+-- an accepted command is kept with its answer
+abbrev pub keeping : Content → Answer → Ledger → History → Outcome
+keeping kept given ledger h =
+    done given (record { opened = h.opened; ledger = ledger; kept = record { content = kept; answer = given } ∷ h.kept })
+
+-- ---- repeats
+
+abbrev pub same_content : Content → Content → Bool
+same_content (content.Request r) (content.Request q) = same_request r q
+same_content (content.Credit c) (content.Credit d) = same_credit c d
+same_content x y = false
+
+-- a command whose key is kept: with the same content it gets its first answer, else it is at fault
+abbrev pub repeated : KeptAnswer → Content → Answer → Answer
+repeated kept new conflict = if same_content kept.content new then kept.answer else conflict
+
+abbrev pub unless_kept : Option KeptAnswer → Content → Answer → History → Outcome → Outcome
+unless_kept None new conflict h fresh = fresh
+unless_kept (Some kept) new conflict h fresh = told (repeated kept new conflict) h
+
+-- ---- requests
+
+-- the answer of a request that isn't accepted for this reason
+abbrev pub failed : Request → Failure → Answer
+failed r failure = answer.Request (answer_of r (Failed failure))
+
+abbrev pub decided_by : Request → Decision → History → Outcome
+decided_by r d h =
+    if d.accepted
+    then keeping (content.Request r) (answer.Request (answer_of r d.outcome)) d.after h
+    else told (answer.Request (answer_of r d.outcome)) h
+
+abbrev pub request_outcome : Book → Request → ℕ → History → Outcome
+request_outcome b r t h =
+    if is_read r.ask
+    then told (answer.Request (answer_of r (decision b t r h.ledger).outcome)) h
+    else unless_kept (kept_under (key_of (content.Request r)) h) (content.Request r) (failed r (InvalidAvpValue RequestNumber)) h (decided_by r (decision b t r h.ledger) h)
+
+-- ---- credits
+
+-- without a beginning a credit is usable from the moment on, without an end for good
+abbrev pub from_of : Credit → ℕ → ℕ
+from_of c t = unwrap_or c.from t
+
+abbrev pub until_of : Credit → ℕ
+until_of c = unwrap_or c.until 4102444800
+
+-- it is of nothing, or there is no moment left at which it could be used
+abbrev pub is_unusable : Credit → ℕ → Bool
+is_unusable c t = c.amount == 0 || (nat_le (until_of c) (from_of c t) || nat_le (until_of c) t)
+
+-- or its bucket would have no number
+abbrev pub is_out_of_range : Credit → ℕ → Ledger → Bool
+is_out_of_range c t ledger = is_unusable c t || nat_lt 4294967295 (next_bucket ledger)
+
+abbrev pub new_credit : Credit → ℕ → History → Outcome
+new_credit c t h =
+    if is_out_of_range c t h.ledger
+    then told (answer.Refused OutOfRange) h
+    else keeping (content.Credit c) (answer.Bucket (next_bucket h.ledger)) (credited t (from_of c t) (until_of c) c.scope c.amount h.ledger) h
+
+abbrev pub credit_outcome : Credit → ℕ → History → Outcome
+credit_outcome c t h = unless_kept (kept_under (key_of (content.Credit c)) h) (content.Credit c) (answer.Refused ContentDiffers) h (new_credit c t h)
+
+-- ---- a command
+
+abbrev pub with_ledger : Ledger → History → History
+with_ledger ledger h = record { opened = h.opened; ledger = ledger; kept = h.kept }
+
+-- of an account that is there
+abbrev pub opened_outcome : Book → History → Command → ℕ → Outcome
+opened_outcome b h (command.Ccr r) t = request_outcome b r t h
+opened_outcome b h (command.OpenAccount n) t = told (answer.Refused AccountExists) h
+opened_outcome b h (command.Credit c) t = credit_outcome c t h
+opened_outcome b h (command.Bar n) t = done answer.Done (with_ledger (with_bar t true h.ledger) h)
+opened_outcome b h (command.Unbar n) t = done answer.Done (with_ledger (with_bar t false h.ledger) h)
+opened_outcome b h command.Sweep t = told answer.Done h
+
+-- of an account that isn't: it can be opened
+abbrev pub unopened_outcome : History → Command → Outcome
+unopened_outcome h (command.Ccr r) = told (failed r UserUnknown) h
+unopened_outcome h (command.OpenAccount n) = done answer.Done (record { opened = true; ledger = h.ledger; kept = h.kept })
+unopened_outcome h (command.Credit c) = told (answer.Refused AccountUnknown) h
+unopened_outcome h (command.Bar n) = told (answer.Refused AccountUnknown) h
+unopened_outcome h (command.Unbar n) = told (answer.Refused AccountUnknown) h
+unopened_outcome h command.Sweep = told answer.Done h
+
+abbrev pub outcome : Book → History → Command → ℕ → Outcome
+outcome b h c t = if h.opened then opened_outcome b h c t else unopened_outcome h c

@@ -1,0 +1,59 @@
+-- What a command is answered after a list of accepted commands, and the list after it.
+-- Source: profile.
+use Rattle.std.specs.Prelude.{◌≡◌, ℕ, Bool, true, false, List, ◌∷◌, Option, Some, None, Result, if◌then◌else◌, max, MatchResult}
+use Rattle.commands.specs.declared.answer.Answer.{Answer}
+use Rattle.commands.specs.declared.answer.Answer.TheVariants.{Swept}
+use Rattle.commands.specs.declared.command.Command.{Command}
+use Rattle.tariffs.specs.Books.{Book}
+use Rattle.keepers.specs.declared.fault.StoreFault.{StoreFault}
+use Rattle.keepers.specs.Tables.{Tables}
+use Rattle.keepers.specs.Histories.{History}
+use Rattle.keepers.specs.Accepted.{Accepted, account_of, last_moment, account_count, IsInTime}
+use Rattle.keepers.specs.Accepted as accepted
+use Rattle.charging.specs.Outcomes.{outcome}
+
+-- the history of an account after a list of accepted commands
+abbrev pub history : Book → List ℕ → List Accepted → History
+history b a list = accepted.history_of (outcome b) a list
+
+-- the tables are those of the accepted commands
+abbrev pub AreTables : Book → List Accepted → Tables → Type 0
+AreTables b list tables = accepted.AreTablesOf (outcome b) b list tables
+
+-- the moment of a command: the later of the one handed in and that of the last accepted command
+abbrev pub moment_of : List Accepted → ℕ → ℕ
+moment_of list t = max t (last_moment list)
+
+abbrev pub answer_on : Option (List ℕ) → Book → List Accepted → Command → ℕ → Answer
+answer_on None b list c t = Swept (account_count list)
+answer_on (Some a) b list c t = (outcome b (history b a list) c t).answer
+
+-- a command's answer at its moment: by the history of the account that it names; a sweep's is the number of accounts
+abbrev pub answer_to : Book → List Accepted → Command → ℕ → Answer
+answer_to b list c t = answer_on (account_of c) b list c t
+
+abbrev pub accepts_on : Option (List ℕ) → Book → List Accepted → Command → ℕ → Bool
+accepts_on None b list c t = true
+accepts_on (Some a) b list c t = (outcome b (history b a list) c t).accepted
+
+abbrev pub accepts : Book → List Accepted → Command → ℕ → Bool
+accepts b list c t = accepts_on (account_of c) b list c t
+
+-- the list with the command where it is accepted
+abbrev pub with_command : Book → List Accepted → Command → ℕ → List Accepted
+with_command b list c t = if accepts b list c t then record { moment = t; command = c } ∷ list else list
+
+-- ---- a step
+
+-- the answer is the definition's, and the tables are those of the list with the command where it is accepted; a command
+-- that isn't changes no table
+pub record IsServed (b : Book) (list : List Accepted) (c : Command) (t : ℕ) (old new : Tables) (given : Answer) : Type 0 where
+  pub answer : given ≡ answer_to b list c t
+  pub tables : AreTables b (with_command b list c t) new
+  pub same : accepts b list c t ≡ false → new ≡ old
+
+-- for every list of accepted commands whose tables a keeper holds: the command is served, or the tables are as before
+abbrev pub Serves : Book → Command → ℕ → Tables → Tables → Result Answer StoreFault → Type 0
+Serves b c t old new result =
+    (list : List Accepted) → IsInTime list → AreTables b list old →
+    MatchResult result (λ given. IsServed b list c (moment_of list t) old new given) (λ fault. new ≡ old)

@@ -1,0 +1,45 @@
+//! Changes of one account.
+
+ghost use Rattle.std.specs.Prelude.{◌≡◌, ◌≤◌, max, OnOk, OnErr};
+ghost use Rattle.reserving.specs.Rows.{IsAccount};
+ghost use Rattle.keepers.specs.Change.{changed};
+ghost use Rattle.keepers.specs.Faults.{HasCause};
+
+use keepers::{Change, Keeper, KeptAnswer, Loaded, StoreFault};
+use reserving::ChargeRow;
+use units::Moment;
+
+/// The moment of a command on an account: it isn't before that of the account's last change.
+pub(crate) fn moment_on(loaded: &Loaded, moment: Moment) -> Moment
+    ensures value { result ≡ max moment loaded.now.account.as_of }
+    ensures later { loaded.now.account.as_of ≤ result }
+{
+    moment.max(loaded.account.as_of())
+}
+
+/// Commits an account as it stands, with the charges that a command made and what is kept of it.
+pub(crate) fn commit<K: Keeper>(
+    keeper: &mut K,
+    loaded: Loaded,
+    charges: Vec<ChargeRow>,
+    kept: Option<KeptAnswer>,
+) -> Result<(), StoreFault>
+    ensures done { K.clean keeper.new → OnOk result (K.content keeper.new ≡ changed (record {
+      moment = loaded.entry.account.as_of;
+      account = loaded.entry;
+      charges = charges;
+      kept = kept;
+    }) (K.content keeper.old)) }
+    ensures account { IsAccount loaded.entry.account }
+    ensures err { K.clean keeper.new → OnErr result (K.content keeper.new ≡ K.content keeper.old) }
+    ensures cleanness { K.clean keeper.new → K.clean keeper.old }
+    ensures cause { HasCause (K.failed keeper.old) (K.failed keeper.new) result }
+{
+    let moment = loaded.account.as_of();
+    keeper.commit(Change {
+        moment,
+        account: loaded,
+        charges,
+        kept,
+    })
+}

@@ -1,0 +1,37 @@
+//! Laws of the definitions by which commands are answered: functions that do nothing.
+
+ghost use Rattle.std.specs.Prelude.{ℕ, List};
+ghost use Rattle.tariffs.specs.Books.{Book, IsBook};
+ghost use Rattle.keepers.specs.Accepted.{Accepted};
+ghost use Rattle.charging.specs.Served.{history};
+ghost use Rattle.charging.specs.Paid.{ArePaid};
+ghost use Rattle.charging.specs.Quotas.{AreQuotasPaid};
+ghost use Rattle.charging.specs.Repeats.{AnswersOnce};
+ghost use Rattle.charging.specs.declared.running.DatedCommand.{DatedCommand};
+ghost use Rattle.charging.specs.Isolation.{IsIsolated};
+
+/// Each report and each debit of an account has the price of the blocks that it started: what is collected of it and
+/// what isn't are that price, and something is uncollected only where its reservation is used up and no eligible
+/// bucket has anything left (RFC 8506 section 5.3; TS 32.296, account balance management function).
+pub fn payment()
+    ensures { (b : Book) (a : List ℕ) (list : List Accepted) → ArePaid b (history b a list).ledger }
+{}
+
+/// A quota pays: a report that ends a grant, has at most its units and starts at its place of the group's counter is
+/// collected whole, whatever stood between (TS 32.299, session charging with unit reservation).
+pub fn quota()
+    ensures { (b : Book) → IsBook b → (a : List ℕ) (list : List Accepted) → AreQuotasPaid b (history b a list).ledger }
+{}
+
+/// Repeats: once a request that isn't a read or a credit is accepted, it has one answer for good. Whatever commands stand
+/// between, the same command is answered as the first time and isn't accepted again (RFC 8506 section 8.2; references of
+/// credits: profile).
+pub fn repeats()
+    ensures { AnswersOnce }
+{}
+
+/// Isolation: in a run of commands from nothing an account's answers and rows are those of its own commands alone.
+/// Others and sweeps reach it through the moments of its commands, and where moments never fall not at all (profile).
+pub fn isolation()
+    ensures { (book : Book) → IsBook book → (account : List ℕ) (commands : List DatedCommand) → IsIsolated book account commands }
+{}

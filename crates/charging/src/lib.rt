@@ -1,0 +1,18 @@
+//! Commands of gateways and operators over any keeper: each is answered by the history of accepted commands, and leaves
+//! the tables of that history.
+#![tactic(auto)]
+
+mod answers;
+mod committing;
+mod laws;
+mod operators;
+mod requests;
+mod running;
+mod stepping;
+
+pub use crate::answers::Run;
+pub use crate::laws::{isolation, payment, quota, repeats};
+pub use crate::running::{DatedCommand, run};
+pub use crate::stepping::step;
+pub use commands::{Answer, Command};
+pub use keepers::{Change, Keeper, KeptAnswer, Key, Loaded, MemoryKeeper, StoreFault};

@@ -1,0 +1,202 @@
+//! Operators' commands: accounts are opened, credited, barred, and swept.
+
+ghost use Rattle.std.specs.Prelude.{◌≡◌, ◌≤◌, IfOk, IfSome, None, OnErr};
+ghost use Rattle.commands.specs.declared.command.Command.TheVariants as command;
+ghost use Rattle.commands.specs.declared.command.Content.TheVariants as content;
+ghost use Rattle.tariffs.specs.Books.{Book};
+ghost use Rattle.reserving.specs.Ledger.{Ledger};
+ghost use Rattle.reserving.specs.Rows.{IsRowsOf};
+ghost use Rattle.keepers.specs.Keys.{key_of};
+ghost use Rattle.keepers.specs.Faults.{HasCause};
+ghost use Rattle.charging.specs.Outcomes.{repeated, is_unusable};
+ghost use Rattle.charging.specs.Stepping.{ServesAt, IsLoaded, Credits, bar_command};
+
+use crate::committing::{commit, moment_on};
+use commands::{Answer, Content, Credit, Refusal, same_content};
+use identifiers::AccountNumber;
+use keepers::{Keeper, KeptAnswer, Key, Loaded, StoreFault};
+use reserving::{Account, AccountFault};
+use std::alloc::{AllocError, Global};
+use tariffs::TariffBook;
+use units::Moment;
+
+/// Opens an account.
+pub(crate) fn open_account<K: Keeper>(
+    alloc: Global,
+    keeper: &mut K,
+    book: &TariffBook,
+    number: AccountNumber,
+    moment: Moment,
+) -> Result<Answer, StoreFault>
+    ensures served { K.clean keeper.new → ServesAt book.now (command.OpenAccount number) moment (K.content keeper.old) (K.content keeper.new) result }
+    ensures err { K.clean keeper.new → OnErr result (K.content keeper.new ≡ K.content keeper.old) }
+    ensures cleanness { K.clean keeper.new → K.clean keeper.old }
+    ensures cause { HasCause (K.failed keeper.old) (K.failed keeper.new) result }
+{
+    if let Some(loaded) = keeper.load(book, &number)? {
+        keeper.abandon(loaded);
+        return Ok(Answer::Refused(Refusal::AccountExists));
+    }
+    let mut account = Account::new(alloc, book);
+    account.advance(moment);
+    commit(keeper, Loaded { number, account }, Vec::new(alloc), None)?;
+    Ok(Answer::Done)
+}
+
+/// Bars an account, or ends that.
+pub(crate) fn set_barred<K: Keeper>(
+    alloc: Global,
+    keeper: &mut K,
+    book: &TariffBook,
+    number: AccountNumber,
+    barred: bool,
+    moment: Moment,
+) -> Result<Answer, StoreFault>
+    ensures served { K.clean keeper.new → ServesAt book.now (bar_command number barred) moment (K.content keeper.old) (K.content keeper.new) result }
+    ensures err { K.clean keeper.new → OnErr result (K.content keeper.new ≡ K.content keeper.old) }
+    ensures cleanness { K.clean keeper.new → K.clean keeper.old }
+    ensures cause { HasCause (K.failed keeper.old) (K.failed keeper.new) result }
+{
+    let Some(mut loaded) = keeper.load(book, &number)? else {
+        return Ok(Answer::Refused(Refusal::AccountUnknown));
+    };
+    let moment = moment_on(&loaded, moment);
+    loaded.account.set_barred(barred, moment);
+    commit(keeper, loaded, Vec::new(alloc), None)?;
+    Ok(Answer::Done)
+}
+
+/// Brings each account to the moment.
+pub(crate) fn sweep<K: Keeper>(
+    keeper: &mut K,
+    book: &TariffBook,
+    moment: Moment,
+) -> Result<Answer, StoreFault>
+    ensures served { K.clean keeper.new → ServesAt book.now command.Sweep moment (K.content keeper.old) (K.content keeper.new) result }
+    ensures err { K.clean keeper.new → OnErr result (K.content keeper.new ≡ K.content keeper.old) }
+    ensures cleanness { K.clean keeper.new → K.clean keeper.old }
+    ensures cause { HasCause (K.failed keeper.old) (K.failed keeper.new) result }
+{
+    let _ranges = book.validity();
+    let count = keeper.sweep(book, moment)?;
+    Ok(Answer::Swept(count))
+}
+
+/// Credits an account, under a reference.
+pub(crate) fn serve_credit<K: Keeper>(
+    alloc: Global,
+    keeper: &mut K,
+    book: &TariffBook,
+    credit: Credit,
+    moment: Moment,
+) -> Result<Answer, StoreFault>
+    ensures served { K.clean keeper.new → ServesAt book.now (command.Credit credit) moment (K.content keeper.old) (K.content keeper.new) result }
+    ensures err { K.clean keeper.new → OnErr result (K.content keeper.new ≡ K.content keeper.old) }
+    ensures cleanness { K.clean keeper.new → K.clean keeper.old }
+    ensures cause { HasCause (K.failed keeper.old) (K.failed keeper.new) result }
+{
+    let kept = find_credit(keeper, &credit)?;
+    let Some(loaded) = keeper.load(book, &credit.account)? else {
+        return Ok(Answer::Refused(Refusal::AccountUnknown));
+    };
+    match kept {
+        Some(kept) => {
+            keeper.abandon(loaded);
+            Ok(repeated(
+                kept,
+                &Content::Credit(credit),
+                Answer::Refused(Refusal::ContentDiffers),
+            ))
+        }
+        None => credit_account(alloc, keeper, loaded, credit, moment),
+    }
+}
+
+/// What is kept under a credit's reference.
+fn find_credit<K: Keeper>(keeper: &mut K, credit: &Credit) -> Result<Option<KeptAnswer>, StoreFault>
+    ensures found { K.clean keeper.new → IfOk result (λ found. found ≡ (K.content keeper.old).answers credit.now.account (key_of (content.Credit credit.now))) }
+    ensures same { K.clean keeper.new → K.content keeper.new ≡ K.content keeper.old }
+    ensures cleanness { K.clean keeper.new → K.clean keeper.old }
+    ensures cause { HasCause (K.failed keeper.old) (K.failed keeper.new) result }
+{
+    let key = Key::Reference(credit.reference.clone()?);
+    keeper.find_answer(&credit.account, &key)
+}
+
+/// The answer to a command whose key is kept.
+pub(crate) fn repeated(kept: KeptAnswer, content: &Content, conflict: Answer) -> Answer
+    ensures { result ≡ repeated kept content.now conflict }
+{
+    if same_content(&kept.content, content) {
+        kept.answer
+    } else {
+        conflict
+    }
+}
+
+/// Whether a credit is of nothing, or there is no moment left at which it could be used.
+fn is_unusable(credit: &Credit, moment: Moment) -> bool
+    ensures { result ≡ is_unusable credit.now moment }
+{
+    let from = credit.from.unwrap_or(moment);
+    let until = credit.until.unwrap_or(Moment::no_end());
+    credit.amount.micros() == 0 || until <= from || until <= moment
+}
+
+/// What became of a credit on an account: the number of its bucket, or None where a value is out of range.
+fn add_bucket(
+    account: &mut Account,
+    credit: &Credit,
+    moment: Moment,
+) -> Result<Option<u32>, AllocError>
+    requires later { account.old.as_of ≤ moment }
+    ensures credits { IfOk result (λ number. (ledger : Ledger) → IsRowsOf ledger account.old → Credits number credit.now moment ledger account.new) }
+    ensures moment { IfOk result (λ number. IfSome number (λ n. account.new.as_of ≡ moment)) }
+    ensures tariff { account.new.book ≡ account.old.book }
+{
+    if is_unusable(credit, moment) {
+        return Ok(None);
+    }
+    let from = credit.from.unwrap_or(moment);
+    let until = credit.until.unwrap_or(Moment::no_end());
+    match account.credit(from, until, credit.scope, credit.amount, moment) {
+        Ok(number) => Ok(Some(number)),
+        Err(AccountFault::Limit) => Ok(None),
+        Err(AccountFault::Memory) => Err(AllocError),
+    }
+}
+
+/// Credits an account that has nothing kept under the credit's reference.
+fn credit_account<K: Keeper>(
+    alloc: Global,
+    keeper: &mut K,
+    mut loaded: Loaded,
+    credit: Credit,
+    moment: Moment,
+) -> Result<Answer, StoreFault>
+    ensures served { K.clean keeper.new → (b : Book) → IsLoaded b credit.account (K.content keeper.old) loaded.entry → (K.content keeper.old).answers credit.account (key_of (content.Credit credit)) ≡ None →
+        ServesAt b (command.Credit credit) moment (K.content keeper.old) (K.content keeper.new) result }
+    ensures err { K.clean keeper.new → OnErr result (K.content keeper.new ≡ K.content keeper.old) }
+    ensures cleanness { K.clean keeper.new → K.clean keeper.old }
+    ensures cause { HasCause (K.failed keeper.old) (K.failed keeper.new) result }
+{
+    let moment = moment_on(&loaded, moment);
+    match add_bucket(&mut loaded.account, &credit, moment) {
+        Ok(Some(number)) => {
+            let kept = KeptAnswer {
+                content: Content::Credit(credit),
+                answer: Answer::Bucket(number),
+            };
+            commit(keeper, loaded, Vec::new(alloc), Some(kept))?;
+            Ok(Answer::Bucket(number))
+        }
+        Ok(None) => {
+            keeper.abandon(loaded);
+            Ok(Answer::Refused(Refusal::OutOfRange))
+        }
+        Err(AllocError) => {
+            keeper.abandon(loaded);
+            Err(StoreFault::Memory)
+        }
+    }
+}

@@ -1,0 +1,156 @@
+//! Requests of gateways.
+
+ghost use Rattle.std.specs.Prelude.{◌≡◌, Some, None, IfOk, OnErr};
+ghost use Rattle.commands.specs.declared.answer.Answer.TheVariants as answer;
+ghost use Rattle.commands.specs.declared.answer.Failure.TheVariants.{InvalidAvpValue};
+ghost use Rattle.commands.specs.declared.avp.Avp.TheVariants.{RequestNumber};
+ghost use Rattle.commands.specs.declared.command.Command.TheVariants.{Ccr};
+ghost use Rattle.commands.specs.declared.command.Content.TheVariants as content;
+ghost use Rattle.tariffs.specs.Books.{Book};
+ghost use Rattle.reserving.specs.Rows.{IsAccount};
+ghost use Rattle.decisions.specs.Decisions.{is_read};
+ghost use Rattle.keepers.specs.Change.{changed};
+ghost use Rattle.keepers.specs.Faults.{HasCause};
+ghost use Rattle.charging.specs.Outcomes.{failed, repeated};
+ghost use Rattle.charging.specs.Stepping.{ServesAt, IsLoaded, kept_of_request};
+
+use crate::committing::{commit, moment_on};
+use crate::operators::repeated;
+use commands::{Answer, Ask, Avp, Content, EventAction, Failure, Outcome, Request, RequestAnswer};
+use decisions::{Decided, decide};
+use keepers::{Keeper, KeptAnswer, Key, Loaded, StoreFault, copy_answer};
+use std::alloc::{AllocError, Global};
+use tariffs::TariffBook;
+use units::Moment;
+
+/// Answers a request: that of an unknown account, a repeat, or one that is decided.
+pub(crate) fn serve_request<K: Keeper>(
+    alloc: Global,
+    keeper: &mut K,
+    book: &TariffBook,
+    request: Request,
+    moment: Moment,
+) -> Result<Answer, StoreFault>
+    ensures served { K.clean keeper.new → ServesAt book.now (Ccr request) moment (K.content keeper.old) (K.content keeper.new) result }
+    ensures err { K.clean keeper.new → OnErr result (K.content keeper.new ≡ K.content keeper.old) }
+    ensures cleanness { K.clean keeper.new → K.clean keeper.old }
+    ensures cause { HasCause (K.failed keeper.old) (K.failed keeper.new) result }
+{
+    let kept = find_kept(keeper, &request)?;
+    let Some(loaded) = keeper.load(book, &request.account)? else {
+        return Ok(failed(&request, Failure::UserUnknown)?);
+    };
+    match kept {
+        Some(kept) => {
+            keeper.abandon(loaded);
+            Ok(repeat(kept, request)?)
+        }
+        None => decide_on(alloc, keeper, loaded, request, moment),
+    }
+}
+
+/// Whether the request is a read: it is answered anew each time.
+fn is_read(ask: &Ask) -> bool
+    ensures { result ≡ is_read ask.now }
+{
+    match ask {
+        Ask::Event(event) => event.action != EventAction::DirectDebiting,
+        _ => false,
+    }
+}
+
+/// What is kept under a request's key; reads have none.
+fn find_kept<K: Keeper>(keeper: &mut K, request: &Request) -> Result<Option<KeptAnswer>, StoreFault>
+    ensures found { K.clean keeper.new → IfOk result (λ found. found ≡ kept_of_request request.now (K.content keeper.old)) }
+    ensures same { K.clean keeper.new → K.content keeper.new ≡ K.content keeper.old }
+    ensures cleanness { K.clean keeper.new → K.clean keeper.old }
+    ensures cause { HasCause (K.failed keeper.old) (K.failed keeper.new) result }
+{
+    if is_read(&request.ask) {
+        return Ok(None);
+    }
+    let session = request.session.clone()?;
+    let key = Key::Request {
+        session,
+        number: request.number,
+    };
+    keeper.find_answer(&request.account, &key)
+}
+
+/// The answer to a request that fails as a whole.
+fn failed(request: &Request, failure: Failure) -> Result<Answer, AllocError>
+    ensures { IfOk result (λ given. given ≡ failed request.now failure) }
+{
+    Ok(Answer::Request(RequestAnswer {
+        session: request.session.clone()?,
+        kind: request.kind(),
+        number: request.number,
+        outcome: Outcome::Failed(failure),
+    }))
+}
+
+/// The answer to a request whose key is kept: its first answer where it is the same request.
+fn repeat(kept: KeptAnswer, request: Request) -> Result<Answer, AllocError>
+    ensures { IfOk result (λ given. given ≡ repeated kept (content.Request request) (failed request (InvalidAvpValue RequestNumber))) }
+{
+    let conflict = failed(&request, Failure::InvalidAvpValue(Avp::RequestNumber))?;
+    Ok(repeated(kept, &Content::Request(request), conflict))
+}
+
+/// Decides a request, and commits it where it is accepted.
+fn decide_on<K: Keeper>(
+    alloc: Global,
+    keeper: &mut K,
+    mut loaded: Loaded,
+    request: Request,
+    moment: Moment,
+) -> Result<Answer, StoreFault>
+    ensures served { K.clean keeper.new → (b : Book) → IsLoaded b request.account (K.content keeper.old) loaded.entry → kept_of_request request (K.content keeper.old) ≡ None →
+        ServesAt b (Ccr request) moment (K.content keeper.old) (K.content keeper.new) result }
+    ensures err { K.clean keeper.new → OnErr result (K.content keeper.new ≡ K.content keeper.old) }
+    ensures cleanness { K.clean keeper.new → K.clean keeper.old }
+    ensures cause { HasCause (K.failed keeper.old) (K.failed keeper.new) result }
+{
+    let moment = moment_on(&loaded, moment);
+    match decide(alloc, &mut loaded.account, &request, moment) {
+        Ok(decided) if decided.accepted => keep(keeper, loaded, decided, request),
+        Ok(decided) => {
+            keeper.abandon(loaded);
+            Ok(Answer::Request(decided.answer))
+        }
+        Err(AllocError) => {
+            keeper.abandon(loaded);
+            Err(StoreFault::Memory)
+        }
+    }
+}
+
+/// Commits an accepted request with its answer.
+fn keep<K: Keeper>(
+    keeper: &mut K,
+    loaded: Loaded,
+    decided: Decided,
+    request: Request,
+) -> Result<Answer, StoreFault>
+    ensures done { K.clean keeper.new → IfOk result (λ given. (given ≡ answer.Request decided.answer) × IsAccount loaded.entry.account × (K.content keeper.new ≡ changed (record {
+      moment = loaded.entry.account.as_of;
+      account = loaded.entry;
+      charges = decided.charges;
+      kept = Some (record { content = content.Request request; answer = answer.Request decided.answer });
+    }) (K.content keeper.old))) }
+    ensures err { K.clean keeper.new → OnErr result (K.content keeper.new ≡ K.content keeper.old) }
+    ensures cleanness { K.clean keeper.new → K.clean keeper.old }
+    ensures cause { HasCause (K.failed keeper.old) (K.failed keeper.new) result }
+{
+    let answer = Answer::Request(decided.answer);
+    let Ok(copy) = copy_answer(&answer) else {
+        keeper.abandon(loaded);
+        return Err(StoreFault::Memory);
+    };
+    let kept = KeptAnswer {
+        content: Content::Request(request),
+        answer,
+    };
+    commit(keeper, loaded, decided.charges, Some(kept))?;
+    Ok(copy)
+}

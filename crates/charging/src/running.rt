@@ -1,0 +1,86 @@
+ghost use Rattle.std.specs.Prelude.{◌≡◌, ◌≤◌, ◌<◌, ◌+◌, Some, None, length, min, IfNone, IfSome};
+ghost use Rattle.keepers.specs.Faults.{max_failures};
+ghost use Rattle.keepers.specs.declared.fault.StoreFault.TheVariants.{Store};
+ghost use Rattle.charging.specs.Runs.{Runs};
+ghost use Rattle.charging.specs.Headline.{AreAccounted};
+
+use crate::answers::Run;
+use crate::stepping::step;
+use commands::Command;
+use keepers::{Keeper, StoreFault};
+use std::alloc::Global;
+use tariffs::TariffBook;
+use units::Moment;
+
+/// A command with the moment at which it was handed in.
+#[derive(Clone, Debug, Drop)]
+pub struct DatedCommand {
+    /// The moment, in seconds since 1970.
+    pub moment: Moment,
+    /// The command.
+    pub command: Command,
+}
+
+/// Answers commands one after another, up to the first store fault, and commits those that are accepted. The answers are
+/// those of the definitions, each by the histories that the commands before it left; each account's buckets and charges
+/// are then the sums of its ledger.
+///
+/// At a store fault the answers before it are given, and what was accepted is that of a beginning of the commands:
+/// fault 1 where a growth was refused, 2 where the store failed.
+pub fn run<K: Keeper>(
+    alloc: Global,
+    keeper: &mut K,
+    book: &TariffBook,
+    commands: Vec<DatedCommand>,
+) -> Run
+    ensures runs { K.clean keeper.new → Runs book.now commands.items (K.content keeper.old) (K.content keeper.new) result.answers.items }
+    ensures beginning { length result.answers.items ≤ length commands.items }
+    ensures whole { IfNone result.fault (length result.answers.items ≡ length commands.items) }
+    ensures stopped { IfSome result.fault (λ fault. length result.answers.items < length commands.items) }
+    ensures cleanness { K.clean keeper.new → K.clean keeper.old }
+    ensures failures { K.failed keeper.old ≤ K.failed keeper.new }
+    ensures cause { result.fault ≡ Some Store → min (K.failed keeper.old + 1) max_failures ≤ K.failed keeper.new }
+    ensures accounted { K.clean keeper.new → AreAccounted book.now commands.items (K.content keeper.old) (K.content keeper.new) result.answers.items }
+{
+    let _ranges = book.validity();
+    answer_each(alloc, keeper, book, commands)
+}
+
+/// Answers commands one after another, up to the first store fault.
+fn answer_each<K: Keeper>(
+    alloc: Global,
+    keeper: &mut K,
+    book: &TariffBook,
+    commands: Vec<DatedCommand>,
+) -> Run
+    ensures runs { K.clean keeper.new → Runs book.now commands.items (K.content keeper.old) (K.content keeper.new) result.answers.items }
+    ensures beginning { length result.answers.items ≤ length commands.items }
+    ensures whole { IfNone result.fault (length result.answers.items ≡ length commands.items) }
+    ensures stopped { IfSome result.fault (λ fault. length result.answers.items < length commands.items) }
+    ensures cleanness { K.clean keeper.new → K.clean keeper.old }
+    ensures failures { K.failed keeper.old ≤ K.failed keeper.new }
+    ensures cause { result.fault ≡ Some Store → min (K.failed keeper.old + 1) max_failures ≤ K.failed keeper.new }
+{
+    let mut answers = Vec::new(alloc);
+    for dated in commands {
+        if answers.reserve(1).is_err() {
+            return Run {
+                answers,
+                fault: Some(StoreFault::Memory),
+            };
+        }
+        match step(alloc, keeper, book, dated.command, dated.moment) {
+            Ok(answer) => answers.push_reserved(answer),
+            Err(fault) => {
+                return Run {
+                    answers,
+                    fault: Some(fault),
+                };
+            }
+        }
+    }
+    Run {
+        answers,
+        fault: None,
+    }
+}

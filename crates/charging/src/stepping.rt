@@ -1,0 +1,58 @@
+ghost use Rattle.keepers.specs.Faults.{HasCause};
+ghost use Rattle.std.specs.Prelude.{◌≡◌, IfOk, OnErr};
+ghost use Rattle.charging.specs.Served.{Serves};
+ghost use Rattle.charging.specs.Repeats.{IsAnsweredAgain};
+
+use crate::operators::{open_account, serve_credit, set_barred, sweep};
+use crate::requests::serve_request;
+use commands::{Answer, Command};
+use keepers::{Keeper, StoreFault};
+use std::alloc::Global;
+use tariffs::TariffBook;
+use units::Moment;
+
+/// Answers a command, and commits it where it is accepted, at the later of this moment and that of the last accepted
+/// command. A repeat gets its first answer and changes nothing; neither does a read or a refused command.
+///
+/// # Errors
+/// Store fault 1 where a growth was refused, 2 where the store failed. Then nothing has changed.
+pub fn step<K: Keeper>(
+    alloc: Global,
+    keeper: &mut K,
+    book: &TariffBook,
+    command: Command,
+    moment: Moment,
+) -> Result<Answer, StoreFault>
+    ensures served { K.clean keeper.new → Serves book.now command moment (K.content keeper.old) (K.content keeper.new) result }
+    ensures err { K.clean keeper.new → OnErr result (K.content keeper.new ≡ K.content keeper.old) }
+    ensures cleanness { K.clean keeper.new → K.clean keeper.old }
+    ensures cause { HasCause (K.failed keeper.old) (K.failed keeper.new) result }
+    ensures again { K.clean keeper.new → IfOk result (IsAnsweredAgain book.now command (K.content keeper.old) (K.content keeper.new)) }
+{
+    serve(alloc, keeper, book, command, moment)
+}
+
+/// Serves a command by its kind.
+fn serve<K: Keeper>(
+    alloc: Global,
+    keeper: &mut K,
+    book: &TariffBook,
+    command: Command,
+    moment: Moment,
+) -> Result<Answer, StoreFault>
+    ensures served { K.clean keeper.new → Serves book.now command moment (K.content keeper.old) (K.content keeper.new) result }
+    ensures err { K.clean keeper.new → OnErr result (K.content keeper.new ≡ K.content keeper.old) }
+    ensures cleanness { K.clean keeper.new → K.clean keeper.old }
+    ensures cause { HasCause (K.failed keeper.old) (K.failed keeper.new) result }
+{
+    let last = keeper.last()?;
+    let moment = moment.max(last);
+    match command {
+        Command::Ccr(request) => serve_request(alloc, keeper, book, request, moment),
+        Command::OpenAccount(number) => open_account(alloc, keeper, book, number, moment),
+        Command::Credit(credit) => serve_credit(alloc, keeper, book, credit, moment),
+        Command::Bar(number) => set_barred(alloc, keeper, book, number, true, moment),
+        Command::Unbar(number) => set_barred(alloc, keeper, book, number, false, moment),
+        Command::Sweep => sweep(keeper, book, moment),
+    }
+}
