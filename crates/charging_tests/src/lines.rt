@@ -1,0 +1,67 @@
+//! Commands as lines of text: `MOMENT open ACCOUNT`, `MOMENT credit ACCOUNT BODY`, `MOMENT bar ACCOUNT`,
+//! `MOMENT unbar ACCOUNT`, `MOMENT sweep`, and a request as `MOMENT BODY`.
+
+use charging::DatedCommand;
+use commands::Command;
+use identifiers::AccountNumber;
+use std::alloc::Global;
+use std::test::Fail;
+use units::Moment;
+use wire::{read_credit, read_request};
+
+pub(crate) fn account(alloc: Global, word: &str) -> Result<AccountNumber, Fail> {
+    Ok(AccountNumber::new(alloc, word)?.ok_or("an account")?)
+}
+
+fn moment(word: &str) -> Result<Moment, Fail> {
+    Ok(Moment::of_command(word.parse::<u64>()?).ok_or("a moment")?)
+}
+
+/// `ACCOUNT BODY`
+fn credit(alloc: Global, words: &str) -> Result<Command, Fail> {
+    let (number, body) = words.split_once(" ").ok_or("an account and a body")?;
+    let number = account(alloc, number)?;
+    Ok(Command::Credit(read_credit(alloc, number, body.as_bytes())?))
+}
+
+fn command(alloc: Global, name: &str, words: &str) -> Result<Command, Fail> {
+    match name {
+        "open" => Ok(Command::OpenAccount(account(alloc, words)?)),
+        "credit" => credit(alloc, words),
+        "bar" => Ok(Command::Bar(account(alloc, words)?)),
+        "unbar" => Ok(Command::Unbar(account(alloc, words)?)),
+        _ => Ok(Command::Sweep),
+    }
+}
+
+fn dated(alloc: Global, line: &str) -> Result<DatedCommand, Fail> {
+    let (at, words) = line.split_once(" ").ok_or("a moment and a command")?;
+    let moment = moment(at)?;
+    let command = if words.starts_with("{") {
+        Command::Ccr(read_request(alloc, words.as_bytes())?)
+    } else {
+        let (name, words) = words.split_once(" ").unwrap_or((words, ""));
+        command(alloc, name, words)?
+    };
+    Ok(DatedCommand { moment, command })
+}
+
+/// Whether a line is a command: it begins with a moment, and each moment here with these digits.
+pub(crate) fn is_command(line: &str) -> bool {
+    line.starts_with("17")
+}
+
+/// The first commands among these lines, at most so many.
+pub(crate) fn dated_commands(
+    alloc: Global,
+    lines: &str,
+    most: usize,
+) -> Result<Vec<DatedCommand>, Fail> {
+    let mut commands = Vec::new(alloc);
+    for line in lines.lines() {
+        if is_command(line) && commands.len() < most {
+            commands.push(dated(alloc, line)?)?;
+        }
+    }
+    Ok(commands)
+}

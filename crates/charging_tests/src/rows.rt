@@ -1,0 +1,145 @@
+//! The rows of account 49151 as text, a line a table.
+
+use crate::lines::account;
+use identifiers::AccountNumber;
+use keepers::{Keeper, MemoryKeeper, StoreFault};
+use reserving::{Account, ChargeRow, Reservation, SessionGroup};
+use std::alloc::{AllocError, Global};
+use std::test::Fail;
+use tariffs::TariffBook;
+
+/// Each bucket by number: what was credited; what of it is available, reserved, charged and expired.
+fn buckets(alloc: Global, account: &Account) -> Result<String, AllocError> {
+    let mut text = String::from_str(alloc, "buckets:")?;
+    for bucket in account.purse().buckets() {
+        let (credited, available) = (bucket.credited(), bucket.available());
+        let first = format!(in alloc; " ({}; {}", credited, available)?;
+        let (reserved, charged) = (bucket.reserved(), bucket.charged());
+        let rest = format!(in alloc; ", {}, {}, {})", reserved, charged, bucket.expired())?;
+        text.push_str(first.as_str())?;
+        text.push_str(rest.as_str())?;
+    }
+    Ok(text)
+}
+
+/// Each counter's group, cycle and blocks.
+fn counters(alloc: Global, account: &Account) -> Result<String, AllocError> {
+    let mut text = String::from_str(alloc, "counters:")?;
+    for counter in account.counters() {
+        let piece = format!(in alloc; " {} {} {};", counter.group, counter.cycle, counter.blocks)?;
+        text.push_str(piece.as_str())?;
+    }
+    Ok(text)
+}
+
+/// Each session's name, last number, last moment and state.
+fn sessions(alloc: Global, account: &Account) -> Result<String, AllocError> {
+    let mut text = String::from_str(alloc, "sessions:")?;
+    for row in account.sessions() {
+        let (id, touched) = (row.id.as_str(), row.touched.seconds());
+        let piece = format!(in alloc; " {} {} {} {:?};", id, row.last_number, touched, row.state)?;
+        text.push_str(piece.as_str())?;
+    }
+    Ok(text)
+}
+
+/// What a reservation holds, as bucket and amount.
+fn holds(alloc: Global, reservation: &Reservation) -> Result<String, AllocError> {
+    let mut text = String::new(alloc);
+    for hold in reservation.holds.as_slice() {
+        let piece = format!(in alloc; " {} {}", hold.bucket, hold.amount)?;
+        text.push_str(piece.as_str())?;
+    }
+    Ok(text)
+}
+
+fn reserved(alloc: Global, row: &SessionGroup) -> Result<String, AllocError> {
+    match &row.reservation {
+        Some(reservation) => {
+            let holds = holds(alloc, reservation)?;
+            format!(in alloc; "holds{}", holds.as_str())
+        }
+        None => String::from_str(alloc, "not reserved"),
+    }
+}
+
+/// What each session has used of each group, and what it holds for it.
+fn groups(alloc: Global, account: &Account) -> Result<String, AllocError> {
+    let mut text = String::from_str(alloc, "groups:")?;
+    for row in account.groups() {
+        let reserved = reserved(alloc, row)?;
+        let (id, reserved) = (row.session.as_str(), reserved.as_str());
+        let piece = format!(in alloc; " {} {} used {} {};", id, row.group, row.used, reserved)?;
+        text.push_str(piece.as_str())?;
+    }
+    Ok(text)
+}
+
+/// The rows of an account but its charges; first its moment, whether it is barred, and the number of its next charge.
+fn account_rows(alloc: Global, account: &Account) -> Result<String, AllocError> {
+    let (at, barred) = (account.as_of().seconds(), account.is_barred());
+    let first = format!(in alloc; "account: {} {} {}", at, barred, account.next_charge())?;
+    let buckets = buckets(alloc, account)?;
+    let counters = counters(alloc, account)?;
+    let sessions = sessions(alloc, account)?;
+    let groups = groups(alloc, account)?;
+    let money = format!(in alloc; "{}\n{}\n", first.as_str(), buckets.as_str())?;
+    let use_of = format!(in alloc; "{}\n{}\n", counters.as_str(), sessions.as_str())?;
+    format!(in alloc;
+        "{}{}{}\n",
+        money.as_str(),
+        use_of.as_str(),
+        groups.as_str()
+    )
+}
+
+/// The rows of the account as the keeper loads it; none where there is no account. It is given up.
+fn loaded_rows(
+    alloc: Global,
+    keeper: &mut MemoryKeeper,
+    book: &TariffBook,
+    number: &AccountNumber,
+) -> Result<String, StoreFault> {
+    let Some(loaded) = keeper.load(book, number)? else {
+        return Ok(String::new(alloc));
+    };
+    let text = account_rows(alloc, &loaded.account);
+    keeper.abandon(loaded);
+    Ok(text?)
+}
+
+/// Each charge's number, moment, session and group, its blocks, and its amounts: rated, collected, uncollected.
+fn charges(alloc: Global, rows: &[ChargeRow]) -> Result<String, AllocError> {
+    let mut text = String::from_str(alloc, "charges:")?;
+    for row in rows {
+        let (at, id) = (row.moment.seconds(), row.session.as_str());
+        let of = format!(in alloc; " {} at {} of {} {}", row.number, at, id, row.group)?;
+        let (rated, collected) = (row.rated.0, row.collected.0);
+        let uncollected = row.uncollected.0;
+        let amounts = format!(in alloc;
+            " {} {} {} {};",
+            row.blocks.0, rated, collected, uncollected
+        )?;
+        text.push_str(of.as_str())?;
+        text.push_str(amounts.as_str())?;
+    }
+    Ok(text)
+}
+
+/// The rows of account 49151, and the moment of the last accepted command.
+pub(crate) fn rows(
+    alloc: Global,
+    keeper: &mut MemoryKeeper,
+    book: &TariffBook,
+) -> Result<String, Fail> {
+    let number = account(alloc, "49151")?;
+    let account = loaded_rows(alloc, keeper, book, &number)?;
+    let charges = charges(alloc, keeper.charges(&number))?;
+    let last = keeper.last()?.seconds();
+    Ok(format!(in alloc;
+        "last: {}\n{}{}\n",
+        last,
+        account.as_str(),
+        charges.as_str()
+    )?)
+}
