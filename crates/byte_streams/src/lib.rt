@@ -5,7 +5,7 @@ ghost use Rattle.std.specs.Prelude.{◌≡◌, ℕ, List, length, take, OnOk, On
 ghost use Rattle.std.specs.Io.KnownBytes.{Appends, Consumes, IsAtEnd, Keeps};
 ghost use Rattle.byte_streams.specs.Lines.{IsLineOf};
 
-use std::alloc::Global;
+use std::alloc::{AllocError, AllocFailed, Global};
 use std::io::{Read, Write};
 use thiserror::Error;
 
@@ -21,6 +21,18 @@ pub enum StreamFault {
     /// The writer answered an error, or took nothing.
     #[error("the writer failed")]
     Write,
+}
+
+impl From<AllocError> for StreamFault {
+    fn from(_error: AllocError) -> StreamFault {
+        StreamFault::Memory
+    }
+}
+
+impl<T: Drop> From<AllocFailed<T>> for StreamFault {
+    fn from(_error: AllocFailed<T>) -> StreamFault {
+        StreamFault::Memory
+    }
 }
 
 /// The next byte, or none at the end.

@@ -1,3 +1,5 @@
-pub mod Serving
-pub mod Streams
 pub mod Parts
+pub mod Beginnings
+pub mod Streams
+pub mod Texts
+pub mod Answered

@@ -1,66 +1,81 @@
--- Two lines, one after the other, and beginnings of what is written.
-use Rattle.std.proofs.Common.{append-nil, ◌≡◌, ℕ, Bool, true, false, List, [], ◌∷◌, ◌++◌, refl, sym, ap, subst, ◌∙◌, Option, Some, None, append_assoc, take, drop, take-append-drop, IfSome, Result, Ok, Err}
-use Rattle.std.proofs.KnownBytes.{Appends-nil, Appends-trans}
-use Rattle.std.specs.Prelude.{OnOk, OnErr, option_map, if◌then◌else◌, ◌==◌}
-use Rattle.std.specs.Io.KnownBytes.{Appends}
-use Rattle.std.specs.Prelude.{Vec}
+-- The lines of a stream, one after another, and what they hand in.
+use Rattle.std.proofs.Common.{append-nil, ◌≡◌, ℕ, Bool, true, false, List, [], ◌∷◌, ◌++◌, map, refl, sym, ap, subst, ◌∙◌, Option, Some, None, append_assoc, IfSome, Result, Ok, Err}
+use Rattle.std.proofs.lemmas.List.{map-append}
+use Rattle.std.specs.Prelude.{if◌then◌else◌, ◌==◌, Vec, OnOk}
 use Rattle.std.specs.Global.{Global}
 use Rattle.byte_streams.specs.Lines.{line_of, after_line, IsLineOf}
-use Rattle.tariffs.specs.Books.{Book}
-use Rattle.ocs.specs.declared.account.Opened.{Opened}
-use Rattle.ocs.specs.Lines.{prepend, lines_of}
-use Rattle.ocs.specs.Served.{Subscriber, served_line, served_lines, run}
-use Rattle.ocs.specs.Office.{IsServing, IsServed, IsLineServed, line_text, line_after, IsAccountAfter, IsRun, WritesBeginning}
+use Rattle.json_fields.specs.declared.fault.WireFault.{WireFault}
+use Rattle.json_fields.specs.declared.fault.WireFault.TheVariants.{NotRequest, Missing, Invalid, Memory}
+use Rattle.json_fields.specs.Gives.{Fails}
+use Rattle.charging.specs.declared.running.DatedCommand.{DatedCommand}
+use Rattle.ocs.specs.declared.input.Input.{Input}
+use Rattle.ocs.specs.declared.reading.DatedRequest.{DatedRequest}
+use Rattle.ocs.specs.Lines.{prepend, lines_of, line_request}
+use Rattle.ocs.specs.Served.{command_of, opening_for, with_opening, requests_of, fault_of}
+use Rattle.ocs.specs.Input.{IsInput}
 
--- nothing is written
-pub nothing_written : (a : Option (List ℕ)) (text : List ℕ) → WritesBeginning a a text
-nothing_written a text = record { part = []; rest = text; written = Appends-nil a; whole = refl }
+-- ---- a line more
 
--- some of a text is written
-pub some_written : (a b : Option (List ℕ)) (text : List ℕ) (n : ℕ) → Appends a b (take n text) → WritesBeginning a b text
-some_written a b text n h = record { part = take n text; rest = drop n text; written = h; whole = sym (take-append-drop n text) }
+requests_more : (lines : List (Result DatedRequest WireFault)) (d : DatedRequest) → requests_of (lines ++ Ok d ∷ []) ≡ requests_of lines ++ d ∷ []
+requests_more [] d = refl
+requests_more (Ok x ∷ lines) d = ap (λ l. x ∷ l) (requests_more lines d)
+requests_more (Err e ∷ lines) d = requests_more lines d
 
--- more follows
-pub beginning_before : (a b : Option (List ℕ)) (text more : List ℕ) → WritesBeginning a b text → WritesBeginning a b (text ++ more)
-beginning_before a b text more h =
-    record { part = h.part; rest = h.rest ++ more; written = h.written; whole = ap (λ l. l ++ more) h.whole ∙ append_assoc h.part h.rest more }
+requests_same : (lines : List (Result DatedRequest WireFault)) (e : WireFault) → requests_of (lines ++ Err e ∷ []) ≡ requests_of lines
+requests_same [] e = refl
+requests_same (Ok x ∷ lines) e = ap (λ l. x ∷ l) (requests_same lines e)
+requests_same (Err f ∷ lines) e = requests_same lines e
 
--- and what stands before is written whole
-pub beginning_after : (a b c : Option (List ℕ)) (first text : List ℕ) → Appends a b first → WritesBeginning b c text → WritesBeginning a c (first ++ text)
-beginning_after a b c first text h k =
-    record { part = first ++ k.part; rest = k.rest; written = Appends-trans a b c first k.part h k.written; whole = ap (λ l. first ++ l) k.whole ∙ sym (append_assoc first k.part k.rest) }
+-- a fault that isn't want of memory is the line's own
+pub fails_with : (e : WireFault) (line : Result DatedRequest WireFault) → Fails e line → (e ≡ Memory → ⊥) → line ≡ Err e
+fails_with NotRequest line h other = h
+fails_with (Missing a) line h other = h
+fails_with (Invalid a) line h other = h
+fails_with Memory line h other = absurd (other refl)
 
--- what holds anyway holds at an error
-pub on_err : {A E P : Type 0} (r : Result A E) → P → OnErr r P
-on_err (Ok x) h = tt
-on_err (Err e) h = h
+-- with a fault
+pub input_fault : (opening : Option ℕ) (lines : List (Result DatedRequest WireFault)) (line : Result DatedRequest WireFault) (e : WireFault) (old new : Input) → line ≡ Err e → IsInput opening lines old →
+    new.opening ≡ old.opening → new.commands.items ≡ old.commands.items → new.faults.items ≡ old.faults.items ++ Some e ∷ [] → IsInput opening (lines ++ line ∷ []) new
+input_fault opening lines line e old new is h o c f = rw is (record {
+  opening = o ∙ h.opening;
+  commands = c ∙ h.commands ∙ ap (with_opening opening) (sym (requests_same lines e));
+  faults = f ∙ ap (λ l. l ++ Some e ∷ []) h.faults ∙ sym (map-append fault_of lines (Err e ∷ []));
+})
 
--- all of a text is written, or a beginning
-pub whole_or_part : {A E : Type 0} (r : Result A E) (a b : Option (List ℕ)) (text : List ℕ) → OnOk r (Appends a b text) → OnErr r ((n : ℕ) × Appends a b (take n text)) → WritesBeginning a b text
-whole_or_part (Ok x) a b text h k = record { part = text; rest = []; written = h; whole = sym (append-nil text) }
-whole_or_part (Err e) a b text h k = some_written a b text k.0 k.1
+-- a fault that is added
+pub fault_added : {A E : Type 0} (result : Result A E) (line : Result DatedRequest WireFault) (e : WireFault) (old new : Input) → Fails e line → new.opening ≡ old.opening → new.commands.items ≡ old.commands.items →
+    OnOk result (e ≡ Memory → ⊥) → OnOk result (new.faults.items ≡ old.faults.items ++ Some e ∷ []) →
+    OnOk result ((opening : Option ℕ) (lines : List (Result DatedRequest WireFault)) → IsInput opening lines old → IsInput opening (lines ++ line ∷ []) new)
+fault_added (Err x) line e old new fails o c own added = tt
+fault_added (Ok x) line e old new fails o c own added = λ opening lines h. input_fault opening lines line e old new (fails_with e line fails own) h o c added
 
--- ---- an answer's text and its line feed
+abbrev IsFirst : List DatedCommand → Type 0
+IsFirst [] = ⊥
+IsFirst (c ∷ cs) = Unit {0}
 
-pub write_failed : (book : Book) (credit : ℕ) (r0 r1 w0 w1 : Option (List ℕ)) (line : Vec ℕ Global) (text written : List ℕ) (o p : Option Opened) (n : ℕ) →
-    IfSome r0 (λ stream. IsLineOf stream (Some line) r1) →
-    ((x : Option Subscriber) → IsServing book x o → IsServed book (served_line book credit line.items x) text p) →
-    written ≡ text ++ 10 ∷ [] → Appends w0 w1 (take n written) →
-    IfSome r0 (λ stream. (x : Option Subscriber) → IsServing book x o → WritesBeginning w0 w1 (line_text book credit stream x))
-write_failed book credit None r1 w0 w1 line text written o p n taken served pushed h = tt
-write_failed book credit (Some []) r1 w0 w1 line text written o p n taken served pushed h = absurd taken
-write_failed book credit (Some (b ∷ bs)) r1 w0 w1 line text written o p n taken served pushed h = λ x serving.
-    let same : written ≡ (served_line book credit (line_of (b ∷ bs)) x).text ++ 10 ∷ [] =
-    pushed ∙ ap (λ l. l ++ 10 ∷ []) ((served x serving).same ∙ ap (λ l. (served_line book credit l x).text) taken.0) in
-    subst (WritesBeginning w0 w1) same (some_written w0 w1 written n h)
+not_nil : (opening : Option ℕ) (x : DatedRequest) (ds : List DatedRequest) → with_opening opening (x ∷ ds) ≡ [] → ⊥
+not_nil None x ds h = subst IsFirst h tt
+not_nil (Some amount) x ds h = subst IsFirst h tt
+
+commands_more : (opening o : Option ℕ) (ds : List DatedRequest) (d : DatedRequest) (items before : List DatedCommand) → items ≡ with_opening opening ds → o ≡ opening →
+    (items ≡ [] → before ≡ opening_for o d.request.account) → ((items ≡ [] → ⊥) → before ≡ items) → before ++ command_of d ∷ [] ≡ with_opening opening (ds ++ d ∷ [])
+commands_more opening o [] d items before e same first later = ap (λ l. l ++ command_of d ∷ []) (first e ∙ ap (λ p. opening_for p d.request.account) same)
+commands_more opening o (x ∷ ds) d items before e same first later =
+    ap (λ l. l ++ command_of d ∷ []) (later (λ n. not_nil opening x ds (sym e ∙ n)) ∙ e)
+    ∙ append_assoc (opening_for opening x.request.account) (map command_of (x ∷ ds)) (command_of d ∷ [])
+    ∙ ap (λ l. opening_for opening x.request.account ++ l) (sym (map-append command_of (x ∷ ds) (d ∷ [])))
+
+-- with a request: the first one's account is opened before it
+pub input_request : (opening : Option ℕ) (lines : List (Result DatedRequest WireFault)) (d : DatedRequest) (old new : Input) (before : List DatedCommand) → IsInput opening lines old →
+    (old.commands.items ≡ [] → before ≡ opening_for old.opening d.request.account) → ((old.commands.items ≡ [] → ⊥) → before ≡ old.commands.items) →
+    new.opening ≡ old.opening → new.commands.items ≡ before ++ command_of d ∷ [] → new.faults.items ≡ old.faults.items ++ None ∷ [] → IsInput opening (lines ++ Ok d ∷ []) new
+input_request opening lines d old new before h first later o c f = record {
+  opening = o ∙ h.opening;
+  commands = c ∙ commands_more opening old.opening (requests_of lines) d old.commands.items before h.commands h.opening first later ∙ ap (with_opening opening) (sym (requests_more lines d));
+  faults = f ∙ ap (λ l. l ++ None ∷ []) h.faults ∙ sym (map-append fault_of lines (Ok d ∷ []));
+}
 
 -- ---- line after line
-
-pub served_account : (book : Book) (x : Option Subscriber) (o : Option Opened) → IsServing book x o → IsAccountAfter book x (option_map (λ p. p.account) o)
-served_account book None None h = tt
-served_account book None (Some o) h = absurd h
-served_account book (Some x) None h = absurd h
-served_account book (Some x) (Some o) h = h.account
 
 first_alone : (b : ℕ) (e : Bool) → (if e then [] ∷ lines_of [] else prepend b (lines_of [])) ≡ (if e then [] else b ∷ line_of []) ∷ lines_of (if e then [] else after_line [])
 first_alone b true = refl
@@ -76,90 +91,45 @@ pub lines_first : (b : ℕ) (bs : List ℕ) → lines_of (b ∷ bs) ≡ line_of 
 lines_first b [] = first_alone b (b == 10)
 lines_first b (c ∷ cs) = first_before b (c ∷ cs) (b == 10) (lines_first c cs)
 
--- what is told so far, and what stands before the rest of the stream
-pub record IsSoFar (book : Book) (credit : ℕ) (stream : List ℕ) (r old new : Option (List ℕ)) (o : Option Opened) : Type 0 where
-  pub left : List ℕ
-  pub x : Option Subscriber
-  pub told : List ℕ
-  pub rest : r ≡ Some left
-  pub written : Appends old new told
-  pub serving : IsServing book x o
-  pub text : (run book credit stream).text ≡ told ++ (served_lines book credit (lines_of left) x).text
-  pub after : (run book credit stream).after ≡ (served_lines book credit (lines_of left) x).after
+-- these lines are read, and this is left of the stream
+pub record IsReadSoFar (opening : Option ℕ) (stream : List ℕ) (left : Option (List ℕ)) (so_far : Input) : Type 0 where
+  pub told : List (List ℕ)
+  pub rest : List ℕ
+  pub left_is : left ≡ Some rest
+  pub lines : lines_of stream ≡ told ++ lines_of rest
+  pub input : IsInput opening (map line_request told) so_far
 
-module _ (book : Book) (credit : ℕ) where
-  text_first : (stream : List ℕ) (x : Option Subscriber) → (served_lines book credit (lines_of stream) x).text ≡ line_text book credit stream x ++ (served_lines book credit (lines_of (after_line stream)) (line_after book credit stream x)).text
-  unfolding served_lines
-  text_first [] x = refl
-  text_first (b ∷ bs) x =
-      ap (λ ls. (served_lines book credit ls x).text) (lines_first b bs) ∙ sym (append_assoc (served_line book credit (line_of (b ∷ bs)) x).text (10 ∷ []) (served_lines book credit (lines_of (after_line (b ∷ bs))) (line_after book credit (b ∷ bs) x)).text)
+-- none so far
+pub read-none : (opening : Option ℕ) (r : Option (List ℕ)) (input : Input) → IsInput opening [] input → IfSome r (λ stream. IsReadSoFar opening stream r input)
+read-none opening None input h = tt
+read-none opening (Some stream) input h = record { told = []; rest = stream; left_is = refl; lines = refl; input = h }
 
-  after_first : (stream : List ℕ) (x : Option Subscriber) → (served_lines book credit (lines_of stream) x).after ≡ (served_lines book credit (lines_of (after_line stream)) (line_after book credit stream x)).after
-  unfolding served_lines
-  after_first [] x = refl
-  after_first (b ∷ bs) x = ap (λ ls. (served_lines book credit ls x).after) (lines_first b bs)
+line_first : (rest : List ℕ) (line : Vec ℕ Global) (left : Option (List ℕ)) → IsLineOf rest (Some line) left → (left ≡ Some (after_line rest)) × (lines_of rest ≡ line.items ∷ lines_of (after_line rest))
+line_first [] line left h = absurd h
+line_first (b ∷ bs) line left h = (h.1, lines_first b bs ∙ ap (λ l. l ∷ lines_of (after_line (b ∷ bs))) (sym h.0))
 
-  -- before the first line
-  pub so_far-none : (r w : Option (List ℕ)) → IfSome r (λ stream. IsSoFar book credit stream r w w None)
-  so_far-none None w = tt
-  so_far-none (Some stream) w = record { left = stream; x = None; told = []; rest = refl; written = Appends-nil w; serving = tt; text = refl; after = refl }
+-- a line more
+pub read-line : (opening : Option ℕ) (r0 r1 r2 : Option (List ℕ)) (line : Vec ℕ Global) (old new : Input) → IfSome r0 (λ stream. IsReadSoFar opening stream r1 old) → IfSome r1 (λ stream. IsLineOf stream (Some line) r2) →
+    ((o : Option ℕ) (lines : List (Result DatedRequest WireFault)) → IsInput o lines old → IsInput o (lines ++ line_request line.items ∷ []) new) → IfSome r0 (λ stream. IsReadSoFar opening stream r2 new)
+read-line opening None r1 r2 line old new h k more = tt
+read-line opening (Some stream) r1 r2 line old new h k more =
+    let first = line_first h.rest line r2 (subst (λ (r : Option (List ℕ)). IfSome r (λ left. IsLineOf left (Some line) r2)) h.left_is k) in
+    record {
+      told = h.told ++ line.items ∷ [];
+      rest = after_line h.rest;
+      left_is = first.0;
+      lines = h.lines ∙ ap (λ l. h.told ++ l) first.1 ∙ sym (append_assoc h.told (line.items ∷ []) (lines_of (after_line h.rest)));
+      input = subst (λ l. IsInput opening l new) (sym (map-append line_request h.told (line.items ∷ []))) (more opening (map line_request h.told) h.input);
+    }
 
-  -- a line more
-  pub so_far-line : (r0 r1 r2 w0 w1 w2 : Option (List ℕ)) (more : Bool) (o p : Option Opened) →
-      IfSome r0 (λ stream. IsSoFar book credit stream r1 w0 w1 o) →
-      IfSome r1 (λ stream. (x : Option Subscriber) → IsServing book x o → IsLineServed book credit stream x more r2 w1 w2 p) →
-      IfSome r0 (λ stream. IsSoFar book credit stream r2 w0 w2 p)
-  so_far-line None r1 r2 w0 w1 w2 more o p h k = tt
-  so_far-line (Some stream) r1 r2 w0 w1 w2 more o p h k =
-      let line : IsLineServed book credit h.left h.x more r2 w1 w2 p =
-      subst (λ (r : Option (List ℕ)). IfSome r (λ left. (x : Option Subscriber) → IsServing book x o → IsLineServed book credit left x more r2 w1 w2 p)) h.rest k h.x h.serving in
-      let text : List ℕ = line_text book credit h.left h.x in
-      record {
-        left = after_line h.left;
-        x = line_after book credit h.left h.x;
-        told = h.told ++ text;
-        rest = line.rest;
-        written = Appends-trans w0 w1 w2 h.told text h.written line.written;
-        serving = line.account;
-        text = h.text ∙ ap (λ l. h.told ++ l) (text_first h.left h.x) ∙ sym (append_assoc h.told text (served_lines book credit (lines_of (after_line h.left)) (line_after book credit h.left h.x)).text);
-        after = h.after ∙ after_first h.left h.x;
-      }
+no_line : (rest : List ℕ) (left : Option (List ℕ)) → IsLineOf rest None left → lines_of rest ≡ []
+no_line [] left h = refl
+no_line (b ∷ bs) left h = absurd h
 
-  -- a line that isn't answered whole
-  pub so_far-failed : (r0 r1 w0 w1 w2 : Option (List ℕ)) (o : Option Opened) →
-      IfSome r0 (λ stream. IsSoFar book credit stream r1 w0 w1 o) →
-      IfSome r1 (λ stream. (x : Option Subscriber) → IsServing book x o → WritesBeginning w1 w2 (line_text book credit stream x)) →
-      IfSome r0 (λ stream. WritesBeginning w0 w2 (run book credit stream).text)
-  so_far-failed None r1 w0 w1 w2 o h k = tt
-  so_far-failed (Some stream) r1 w0 w1 w2 o h k =
-      let line : WritesBeginning w1 w2 (line_text book credit h.left h.x) =
-      subst (λ (r : Option (List ℕ)). IfSome r (λ left. (x : Option Subscriber) → IsServing book x o → WritesBeginning w1 w2 (line_text book credit left x))) h.rest k h.x h.serving in
-      let more : List ℕ = (served_lines book credit (lines_of (after_line h.left)) (line_after book credit h.left h.x)).text in
-      subst (WritesBeginning w0 w2) (ap (λ l. h.told ++ l) (sym (text_first h.left h.x)) ∙ sym h.text)
-      (beginning_after w0 w1 w2 h.told (line_text book credit h.left h.x ++ more) h.written (beginning_before w1 w2 (line_text book credit h.left h.x) more line))
-
-  -- the lines so far, in the midst of all
-  pub so_far-begun : (r0 r1 w0 w1 : Option (List ℕ)) (o : Option Opened) → IfSome r0 (λ stream. IsSoFar book credit stream r1 w0 w1 o) → IfSome r0 (λ stream. WritesBeginning w0 w1 (run book credit stream).text)
-  so_far-begun None r1 w0 w1 o h = tt
-  so_far-begun (Some stream) r1 w0 w1 o h = record { part = h.told; rest = (served_lines book credit (lines_of h.left) h.x).text; written = h.written; whole = h.text }
-
-  ended : (left : List ℕ) (x : Option Subscriber) → left ≡ [] → (line_text book credit left x ≡ []) × ((served_lines book credit (lines_of left) x).text ≡ []) × ((served_lines book credit (lines_of left) x).after ≡ x) × (line_after book credit left x ≡ x)
-  unfolding served_lines
-  ended left x e = rw e (refl, refl, refl, refl)
-
-  -- the end of the stream
-  pub so_far-ended : (r0 r1 r2 w0 w1 w2 : Option (List ℕ)) (more : Bool) (o p : Option Opened) → more ≡ false →
-      IfSome r0 (λ stream. IsSoFar book credit stream r1 w0 w1 o) →
-      IfSome r1 (λ stream. (x : Option Subscriber) → IsServing book x o → IsLineServed book credit stream x more r2 w1 w2 p) →
-      IfSome r0 (λ stream. IsRun book (run book credit stream) w0 w2 (option_map (λ a. a.account) p))
-  so_far-ended None r1 r2 w0 w1 w2 more o p e h k = tt
-  so_far-ended (Some stream) r1 r2 w0 w1 w2 more o p e h k =
-      let line : IsLineServed book credit h.left h.x more r2 w1 w2 p =
-      subst (λ (r : Option (List ℕ)). IfSome r (λ left. (x : Option Subscriber) → IsServing book x o → IsLineServed book credit left x more r2 w1 w2 p)) h.rest k h.x h.serving in
-      let none = ended h.left h.x (line.none e) in
-      let nothing : Appends w1 w2 [] = subst (Appends w1 w2) none.0 line.written in
-      let all : (run book credit stream).text ≡ h.told ++ [] = h.text ∙ ap (λ l. h.told ++ l) none.1 in
-      record {
-        written = subst (Appends w0 w2) (sym all) (Appends-trans w0 w1 w2 h.told [] h.written nothing);
-        opened = subst (λ (y : Option Subscriber). IsAccountAfter book y (option_map (λ a. a.account) p)) (none.3 ∙ sym none.2 ∙ sym h.after) (served_account book (line_after book credit h.left h.x) p line.account);
-      }
+-- the end of the stream
+pub read-ended : (opening : Option ℕ) (r0 r1 r2 : Option (List ℕ)) (input : Input) → IfSome r0 (λ stream. IsReadSoFar opening stream r1 input) → IfSome r1 (λ stream. IsLineOf stream None r2) →
+    IfSome r0 (λ stream. IsInput opening (map line_request (lines_of stream)) input)
+read-ended opening None r1 r2 input h k = tt
+read-ended opening (Some stream) r1 r2 input h k =
+    let none : lines_of h.rest ≡ [] = no_line h.rest r2 (subst (λ (r : Option (List ℕ)). IfSome r (λ left. IsLineOf left None r2)) h.left_is k) in
+    subst (λ l. IsInput opening (map line_request l) input) (sym (h.lines ∙ ap (λ l. h.told ++ l) none ∙ append-nil h.told)) h.input

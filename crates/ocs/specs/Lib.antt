@@ -1,4 +1,6 @@
 pub mod Lines
+pub mod Faults
+pub mod Written
 pub mod Served
-pub mod Office
+pub mod Input
 pub mod Words

@@ -1,17 +1,13 @@
 -- Lines of input: each has the moment of a command, one space, and a request for credit control as JSON.
 -- Source: profile.
-use Rattle.std.specs.Prelude.{ℕ, Bool, true, false, [], ◌∷◌, ◌==◌, ◌&&◌, List, length, Option, None, Result, Ok, nat_lt, if◌then◌else◌}
+use Rattle.std.specs.Prelude.{ℕ, Bool, [], ◌∷◌, ◌==◌, ◌&&◌, List, length, Option, None, Result, Ok, nat_lt, if◌then◌else◌}
 use Rattle.std.specs.List.{before_first, after_first, position_or_len}
 use Rattle.std.specs.Str.{is_utf8}
 use Rattle.json_fields.specs.declared.fault.WireFault.{WireFault}
-use Rattle.json_fields.specs.declared.fault.WireFault.TheVariants.{NotRequest, Invalid}
-use Rattle.json_fields.specs.Fields.{document_at}
-use Rattle.commands.specs.declared.avp.Avp.TheVariants.{RequestType}
-use Rattle.commands.specs.declared.request.RequestKind.{RequestKind}
-use Rattle.commands.specs.declared.request.RequestKind.TheVariants.{Initial, Update, Termination, Event}
-use Rattle.json_fields.specs.Gives.{◌>>=◌, or_fault, where_true}
+use Rattle.json_fields.specs.declared.fault.WireFault.TheVariants.{NotRequest}
+use Rattle.json_fields.specs.Gives.{◌>>=◌, or_fault}
 use Rattle.operator.specs.Lines.{moment_of}
-use Rattle.wire_requests.specs.Reading.{session_at, kind_at, request_of}
+use Rattle.wire_requests.specs.Reading.{request_of}
 use Rattle.ocs.specs.declared.reading.DatedRequest.{DatedRequest}
 
 -- a space is found in a text
@@ -26,27 +22,11 @@ line_moment line = if is_parted line then moment_of (before_first (λ b. b == 32
 abbrev pub line_rest : List ℕ → List ℕ
 line_rest line = after_first (λ b. b == 32) line
 
--- events aren't served
-abbrev pub is_served : RequestKind → Bool
-is_served Initial = true
-is_served Update = true
-is_served Termination = true
-is_served Event = false
-
--- a body whose Session-Id and CC-Request-Type are read, and whose type is served; or the first fault
-unfoldable pub served_type : List ℕ → Result Unit WireFault
-served_type body = do
-  d ← document_at body
-  s ← session_at d
-  kind ← kind_at d
-  where_true (is_served kind) (Invalid RequestType) tt
-
 -- the request of a line, or the first fault: it isn't a moment of 1 to 10 digits, a space and a body; then the
 -- body's
 abbrev pub line_request : List ℕ → Result DatedRequest WireFault
 line_request line =
     or_fault NotRequest (line_moment line) >>= λ t.
-    served_type (line_rest line) >>= λ u.
     request_of (line_rest line) >>= λ r.
     Ok (record { moment = t; request = r })
 

@@ -4,9 +4,10 @@ use Rattle.std.specs.Prelude.{◌++◌, ◌∷◌, ◌≡◌, ◌≢◌, ℕ, �
 use Rattle.std.specs.Borrow.{Bor}
 use Rattle.operator.specs.Numbers.{number_of}
 use Rattle.ocs.specs.declared.fault.LinesFault.{LinesFault}
-use Rattle.ocs.specs.declared.fault.LinesFault.TheVariants.{Memory, File}
+use Rattle.ocs.specs.declared.fault.LinesFault.TheVariants.{Memory, File, Store}
+use Rattle.keepers.specs.declared.fault.StoreFault.TheVariants as store
 use Rattle.std.specs.Io.KnownBytes.{Keeps}
-use Rattle.ocs.specs.Office.{WritesBeginning}
+use Rattle.ocs.specs.Written.{WritesBeginning}
 use Rattle.ocs.specs.declared.words.OnceWords.{OnceWords}
 
 abbrev pub Words : Type 0
@@ -53,8 +54,16 @@ pub record IsInRange (once : OnceWords) : Type 0 where
 abbrev pub fault_line : LinesFault → List ℕ
 fault_line Memory = codes "ocs: memory fault" ++ 10 ∷ []
 fault_line File = codes "ocs: file fault" ++ 10 ∷ []
+fault_line (Store store.Memory) = codes "ocs: store fault 1" ++ 10 ∷ []
+fault_line (Store store.Store) = codes "ocs: store fault 2" ++ 10 ∷ []
 
--- the line of a fault is written at status 1, as far as it can be, and else nothing
+-- a fault is told by its line, as far as it can be written; memory is a store that never fails
+pub record TellsFault (old new : Option (List ℕ)) : Type 0 where
+  pub fault : LinesFault
+  pub reached : fault ≢ Store store.Store
+  pub written : WritesBeginning old new (fault_line fault)
+
+-- that is so at status 1, and else nothing is written
 pub record IsToldFault (status : ℕ) (old new : Option (List ℕ)) : Type 0 where
-  pub fault : status ≡ 1 → (e : LinesFault) × WritesBeginning old new (fault_line e)
+  pub fault : status ≡ 1 → TellsFault old new
   pub none : status ≢ 1 → Keeps old new

@@ -1,78 +1,67 @@
-ghost use Rattle.std.specs.Prelude.{◌≡◌, Option, option_map, IfOk, IfSome, OnErr};
-ghost use Rattle.ocs.specs.Served.{Subscriber, run};
-ghost use Rattle.ocs.specs.Office.{IsServing, IsLineServed, line_text, IsRun, WritesBeginning};
+ghost use Rattle.std.specs.Prelude.{◌≡◌, ◌≤◌, ◌+◌, List, Err, min, OnOk, OnErr, IfSome};
+ghost use Rattle.keepers.specs.Accepted.{Accepted, IsInTime};
+ghost use Rattle.keepers.specs.Faults.{max_failures};
+ghost use Rattle.keepers.specs.declared.fault.StoreFault.TheVariants.{Store as StoreFailed};
+ghost use Rattle.charging.specs.Served.{AreTables};
+ghost use Rattle.ocs.specs.declared.fault.LinesFault.TheVariants.{Store};
+ghost use Rattle.ocs.specs.Served.{IsAnswered, IsBegun};
 
-use crate::account::Opened;
 use crate::fault::LinesFault;
-use crate::office::Office;
-use byte_streams::{next_line, write_whole};
-use reserving::Account;
+use crate::input::{Input, read_input};
+use crate::output::write_output;
+use charging::{Run, run};
+use keepers::Keeper;
 use std::alloc::Global;
 use std::io::{Read, Write};
 use tariffs::TariffBook;
 use units::Money;
 
-/// Answers lines `MOMENT JSON` of initial, update and termination requests, a line each, to the end of the input,
-/// and gives back the account: none where no line was read as a request. The first request's account is opened
-/// before it with one bucket of this amount in micro-units, from the beginning and without end (profile; the requests:
-/// RFC 8506 sections 5.2 to 5.4).
+/// How many answers are those to the commands that open an account.
+const OPENING_ANSWERS: usize = 2;
+
+/// Answers lines `MOMENT JSON` of requests for credit control, a line each. All lines are read first; then the
+/// requests are run, and what each line is told is written: a request's answer, or the fault of a line that isn't read
+/// as one. Where an opening amount in micro-units is handed in, the first request's account is opened before it with
+/// one bucket of this amount, from the beginning and without end (profile; the requests: RFC 8506 sections 5.2 to 5.4
+/// and 6).
 ///
 /// # Errors
-/// Want of memory, or a fault of the reader or the writer. Then a beginning of the answers is written.
-pub fn lines<'b, R: Read, W: Write>(
+/// Want of memory, a fault of the reader or the writer, or the keeper's fault. Then a beginning of the answers is
+/// written, and a beginning of the requests is accepted: none where the lines weren't read.
+pub fn lines<K: Keeper, R: Read, W: Write>(
     alloc: Global,
+    keeper: &mut K,
+    book: &TariffBook,
+    opening: Option<Money>,
     reader: &mut R,
     writer: &mut W,
-    book: &'b TariffBook,
-    credit: Money,
-) -> Result<Option<Account<'b>>, LinesFault>
-    ensures run { IfOk result (λ account. IfSome (R.remaining reader.old) (λ stream.
-        IsRun book.now (run book.now credit stream) (W.contents writer.old) (W.contents writer.new) account)) }
-    ensures err { OnErr result (IfSome (R.remaining reader.old) (λ stream.
-        WritesBeginning (W.contents writer.old) (W.contents writer.new) (run book.now credit stream).text)) }
+) -> Result<(), LinesFault>
+    ensures answered { K.clean keeper.new → OnOk result (IfSome (R.remaining reader.old) (λ stream.
+        (list : List Accepted) → IsInTime list → AreTables book.now list (K.content keeper.old) →
+        IsAnswered book.now list opening stream (W.contents writer.old) (W.contents writer.new) (K.content keeper.new))) }
+    ensures begun { K.clean keeper.new → OnErr result (IfSome (R.remaining reader.old) (λ stream.
+        (list : List Accepted) → IsInTime list → AreTables book.now list (K.content keeper.old) →
+        IsBegun book.now list opening stream (W.contents writer.old) (W.contents writer.new) (K.content keeper.new))) }
+    ensures cleanness { K.clean keeper.new → K.clean keeper.old }
+    ensures failures { K.failed keeper.old ≤ K.failed keeper.new }
+    ensures cause { result ≡ Err (Store StoreFailed) → min (K.failed keeper.old + 1) max_failures ≤ K.failed keeper.new }
 {
-    let office = Office {
-        alloc,
-        book,
-        credit,
+    let first = if opening.is_some() {
+        OPENING_ANSWERS
+    } else {
+        0
     };
-    let mut opened = None;
-    for _line in 0..u64::MAX {
-        if !answer_line(&office, reader, writer, &mut opened)? {
-            return Ok(account_of(opened));
-        }
-    }
-    Err(LinesFault::Memory)
-}
-
-/// Answers the next line; false where there is none.
-fn answer_line<'b, R: Read, W: Write>(
-    office: &Office<'b>,
-    reader: &mut R,
-    writer: &mut W,
-    opened: &mut Option<Opened<'b>>,
-) -> Result<bool, LinesFault>
-    ensures served { IfOk result (λ more. IfSome (R.remaining reader.old) (λ stream. (x : Option Subscriber) → IsServing office.now.book.now x opened.old →
-        IsLineServed office.now.book.now office.now.credit stream x more (R.remaining reader.new) (W.contents writer.old) (W.contents writer.new) opened.new)) }
-    ensures err { OnErr result (IfSome (R.remaining reader.old) (λ stream. (x : Option Subscriber) → IsServing office.now.book.now x opened.old →
-        WritesBeginning (W.contents writer.old) (W.contents writer.new) (line_text office.now.book.now office.now.credit stream x))) }
-{
-    let Some(line) = next_line(office.alloc, reader)? else {
-        return Ok(false);
-    };
-    let mut text = office.answer(opened, &line)?;
-    text.push('\n')?;
-    write_whole(writer, text.as_bytes())?;
-    Ok(true)
-}
-
-/// The account that was opened.
-fn account_of(opened: Option<Opened<'_>>) -> Option<Account<'_>>
-    ensures { result ≡ option_map (λ o. o.account) opened.entry }
-{
-    match opened {
-        Some(Opened { account, .. }) => Some(account),
-        None => None,
+    let input = read_input(alloc, opening, reader)?;
+    let Input {
+        opening: _,
+        commands,
+        faults,
+    } = input;
+    let Run { answers, fault } = run(alloc, keeper, book, commands);
+    let written = write_output(alloc, writer, &faults, &answers, first);
+    match fault {
+        Some(fault) => Err(LinesFault::Store(fault)),
+        None => Ok(written?),
     }
 }
 

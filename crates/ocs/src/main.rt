@@ -1,26 +1,29 @@
 //! `ocs`: online charging for prepaid subscribers, from lines of requests to lines of answers.
 #![tactic(auto)]
 
-mod account;
 mod fault;
+mod input;
 mod lines;
-mod office;
+mod output;
 mod reading;
 mod words;
 
-ghost use Rattle.std.specs.Prelude.{◌≡◌, ◌≤◌, IfSome, OnOk, OnErr, Some, None};
+ghost use Rattle.std.specs.Prelude.{◌≡◌, ◌≢◌, ◌≤◌, IfSome, OnOk, OnErr, Some, None, Err};
 ghost use Rattle.std.specs.Io.KnownBytes.{Appends, Keeps};
+ghost use Rattle.keepers.specs.declared.fault.StoreFault.TheVariants.{Store as StoreFailed};
 ghost use Rattle.operator.specs.OnceBook.{once_book};
 ghost use Rattle.ocs.specs.declared.words.OnceWords.{OnceWords};
 ghost use Rattle.ocs.specs.declared.fault.LinesFault.{LinesFault};
 ghost use Rattle.ocs.specs.Words.{IsOnce, IsInRange, once_of, fault_line, IsToldFault};
-ghost use Rattle.ocs.specs.Served.{run};
-ghost use Rattle.ocs.specs.Office.{WritesBeginning};
+ghost use Rattle.ocs.specs.declared.fault.LinesFault.TheVariants.{Store};
+ghost use Rattle.ocs.specs.Served.{once_text};
+ghost use Rattle.ocs.specs.Written.{WritesBeginning};
 
 use crate::fault::LinesFault;
 use crate::lines::lines;
 use crate::words::{OnceWords, once_words};
 use byte_streams::write_whole;
+use keepers::{MemoryKeeper, StoreFault};
 use operator::once_book;
 use std::alloc::Global;
 use std::io::{BufReader, Read, Write};
@@ -55,9 +58,9 @@ pub fn run_words<R: AllocGlobal, I: Read, O: Write, E: Write>(
     ensures unwritten { result ≡ 2 → Keeps (O.contents output.old) (O.contents output.new) }
     ensures once { (once : OnceWords) → IsOnce words.now → once_of words.now ≡ Some once → result ≤ 1 }
     ensures done { (once : OnceWords) → IsOnce words.now → once_of words.now ≡ Some once → result ≡ 0 →
-        IfSome (I.remaining input.old) (λ stream. Appends (O.contents output.old) (O.contents output.new) (run (once_book once.price once.block) once.credit stream).text) }
+        IfSome (I.remaining input.old) (λ stream. Appends (O.contents output.old) (O.contents output.new) (once_text (once_book once.price once.block) once.credit stream)) }
     ensures fault { (once : OnceWords) → IsOnce words.now → once_of words.now ≡ Some once → result ≡ 1 →
-        IfSome (I.remaining input.old) (λ stream. WritesBeginning (O.contents output.old) (O.contents output.new) (run (once_book once.price once.block) once.credit stream).text) }
+        IfSome (I.remaining input.old) (λ stream. WritesBeginning (O.contents output.old) (O.contents output.new) (once_text (once_book once.price once.block) once.credit stream)) }
     ensures told { IsToldFault result (E.contents errors.old) (E.contents errors.new) }
 {
     let Some(once) = once_words(words) else {
@@ -80,14 +83,15 @@ fn answer_lines<I: Read, O: Write>(
     output: &mut O,
 ) -> Result<(), LinesFault>
     requires { IsInRange once }
+    ensures store { result ≢ Err (Store StoreFailed) }
     ensures done { OnOk result (IfSome (I.remaining input.old) (λ stream.
-        Appends (O.contents output.old) (O.contents output.new) (run (once_book once.price once.block) once.credit stream).text)) }
+        Appends (O.contents output.old) (O.contents output.new) (once_text (once_book once.price once.block) once.credit stream))) }
     ensures fault { OnErr result (IfSome (I.remaining input.old) (λ stream.
-        WritesBeginning (O.contents output.old) (O.contents output.new) (run (once_book once.price once.block) once.credit stream).text)) }
+        WritesBeginning (O.contents output.old) (O.contents output.new) (once_text (once_book once.price once.block) once.credit stream))) }
 {
     let book = once_book(alloc, once.price, once.block)?;
-    let _account = lines(alloc, input, output, &book, once.credit)?;
-    Ok(())
+    let mut keeper = MemoryKeeper::new(alloc);
+    lines(alloc, &mut keeper, &book, Some(once.credit), input, output)
 }
 
 fn fault_line(fault: LinesFault) -> &'static [u8]
@@ -96,6 +100,8 @@ fn fault_line(fault: LinesFault) -> &'static [u8]
     match fault {
         LinesFault::Memory => b"ocs: memory fault\n",
         LinesFault::File => b"ocs: file fault\n",
+        LinesFault::Store(StoreFault::Memory) => b"ocs: store fault 1\n",
+        LinesFault::Store(StoreFault::Store) => b"ocs: store fault 2\n",
     }
 }
 

@@ -1,13 +1,12 @@
 ghost use Rattle.std.specs.Prelude.{◌≡◌, option_map, IfSome};
 ghost use Rattle.json_fields.specs.Gives.{Gives};
-ghost use Rattle.ocs.specs.Lines.{line_moment, line_rest, served_type, line_request};
+ghost use Rattle.ocs.specs.Lines.{line_moment, line_rest, line_request};
 
-use commands::{Avp, Request, RequestKind};
-use json_fields::{WireFault, document};
+use commands::Request;
 use operator::{DatedLine, dated_line};
 use std::alloc::Global;
 use units::Moment;
-use wire_requests::{read_request, request_kind, session_id};
+use wire::{WireFault, read_request};
 
 /// A request, and the moment that it is handed in with.
 #[derive(Drop)]
@@ -27,22 +26,6 @@ fn parted(line: &[u8]) -> Option<DatedLine<'_>>
     dated_line(text)
 }
 
-/// Whether a body is a request of a type that is served: events aren't. A fault in its Session-Id or CC-Request-Type
-/// is told.
-#[tactic(auto, unfolding(crate::specs::Lines::served_type))]
-fn served_type(alloc: Global, body: &[u8]) -> Result<(), WireFault>
-    ensures { Gives (λ u. u) result (served_type body.now) }
-{
-    let parent = document(alloc, body)?;
-    let _session = session_id(alloc, &parent)?;
-    match request_kind(&parent)? {
-        RequestKind::Initial => Ok(()),
-        RequestKind::Update => Ok(()),
-        RequestKind::Termination => Ok(()),
-        RequestKind::Event => Err(WireFault::Invalid(Avp::RequestType)),
-    }
-}
-
 /// The request of a line, or the first fault.
 pub(crate) fn read_line(alloc: Global, line: &[u8]) -> Result<DatedRequest, WireFault>
     ensures { Gives (λ d. d) result (line_request line.now) }
@@ -50,9 +33,7 @@ pub(crate) fn read_line(alloc: Global, line: &[u8]) -> Result<DatedRequest, Wire
     let Some(dated) = parted(line) else {
         return Err(WireFault::NotRequest);
     };
-    let body = dated.body.as_bytes();
-    served_type(alloc, body)?;
-    let request = read_request(alloc, body)?;
+    let request = read_request(alloc, dated.body.as_bytes())?;
     Ok(DatedRequest {
         moment: dated.moment,
         request,

@@ -1,30 +1,52 @@
-use Rattle.std.proofs.Common.{Option, IfSome, subst, sym}
-use Rattle.reserving.specs.Rows.{AccountRows}
-use Rattle.ocs.specs.Served.{run}
-use Rattle.ocs.specs.Office.{IsRun}
-use Rattle.ocs.proofs.Streams.{on_err, so_far-none, so_far-line, so_far-failed, so_far-begun, so_far-ended}
+use Rattle.std.proofs.Common.{◌≡◌, ap, ◌∙◌, sym, drop, length, subst, Option}
+use Rattle.std.specs.Prelude.{if◌then◌else◌, IfNone}
+use Rattle.std.specs.Io.KnownBytes.{Appends}
+use Rattle.keepers.specs.declared.fault.StoreFault.{StoreFault}
+use Rattle.ocs.specs.Served.{texts_of}
+use Rattle.ocs.specs.Written.{WritesBeginning}
+use Rattle.ocs.proofs.Beginnings.{on_err, whole_or_begun}
+use Rattle.ocs.proofs.Answered.{begun-run, answered-run, count_is}
 use Rattle.ocs.proofs.lines.lines.Goals as goal
 
-pub loop-line-init : goal.loop-line-init
-loop-line-init g c = so_far-none c.args.book.now c.args.credit (g.R.Read.remaining c.args.reader.now) (g.W.Write.contents c.args.writer.now)
+pub returns-in-Some-clause-begun : goal.returns-in-Some-clause-begun
+returns-in-Some-clause-begun g c = λ clean.
+    let w0 = g.W.Write.contents c.args.writer.now in
+    let w1 = g.W.Write.contents c.write_output-written.new.writer in
+    let first : c.if-is_some.first ≡ (if c.is_some.result then 2 else 0) =
+    elim c.if-is_some.branch [
+      | goal.then-is_some w ↦ w.first-is ∙ sym (ap (λ b. if b then 2 else 0) w.if-is_some.true)
+      | goal.else-is_some w ↦ w.first-is ∙ sym (ap (λ b. if b then 2 else 0) w.if-is_some.false)
+    ] in
+    begun-run c.args.book.now c.args.opening w0 w1 c.in_ok-input.input c.run-answers.result.answers.items c.if-is_some.first (g.K.Keeper.content c.args.keeper.now) (g.K.Keeper.content c.run-answers.new.keeper) (g.R.Read.remaining c.args.reader.now)
+    c.in_ok-input.ensures (c.run-answers.ensures.runs clean) (count_is c.args.opening c.is_some.result c.if-is_some.first c.is_some.ensures first)
+    (subst (WritesBeginning w0 w1) (λ i. texts_of (c.deref.ensures.value i) (drop c.if-is_some.first (c.deref-2.ensures.value i)))
+    (whole_or_begun c.write_output-written.result w0 w1 _ c.write_output-written.ensures.written c.write_output-written.ensures.err))
 
-pub returns-in_err-answer_line-clause-err : goal.returns-in_err-answer_line-clause-err
-returns-in_err-answer_line-clause-err g c =
-    on_err c.from_residual.result
-    (so_far-failed c.args.book.now c.args.credit (g.R.Read.remaining c.args.reader.now) (g.R.Read.remaining c.loop-line.reader) (g.W.Write.contents c.args.writer.now) (g.W.Write.contents c.loop-line.writer) (g.W.Write.contents c.answer_line.new.writer) c.loop-line.opened
-    c.loop-line.invariant c.in_err-answer_line.ensures.err)
+pub returns-in_err-written-in-None-clause-begun : goal.returns-in_err-written-in-None-clause-begun
+returns-in_err-written-in-None-clause-begun g c = λ clean.
+    let w0 = g.W.Write.contents c.args.writer.now in
+    let w1 = g.W.Write.contents c.write_output-written.new.writer in
+    let first : c.if-is_some.first ≡ (if c.is_some.result then 2 else 0) =
+    elim c.if-is_some.branch [
+      | goal.then-is_some w ↦ w.first-is ∙ sym (ap (λ b. if b then 2 else 0) w.if-is_some.true)
+      | goal.else-is_some w ↦ w.first-is ∙ sym (ap (λ b. if b then 2 else 0) w.if-is_some.false)
+    ] in
+    on_err c.from_residual-in_err-written-in-None.result
+    (begun-run c.args.book.now c.args.opening w0 w1 c.in_ok-input.input c.run-answers.result.answers.items c.if-is_some.first (g.K.Keeper.content c.args.keeper.now) (g.K.Keeper.content c.run-answers.new.keeper) (g.R.Read.remaining c.args.reader.now)
+    c.in_ok-input.ensures (c.run-answers.ensures.runs clean) (count_is c.args.opening c.is_some.result c.if-is_some.first c.is_some.ensures first)
+    (subst (WritesBeginning w0 w1) (λ i. texts_of (c.deref.ensures.value i) (drop c.if-is_some.first (c.deref-2.ensures.value i))) c.in_err-written-in-None.ensures.err))
 
-pub returns-then-not-branch-clause-run : goal.returns-then-not-branch-clause-run
-returns-then-not-branch-clause-run g c =
-    subst (λ (a : Option AccountRows). IfSome (g.R.Read.remaining c.args.reader.now) (λ stream. IsRun c.args.book.now (run c.args.book.now c.args.credit stream) (g.W.Write.contents c.args.writer.now) (g.W.Write.contents c.answer_line.new.writer) a)) (sym c.account_of.ensures)
-    (so_far-ended c.args.book.now c.args.credit (g.R.Read.remaining c.args.reader.now) (g.R.Read.remaining c.loop-line.reader) (g.R.Read.remaining c.answer_line.new.reader) (g.W.Write.contents c.args.writer.now) (g.W.Write.contents c.loop-line.writer) (g.W.Write.contents c.answer_line.new.writer)
-    c.in_ok-answer_line.field-0 c.loop-line.opened c.answer_line.new.opened c.if-not-branch.true c.loop-line.invariant c.in_ok-answer_line.ensures.served)
-
-pub loop-line-preserved : goal.loop-line-preserved
-loop-line-preserved g c =
-    so_far-line c.args.book.now c.args.credit (g.R.Read.remaining c.args.reader.now) (g.R.Read.remaining c.loop-line.reader) (g.R.Read.remaining c.answer_line.new.reader) (g.W.Write.contents c.args.writer.now) (g.W.Write.contents c.loop-line.writer) (g.W.Write.contents c.answer_line.new.writer)
-    c.in_ok-answer_line.field-0 c.loop-line.opened c.answer_line.new.opened c.loop-line.invariant c.in_ok-answer_line.ensures.served
-
-pub returns-clause-err : goal.returns-clause-err
-returns-clause-err g c =
-    so_far-begun c.args.book.now c.args.credit (g.R.Read.remaining c.args.reader.now) (g.R.Read.remaining c.loop-line.reader) (g.W.Write.contents c.args.writer.now) (g.W.Write.contents c.loop-line.writer) c.loop-line.opened c.loop-line.invariant
+pub returns-clause-answered : goal.returns-clause-answered
+returns-clause-answered g c = λ clean.
+    let w0 = g.W.Write.contents c.args.writer.now in
+    let w1 = g.W.Write.contents c.write_output-written.new.writer in
+    let first : c.if-is_some.first ≡ (if c.is_some.result then 2 else 0) =
+    elim c.if-is_some.branch [
+      | goal.then-is_some w ↦ w.first-is ∙ sym (ap (λ b. if b then 2 else 0) w.if-is_some.true)
+      | goal.else-is_some w ↦ w.first-is ∙ sym (ap (λ b. if b then 2 else 0) w.if-is_some.false)
+    ] in
+    let whole : length c.run-answers.result.answers.items ≡ length c.in_ok-input.input.commands.items =
+    subst (λ (f : Option StoreFault). IfNone f (length c.run-answers.result.answers.items ≡ length c.in_ok-input.input.commands.items)) c.in-None.is c.run-answers.ensures.whole in
+    answered-run c.args.book.now c.args.opening w0 w1 c.in_ok-input.input c.run-answers.result.answers.items c.if-is_some.first (g.K.Keeper.content c.args.keeper.now) (g.K.Keeper.content c.run-answers.new.keeper) (g.R.Read.remaining c.args.reader.now)
+    c.in_ok-input.ensures (c.run-answers.ensures.runs clean) (count_is c.args.opening c.is_some.result c.if-is_some.first c.is_some.ensures first) whole
+    (subst (Appends w0 w1) (λ i. texts_of (c.deref.ensures.value i) (drop c.if-is_some.first (c.deref-2.ensures.value i))) c.in_ok-written-in-None.ensures.written)
