@@ -5,8 +5,14 @@ use Rattle.keepers.specs.declared.fault.StoreFault.{StoreFault}
 use Rattle.ocs.specs.Served.{texts_of}
 use Rattle.ocs.specs.Written.{WritesBeginning}
 use Rattle.ocs.proofs.Beginnings.{on_err, whole_or_begun}
-use Rattle.ocs.proofs.Answered.{begun-run, answered-run, count_is}
+use Rattle.ocs.proofs.Answered.{begun-none, begun-run, answered-run, count_is}
 use Rattle.ocs.proofs.lines.lines.Goals as goal
+
+pub returns-in_err-input-clause-begun : goal.returns-in_err-input-clause-begun
+returns-in_err-input-clause-begun g c = λ clean.
+    let w0 = g.W.Write.contents c.args.writer.now in
+    on_err c.from_residual.result
+    (begun-none c.args.book.now c.args.opening w0 w0 (g.R.Read.remaining c.args.reader.now) (g.K.Keeper.content c.args.keeper.now))
 
 pub returns-in-Some-clause-begun : goal.returns-in-Some-clause-begun
 returns-in-Some-clause-begun g c = λ clean.
