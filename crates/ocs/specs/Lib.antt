@@ -3,4 +3,4 @@ pub mod Faults
 pub mod Written
 pub mod Served
 pub mod Input
-pub mod Words
+pub mod Told

@@ -1,13 +1,13 @@
-//! What an operator writes: numbers in words, lines of dated requests, and the tariff book of one price.
+//! What an operator writes: the program's words, the numbers in them, and lines of dated requests.
 #![tactic(auto)]
 
 mod dated;
 mod numbers;
-mod one_price;
+mod words;
 
 pub use crate::dated::{DatedLine, dated_line};
 pub use crate::numbers::number;
-pub use crate::one_price::once_book;
+pub use crate::words::{OnceWords, once_words};
 
 #[cfg(test)]
 mod tests;

@@ -1,7 +1,7 @@
 use super::*;
 use identifiers::AccountNumber;
 use keepers::{Failing, MemoryKeeper, StoreFault};
-use operator::once_book;
+use one_price::once_book;
 use std::test::Fail;
 use units::Moment;
 

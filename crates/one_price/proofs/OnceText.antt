@@ -14,8 +14,8 @@ use Rattle.toml.proofs.ReadLines.{run, AllPrinted, read_lines}
 use Rattle.book_fields.specs.declared.fault.BookFault.{BookFault}
 use Rattle.book_fields.specs.Faults.{Gives}
 use Rattle.tariffs.specs.Books.{Book, IsDocument, book_of}
-use Rattle.operator.specs.OnceBook.{once_book, to_the_block, to_the_price, once_document}
-use Rattle.operator.proofs.OnceMembers.{book_read, day_items, once_members}
+use Rattle.one_price.specs.OnceBook.{once_book, to_the_block, to_the_price, once_document}
+use Rattle.one_price.proofs.OnceMembers.{book_read, day_items, once_members}
 
 -- ---- lines
 

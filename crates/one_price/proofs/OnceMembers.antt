@@ -12,7 +12,7 @@ use Rattle.tariffs.specs.WeekFields.{minutes_of, zone_minutes, zone_of, day_of, 
 use Rattle.tariffs.specs.PriceFields.{bound_of, tier_of, tiers_of, price_of, prices_of}
 use Rattle.tariffs.specs.GroupFields.{id_of, unit_of, max_grant_of, cycle_of, final_action_of, group_of, groups_of}
 use Rattle.tariffs.specs.Books.{book_of}
-use Rattle.operator.specs.OnceBook.{whole_week, single_tier, once_tariff, once_book}
+use Rattle.one_price.specs.OnceBook.{whole_week, single_tier, once_tariff, once_book}
 
 -- ---- the members, by their keys
 

@@ -1,14 +1,9 @@
 -- The program's words: `once --credit AMOUNT --price PRICE --block SIZE` after its name.
 -- Source: profile.
-use Rattle.std.specs.Prelude.{◌++◌, ◌∷◌, ◌≡◌, ◌≢◌, ℕ, ◌&&◌, nat_le, if◌then◌else◌, List, [], length, Option, Some, None, codes, slice_index_or, option_and_then, ◌≤◌}
+use Rattle.std.specs.Prelude.{◌≡◌, ℕ, ◌&&◌, nat_le, if◌then◌else◌, List, [], length, Option, Some, None, codes, slice_index_or, option_and_then, ◌≤◌}
 use Rattle.std.specs.Borrow.{Bor}
 use Rattle.operator.specs.Numbers.{number_of}
-use Rattle.ocs.specs.declared.fault.LinesFault.{LinesFault}
-use Rattle.ocs.specs.declared.fault.LinesFault.TheVariants.{Memory, File, Store}
-use Rattle.keepers.specs.declared.fault.StoreFault.TheVariants as store
-use Rattle.std.specs.Io.KnownBytes.{Keeps}
-use Rattle.ocs.specs.Written.{WritesBeginning}
-use Rattle.ocs.specs.declared.words.OnceWords.{OnceWords}
+use Rattle.operator.specs.declared.words.OnceWords.{OnceWords}
 
 abbrev pub Words : Type 0
 Words = List (Bor (List ℕ))
@@ -47,23 +42,3 @@ pub record IsInRange (once : OnceWords) : Type 0 where
   pub price : once.price ≤ 1_000_000_000
   pub some_block : 1 ≤ once.block
   pub block : once.block ≤ 1_000_000_000_000_000
-
--- ---- faults
-
--- a fault is one line
-abbrev pub fault_line : LinesFault → List ℕ
-fault_line Memory = codes "ocs: memory fault" ++ 10 ∷ []
-fault_line File = codes "ocs: file fault" ++ 10 ∷ []
-fault_line (Store store.Memory) = codes "ocs: store fault 1" ++ 10 ∷ []
-fault_line (Store store.Store) = codes "ocs: store fault 2" ++ 10 ∷ []
-
--- a fault is told by its line, as far as it can be written; memory is a store that never fails
-pub record TellsFault (old new : Option (List ℕ)) : Type 0 where
-  pub fault : LinesFault
-  pub reached : fault ≢ Store store.Store
-  pub written : WritesBeginning old new (fault_line fault)
-
--- that is so at status 1, and else nothing is written
-pub record IsToldFault (status : ℕ) (old new : Option (List ℕ)) : Type 0 where
-  pub fault : status ≡ 1 → TellsFault old new
-  pub none : status ≢ 1 → Keeps old new

@@ -3,11 +3,11 @@ use Rattle.std.proofs.lemmas.Bool.{false≢true}
 use Rattle.book_fields.specs.declared.fault.BookFault.{BookFault}
 use Rattle.book_fields.specs.declared.fault.BookFault.TheVariants.{Memory}
 use Rattle.tariffs.specs.Books.{Book}
-use Rattle.operator.specs.OnceBook.{once_book}
-use Rattle.operator.proofs.Given.{is_answered, is_memory}
-use Rattle.operator.proofs.OnceText.{document_read}
-use Rattle.operator.proofs.one_price.once_book.Goals as goal
-use Rattle.operator.proofs.one_price.once_book.Goals.{in-Memory, in_default}
+use Rattle.one_price.specs.OnceBook.{once_book}
+use Rattle.one_price.proofs.Given.{is_answered, is_memory}
+use Rattle.one_price.proofs.OnceText.{document_read}
+use Rattle.one_price.proofs.once_book.Goals as goal
+use Rattle.one_price.proofs.once_book.Goals.{in-Memory, in_default}
 
 pub returns-in-Ok : goal.returns-in-Ok
 returns-in-Ok c =

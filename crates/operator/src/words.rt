@@ -1,7 +1,7 @@
 ghost use Rattle.std.specs.Prelude.{◌≡◌, ◌≤◌, IfSome};
-ghost use Rattle.ocs.specs.Words.{IsOnce, IsInRange, once_of, number_within};
+ghost use Rattle.operator.specs.Words.{IsOnce, IsInRange, once_of, number_within};
 
-use operator::number;
+use crate::numbers::number;
 use units::Money;
 
 /// What the words of `once` say: an account's opening credit, and the one price of its tariff book.

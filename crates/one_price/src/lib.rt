@@ -1,5 +1,8 @@
+//! The tariff book of one price: rating group 10 in seconds, at one price a block in every minute of the week.
+#![tactic(auto)]
+
 ghost use Rattle.std.specs.Prelude.{◌≡◌, ◌≤◌, IfOk, string_bytes};
-ghost use Rattle.operator.specs.OnceBook.{once_book, once_document};
+ghost use Rattle.one_price.specs.OnceBook.{once_book, once_document};
 
 use std::alloc::{AllocError, Global};
 use tariffs::{BookFault, TariffBook};
@@ -58,3 +61,6 @@ fn once_document(alloc: Global, price: u64, block: u64) -> Result<String, AllocE
 {
     format!(in alloc; "{TO_THE_BLOCK}{block}{TO_THE_PRICE}{price}\n")
 }
+
+#[cfg(test)]
+mod tests;
