@@ -3,3 +3,4 @@ pub mod Kept
 pub mod Settling
 pub mod Parts
 pub mod Short
+pub mod Filtered

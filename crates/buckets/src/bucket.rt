@@ -1,4 +1,4 @@
-ghost use Rattle.std.specs.Prelude.{◌≡◌, ℕ, ◌+◌, ◌-◌, ◌≤◌, ◌<◌, IsTrue, ◌↔◌};
+ghost use Rattle.std.specs.Prelude.{◌≡◌, ℕ, ◌+◌, ◌-◌, ◌≤◌, ◌<◌, ◌==◌, ◌&&◌, IsTrue, ◌↔◌};
 ghost use Rattle.buckets.specs.Row.{is_eligible, eligible_amount, with_hold, with_charge, with_charge_of_hold, with_release, with_end, new_row, IsBalanced};
 
 use std::marker::Model;
@@ -86,6 +86,13 @@ impl Bucket {
         ensures most { result ≤ 1_000_000_000_000_000 }
     {
         self.credited
+    }
+
+    /// Nothing of it is available and nothing reserved: nothing of it can be used any more.
+    pub fn is_dead(&self) -> bool
+        ensures { result ≡ (self.now.available == 0 && self.now.reserved == 0) }
+    {
+        self.available == 0 && self.reserved == 0
     }
 
     /// What is neither reserved nor charged, before its end, in micro-units.

@@ -1,4 +1,4 @@
-ghost use Rattle.std.specs.Prelude.{◌≡◌, ℕ, ◌+◌, ◌-◌, ◌≤◌, ◌<◌, ◌↔◌, [], OnOk, OnErr, IfOk, IsErrOf, map, length};
+ghost use Rattle.std.specs.Prelude.{◌≡◌, ℕ, ◌+◌, ◌-◌, ◌≤◌, ◌<◌, ◌↔◌, ◌==◌, ◌&&◌, not, [], OnOk, OnErr, IfOk, IsErrOf, map, length, filter};
 ghost use Rattle.buckets.specs.Row.{Row, with_end, new_row};
 ghost use Rattle.buckets.specs.Spend.{funds, held_rows, IsBelow, inserted, IsSound};
 ghost use Rattle.buckets.specs.Holding.{holds_of, IsWithin, charged_rows, released_rows, uncollected, rest_of_holds, settled_rows};
@@ -198,6 +198,20 @@ impl Purse {
             collected: Amount(amount.0 - missing),
             uncollected: Amount(missing),
         }
+    }
+
+    /// A copy of the buckets, in the order of their use.
+    pub fn to_vec(&self) -> Result<Vec<Bucket>, AllocError>
+        ensures { IfOk result (λ copy. copy.items ≡ self.now) }
+    {
+        self.buckets.clone()
+    }
+
+    /// Lets the buckets go that have nothing available and nothing reserved.
+    pub fn drop_dead(&mut self)
+        ensures { self.new ≡ filter (λ b. not (b.available == 0 && b.reserved == 0)) self.old }
+    {
+        self.buckets.retain(|bucket| !bucket.is_dead());
     }
 
     /// Gives up what is held: it is available again, or expired from the bucket's end on.

@@ -33,3 +33,15 @@ mod WorkedRows
 pub mod StoredRows
 pub mod Barring
 pub mod ChargeRows
+pub mod LeftMerged
+pub mod LeftJoined
+pub mod LeftTests
+pub mod LeftParted
+pub mod LeftFrames
+pub mod LeftMore
+pub mod LeftDead
+pub mod LeftWhole
+pub mod LeftSettled
+pub mod LeftReserved
+pub mod LivePart
+pub mod LeftCredited

@@ -108,7 +108,7 @@ used_middle a middle s g c t m =
 pub count_middle : (a middle : AccountRows) (s : List ℕ) (g c t : ℕ) → middle ≡ advanced t (with_rows s g c a) → count_in g c middle.counters ≡ count_in g c a.counters
 count_middle a middle s g c t m = ap (λ x. count_in g c x.counters) m ∙ count_later g c a.counters
 
-with_parts : (a : AccountRows) (s : List ℕ) (g : ℕ) (used_parts : List UsedPart) → (used_parts ≡ [] → ⊥) →
+pub with_parts : (a : AccountRows) (s : List ℕ) (g : ℕ) (used_parts : List UsedPart) → (used_parts ≡ [] → ⊥) →
     settled_account s g (reported used_parts) (price_in s g a.as_of used_parts a).blocks (price_in s g a.as_of used_parts a).amount.0 a ≡ settled_by_rows s g used_parts a
 with_parts a s g [] some = absurd (some refl)
 with_parts a s g (p ∷ ps) some = refl

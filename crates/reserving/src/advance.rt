@@ -2,6 +2,7 @@ ghost use Rattle.std.specs.Prelude.{◌≡◌, ◌≤◌, ◌+◌, ◌*◌, ◌&
 ghost use Rattle.reserving.specs.Ledger.{Ledger};
 ghost use Rattle.reserving.specs.Sessions.{is_live_in, holds_in, is_open};
 ghost use Rattle.reserving.specs.Rows.{IsRowsOf};
+ghost use Rattle.reserving.specs.Left.{LeftRows, IsWith};
 ghost use Rattle.reserving.specs.Changes.{advanced, lapse, lapse_group, lapse_from, lapsed_rows, AreLapsable};
 ghost use Rattle.buckets.specs.Holding.{IsWithin};
 
@@ -19,6 +20,7 @@ impl<'b> Account<'b> {
         requires { self.old.as_of ≤ moment }
         ensures rows { self.new ≡ advanced moment self.old }
         ensures ledger { (ledger : Ledger) → IsRowsOf ledger self.old → IsRowsOf ledger self.new }
+        ensures left { (ledger : Ledger) (left : LeftRows) → IsWith ledger left moment self.old → IsWith ledger left moment self.new }
     {
         let validity = self.book.validity();
         lapse_groups(

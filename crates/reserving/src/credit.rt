@@ -2,6 +2,7 @@ ghost use Rattle.std.specs.Prelude.{◌≡◌, ◌≤◌, ◌<◌, OnOk, OnErr, 
 ghost use Rattle.reserving.specs.Ledger.{Ledger};
 ghost use Rattle.reserving.specs.Rows.{IsAccount, IsRowsOf};
 ghost use Rattle.reserving.specs.Requests.{credited};
+ghost use Rattle.reserving.specs.Left.{LeftRows, IsWith};
 ghost use Rattle.reserving.specs.Changes.{advanced, credited_account};
 
 use crate::account::Account;
@@ -24,6 +25,7 @@ impl<'b> Account<'b> {
         ensures rows { OnOk result (self.new ≡ advanced moment (credited_account from until scope amount self.old)) }
         ensures number { IfOk result (λ n. n ≡ self.old.next_bucket) }
         ensures ledger { OnOk result ((ledger : Ledger) → IsRowsOf ledger self.old → IsRowsOf (credited moment from until scope amount ledger) self.new) }
+        ensures left { OnOk result ((ledger : Ledger) (left : LeftRows) → IsWith ledger left moment self.old → IsWith (credited moment from until scope amount ledger) left moment self.new) }
         ensures limit { IsErrOf result AccountFault.Limit ↔ (4294967295 < self.old.next_bucket) }
         ensures err { OnErr result (self.new ≡ self.old) }
     {
@@ -41,6 +43,7 @@ impl<'b> Account<'b> {
     ) -> Result<u32, AccountFault>
         ensures rows { OnOk result (self.new ≡ credited_account from until scope amount self.old) }
         ensures account { OnOk result (IsAccount self.old) }
+        ensures in_range { OnOk result ((self.old.next_bucket ≤ 4294967295) × (amount ≤ 1000000000000000)) }
         ensures number { IfOk result (λ n. n ≡ self.old.next_bucket) }
         ensures limit { IsErrOf result AccountFault.Limit ↔ (4294967295 < self.old.next_bucket) }
         ensures err { OnErr result (self.new ≡ self.old) }

@@ -12,6 +12,7 @@ mod fault;
 mod funds;
 mod grouping;
 mod laws;
+mod live;
 mod pricing;
 mod reserve;
 mod session;

@@ -3,6 +3,7 @@ ghost use Rattle.reserving.specs.Ledger.{Ledger};
 ghost use Rattle.reserving.specs.Sessions.{is_live_in};
 ghost use Rattle.reserving.specs.Settlement.{reported, price_of, passes, passes_limit, settled_by};
 ghost use Rattle.reserving.specs.Rows.{IsAccount, IsRowsOf};
+ghost use Rattle.reserving.specs.Left.{LeftRows, IsWith};
 ghost use Rattle.reserving.specs.Results.{IsSettlementOf};
 ghost use Rattle.buckets.specs.Holding.{uncollected};
 ghost use Rattle.units.specs.declared.blocks.UsedPart.{UsedPart};
@@ -70,6 +71,8 @@ impl<'b> Account<'b> {
         requires live { is_live_in self.old.book.validity moment self.old.sessions session.now ≡ true }
         ensures rows { OnOk result ((ledger : Ledger) → IsRowsOf ledger self.old →
             IsRowsOf (settled_by self.old.book moment session.now group parts.now ledger) self.new) }
+        ensures left { OnOk result ((ledger : Ledger) (left : LeftRows) → IsWith ledger left moment self.old →
+            IsWith (settled_by self.old.book moment session.now group parts.now ledger) left moment self.new) }
         ensures as_of { OnOk result (self.new.as_of ≡ moment) }
         ensures tariff { self.new.book ≡ self.old.book }
         ensures sessions { OnOk result (self.new.sessions ≡ (advanced moment self.old).sessions) }

@@ -16,15 +16,15 @@ use units::Moment;
 /// Contracts see a record of the rows.
 #[derive(Drop)]
 pub struct StoredAccount {
-    as_of: Moment,
-    barred: bool,
-    purse: Purse,
-    counters: Vec<Counter>,
-    sessions: Vec<Session>,
-    groups: Vec<SessionGroup>,
-    next_bucket: u64,
-    next_charge: u64,
-    alloc: Global,
+    pub(crate) as_of: Moment,
+    pub(crate) barred: bool,
+    pub(crate) purse: Purse,
+    pub(crate) counters: Vec<Counter>,
+    pub(crate) sessions: Vec<Session>,
+    pub(crate) groups: Vec<SessionGroup>,
+    pub(crate) next_bucket: u64,
+    pub(crate) next_charge: u64,
+    pub(crate) alloc: Global,
 }
 
 impl Model for StoredAccount {
@@ -58,7 +58,8 @@ impl Model for StoredAccount {
 impl StoredAccount {
     /// The moment of its last change.
     pub fn as_of(&self) -> Moment
-        ensures { result ≡ self.now.as_of }
+        ensures value { result ≡ self.now.as_of }
+        ensures kept { IsStored self.now }
     {
         self.as_of
     }

@@ -6,6 +6,8 @@ use Rattle.reserving.specs.Changes.{advanced}
 use Rattle.reserving.proofs.Lapsing.{lapsable_of}
 use Rattle.reserving.proofs.Advancing.{IsRowsOf-advanced}
 use Rattle.reserving.proofs.Advanced.{IsAccount-advanced, advanced-parts}
+use Rattle.reserving.specs.Left.{IsWith}
+use Rattle.reserving.proofs.LeftMore.{with_advanced}
 use Rattle.reserving.proofs.account.Account.advance.Goals as goal
 
 pub lapse_groups-requires : goal.lapse_groups-requires
@@ -53,3 +55,6 @@ pub returns-clause-ledger : goal.returns-clause-ledger
 returns-clause-ledger c = λ ledger rows.
     let account : IsAccount c.args.self.now = subst IsAccount c.self.view_is c.self.invariant in
     subst (IsRowsOf ledger) (sym (returns-clause-rows c)) (IsRowsOf-advanced ledger c.args.self.now c.args.moment account rows c.requires)
+
+pub returns-clause-left : goal.returns-clause-left
+returns-clause-left c = λ ledger left h. subst (IsWith ledger left c.args.moment) (sym (returns-clause-rows c)) (with_advanced ledger left c.args.moment c.args.self.now c.requires h)

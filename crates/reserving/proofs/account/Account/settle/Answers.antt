@@ -1,4 +1,4 @@
-use Rattle.std.proofs.Common.{◌≡◌, true, false, List, [], ◌∷◌, sym, ap, ◌∙◌, length, arith, refl}
+use Rattle.std.proofs.Common.{◌≡◌, ℕ, ◌<◌, true, false, List, [], ◌∷◌, sym, ap, ◌∙◌, length, arith, refl}
 use Rattle.std.specs.Prelude.{◌==◌}
 use Rattle.std.proofs.lemmas.Bool.Decides.{nat_tests}
 use Rattle.units.specs.declared.blocks.UsedPart.{UsedPart}
@@ -9,6 +9,7 @@ use Rattle.reserving.specs.Settlement.{passes}
 use Rattle.reserving.proofs.SettledCall.{rows_ended, nothing_settled, within_used, within_counted, passes_is, there_later, counter_there, used_middle, count_middle, rows_settled, settlement_is}
 use Rattle.reserving.proofs.SettledFree.{ended_free, settled_free}
 use Rattle.reserving.proofs.StillFree.{others_ended, others_settled}
+use Rattle.reserving.proofs.LeftSettled.{left_ended, left_settled}
 use Rattle.reserving.proofs.account.Account.settle.Goals as goal
 
 is_nothing : (ps : List UsedPart) → (length ps == 0) ≡ true → ps ≡ []
@@ -92,3 +93,15 @@ returns-clause-others c = λ s g h.
 pub returns-then-is_empty-clause-others : goal.returns-then-is_empty-clause-others
 returns-then-is_empty-clause-others c = λ s g h.
     others_ended c.args.self.now c.advance.new.self c.end_reservation.new.self s g c.args.session.now c.args.group c.args.moment c.advance.ensures.rows c.end_reservation.ensures.rows h
+
+pub returns-then-is_empty-clause-left : goal.returns-then-is_empty-clause-left
+returns-then-is_empty-clause-left c = λ ledger left h.
+    left_ended ledger left c.args.self.now c.advance.new.self c.end_reservation.new.self c.args.session.now c.args.group c.args.moment c.args.parts.now h c.requires.moment c.requires.live
+    (is_nothing c.args.parts.now (sym c.is_empty.ensures ∙ c.if-is_empty.true)) c.advance.ensures.rows c.end_reservation.ensures.rows
+
+pub returns-clause-left : goal.returns-clause-left
+returns-clause-left c = λ ledger left h.
+    left_settled ledger left c.args.self.now c.advance-2.new.self c.settle_use-charged.new.self c.args.session.now c.args.group c.cycle_at-cycle.result c.args.moment c.in-Some.rated.units.0 c.in-Some.rated.blocks.0 c.in-Some.rated.amount.0 c.args.parts.now
+    h c.requires.moment c.requires.live (is_something c.args.parts.now (sym c.is_empty.ensures ∙ c.if-is_empty.false)) c.cycle_at-cycle.ensures
+    c.in-Some.ensures.units c.in-Some.ensures.blocks c.in-Some.ensures.amount c.in-Some.ensures.some
+    (c.advance-2.ensures.rows ∙ ap (advanced c.args.moment) c.in_ok-make_rows.ensures.ok) c.settle_use-charged.ensures.rows

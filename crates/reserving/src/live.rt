@@ -1,0 +1,136 @@
+//! What of an account's rows may still change.
+
+ghost use Rattle.std.specs.Prelude.{◌≡◌, ◌≤◌, ◌==◌, ◌&&◌, ◌++◌, not, filter, IfOk, is_some};
+ghost use Rattle.reserving.specs.Pricing.{cycle_at};
+ghost use Rattle.reserving.specs.Sessions.{is_open, session_in, is_counter};
+ghost use Rattle.reserving.specs.Rows.{EachIn, AreApart};
+ghost use Rattle.reserving.specs.Left.{is_open_row};
+ghost use Rattle.reserving.specs.Live.{is_live_group, live_part};
+ghost use Rattle.reserving.specs.Stored.{stored};
+
+use crate::account::Account;
+use crate::copy::{copy_of_groups, copy_of_purse, copy_of_sessions};
+use crate::session::{Counter, Session, SessionGroup, SessionState};
+use crate::stored::StoredAccount;
+use buckets::Bucket;
+use identifiers::SessionId;
+use std::alloc::{AllocError, Global};
+use tariffs::TariffBook;
+use units::Moment;
+
+impl StoredAccount {
+    /// A copy of the rows that may still change at the moment, as an account that the book prices. Further counters
+    /// stand beside the account's own.
+    pub fn load_at<'b>(
+        &self,
+        book: &'b TariffBook,
+        moment: Moment,
+        others: &[Counter],
+    ) -> Result<Account<'b>, AllocError>
+        requires apart { AreApart (λ x y. is_counter x.group x.cycle y) (others.now ++ self.now.counters) }
+        requires counted { EachIn (λ c. c.blocks ≤ 4_000_000_000_000_000_000) others.now }
+        ensures { IfOk result (λ account. account ≡ live_part book.now moment others.now self.now) }
+    {
+        let _ranges = book.validity();
+        let mut purse = copy_of_purse(&self.purse)?;
+        purse.drop_dead();
+        Ok(Account {
+            book,
+            as_of: self.as_of,
+            barred: self.barred,
+            purse,
+            counters: live_counters(self.alloc, book, moment, &self.counters, others)?,
+            sessions: open_sessions(&self.sessions)?,
+            groups: live_groups(&self.groups, &self.sessions)?,
+            next_bucket: self.next_bucket,
+            next_charge: self.next_charge,
+            alloc: self.alloc,
+        })
+    }
+}
+
+impl StoredAccount {
+    /// A copy of its buckets.
+    pub fn copy_of_buckets(&self) -> Result<Vec<Bucket>, AllocError>
+        ensures { IfOk result (λ rows. rows.items ≡ self.now.buckets) }
+    {
+        self.purse.to_vec()
+    }
+
+    /// A copy of its sessions.
+    pub fn copy_of_sessions(&self) -> Result<Vec<Session>, AllocError>
+        ensures { IfOk result (λ rows. rows.items ≡ self.now.sessions) }
+    {
+        copy_of_sessions(&self.sessions)
+    }
+
+    /// A copy of its groups.
+    pub fn copy_of_groups(&self) -> Result<Vec<SessionGroup>, AllocError>
+        ensures { IfOk result (λ rows. rows.items ≡ self.now.groups) }
+    {
+        copy_of_groups(&self.groups)
+    }
+}
+
+impl<'b> Account<'b> {
+    /// A copy of its rows, to be kept.
+    pub fn to_stored(&self) -> Result<StoredAccount, AllocError>
+        ensures { IfOk result (λ rows. rows ≡ stored self.now) }
+    {
+        Ok(self.copy()?.into_stored())
+    }
+}
+
+fn is_open(sessions: &[Session], id: &SessionId) -> bool
+    ensures { result ≡ is_open_row (session_in id.now sessions.now) }
+{
+    for session in sessions {
+        if session.id == *id {
+            return session.state == SessionState::Open;
+        }
+    }
+    false
+}
+
+fn open_sessions(sessions: &Vec<Session>) -> Result<Vec<Session>, AllocError>
+    ensures { IfOk result (λ rows. rows.items ≡ filter (λ r. is_open r.state) sessions.now.items) }
+{
+    let mut rows = copy_of_sessions(sessions)?;
+    rows.retain(|row| row.state == SessionState::Open);
+    Ok(rows)
+}
+
+fn live_groups(
+    groups: &Vec<SessionGroup>,
+    sessions: &[Session],
+) -> Result<Vec<SessionGroup>, AllocError>
+    ensures { IfOk result (λ rows. rows.items ≡ filter (is_live_group sessions.now) groups.now.items) }
+{
+    let mut rows = copy_of_groups(groups)?;
+    rows.retain(|row| is_open(sessions, &row.session) || row.reservation.is_some());
+    Ok(rows)
+}
+
+fn cycle_of(book: &TariffBook, group: u32, moment: Moment) -> u32
+    ensures { result ≡ cycle_at book.now group moment }
+{
+    match book.tariff(group) {
+        Some(tariff) => book.cycle_of(tariff.cycle(), moment),
+        None => 0,
+    }
+}
+
+fn live_counters(
+    alloc: Global,
+    book: &TariffBook,
+    moment: Moment,
+    counters: &[Counter],
+    others: &[Counter],
+) -> Result<Vec<Counter>, AllocError>
+    ensures { IfOk result (λ rows. rows.items ≡ filter (λ r. r.cycle == cycle_at book.now r.group moment) (others.now ++ counters.now)) }
+{
+    let mut rows = Vec::from_slice(alloc, others)?;
+    rows.extend_from_slice(counters)?;
+    rows.retain(|row| row.cycle == cycle_of(book, row.group, moment));
+    Ok(rows)
+}
