@@ -1,13 +1,18 @@
-//! Streams of bytes: a line taken from any reader, a text written whole to any writer.
+//! Streams of bytes: a line or so many bytes taken from any reader, a text written whole to any writer. A read or a write
+//! that is interrupted is tried again, up to 100 times.
 #![tactic(auto)]
 
-ghost use Rattle.std.specs.Prelude.{◌≡◌, ℕ, List, length, take, OnOk, OnErr, IfOk, IfNone, IfSome, option_to_list};
+ghost use Rattle.std.specs.Prelude.{◌≡◌, ◌≤◌, ◌<◌, ℕ, List, length, take, OnOk, OnErr, IfOk, IfNone, IfSome, option_to_list};
 ghost use Rattle.std.specs.Io.KnownBytes.{Appends, Consumes, IsAtEnd, Keeps};
 ghost use Rattle.byte_streams.specs.Lines.{IsLineOf};
+ghost use Rattle.byte_streams.specs.Parts.{IsPartOf};
 
 use std::alloc::{AllocError, AllocFailed, Global};
-use std::io::{Read, Write};
+use std::io::{ErrorKind, Read, Write};
 use thiserror::Error;
+
+/// How often a read or a write is tried that is interrupted each time.
+pub const MAX_ATTEMPTS: u32 = 100;
 
 /// Why a stream wasn't read or written.
 #[derive(Clone, Copy, Debug, Drop, Error, PartialEq, Eq)]
@@ -36,17 +41,51 @@ impl<T: Drop> From<AllocFailed<T>> for StreamFault {
 }
 
 /// The next byte, or none at the end.
-fn next_byte<R: Read>(reader: &mut R) -> Result<Option<u8>, StreamFault>
+///
+/// # Errors
+/// `Read` where the reader failed, or was interrupted 100 times. Then no byte is taken.
+pub fn next_byte<R: Read>(reader: &mut R) -> Result<Option<u8>, StreamFault>
     ensures taken { IfOk result (λ byte. Consumes (R.remaining reader.old) (R.remaining reader.new) (option_to_list byte)) }
     ensures end { IfOk result (λ byte. IfNone byte (IsAtEnd (R.remaining reader.new))) }
     ensures err { OnErr result (Keeps (R.remaining reader.old) (R.remaining reader.new)) }
 {
     let mut one = [0u8; 1];
-    match reader.read(&mut one) {
-        Ok(0) => Ok(None),
-        Ok(_) => Ok(Some(one[0])),
-        Err(_) => Err(StreamFault::Read),
+    for _attempt in 0..MAX_ATTEMPTS {
+        match reader.read(&mut one) {
+            Ok(0) => return Ok(None),
+            Ok(_) => return Ok(Some(one[0])),
+            Err(error) => {
+                if error.kind() != ErrorKind::Interrupted {
+                    return Err(StreamFault::Read);
+                }
+            }
+        }
     }
+    Err(StreamFault::Read)
+}
+
+/// The next so many bytes, or none where the stream has fewer.
+///
+/// # Errors
+/// `Memory` where a growth was refused, `Read` where the reader failed.
+pub fn next_bytes<R: Read>(
+    alloc: Global,
+    reader: &mut R,
+    count: usize,
+) -> Result<Option<Vec<u8>>, StreamFault>
+    ensures { IfOk result (λ part. IfSome (R.remaining reader.old)
+        (λ stream. IsPartOf count stream part (R.remaining reader.new))) }
+{
+    let mut part = Vec::new(alloc);
+    for _taken in 0..count {
+        let Some(byte) = next_byte(reader)? else {
+            return Ok(None);
+        };
+        let Ok(()) = part.push(byte) else {
+            return Err(StreamFault::Memory);
+        };
+    }
+    Ok(Some(part))
 }
 
 /// The next line: the bytes before the next line feed, which is taken too, or before the end of the stream. None
@@ -70,7 +109,31 @@ pub fn next_line<R: Read>(alloc: Global, reader: &mut R) -> Result<Option<Vec<u8
     Err(StreamFault::Memory)
 }
 
-/// Writes all of a text. At a fault a beginning of it is written.
+/// Writes some of a text that isn't empty, and answers how much.
+fn write_some<W: Write>(writer: &mut W, text: &[u8]) -> Result<usize, StreamFault>
+    ensures some { IfOk result (λ n. 0 < n) }
+    ensures within { IfOk result (λ n. n ≤ length text.now) }
+    ensures ok { IfOk result (λ n. Appends (W.contents writer.old) (W.contents writer.new) (take n text.now)) }
+    ensures err { OnErr result (Keeps (W.contents writer.old) (W.contents writer.new)) }
+{
+    for _attempt in 0..MAX_ATTEMPTS {
+        match writer.write(text) {
+            Ok(0) => return Err(StreamFault::Write),
+            Ok(n) => return Ok(n),
+            Err(error) => {
+                if error.kind() != ErrorKind::Interrupted {
+                    return Err(StreamFault::Write);
+                }
+            }
+        }
+    }
+    Err(StreamFault::Write)
+}
+
+/// Writes all of a text.
+///
+/// # Errors
+/// `Write` where the writer failed, took nothing, or was interrupted 100 times. Then a beginning of the text is written.
 pub fn write_whole<W: Write>(writer: &mut W, text: &[u8]) -> Result<(), StreamFault>
     ensures ok { OnOk result (Appends (W.contents writer.old) (W.contents writer.new) text.now) }
     ensures err { OnErr result ((n : ℕ) × Appends (W.contents writer.old) (W.contents writer.new) (take n text.now)) }
@@ -80,11 +143,8 @@ pub fn write_whole<W: Write>(writer: &mut W, text: &[u8]) -> Result<(), StreamFa
         if at >= text.len() {
             break;
         }
-        match writer.write(&text[at..]) {
-            Ok(0) => return Err(StreamFault::Write),
-            Ok(n) => at += n,
-            Err(_) => return Err(StreamFault::Write),
-        }
+        let written = write_some(writer, &text[at..])?;
+        at += written;
     }
     Ok(())
 }

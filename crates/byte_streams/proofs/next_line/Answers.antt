@@ -1,4 +1,3 @@
-use Rattle.std.proofs.Common.{◌≡◌, List, ℕ}
 use Rattle.byte_streams.proofs.LineLemmas.{goes_on}
 use Rattle.byte_streams.proofs.next_line.Goals as goal
 

@@ -1,5 +1,4 @@
-use Rattle.std.proofs.Common.{◌≡◌, ◌++◌, ℕ, List, IfSome, Some, Bool, true, false}
-use Rattle.byte_streams.specs.Lines.{line_of, after_line}
+use Rattle.std.proofs.Common.{◌≡◌, ℕ, List, IfSome, Some}
 use Rattle.byte_streams.proofs.LineLemmas.{Begins}
 use Rattle.byte_streams.proofs.next_line.Given as goal
 

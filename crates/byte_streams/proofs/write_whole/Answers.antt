@@ -1,4 +1,4 @@
-use Rattle.std.proofs.Common.{◌≡◌, ◌≤◌, ℕ, List, ◌++◌, ◌+◌, ◌-◌, length, take, drop, arith, subst, sym, ap, ◌∙◌, rules}
+use Rattle.std.proofs.Common.{◌≡◌, ℕ, List, ◌++◌, ◌+◌, ◌-◌, length, take, drop, arith, subst, sym, ap, ◌∙◌, rules}
 use Rattle.std.specs.declared.option.Option.{Option}
 use Rattle.std.specs.Io.KnownBytes.{Appends}
 use Rattle.std.proofs.KnownBytes.{Appends-trans}
@@ -18,7 +18,7 @@ written_on old mid new xs at n p q =
 
 pub loop-turn-preserved : goal.loop-turn-preserved
 loop-turn-preserved g c = (
-  omega (arith, c.loop-turn.invariant.0, c.in-Ok.n-test.1),
-  search (rules, common_steps, c.in-Ok.ensures.bound),
-  written_on _ _ _ c.args.text.now c.loop-turn.at c.in-Ok.n c.loop-turn.invariant.2 c.in-Ok.ensures.bytes,
+  omega (arith, c.loop-turn.invariant.0, c.in_ok-written.ensures.some),
+  search (rules, common_steps, c.in_ok-written.ensures.within),
+  written_on _ _ _ c.args.text.now c.loop-turn.at c.in_ok-written.written c.loop-turn.invariant.2 c.in_ok-written.ensures.ok,
 )
