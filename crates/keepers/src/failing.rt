@@ -1,4 +1,4 @@
-ghost use Rattle.std.specs.Prelude.{◌≡◌, true, false};
+ghost use Rattle.std.specs.Prelude.{◌≡◌, ◌==◌, ◌-◌, ◌&&◌, not, true, false};
 
 use crate::fault::StoreFault;
 use crate::keeper::Keeper;
@@ -44,8 +44,10 @@ impl<K: Keeper> Failing<K> {
         inner
     }
 
-    /// Whether this call fails.
+    /// Whether this call fails: once, when the calls before the failing one are done.
     fn fails(&mut self) -> bool
+        ensures told { result ≡ (not self.old.failed && self.old.left == 0) }
+        ensures left { self.old.failed ≡ false → self.new.left ≡ self.old.left - 1 }
         ensures same { self.new.inner ≡ self.old.inner }
         ensures raised { result ≡ true → (self.old.failed ≡ false) × (self.new.failed ≡ true) }
         ensures kept { result ≡ false → self.new.failed ≡ self.old.failed }

@@ -25,7 +25,9 @@ pub struct MemoryKeeper {
 impl MemoryKeeper {
     /// A keeper without accounts. It takes no memory.
     pub fn new(alloc: Global) -> MemoryKeeper
-        ensures { ⟦<MemoryKeeper as Keeper>⟧.content result ≡ no_tables }
+        ensures content { ⟦<MemoryKeeper as Keeper>⟧.content result ≡ no_tables }
+        ensures cleanness { ⟦<MemoryKeeper as Keeper>⟧.clean result }
+        ensures failures { ⟦<MemoryKeeper as Keeper>⟧.failed result ≡ 0 }
     {
         MemoryKeeper {
             last: Moment::first(),
