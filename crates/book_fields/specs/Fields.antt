@@ -1,10 +1,11 @@
 -- A value under a key of a table, by its kind and its range. Faults come in the order missing, wrong kind,
 -- too many entries, out of range.
 -- Source: TOML 1.0; the faults: profile.
-use Rattle.std.specs.Prelude.{ℕ, suc, ◌&&◌, List, [], ◌∷◌, ◌++◌, Result, Ok, Err, nat_le, pos, int_le, unsigned_abs}
+use Rattle.std.specs.Prelude.{ℕ, suc, ◌&&◌, List, [], ◌∷◌, Result, nat_le, pos, int_le, unsigned_abs}
 use Rattle.toml.specs.Data.{Data, Items, no_items, item, Members, get_member, as_str, as_integer, as_array, as_table}
 use Rattle.book_fields.specs.declared.fault.BookFault.{BookFault}
 use Rattle.book_fields.specs.declared.fault.BookFault.TheVariants.{Missing, WrongKind, OutOfRange, TooMany}
+use Rattle.first_fault.specs.Steps as steps
 use Rattle.book_fields.specs.Faults.{◌>>=◌, or_fault, where_holds}
 
 -- the value under a key
@@ -49,11 +50,15 @@ text_at d = or_fault WrongKind (as_str d)
 abbrev pub table_at : Data → Result Members BookFault
 table_at d = or_fault WrongKind (as_table d)
 
+-- the entries of an array as a list
+abbrev pub item_list : Items → List Data
+item_list no_items = []
+item_list (item d ds) = d ∷ item_list ds
+
 -- the entries one after the other, each with what those before it left; the first fault ends it
-unfoldable pub each : {A : Type 0} → (A → Data → Result A BookFault) → A → Items → Result A BookFault
-each step so_far no_items = Ok so_far
-each step so_far (item d ds) = step so_far d >>= λ more. each step more ds
+abbrev pub each : {A : Type 0} → (A → Data → Result A BookFault) → A → Items → Result A BookFault
+each step so_far ds = steps.each step so_far (item_list ds)
 
 -- the list of what the entries say, each read beside those before it
 abbrev pub collected : {A : Type 0} → (List A → Data → Result A BookFault) → List A → Items → Result (List A) BookFault
-collected read before ds = each (λ so_far d. read so_far d >>= λ x. Ok (so_far ++ x ∷ [])) before ds
+collected read before ds = steps.collected read before (item_list ds)

@@ -1,6 +1,6 @@
 ghost use Rattle.std.specs.Prelude.{◌≡◌, ◌≤◌, ◌<◌, ◌^◌, IfOk, length};
 ghost use Rattle.toml.specs.View.{view, table_view, items_view};
-ghost use Rattle.book_fields.specs.Faults.{Gives};
+ghost use Rattle.book_fields.specs.Faults.{Says};
 ghost use Rattle.book_fields.specs.Fields.{member_of, text_of, number_in, array_of, filled_array_of, text_at, table_at};
 
 use crate::fault::BookFault;
@@ -8,7 +8,7 @@ use toml::{Table, Value};
 
 /// The value under a key.
 fn member<'a>(table: &'a Table, key: &str) -> Result<&'a Value, BookFault>
-    ensures { Gives (λ v. view v.now) result (member_of key.now (table_view table.now)) }
+    ensures { Says (λ v. view v.now) result (member_of key.now (table_view table.now)) }
 {
     match table.get(key) {
         Some(value) => Ok(value),
@@ -19,13 +19,9 @@ fn member<'a>(table: &'a Table, key: &str) -> Result<&'a Value, BookFault>
 /// The text under a key.
 #[tactic(auto, unfolding(crate::specs::Fields::text_of))]
 pub fn text<'a>(table: &'a Table, key: &str) -> Result<&'a str, BookFault>
-    ensures { Gives (λ s. s.now) result (text_of key.now (table_view table.now)) }
+    ensures { Says (λ s. s.now) result (text_of key.now (table_view table.now)) }
 {
-    let value = member(table, key)?;
-    match value.as_str() {
-        Some(text) => Ok(text),
-        None => Err(BookFault::WrongKind),
-    }
+    member(table, key)?.as_str().ok_or(BookFault::WrongKind)
 }
 
 /// The whole number under a key, from `low` to `high`.
@@ -33,45 +29,37 @@ pub fn text<'a>(table: &'a Table, key: &str) -> Result<&'a str, BookFault>
 pub fn number(table: &Table, key: &str, low: u64, high: u64) -> Result<u64, BookFault>
     requires low { low < 2 ^ 62 }
     requires high { high < 2 ^ 62 }
-    ensures value { Gives (λ n. n) result (number_in key.now low high (table_view table.now)) }
+    ensures value { Says (λ n. n) result (number_in key.now low high (table_view table.now)) }
     ensures in_range { IfOk result (λ n. (low ≤ n) × (n ≤ high)) }
 {
-    let value = member(table, key)?;
-    match value.as_integer() {
-        Some(number) => {
-            if low as i64 <= number && number <= high as i64 {
-                Ok(number as u64)
-            } else {
-                Err(BookFault::OutOfRange)
-            }
-        }
-        None => Err(BookFault::WrongKind),
+    let number = member(table, key)?
+        .as_integer()
+        .ok_or(BookFault::WrongKind)?;
+    if low as i64 <= number && number <= high as i64 {
+        Ok(number as u64)
+    } else {
+        Err(BookFault::OutOfRange)
     }
 }
 
 /// The array under a key, of at most `most` entries.
 #[tactic(auto, using(crate::proofs::Entries::item_count_view), unfolding(crate::specs::Fields::array_of))]
 pub fn array<'a>(table: &'a Table, key: &str, most: usize) -> Result<&'a [Value], BookFault>
-    ensures value { Gives (λ v. items_view v.now) result (array_of key.now most (table_view table.now)) }
+    ensures value { Says (λ v. items_view v.now) result (array_of key.now most (table_view table.now)) }
     ensures few { IfOk result (λ v. length v.now ≤ most) }
 {
-    let value = member(table, key)?;
-    match value.as_array() {
-        Some(array) => {
-            if array.len() <= most {
-                Ok(array.as_slice())
-            } else {
-                Err(BookFault::TooMany)
-            }
-        }
-        None => Err(BookFault::WrongKind),
+    let array = member(table, key)?.as_array().ok_or(BookFault::WrongKind)?;
+    if array.len() <= most {
+        Ok(array.as_slice())
+    } else {
+        Err(BookFault::TooMany)
     }
 }
 
 /// The array under a key, of 1 to `most` entries.
 #[tactic(auto, using(crate::proofs::Entries::item_count_view), unfolding(crate::specs::Fields::filled_array_of))]
 pub fn filled_array<'a>(table: &'a Table, key: &str, most: usize) -> Result<&'a [Value], BookFault>
-    ensures value { Gives (λ v. items_view v.now) result (filled_array_of key.now most (table_view table.now)) }
+    ensures value { Says (λ v. items_view v.now) result (filled_array_of key.now most (table_view table.now)) }
     ensures few { IfOk result (λ v. length v.now ≤ most) }
     ensures some { IfOk result (λ v. 1 ≤ length v.now) }
 {
@@ -84,20 +72,14 @@ pub fn filled_array<'a>(table: &'a Table, key: &str, most: usize) -> Result<&'a 
 
 /// An entry of an array of texts.
 pub fn entry_text(entry: &Value) -> Result<&str, BookFault>
-    ensures { Gives (λ s. s.now) result (text_at (view entry.now)) }
+    ensures { Says (λ s. s.now) result (text_at (view entry.now)) }
 {
-    match entry.as_str() {
-        Some(text) => Ok(text),
-        None => Err(BookFault::WrongKind),
-    }
+    entry.as_str().ok_or(BookFault::WrongKind)
 }
 
 /// An entry of an array of tables.
 pub fn entry_table(entry: &Value) -> Result<&Table, BookFault>
-    ensures { Gives (λ t. table_view t.now) result (table_at (view entry.now)) }
+    ensures { Says (λ t. table_view t.now) result (table_at (view entry.now)) }
 {
-    match entry.as_table() {
-        Some(table) => Ok(table),
-        None => Err(BookFault::WrongKind),
-    }
+    entry.as_table().ok_or(BookFault::WrongKind)
 }

@@ -12,7 +12,7 @@ use Rattle.commands.specs.declared.avp.Avp.{Avp}
 use Rattle.commands.specs.Names.{name_of}
 use Rattle.commands.specs.Quantities.{most_units}
 use Rattle.json_fields.specs.declared.fault.WireFault.{WireFault}
-use Rattle.json_fields.specs.Gives.{◌>>=◌, or_fault, where_true}
+use Rattle.json_fields.specs.Gives.{◌>>=◌, or_fault, where_holds}
 use Rattle.json_fields.specs.Spelling.{whole, perhaps}
 use Rattle.json_fields.specs.Fields.{member_at, number_at, optional_at, text_at, object_at}
 use Rattle.json_fields.specs.Unit.{name_of_unit, has_unit, lacks_others, kind_told, units_at}
@@ -32,7 +32,7 @@ pub get_here : (k : List ℕ) (o : Option Data) (ms : Members) → slice_cmp nat
 get_here k None ms same none = none
 get_here k (Some d) ms same none = rw same refl
 
-in_range : (low high n : ℕ) (e : WireFault) → low ≤ n → n ≤ high → where_true (nat_le low n && nat_le n high) e n ≡ Ok n
+in_range : (low high n : ℕ) (e : WireFault) → low ≤ n → n ≤ high → where_holds (nat_le low n && nat_le n high) e n ≡ Ok n
 in_range low high n e a b = rw (le-leb low n a, le-leb n high b) refl
 
 pub number_found : (a : Avp) (low high : ℕ) (d : Data) (n : ℕ) → get (name_of a) d ≡ Some (whole n) → low ≤ n → n ≤ high → number_at a low high d ≡ Ok n

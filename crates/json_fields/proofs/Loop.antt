@@ -1,41 +1,34 @@
 -- Reading items one after the other, as a loop does.
-use Rattle.std.proofs.Common.{◌≡◌, ℕ, ◌+◌, ◌≤◌, ◌<◌, List, [], ◌∷◌, ◌++◌, length, drop, get_or, add-one, Result, Ok, Err, refl, sym, ap, ◌∙◌}
-use Rattle.std.proofs.Math.Seq.{drop-cons}
-use Rattle.std.proofs.lemmas.List.{drop_all}
-use Rattle.serde_json.specs.Data.{Data}
+use Rattle.std.proofs.Common.{◌≡◌, ℕ, ◌+◌, ◌≤◌, ◌<◌, List, [], ◌∷◌, ◌++◌, length, drop, get_or, map, Result, Ok, Err, refl, sym, ap, suc}
+use Rattle.serde_json.specs.Data.{Data, Items, no_items, item}
+use Rattle.serde_json.specs.Events.{items_len}
 use Rattle.serde_json.specs.declared.value.Value.{Value}
 use Rattle.serde_json.specs.View.{view, items_view}
+use Rattle.first_fault.proofs.Loop as loop
 use Rattle.json_fields.specs.declared.fault.WireFault.{WireFault}
-use Rattle.json_fields.specs.declared.fault.WireFault.TheVariants.{NotRequest, Missing, Invalid, Memory}
-use Rattle.json_fields.specs.Gives.{◌>>=◌, Fails, read_each}
+use Rattle.json_fields.specs.Gives.{Fails, read_each, item_list}
 
-pub failed : {A B : Type 0} (e : WireFault) (read : Result A WireFault) (f : A → Result B WireFault) → Fails e read → Fails e (read >>= f)
-failed Memory read f h = tt
-failed NotRequest read f h = rw h refl
-failed (Missing a) read f h = rw h refl
-failed (Invalid a) read f h = rw h refl
+item_list_view : (vs : List Value) → item_list (items_view vs) ≡ map view vs
+item_list_view [] = refl
+item_list_view (v ∷ vs) = ap (λ ds. view v ∷ ds) (item_list_view vs)
+
+pub item_list_length : (ds : Items) → length (item_list ds) ≡ items_len ds
+item_list_length no_items = refl
+item_list_length (item d ds) = ap suc (item_list_length ds)
 
 module _ {A : Type 0} (read : List A → Data → Result A WireFault) where
-  one_more : (done : List A) (vs : List Value) (i : ℕ) (v : Value) → i < length vs → v ≡ get_or vs i v
-      → read_each read done (items_view (drop i vs)) ≡ (read done (view v) >>= λ x. read_each read (done ++ x ∷ []) (items_view (drop (i + 1) vs)))
-  unfolding read_each
-  one_more done vs i v lt is =
-      let e = drop-cons vs i v lt in
-      rw (e, ← is, add-one) refl
-
+  -- an item that is read
   pub goes_on : (done : List A) (vs : List Value) (i : ℕ) (v : Value) (x : A) (total : Result (List A) WireFault) → i < length vs → v ≡ get_or vs i v
       → read done (view v) ≡ Ok x → read_each read done (items_view (drop i vs)) ≡ total → read_each read (done ++ x ∷ []) (items_view (drop (i + 1) vs)) ≡ total
   goes_on done vs i v x total lt is h so_far =
-      sym (one_more done vs i v lt is ∙ ap (λ r. r >>= λ (y : A). read_each read (done ++ y ∷ []) (items_view (drop (i + 1) vs))) h) ∙ so_far
+      rw (item_list_view (drop (i + 1) vs)) (loop.collected_goes_on view read done x vs i v total lt is h (rw (← item_list_view (drop i vs)) so_far))
 
   -- a fault of one is that of the whole
   pub fails_at : (e : WireFault) (done : List A) (vs : List Value) (i : ℕ) (v : Value) (total : Result (List A) WireFault) → i < length vs → v ≡ get_or vs i v
       → Fails e (read done (view v)) → read_each read done (items_view (drop i vs)) ≡ total → Fails e total
   fails_at e done vs i v total lt is h so_far =
-      rw (sym so_far ∙ one_more done vs i v lt is) (failed e (read done (view v)) _ h)
+      λ other. loop.collected_ends view read e done vs i v total lt is (h other) (rw (← item_list_view (drop i vs)) so_far)
 
+  -- no item is left
   pub is_done : (done : List A) (vs : List Value) (i : ℕ) (total : Result (List A) WireFault) → length vs ≤ i → read_each read done (items_view (drop i vs)) ≡ total → total ≡ Ok done
-  unfolding read_each
-  is_done done vs i total le so_far =
-      let e : drop i vs ≡ [] = drop_all i vs le in
-      sym so_far ∙ rw e refl
+  is_done done vs i total le so_far = loop.collected_done view read done vs i total le (rw (← item_list_view (drop i vs)) so_far)

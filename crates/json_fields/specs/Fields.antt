@@ -9,7 +9,7 @@ use Rattle.commands.specs.declared.avp.Avp.{Avp}
 use Rattle.commands.specs.Names.{name_of}
 use Rattle.json_fields.specs.declared.fault.WireFault.{WireFault}
 use Rattle.json_fields.specs.declared.fault.WireFault.TheVariants.{NotRequest, Missing, Invalid}
-use Rattle.json_fields.specs.Gives.{◌>>=◌, or_fault, where_true}
+use Rattle.json_fields.specs.Gives.{◌>>=◌, or_fault, where_holds}
 
 -- the JSON that the bytes are
 unfoldable pub json_of : List ℕ → Option Data
@@ -26,18 +26,23 @@ document_at bytes = do
 unfoldable pub member_at : Avp → Data → Result Data WireFault
 member_at a d = or_fault (Missing a) (get (name_of a) d)
 
+-- the whole number of this range that a value is
+abbrev pub whole_in : Avp → ℕ → ℕ → Data → Result ℕ WireFault
+whole_in told low high v = do
+  n ← or_fault (Invalid told) (option_and_then as_u64 (as_number v))
+  where_holds (nat_le low n && nat_le n high) (Invalid told) n
+
 -- a whole number of this range
 unfoldable pub number_at : Avp → ℕ → ℕ → Data → Result ℕ WireFault
 number_at a low high d = do
   v ← member_at a d
-  n ← or_fault (Invalid a) (option_and_then as_u64 (as_number v))
-  where_true (nat_le low n && nat_le n high) (Invalid a) n
+  whole_in a low high v
 
 abbrev pub optional_when : Avp → ℕ → ℕ → Option Data → Result (Option ℕ) WireFault
 optional_when a low high None = Ok None
 optional_when a low high (Some v) = do
-  n ← or_fault (Invalid a) (option_and_then as_u64 (as_number v))
-  where_true (nat_le low n && nat_le n high) (Invalid a) (Some n)
+  n ← whole_in a low high v
+  Ok (Some n)
 
 -- a whole number of this range, where it is there
 unfoldable pub optional_at : Avp → ℕ → ℕ → Data → Result (Option ℕ) WireFault

@@ -1,34 +1,25 @@
--- A function that reads gives what reading means, unless memory ran out.
-use Rattle.std.specs.Prelude.{◌≡◌, ℕ, List, [], ◌∷◌, ◌++◌, Bool, Option, Some, None, Result, Ok, Err, if◌then◌else◌}
+-- A function that reads gives what reading means; one that takes memory may run out of it.
+use Rattle.std.specs.Prelude.{◌≡◌, List, [], ◌∷◌, Result, Ok, Err}
 use Rattle.serde_json.specs.Data.{Data, Items, no_items, item}
+use Rattle.first_fault.specs.Steps as steps
+use Rattle.first_fault.specs.Steps.{GivesUnless}
+pub use Rattle.first_fault.specs.Steps.{◌>>=◌, or_fault, where_holds, Says}
 use Rattle.json_fields.specs.declared.fault.WireFault.{WireFault}
-use Rattle.json_fields.specs.declared.fault.WireFault.TheVariants.{NotRequest, Missing, Invalid, Memory}
+use Rattle.json_fields.specs.declared.fault.WireFault.TheVariants.{Memory}
 
-infixl 10 ◌>>=◌
-abbrev pub ◌>>=◌ : {A B : Type 0} → Result A WireFault → (A → Result B WireFault) → Result B WireFault
-(Ok x) >>= f = f x
-(Err e) >>= f = Err e
-
+-- what a fault tells of reading, where it isn't want of memory
 abbrev pub Fails : {Y : Type 0} → WireFault → Result Y WireFault → Type 0
-Fails Memory read = Unit {0}
-Fails NotRequest read = read ≡ Err NotRequest
-Fails (Missing a) read = read ≡ Err (Missing a)
-Fails (Invalid a) read = read ≡ Err (Invalid a)
+Fails fault reading = ¬ (fault ≡ Memory) → reading ≡ Err fault
 
+-- what a call returned, seen by `view`, is what reading gives; want of memory may come in place of it
 abbrev pub Gives : {X Y : Type 0} → (X → Y) → Result X WireFault → Result Y WireFault → Type 0
-Gives view (Ok x) read = read ≡ Ok (view x)
-Gives view (Err e) read = Fails e read
+Gives view returned reading = GivesUnless Memory view returned reading
 
--- the value, or the fault where there is none
-abbrev pub or_fault : {A : Type 0} → WireFault → Option A → Result A WireFault
-or_fault e None = Err e
-or_fault e (Some x) = Ok x
-
--- the value where the test holds
-abbrev pub where_true : {A : Type 0} → Bool → WireFault → A → Result A WireFault
-where_true b e x = if b then Ok x else Err e
+-- the items of an array as a list
+abbrev pub item_list : Items → List Data
+item_list no_items = []
+item_list (item d ds) = d ∷ item_list ds
 
 -- The items one after another. What is read of one may depend on those before it.
-unfoldable pub read_each : {A : Type 0} → (List A → Data → Result A WireFault) → List A → Items → Result (List A) WireFault
-read_each read done no_items = Ok done
-read_each read done (item d ds) = read done d >>= λ x. read_each read (done ++ x ∷ []) ds
+abbrev pub read_each : {A : Type 0} → (List A → Data → Result A WireFault) → List A → Items → Result (List A) WireFault
+read_each read done ds = steps.collected read done (item_list ds)

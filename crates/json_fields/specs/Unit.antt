@@ -1,14 +1,15 @@
 -- The unit members of an object: CC-Time, CC-Total-Octets and CC-Service-Specific-Units.
-use Rattle.std.specs.Prelude.{ℕ, ◌&&◌, List, codes, Bool, is_some, is_none, Option, Some, None, Result, Ok, Err, nat_le, if◌then◌else◌, option_and_then}
+use Rattle.std.specs.Prelude.{ℕ, ◌&&◌, List, codes, Bool, is_some, is_none, Option, Some, None, Result, Ok, Err, nat_le, if◌then◌else◌}
 use Rattle.serde_json.specs.Data.{Data}
-use Rattle.serde_json.specs.Find.{get, as_number, as_u64}
+use Rattle.serde_json.specs.Find.{get}
 use Rattle.units.specs.declared.blocks.UnitKind.{UnitKind}
 use Rattle.units.specs.declared.blocks.UnitKind.TheVariants.{Time, TotalOctets, ServiceSpecific}
 use Rattle.commands.specs.declared.avp.Avp.{Avp}
 use Rattle.commands.specs.Quantities.{most_units}
 use Rattle.json_fields.specs.declared.fault.WireFault.{WireFault}
 use Rattle.json_fields.specs.declared.fault.WireFault.TheVariants.{Invalid}
-use Rattle.json_fields.specs.Gives.{◌>>=◌, or_fault, where_true}
+use Rattle.json_fields.specs.Gives.{◌>>=◌, or_fault, where_holds}
+use Rattle.json_fields.specs.Fields.{whole_in}
 
 -- RFC 8506 sections 8.21, 8.23 and 8.26
 abbrev pub name_of_unit : UnitKind → List ℕ
@@ -36,6 +37,5 @@ lacks_others ServiceSpecific d = lacks_unit Time d && lacks_unit TotalOctets d
 unfoldable pub units_at : Avp → ℕ → UnitKind → Data → Result ℕ WireFault
 units_at told low kind d = do
   v ← or_fault (Invalid told) (get (name_of_unit kind) d)
-  n ← or_fault (Invalid told) (option_and_then as_u64 (as_number v))
-  within ← where_true (nat_le low n && nat_le n (most_units kind)) (Invalid told) n
-  where_true (lacks_others kind d) (Invalid told) n
+  n ← whole_in told low (most_units kind) v
+  where_holds (lacks_others kind d) (Invalid told) n

@@ -1,7 +1,7 @@
 ghost use Rattle.std.specs.Prelude.{◌≡◌, ◌≤◌, IfOk, IfSome};
 ghost use Rattle.serde_json.specs.View.{view, items_view};
-ghost use Rattle.json_fields.specs.Gives.{Gives, or_fault};
-ghost use Rattle.json_fields.specs.Fields.{json_of, document_at, member_at, number_at, optional_at, text_at, object_at, array_of};
+ghost use Rattle.json_fields.specs.Gives.{Gives, Says, or_fault};
+ghost use Rattle.json_fields.specs.Fields.{json_of, document_at, member_at, whole_in, number_at, optional_at, text_at, object_at, array_of};
 
 use crate::fault::WireFault;
 use commands::Avp;
@@ -35,32 +35,33 @@ pub fn document(alloc: Global, bytes: &[u8]) -> Result<Value, WireFault>
 /// The member of this name.
 #[tactic(auto, unfolding(crate::specs::Fields::member_at))]
 pub fn member<'v>(parent: &'v Value, name: Avp) -> Result<&'v Value, WireFault>
-    ensures { Gives (λ v. view v.now) result (member_at name (view parent.now)) }
+    ensures { Says (λ v. view v.now) result (member_at name (view parent.now)) }
 {
-    match parent.get(name.name()) {
-        Some(value) => Ok(value),
-        None => Err(WireFault::Missing(name)),
-    }
+    parent.get(name.name()).ok_or(WireFault::Missing(name))
 }
 
-/// A whole number from `low` to `high`.
-#[tactic(auto, unfolding(crate::specs::Fields::number_at))]
-pub fn number(parent: &Value, name: Avp, low: u64, high: u64) -> Result<u64, WireFault>
-    ensures reads { Gives (λ n. n) result (number_at name low high (view parent.now)) }
+/// The whole number that a value is, from `low` to `high`; a fault is told of `told`.
+pub fn whole_in(value: &Value, told: Avp, low: u64, high: u64) -> Result<u64, WireFault>
+    ensures reads { Says (λ n. n) result (whole_in told low high (view value.now)) }
     ensures within { IfOk result (λ n. (low ≤ n) × (n ≤ high)) }
 {
-    let value = member(parent, name)?;
-    let Some(n) = value.as_u64() else {
-        return Err(WireFault::Invalid(name));
-    };
-    if low <= n && n <= high {
-        Ok(n)
-    } else {
-        Err(WireFault::Invalid(name))
+    let n = value.as_u64().ok_or(WireFault::Invalid(told))?;
+    if !(low..=high).contains(&n) {
+        return Err(WireFault::Invalid(told));
     }
+    Ok(n)
 }
 
-/// A whole number from `low` to `high`, where it is there.
+/// The member of this name, a whole number from `low` to `high`.
+#[tactic(auto, unfolding(crate::specs::Fields::number_at))]
+pub fn number(parent: &Value, name: Avp, low: u64, high: u64) -> Result<u64, WireFault>
+    ensures reads { Says (λ n. n) result (number_at name low high (view parent.now)) }
+    ensures within { IfOk result (λ n. (low ≤ n) × (n ≤ high)) }
+{
+    whole_in(member(parent, name)?, name, low, high)
+}
+
+/// The member of this name, a whole number from `low` to `high`, where it is there.
 #[tactic(auto, unfolding(crate::specs::Fields::optional_at))]
 pub fn optional_number(
     parent: &Value,
@@ -68,54 +69,41 @@ pub fn optional_number(
     low: u64,
     high: u64,
 ) -> Result<Option<u64>, WireFault>
-    ensures reads { Gives (λ n. n) result (optional_at name low high (view parent.now)) }
+    ensures reads { Says (λ n. n) result (optional_at name low high (view parent.now)) }
     ensures within { IfOk result (λ o. IfSome o (λ n. (low ≤ n) × (n ≤ high))) }
 {
-    let Some(value) = parent.get(name.name()) else {
-        return Ok(None);
-    };
-    let Some(n) = value.as_u64() else {
-        return Err(WireFault::Invalid(name));
-    };
-    if low <= n && n <= high {
-        Ok(Some(n))
-    } else {
-        Err(WireFault::Invalid(name))
+    match parent.get(name.name()) {
+        None => Ok(None),
+        Some(value) => Ok(Some(whole_in(value, name, low, high)?)),
     }
 }
 
-/// A text.
+/// The member of this name, a text.
 #[tactic(auto, unfolding(crate::specs::Fields::text_at))]
 pub fn text<'v>(parent: &'v Value, name: Avp) -> Result<&'v str, WireFault>
-    ensures { Gives (λ s. s.now) result (text_at name (view parent.now)) }
+    ensures { Says (λ s. s.now) result (text_at name (view parent.now)) }
 {
-    let value = member(parent, name)?;
-    match value.as_str() {
-        Some(text) => Ok(text),
-        None => Err(WireFault::Invalid(name)),
-    }
+    member(parent, name)?
+        .as_str()
+        .ok_or(WireFault::Invalid(name))
 }
 
-/// An object.
+/// The member of this name, an object.
 #[tactic(auto, unfolding(crate::specs::Fields::object_at))]
 pub fn object<'v>(parent: &'v Value, name: Avp) -> Result<&'v Value, WireFault>
-    ensures { Gives (λ v. view v.now) result (object_at name (view parent.now)) }
+    ensures { Says (λ v. view v.now) result (object_at name (view parent.now)) }
 {
     let value = member(parent, name)?;
-    if value.is_object() {
-        Ok(value)
-    } else {
-        Err(WireFault::Invalid(name))
+    if !value.is_object() {
+        return Err(WireFault::Invalid(name));
     }
+    Ok(value)
 }
 
-/// The items of the member of this name, which is an array.
+/// The items of the array that a value is; a fault is told of `told`.
 #[tactic(auto, unfolding(crate::specs::Fields::array_of))]
-pub fn array<'v>(value: &'v Value, name: Avp) -> Result<&'v Vec<Value>, WireFault>
-    ensures { Gives (λ v. items_view v.now.items) result (array_of name (view value.now)) }
+pub fn array<'v>(value: &'v Value, told: Avp) -> Result<&'v Vec<Value>, WireFault>
+    ensures { Says (λ v. items_view v.now.items) result (array_of told (view value.now)) }
 {
-    match value.as_array() {
-        Some(list) => Ok(list),
-        None => Err(WireFault::Invalid(name)),
-    }
+    value.as_array().ok_or(WireFault::Invalid(told))
 }

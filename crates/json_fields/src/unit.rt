@@ -1,10 +1,11 @@
 ghost use Rattle.std.specs.Prelude.{◌≡◌, ◌≤◌, ◌&&◌, nat_le, IfOk};
 ghost use Rattle.serde_json.specs.View.{view};
 ghost use Rattle.commands.specs.Quantities.{most_units};
-ghost use Rattle.json_fields.specs.Gives.{Gives};
+ghost use Rattle.json_fields.specs.Gives.{Says};
 ghost use Rattle.json_fields.specs.Unit.{name_of_unit, has_unit, lacks_others, kind_told, units_at};
 
 use crate::fault::WireFault;
+use crate::reading::whole_in;
 use commands::Avp;
 use serde_json::Value;
 use units::UnitKind;
@@ -67,18 +68,11 @@ fn lacks_others(value: &Value, kind: UnitKind) -> bool
 /// The units of this kind in `value`, alone, at least `low`. Each fault is told of `told`.
 #[tactic(auto, unfolding(crate::specs::Unit::units_at))]
 pub fn units_in(value: &Value, told: Avp, low: u64, kind: UnitKind) -> Result<u64, WireFault>
-    ensures reads { Gives (λ n. n) result (units_at told low kind (view value.now)) }
+    ensures reads { Says (λ n. n) result (units_at told low kind (view value.now)) }
     ensures within { IfOk result (λ n. (low ≤ n) × (n ≤ most_units kind)) }
 {
-    let Some(units) = value.get(unit_name(kind)) else {
-        return Err(WireFault::Invalid(told));
-    };
-    let Some(n) = units.as_u64() else {
-        return Err(WireFault::Invalid(told));
-    };
-    if !(low <= n && n <= most_units(kind)) {
-        return Err(WireFault::Invalid(told));
-    }
+    let units = value.get(unit_name(kind)).ok_or(WireFault::Invalid(told))?;
+    let n = whole_in(units, told, low, most_units(kind))?;
     if lacks_others(value, kind) {
         Ok(n)
     } else {

@@ -17,7 +17,7 @@ use Rattle.commands.specs.declared.command.Content.{Content}
 use Rattle.commands.specs.declared.command.Content.TheVariants as content
 use Rattle.json_fields.specs.declared.fault.WireFault.{WireFault}
 use Rattle.json_fields.specs.declared.fault.WireFault.TheVariants.{Missing}
-use Rattle.json_fields.specs.Gives.{◌>>=◌, or_fault, where_true}
+use Rattle.json_fields.specs.Gives.{◌>>=◌, or_fault, where_holds}
 use Rattle.json_fields.specs.Fields.{member_at, number_at, optional_at, text_at, document_at}
 use Rattle.json_fields.specs.Spelling.{whole, perhaps}
 use Rattle.json_fields.proofs.Compact.{Above}

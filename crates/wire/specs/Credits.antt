@@ -7,14 +7,14 @@ use Rattle.commands.specs.declared.avp.Avp.TheVariants as avp
 use Rattle.commands.specs.declared.command.Credit.{Credit}
 use Rattle.json_fields.specs.declared.fault.WireFault.{WireFault}
 use Rattle.json_fields.specs.declared.fault.WireFault.TheVariants.{Invalid}
-use Rattle.json_fields.specs.Gives.{◌>>=◌, or_fault, where_true}
+use Rattle.json_fields.specs.Gives.{◌>>=◌, or_fault, where_holds}
 use Rattle.json_fields.specs.Fields.{document_at, number_at, optional_at, text_at}
 use Rattle.json_fields.specs.Spelling.{whole, perhaps}
 
 unfoldable pub reference_at : Data → Result (List ℕ) WireFault
 reference_at d = do
   s ← text_at avp.Reference d
-  where_true (is_reference s) (Invalid avp.Reference) s
+  where_holds (is_reference s) (Invalid avp.Reference) s
 
 -- Amount, From, Until, Scope and Reference, in this order: an amount from `least` on, From up to `last_from`, Until from
 -- `first_until` to `last_until`

@@ -34,7 +34,7 @@ use Rattle.commands.specs.declared.answer.Answer.{Answer}
 use Rattle.commands.specs.declared.answer.Answer.TheVariants as answer
 use Rattle.json_fields.specs.declared.fault.WireFault.{WireFault}
 use Rattle.json_fields.specs.declared.fault.WireFault.TheVariants.{Invalid}
-use Rattle.json_fields.specs.Gives.{◌>>=◌, or_fault, where_true, read_each}
+use Rattle.json_fields.specs.Gives.{◌>>=◌, or_fault, where_holds, read_each}
 use Rattle.json_fields.specs.Fields.{member_at, number_at, optional_at, text_at, object_at, array_of, document_at}
 use Rattle.json_fields.specs.Unit.{kind_told, units_at}
 use Rattle.wire_requests.specs.Reading.{session_at, kind_at}
@@ -47,7 +47,7 @@ unfoldable pub redirect_at : Data → Result (List ℕ) WireFault
 redirect_at d = do
   s ← object_at avp.RedirectServer d
   t ← text_at avp.RedirectServerAddress s
-  where_true (is_redirect_address t) (Invalid avp.RedirectServerAddress) t
+  where_holds (is_redirect_address t) (Invalid avp.RedirectServerAddress) t
 
 unfoldable pub final_told : ℕ → Data → Result FinalUnit WireFault
 final_told n d = if n == 0 then Ok Terminate else (redirect_at d >>= λ a. Ok (Redirect a))

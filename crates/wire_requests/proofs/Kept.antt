@@ -22,7 +22,7 @@ use Rattle.commands.specs.Services.{groups_differ, are_initial, are_update, are_
 use Rattle.commands.proofs.Differing.{all-append, differ-append}
 use Rattle.json_fields.specs.declared.fault.WireFault.{WireFault}
 use Rattle.json_fields.specs.declared.fault.WireFault.TheVariants.{Invalid}
-use Rattle.json_fields.specs.Gives.{◌>>=◌, or_fault, where_true, read_each}
+use Rattle.json_fields.specs.Gives.{◌>>=◌, or_fault, where_holds, read_each}
 use Rattle.json_fields.specs.Fields.{array_of, number_at}
 use Rattle.json_fields.specs.Unit.{name_of_unit, units_at, lacks_others}
 use Rattle.json_fields.proofs.Kept.{same_value, bind_ok, where_ok, kept, counted}
@@ -46,7 +46,7 @@ unfolding units_at
 units_ok told low kind d n h =
     let a = bind_ok (or_fault (Invalid told) (get (name_of_unit kind) d)) _ n h in
     let b = bind_ok (or_fault (Invalid told) (option_and_then as_u64 (as_number a.0))) _ n a.2 in
-    let c = bind_ok (where_true (nat_le low b.0 && nat_le b.0 (most_units kind)) (Invalid told) b.0) _ n b.2 in
+    let c = bind_ok (where_holds (nat_le low b.0 && nat_le b.0 (most_units kind)) (Invalid told) b.0) _ n b.2 in
     let within = where_ok (nat_le low b.0 && nat_le b.0 (most_units kind)) (Invalid told) b.0 c.0 c.1 in
     let alone = where_ok (lacks_others kind d) (Invalid told) b.0 n c.2 in
     subst (λ k. nat_le k (most_units kind) ≡ true) alone.1 (and_parts (nat_le low b.0) (nat_le b.0 (most_units kind)) within.0).1
@@ -58,7 +58,7 @@ part_ok kind done d p h =
     let a = bind_ok (or_fault (Invalid avp.UsedUnit) (as_object d)) _ p h in
     let n = bind_ok (units_at avp.UsedUnit 0 kind d) _ p a.2 in
     let tag = bind_ok (usage_at d) _ p n.2 in
-    let free = bind_ok (where_true (not (tag_is_taken done tag.0)) (Invalid avp.UsedUnit) tag.0) _ p tag.2 in
+    let free = bind_ok (where_holds (not (tag_is_taken done tag.0)) (Invalid avp.UsedUnit) tag.0) _ p tag.2 in
     let test = where_ok (not (tag_is_taken done tag.0)) (Invalid avp.UsedUnit) tag.0 free.0 free.1 in
     let is = same_value _ p free.2 in (
       subst (λ (q : UsedPart). nat_le q.units (most_units kind) ≡ true) is (units_ok avp.UsedUnit 0 kind d n.0 n.1),
@@ -116,7 +116,7 @@ service_ok : (phase : Phase) (done : List Service) (d : Data) (s : Service) → 
 unfolding service_at
 service_ok phase done d s h =
     let g = bind_ok (number_at avp.RatingGroup 0 4294967295 d) _ s h in
-    let free = bind_ok (where_true (not (group_is_taken done g.0)) (Invalid avp.RatingGroup) g.0) _ s g.2 in
+    let free = bind_ok (where_holds (not (group_is_taken done g.0)) (Invalid avp.RatingGroup) g.0) _ s g.2 in
     let test = where_ok (not (group_is_taken done g.0)) (Invalid avp.RatingGroup) g.0 free.0 free.1 in
     let r = bind_ok (requested_at phase d) _ s free.2 in
     let u = bind_ok (used_at phase d) _ s r.2 in
@@ -145,8 +145,8 @@ services_ok : (phase : Phase) (v : Data) (ss : List Service) → services_of pha
 unfolding services_of
 services_ok phase v ss h =
     let a = bind_ok (array_of avp.Services v) _ ss h in
-    let few = bind_ok (where_true (nat_le (fewest phase) (items_len a.0) && nat_le (items_len a.0) 16) (Invalid avp.Services) a.0) _ ss a.2 in
-    let objects = bind_ok (where_true (are_objects a.0) (Invalid avp.Services) a.0) _ ss few.2 in
+    let few = bind_ok (where_holds (nat_le (fewest phase) (items_len a.0) && nat_le (items_len a.0) 16) (Invalid avp.Services) a.0) _ ss a.2 in
+    let objects = bind_ok (where_holds (are_objects a.0) (Invalid avp.Services) a.0) _ ss few.2 in
     let count = where_ok (nat_le (fewest phase) (items_len a.0) && nat_le (items_len a.0) 16) (Invalid avp.Services) a.0 few.0 few.1 in
     let parts = and_parts (nat_le (fewest phase) (items_len a.0)) (nat_le (items_len a.0) 16) count.0 in
     let as_many : items_len a.0 ≡ length ss = omega (arith, counted (service_at phase) a.0 [] ss objects.2) in

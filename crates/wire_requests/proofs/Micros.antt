@@ -10,7 +10,7 @@ use Rattle.commands.specs.declared.avp.Avp.TheVariants as avp
 use Rattle.commands.specs.Refunds.{is_refund}
 use Rattle.json_fields.specs.declared.fault.WireFault.{WireFault}
 use Rattle.json_fields.specs.declared.fault.WireFault.TheVariants.{Invalid}
-use Rattle.json_fields.specs.Gives.{◌>>=◌, or_fault, where_true}
+use Rattle.json_fields.specs.Gives.{◌>>=◌, or_fault, where_holds}
 use Rattle.json_fields.specs.Fields.{member_at, number_at}
 use Rattle.json_fields.proofs.Kept.{bind_ok, where_ok}
 use Rattle.wire_requests.specs.Refunds.{exponent_at, micros_told, money_at}

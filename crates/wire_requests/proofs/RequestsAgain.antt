@@ -42,7 +42,7 @@ use Rattle.commands.specs.declared.request.Request.{Request}
 use Rattle.commands.specs.Codes.{kind_number, kind_of_ask, action_number}
 use Rattle.json_fields.specs.declared.fault.WireFault.{WireFault}
 use Rattle.json_fields.specs.declared.fault.WireFault.TheVariants.{Invalid}
-use Rattle.json_fields.specs.Gives.{◌>>=◌, or_fault, where_true, read_each}
+use Rattle.json_fields.specs.Gives.{◌>>=◌, or_fault, where_holds, read_each}
 use Rattle.json_fields.specs.Fields.{member_at, number_at, text_at, object_at, array_of, document_at}
 use Rattle.json_fields.specs.Unit.{name_of_unit, lacks_others, kind_told, units_at}
 use Rattle.json_fields.specs.Spelling.{whole, perhaps, value_data, money_data}

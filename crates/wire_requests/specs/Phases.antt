@@ -11,7 +11,7 @@ use Rattle.commands.specs.Names.{name_of}
 use Rattle.commands.specs.Used.{Used}
 use Rattle.json_fields.specs.declared.fault.WireFault.{WireFault}
 use Rattle.json_fields.specs.declared.fault.WireFault.TheVariants.{Missing, Invalid}
-use Rattle.json_fields.specs.Gives.{◌>>=◌, or_fault, where_true, read_each}
+use Rattle.json_fields.specs.Gives.{◌>>=◌, or_fault, where_holds, read_each}
 use Rattle.json_fields.specs.Fields.{number_at, array_of}
 use Rattle.wire_requests.specs.declared.phase.Phase.{Phase}
 use Rattle.wire_requests.specs.declared.phase.Phase.TheVariants.{Initial, Update, Termination}
@@ -25,7 +25,7 @@ asked_when (Some v) = requested_of v >>= λ r. Ok (Some r)
 unfoldable pub requested_at : Phase → Data → Result (Option Requested) WireFault
 requested_at Initial d = required_at d >>= λ r. Ok (Some r)
 requested_at Update d = asked_when (get (name_of avp.RequestedUnit) d)
-requested_at Termination d = where_true (is_none (get (name_of avp.RequestedUnit) d)) (Invalid avp.RequestedUnit) None
+requested_at Termination d = where_holds (is_none (get (name_of avp.RequestedUnit) d)) (Invalid avp.RequestedUnit) None
 
 abbrev pub reported_when : Option Data → Result (Option Used) WireFault
 reported_when None = Ok None
@@ -33,7 +33,7 @@ reported_when (Some v) = used_of v >>= λ u. Ok (Some u)
 
 -- an initial request must not report, the others may
 unfoldable pub used_at : Phase → Data → Result (Option Used) WireFault
-used_at Initial d = where_true (is_none (get (name_of avp.UsedUnit) d)) (Invalid avp.UsedUnit) None
+used_at Initial d = where_holds (is_none (get (name_of avp.UsedUnit) d)) (Invalid avp.UsedUnit) None
 used_at Update d = reported_when (get (name_of avp.UsedUnit) d)
 used_at Termination d = reported_when (get (name_of avp.UsedUnit) d)
 
@@ -45,7 +45,7 @@ group_is_taken services group = list_any (λ (s : Service). s.group == group) se
 unfoldable pub service_at : Phase → List Service → Data → Result Service WireFault
 service_at phase done d = do
   g ← number_at avp.RatingGroup 0 4294967295 d
-  free ← where_true (not (group_is_taken done g)) (Invalid avp.RatingGroup) g
+  free ← where_holds (not (group_is_taken done g)) (Invalid avp.RatingGroup) g
   r ← requested_at phase d
   u ← used_at phase d
   Ok (record { group = g; requested = r; used = u })
@@ -66,8 +66,8 @@ fewest Termination = 0
 unfoldable pub services_of : Phase → Data → Result (List Service) WireFault
 services_of phase d = do
   ds ← array_of avp.Services d
-  few ← where_true (nat_le (fewest phase) (items_len ds) && nat_le (items_len ds) 16) (Invalid avp.Services) ds
-  objects ← where_true (are_objects ds) (Invalid avp.Services) ds
+  few ← where_holds (nat_le (fewest phase) (items_len ds) && nat_le (items_len ds) 16) (Invalid avp.Services) ds
+  objects ← where_holds (are_objects ds) (Invalid avp.Services) ds
   services_from phase ds
 
 abbrev pub services_when : Phase → Option Data → Result (List Service) WireFault

@@ -15,7 +15,7 @@ use Rattle.commands.specs.declared.request.Request.{Request}
 use Rattle.commands.specs.Names.{name_of}
 use Rattle.json_fields.specs.declared.fault.WireFault.{WireFault}
 use Rattle.json_fields.specs.declared.fault.WireFault.TheVariants.{Invalid}
-use Rattle.json_fields.specs.Gives.{◌>>=◌, or_fault, where_true}
+use Rattle.json_fields.specs.Gives.{◌>>=◌, or_fault, where_holds}
 use Rattle.json_fields.specs.Fields.{document_at, member_at, number_at, text_at, object_at, array_of}
 use Rattle.wire_requests.specs.declared.phase.Phase.TheVariants.{Initial, Update, Termination}
 use Rattle.wire_requests.specs.Reports.{required_at}
@@ -26,7 +26,7 @@ use Rattle.wire_requests.specs.Refunds.{refund_at}
 unfoldable pub session_at : Data → Result (List ℕ) WireFault
 session_at d = do
   s ← text_at avp.SessionId d
-  where_true (is_session_id s) (Invalid avp.SessionId) s
+  where_holds (is_session_id s) (Invalid avp.SessionId) s
 
 -- CC-Request-Type (RFC 8506 section 8.3)
 unfoldable pub kind_of : ℕ → Result RequestKind WireFault
@@ -43,7 +43,7 @@ account_at d = do
   s ← object_at avp.SubscriptionId d
   t ← number_at avp.SubscriptionIdType 0 0 s
   n ← text_at avp.SubscriptionIdData s
-  where_true (is_account_number n) (Invalid avp.SubscriptionIdData) n
+  where_holds (is_account_number n) (Invalid avp.SubscriptionIdData) n
 
 -- ---- events
 
@@ -60,7 +60,7 @@ event_of action v = do
   m ← or_fault (Invalid avp.Services) (as_object d)
   g ← number_at avp.RatingGroup 0 4294967295 d
   r ← required_at d
-  u ← where_true (is_none (get (name_of avp.UsedUnit) d)) (Invalid avp.UsedUnit) g
+  u ← where_holds (is_none (get (name_of avp.UsedUnit) d)) (Invalid avp.UsedUnit) g
   Ok (record { action = action; group = g; requested = r })
 
 unfoldable pub event_at : EventAction → Data → Result Ask WireFault

@@ -7,14 +7,14 @@ use Rattle.commands.specs.Names.{name_of}
 use Rattle.commands.specs.Refunds.{Refunded}
 use Rattle.json_fields.specs.declared.fault.WireFault.{WireFault}
 use Rattle.json_fields.specs.declared.fault.WireFault.TheVariants.{Invalid}
-use Rattle.json_fields.specs.Gives.{◌>>=◌, or_fault, where_true}
+use Rattle.json_fields.specs.Gives.{◌>>=◌, or_fault, where_holds}
 use Rattle.json_fields.specs.Fields.{number_at, object_at}
 
 abbrev pub exponent_when : Option Data → Result ℤ WireFault
 exponent_when None = Ok (pos 0)
 exponent_when (Some v) = do
   z ← or_fault (Invalid avp.Exponent) (option_and_then as_i64 (as_number v))
-  where_true (int_le (negsuc 5) z && int_le z (pos 0)) (Invalid avp.Exponent) z
+  where_holds (int_le (negsuc 5) z && int_le z (pos 0)) (Invalid avp.Exponent) z
 
 -- Exponent, from -6 to 0; without it 0
 unfoldable pub exponent_at : Data → Result ℤ WireFault
@@ -29,7 +29,7 @@ unfoldable pub money_at : Data → Result ℕ WireFault
 money_at d = do
   digits ← number_at avp.ValueDigits 1 18446744073709551615 d
   exponent ← exponent_at d
-  where_true (nat_le (micros_told digits exponent) 1000000000000000) (Invalid avp.ValueDigits) (micros_told digits exponent)
+  where_holds (nat_le (micros_told digits exponent) 1000000000000000) (Invalid avp.ValueDigits) (micros_told digits exponent)
 
 -- CC-Money in the Requested-Service-Unit of the request (RFC 8506 section 8.22)
 unfoldable pub refund_at : Data → Result Refunded WireFault

@@ -19,7 +19,7 @@ use Rattle.commands.specs.Used.{Used}
 use Rattle.commands.specs.Reports.{same_usage}
 use Rattle.json_fields.specs.declared.fault.WireFault.{WireFault}
 use Rattle.json_fields.specs.declared.fault.WireFault.TheVariants.{Invalid}
-use Rattle.json_fields.specs.Gives.{◌>>=◌, or_fault, where_true, read_each}
+use Rattle.json_fields.specs.Gives.{◌>>=◌, or_fault, where_holds, read_each}
 use Rattle.json_fields.specs.Fields.{member_at, array_of}
 use Rattle.json_fields.specs.Unit.{kind_told, units_at}
 
@@ -34,7 +34,7 @@ wanted_in (Some kind) d = do
 unfoldable pub requested_of : Data → Result Requested WireFault
 requested_of d = do
   m ← or_fault (Invalid avp.RequestedUnit) (as_object d)
-  free ← where_true (is_none (get (name_of avp.Money) d)) (Invalid avp.RequestedUnit) d
+  free ← where_holds (is_none (get (name_of avp.Money) d)) (Invalid avp.RequestedUnit) d
   wanted_in (kind_told d) d
 
 -- a Requested-Service-Unit that has to be there
@@ -69,7 +69,7 @@ part_at kind done d = do
   m ← or_fault (Invalid avp.UsedUnit) (as_object d)
   n ← units_at avp.UsedUnit 0 kind d
   tag ← usage_at d
-  free ← where_true (not (tag_is_taken done tag)) (Invalid avp.UsedUnit) tag
+  free ← where_holds (not (tag_is_taken done tag)) (Invalid avp.UsedUnit) tag
   Ok (record { units = n; tag = tag })
 
 -- all parts have the unit member of the first
@@ -84,6 +84,6 @@ parts_from kind ds = read_each (part_at kind) [] ds
 unfoldable pub used_of : Data → Result Used WireFault
 used_of d = do
   ds ← array_of avp.UsedUnit d
-  few ← where_true (nat_le 1 (items_len ds) && nat_le (items_len ds) 4) (Invalid avp.UsedUnit) ds
+  few ← where_holds (nat_le 1 (items_len ds) && nat_le (items_len ds) 4) (Invalid avp.UsedUnit) ds
   parts ← parts_from (kind_of_first ds) ds
   Ok (record { kind = kind_of_first ds; parts = parts })

@@ -1,6 +1,6 @@
 ghost use Rattle.std.specs.Prelude.{◌≡◌, IfOk, IsTrue};
 ghost use Rattle.serde_json.specs.View.{view, items_view};
-ghost use Rattle.json_fields.specs.Gives.{Gives, or_fault};
+ghost use Rattle.json_fields.specs.Gives.{Gives, Says, or_fault};
 ghost use Rattle.wire_requests.specs.Reading.{session_at, kind_of, kind_at, account_at, only_item, event_of, event_at, action_at, ask_at, request_of};
 
 use crate::phase::Phase;
@@ -30,7 +30,7 @@ pub fn session_id(alloc: Global, parent: &Value) -> Result<SessionId, WireFault>
 
 #[tactic(auto, unfolding(crate::specs::Reading::kind_of))]
 fn kind_of(number: u64) -> Result<RequestKind, WireFault>
-    ensures { Gives (λ k. k) result (kind_of number) }
+    ensures { Says (λ k. k) result (kind_of number) }
 {
     match number {
         1 => Ok(RequestKind::Initial),
@@ -44,7 +44,7 @@ fn kind_of(number: u64) -> Result<RequestKind, WireFault>
 /// The CC-Request-Type of a request or an answer.
 #[tactic(auto, unfolding(crate::specs::Reading::kind_at))]
 pub fn request_kind(parent: &Value) -> Result<RequestKind, WireFault>
-    ensures { Gives (λ k. k) result (kind_at (view parent.now)) }
+    ensures { Says (λ k. k) result (kind_at (view parent.now)) }
 {
     kind_of(number(parent, Avp::RequestType, 1, 4)?)
 }
@@ -65,7 +65,7 @@ pub fn account_number(alloc: Global, parent: &Value) -> Result<AccountNumber, Wi
 
 #[tactic(auto, using(crate::proofs::Objects::not_one))]
 fn only_item(list: &Vec<Value>) -> Result<&Value, WireFault>
-    ensures { Gives (λ v. view v.now) result
+    ensures { Says (λ v. view v.now) result
         (or_fault (WireFault.Invalid Avp.Services) (only_item (items_view list.now.items))) }
 {
     if list.len() == 1 {
@@ -77,7 +77,7 @@ fn only_item(list: &Vec<Value>) -> Result<&Value, WireFault>
 
 #[tactic(auto, unfolding(crate::specs::Reading::event_of))]
 fn event_of(action: EventAction, value: &Value) -> Result<Event, WireFault>
-    ensures { Gives (λ e. e) result (event_of action (view value.now)) }
+    ensures { Says (λ e. e) result (event_of action (view value.now)) }
 {
     let list = array(value, Avp::Services)?;
     let service = only_item(list)?;
@@ -98,7 +98,7 @@ fn event_of(action: EventAction, value: &Value) -> Result<Event, WireFault>
 
 #[tactic(auto, unfolding(crate::specs::Reading::event_at))]
 fn event(action: EventAction, parent: &Value) -> Result<Ask, WireFault>
-    ensures { Gives (λ a. a) result (event_at action (view parent.now)) }
+    ensures { Says (λ a. a) result (event_at action (view parent.now)) }
 {
     let value = member(parent, Avp::Services)?;
     Ok(Ask::Event(event_of(action, value)?))
@@ -106,7 +106,7 @@ fn event(action: EventAction, parent: &Value) -> Result<Ask, WireFault>
 
 #[tactic(auto, unfolding(crate::specs::Reading::action_at))]
 fn action(number: u64, parent: &Value) -> Result<Ask, WireFault>
-    ensures { Gives (λ a. a) result (action_at number (view parent.now)) }
+    ensures { Says (λ a. a) result (action_at number (view parent.now)) }
 {
     match number {
         0 => event(EventAction::DirectDebiting, parent),

@@ -1,6 +1,6 @@
 ghost use Rattle.std.specs.Prelude.{◌≡◌, ◌≤◌, ◌≤ℤ◌, ℤ, pos, negsuc, IfOk};
 ghost use Rattle.serde_json.specs.View.{view};
-ghost use Rattle.json_fields.specs.Gives.{Gives};
+ghost use Rattle.json_fields.specs.Gives.{Says};
 ghost use Rattle.wire_requests.specs.Refunds.{exponent_at, micros_told, money_at, refund_at};
 
 use commands::{Avp, Refund};
@@ -10,7 +10,7 @@ use units::Money;
 
 #[tactic(auto, unfolding(crate::specs::Refunds::exponent_at))]
 fn exponent(parent: &Value) -> Result<i32, WireFault>
-    ensures reads { Gives (λ z. z) result (exponent_at (view parent.now)) }
+    ensures reads { Says (λ z. z) result (exponent_at (view parent.now)) }
     ensures within { IfOk result (λ z. (negsuc 5 ≤ℤ z) × (z ≤ℤ pos 0)) }
 {
     let Some(value) = parent.get(Avp::Exponent.name()) else {
@@ -28,7 +28,7 @@ fn exponent(parent: &Value) -> Result<i32, WireFault>
 
 #[tactic(auto, using(crate::proofs::Micros::too_many), unfolding(crate::specs::Refunds::money_at))]
 fn money(parent: &Value) -> Result<Money, WireFault>
-    ensures { Gives (λ m. m) result (money_at (view parent.now)) }
+    ensures { Says (λ m. m) result (money_at (view parent.now)) }
 {
     let digits = number(parent, Avp::ValueDigits, 1, u64::MAX)?;
     let exponent = exponent(parent)?;
@@ -44,7 +44,7 @@ fn money(parent: &Value) -> Result<Money, WireFault>
 /// The money of a refund.
 #[tactic(auto, using(crate::proofs::Micros::refund_fits), unfolding(crate::specs::Refunds::refund_at))]
 pub(crate) fn refund(parent: &Value) -> Result<Refund, WireFault>
-    ensures { Gives (λ r. r) result (refund_at (view parent.now)) }
+    ensures { Says (λ r. r) result (refund_at (view parent.now)) }
 {
     let requested = object(parent, Avp::RequestedUnit)?;
     let money_told = object(requested, Avp::Money)?;

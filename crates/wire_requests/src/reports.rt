@@ -2,7 +2,7 @@ ghost use Rattle.std.specs.Prelude.{◌≡◌, ◌≤◌, []};
 ghost use Rattle.serde_json.specs.View.{view, items_view};
 ghost use Rattle.std.specs.Option.{option_eq};
 ghost use Rattle.commands.specs.Reports.{same_usage};
-ghost use Rattle.json_fields.specs.Gives.{Gives};
+ghost use Rattle.json_fields.specs.Gives.{Gives, Says};
 ghost use Rattle.wire_requests.specs.Reports.{wanted_in, requested_of, required_at, usage_of, usage_at, tag_is_taken, part_at, kind_of_first, parts_from, used_of};
 
 use commands::{Avp, Quantity, Requested, TariffChangeUsage, UsedPart, UsedParts};
@@ -13,7 +13,7 @@ use units::UnitKind;
 
 #[tactic(auto, unfolding(crate::specs::Reports::wanted_in))]
 fn wanted_in(told: Option<UnitKind>, value: &Value) -> Result<Requested, WireFault>
-    ensures { Gives (λ r. r) result (wanted_in told (view value.now)) }
+    ensures { Says (λ r. r) result (wanted_in told (view value.now)) }
 {
     let Some(kind) = told else {
         return Ok(Requested::Slice);
@@ -24,7 +24,7 @@ fn wanted_in(told: Option<UnitKind>, value: &Value) -> Result<Requested, WireFau
 
 #[tactic(auto, unfolding(crate::specs::Reports::requested_of))]
 pub(crate) fn requested_in(value: &Value) -> Result<Requested, WireFault>
-    ensures { Gives (λ r. r) result (requested_of (view value.now)) }
+    ensures { Says (λ r. r) result (requested_of (view value.now)) }
 {
     if !value.is_object() {
         return Err(WireFault::Invalid(Avp::RequestedUnit));
@@ -37,14 +37,14 @@ pub(crate) fn requested_in(value: &Value) -> Result<Requested, WireFault>
 
 #[tactic(auto, unfolding(crate::specs::Reports::required_at))]
 pub(crate) fn required(parent: &Value) -> Result<Requested, WireFault>
-    ensures { Gives (λ r. r) result (required_at (view parent.now)) }
+    ensures { Says (λ r. r) result (required_at (view parent.now)) }
 {
     requested_in(member(parent, Avp::RequestedUnit)?)
 }
 
 #[tactic(auto, unfolding(crate::specs::Reports::usage_of))]
 fn usage_of(number: u64) -> Result<TariffChangeUsage, WireFault>
-    ensures { Gives (λ u. u) result (usage_of number) }
+    ensures { Says (λ u. u) result (usage_of number) }
 {
     match number {
         0 => Ok(TariffChangeUsage::UnitBeforeTariffChange),
@@ -56,7 +56,7 @@ fn usage_of(number: u64) -> Result<TariffChangeUsage, WireFault>
 
 #[tactic(auto, unfolding(crate::specs::Reports::usage_at))]
 fn usage(parent: &Value) -> Result<Option<TariffChangeUsage>, WireFault>
-    ensures { Gives (λ u. u) result (usage_at (view parent.now)) }
+    ensures { Says (λ u. u) result (usage_at (view parent.now)) }
 {
     let Some(value) = parent.get("Tariff-Change-Usage") else {
         return Ok(None);
@@ -85,7 +85,7 @@ fn is_taken(done: &[UsedPart], tag: Option<TariffChangeUsage>) -> bool
 
 #[tactic(auto, unfolding(crate::specs::Reports::part_at))]
 fn part(kind: UnitKind, done: &[UsedPart], value: &Value) -> Result<UsedPart, WireFault>
-    ensures { Gives (λ p. p) result (part_at kind done.now (view value.now)) }
+    ensures { Says (λ p. p) result (part_at kind done.now (view value.now)) }
 {
     if !value.is_object() {
         return Err(WireFault::Invalid(Avp::UsedUnit));

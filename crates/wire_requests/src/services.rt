@@ -2,7 +2,7 @@ ghost use Rattle.std.specs.Prelude.{◌≡◌, ◌≤◌, ◌&&◌, nat_le, is_s
 ghost use Rattle.std.specs.List.{list_all};
 ghost use Rattle.serde_json.specs.Find.{as_object};
 ghost use Rattle.serde_json.specs.View.{view, items_view};
-ghost use Rattle.json_fields.specs.Gives.{Gives};
+ghost use Rattle.json_fields.specs.Gives.{Gives, Says};
 ghost use Rattle.wire_requests.specs.Phases.{requested_at, used_at, group_is_taken, service_at, are_objects, services_from, fewest, services_of, services_at};
 
 use crate::phase::Phase;
@@ -14,7 +14,7 @@ use std::alloc::Global;
 
 #[tactic(auto, unfolding(crate::specs::Phases::requested_at))]
 fn requested(phase: Phase, parent: &Value) -> Result<Option<Requested>, WireFault>
-    ensures { Gives (λ r. r) result (requested_at phase (view parent.now)) }
+    ensures { Says (λ r. r) result (requested_at phase (view parent.now)) }
 {
     if phase == Phase::Initial {
         return Ok(Some(required(parent)?));

@@ -9,4 +9,4 @@ returns-in-Some c =
 pub returns-in-None : goal.returns-in-None
 returns-in-None c =
     let found = table_get c.get.result c.args.key.now c.args.table.now.entries c.get.ensures.value in
-    λ other. rw (← rw c.in-None.is at found)
+    rw (← rw c.in-None.is at found)
