@@ -28,10 +28,7 @@ requests_same (Err f ∷ lines) e = requests_same lines e
 
 -- a fault that isn't want of memory is the line's own
 pub fails_with : (e : WireFault) (line : Result DatedRequest WireFault) → Fails e line → (e ≡ Memory → ⊥) → line ≡ Err e
-fails_with NotRequest line h other = h
-fails_with (Missing a) line h other = h
-fails_with (Invalid a) line h other = h
-fails_with Memory line h other = absurd (other refl)
+fails_with e line h other = h other
 
 -- with a fault
 pub input_fault : (opening : Option ℕ) (lines : List (Result DatedRequest WireFault)) (line : Result DatedRequest WireFault) (e : WireFault) (old new : Input) → line ≡ Err e → IsInput opening lines old →

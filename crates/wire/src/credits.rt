@@ -1,6 +1,6 @@
 ghost use Rattle.std.specs.Prelude.{◌≡◌, ◌≤◌, IfOk, IfSome, OnOk, string_bytes};
 ghost use Rattle.serde_json.specs.View.{view};
-ghost use Rattle.json_fields.specs.Gives.{Gives};
+ghost use Rattle.json_fields.specs.Gives.{Gives, Says};
 ghost use Rattle.json_fields.specs.Fields.{number_at, optional_at};
 ghost use Rattle.json_fields.specs.Tokens.{Adds, tokens_of};
 ghost use Rattle.wire.specs.Credits.{reference_at, credit_at, credit_of, kept_credit_of, credit_data, credit_text, IsCredit};
@@ -48,7 +48,7 @@ fn scope(group: Option<u64>) -> Option<u32>
 }
 
 fn amount(parent: &Value, least: u64) -> Result<Money, WireFault>
-    ensures { Gives (λ m. m) result (number_at Avp.Amount least 1000000000000000 (view parent.now)) }
+    ensures { Says (λ m. m) result (number_at Avp.Amount least 1000000000000000 (view parent.now)) }
 {
     let micros = number(parent, Avp::Amount, least, 1_000_000_000_000_000)?;
     match Money::new(micros) {
@@ -59,7 +59,7 @@ fn amount(parent: &Value, least: u64) -> Result<Money, WireFault>
 
 fn moment_at(parent: &Value, name: Avp, low: u64, high: u64) -> Result<Option<Moment>, WireFault>
     requires { high ≤ 4102488000 }
-    ensures { Gives (λ m. m) result (optional_at name low high (view parent.now)) }
+    ensures { Says (λ m. m) result (optional_at name low high (view parent.now)) }
 {
     let seconds = optional_number(parent, name, low, high)?;
     Ok(moment(seconds))

@@ -44,6 +44,7 @@ use Rattle.commands.specs.declared.answer.Answer.{Answer}
 use Rattle.commands.specs.declared.answer.Answer.TheVariants as answer
 use Rattle.json_fields.specs.declared.fault.WireFault.{WireFault}
 use Rattle.json_fields.specs.declared.fault.WireFault.TheVariants.{Invalid}
+use Rattle.first_fault.specs.Steps.{each}
 use Rattle.json_fields.specs.Gives.{◌>>=◌, or_fault, where_holds, read_each}
 use Rattle.json_fields.specs.Fields.{member_at, number_at, optional_at, text_at, object_at, array_of, document_at}
 use Rattle.json_fields.specs.Unit.{name_of_unit, lacks_others, kind_told, units_at}
@@ -205,7 +206,7 @@ service_again s is =
     ) refl
 
 each_again : (done ss : List ServiceAnswer) → AllByRecursion IsServiceAnswer ss → read_each (λ _ d. service_answer_at d) done (service_items ss) ≡ Ok (done ++ ss)
-unfolding read_each
+unfolding each
 each_again done [] is = ap Ok (sym (append-nil done))
 each_again done (s ∷ ss) is = rw (service_again s is.0) (each_again (done ++ s ∷ []) ss is.1 ∙ ap Ok (append_assoc done (s ∷ []) ss))
 

@@ -2,7 +2,7 @@ ghost use Rattle.std.specs.Prelude.{◌≡◌, ◌≤◌};
 ghost use Rattle.serde_json.specs.View.{view};
 ghost use Rattle.serde_json.specs.Find.{get};
 ghost use Rattle.commands.specs.Names.{name_of};
-ghost use Rattle.json_fields.specs.Gives.{Gives};
+ghost use Rattle.json_fields.specs.Gives.{Gives, Says};
 ghost use Rattle.wire_answers.specs.Spelled.{answer_text};
 ghost use Rattle.wire_answers.specs.ReadingAnswers.{avp_named, failed_at, failure_told, balance_of, cost_in, priced_when, checked_when, served_when, outcome_told, request_answer_at, refusal_at, done_at, answer_when, refused_when, answer_of, AnswersReadAgain};
 
@@ -16,7 +16,7 @@ use wire_requests::{request_kind, session_id};
 
 #[tactic(auto, unfolding(crate::specs::ReadingAnswers::avp_named))]
 fn avp(name: &str) -> Result<Avp, WireFault>
-    ensures { Gives (λ a. a) result (avp_named name.now) }
+    ensures { Says (λ a. a) result (avp_named name.now) }
 {
     match avp_named(name) {
         Some(avp) => Ok(avp),
@@ -26,7 +26,7 @@ fn avp(name: &str) -> Result<Avp, WireFault>
 
 #[tactic(auto, unfolding(crate::specs::ReadingAnswers::failed_at))]
 fn failed(parent: &Value) -> Result<Failure, WireFault>
-    ensures { Gives (λ f. f) result (failed_at (view parent.now)) }
+    ensures { Says (λ f. f) result (failed_at (view parent.now)) }
 {
     let name = text(parent, Avp::FailedAvp)?;
     Ok(Failure::InvalidAvpValue(avp(name)?))
@@ -34,7 +34,7 @@ fn failed(parent: &Value) -> Result<Failure, WireFault>
 
 #[tactic(auto, unfolding(crate::specs::ReadingAnswers::failure_told))]
 fn failure(code: u64, parent: &Value) -> Result<Failure, WireFault>
-    ensures { Gives (λ f. f) result (failure_told code (view parent.now)) }
+    ensures { Says (λ f. f) result (failure_told code (view parent.now)) }
 {
     match code {
         5002 => Ok(Failure::UnknownSessionId),
@@ -58,7 +58,7 @@ fn balance(number: u64) -> Balance
 
 #[tactic(auto, unfolding(crate::specs::ReadingAnswers::cost_in))]
 fn cost(value: &Value) -> Result<Cost, WireFault>
-    ensures { Gives (λ c. c) result (cost_in (view value.now)) }
+    ensures { Says (λ c. c) result (cost_in (view value.now)) }
 {
     let unit_value = object(value, Avp::UnitValue)?;
     let micros = number(unit_value, Avp::ValueDigits, 0, u64::MAX)?;
@@ -67,7 +67,7 @@ fn cost(value: &Value) -> Result<Cost, WireFault>
 }
 
 fn priced(parent: &Value) -> Result<Outcome, WireFault>
-    ensures { Gives (λ o. o) result (priced_when (get (name_of Avp.CostInformation) (view parent.now))) }
+    ensures { Says (λ o. o) result (priced_when (get (name_of Avp.CostInformation) (view parent.now))) }
 {
     match parent.get(Avp::CostInformation.name()) {
         None => Ok(Outcome::Refunded),
@@ -76,7 +76,7 @@ fn priced(parent: &Value) -> Result<Outcome, WireFault>
 }
 
 fn checked(told: Option<u64>, parent: &Value) -> Result<Outcome, WireFault>
-    ensures { Gives (λ o. o) result (checked_when (view parent.now) told) }
+    ensures { Says (λ o. o) result (checked_when (view parent.now) told) }
 {
     match told {
         Some(number) => Ok(Outcome::Checked(balance(number))),
@@ -126,7 +126,7 @@ fn request_answer(alloc: Global, parent: &Value) -> Result<RequestAnswer, WireFa
 
 #[tactic(auto, unfolding(crate::specs::ReadingAnswers::refusal_at))]
 fn refusal(parent: &Value) -> Result<Answer, WireFault>
-    ensures { Gives (λ a. a) result (refusal_at (view parent.now)) }
+    ensures { Says (λ a. a) result (refusal_at (view parent.now)) }
 {
     match refusal_named(text(parent, Avp::Refusal)?) {
         Some(refusal) => Ok(Answer::Refused(refusal)),
@@ -136,7 +136,7 @@ fn refusal(parent: &Value) -> Result<Answer, WireFault>
 
 #[tactic(auto, unfolding(crate::specs::ReadingAnswers::done_at))]
 fn done(parent: &Value) -> Result<Answer, WireFault>
-    ensures { Gives (λ a. a) result (done_at (view parent.now)) }
+    ensures { Says (λ a. a) result (done_at (view parent.now)) }
 {
     number(parent, Avp::ResultCode, 2001, 2001)?;
     if let Some(bucket) = optional_number(parent, Avp::Bucket, 0, 4_294_967_295)? {
@@ -149,7 +149,7 @@ fn done(parent: &Value) -> Result<Answer, WireFault>
 }
 
 fn refused(parent: &Value) -> Result<Answer, WireFault>
-    ensures { Gives (λ a. a) result (refused_when (view parent.now) (get (name_of Avp.Refusal) (view parent.now))) }
+    ensures { Says (λ a. a) result (refused_when (view parent.now) (get (name_of Avp.Refusal) (view parent.now))) }
 {
     match parent.get(Avp::Refusal.name()) {
         None => done(parent),

@@ -2,7 +2,7 @@ ghost use Rattle.std.specs.Prelude.{◌≡◌, ◌≤◌, IfSome};
 ghost use Rattle.serde_json.specs.Find.{get};
 ghost use Rattle.serde_json.specs.View.{view, items_view};
 ghost use Rattle.commands.specs.Names.{name_of};
-ghost use Rattle.json_fields.specs.Gives.{Gives};
+ghost use Rattle.json_fields.specs.Gives.{Gives, Says};
 ghost use Rattle.wire_answers.specs.ReadingAnswers.{redirect_at, final_told, final_in, final_at, quantity_in, granted_in, service_failure_of, success_when, service_told, service_answer_at, services_from, services_in};
 
 use commands::{
@@ -57,7 +57,7 @@ fn final_unit(alloc: Global, parent: &Value) -> Result<Option<FinalUnit>, WireFa
 
 #[tactic(auto, unfolding(crate::specs::ReadingAnswers::quantity_in))]
 fn quantity(value: &Value) -> Result<Quantity, WireFault>
-    ensures { Gives (λ q. q) result (quantity_in (view value.now)) }
+    ensures { Says (λ q. q) result (quantity_in (view value.now)) }
 {
     let Some(kind) = unit_told(value) else {
         return Err(WireFault::Invalid(Avp::GrantedUnit));
@@ -97,7 +97,7 @@ fn granted_in(alloc: Global, parent: &Value, value: &Value) -> Result<ServiceOut
 /// The failure of this Result-Code.
 #[tactic(auto, unfolding(crate::specs::ReadingAnswers::service_failure_of))]
 pub(crate) fn service_failure(code: u64) -> Result<ServiceFailure, WireFault>
-    ensures { Gives (λ f. f) result (service_failure_of code) }
+    ensures { Says (λ f. f) result (service_failure_of code) }
 {
     match code {
         4010 => Ok(ServiceFailure::EndUserServiceDenied),

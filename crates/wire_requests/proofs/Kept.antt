@@ -23,7 +23,7 @@ use Rattle.commands.proofs.Differing.{all-append, differ-append}
 use Rattle.json_fields.specs.declared.fault.WireFault.{WireFault}
 use Rattle.json_fields.specs.declared.fault.WireFault.TheVariants.{Invalid}
 use Rattle.json_fields.specs.Gives.{◌>>=◌, or_fault, where_holds, read_each}
-use Rattle.json_fields.specs.Fields.{array_of, number_at}
+use Rattle.json_fields.specs.Fields.{array_of, number_at, whole_in}
 use Rattle.json_fields.specs.Unit.{name_of_unit, units_at, lacks_others}
 use Rattle.json_fields.proofs.Kept.{same_value, bind_ok, where_ok, kept, counted}
 use Rattle.wire_requests.specs.declared.phase.Phase.{Phase}
@@ -45,11 +45,11 @@ units_ok : (told : Avp) (low : ℕ) (kind : UnitKind) (d : Data) (n : ℕ) → u
 unfolding units_at
 units_ok told low kind d n h =
     let a = bind_ok (or_fault (Invalid told) (get (name_of_unit kind) d)) _ n h in
-    let b = bind_ok (or_fault (Invalid told) (option_and_then as_u64 (as_number a.0))) _ n a.2 in
-    let c = bind_ok (where_holds (nat_le low b.0 && nat_le b.0 (most_units kind)) (Invalid told) b.0) _ n b.2 in
-    let within = where_ok (nat_le low b.0 && nat_le b.0 (most_units kind)) (Invalid told) b.0 c.0 c.1 in
-    let alone = where_ok (lacks_others kind d) (Invalid told) b.0 n c.2 in
-    subst (λ k. nat_le k (most_units kind) ≡ true) alone.1 (and_parts (nat_le low b.0) (nat_le b.0 (most_units kind)) within.0).1
+    let c = bind_ok (whole_in told low (most_units kind) a.0) _ n a.2 in
+    let b = bind_ok (or_fault (Invalid told) (option_and_then as_u64 (as_number a.0))) _ c.0 c.1 in
+    let within = where_ok (nat_le low b.0 && nat_le b.0 (most_units kind)) (Invalid told) b.0 c.0 b.2 in
+    let alone = where_ok (lacks_others kind d) (Invalid told) c.0 n c.2 in
+    subst (λ k. nat_le k (most_units kind) ≡ true) (within.1 ∙ alone.1) (and_parts (nat_le low b.0) (nat_le b.0 (most_units kind)) within.0).1
 
 -- a part that is read has units within their range, and a tag of its own
 part_ok : (kind : UnitKind) (done : List UsedPart) (d : Data) (p : UsedPart) → part_at kind done d ≡ Ok p → (nat_le p.units (most_units kind) ≡ true) × (tag_is_taken done p.tag ≡ false)

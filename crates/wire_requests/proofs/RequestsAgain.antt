@@ -42,6 +42,7 @@ use Rattle.commands.specs.declared.request.Request.{Request}
 use Rattle.commands.specs.Codes.{kind_number, kind_of_ask, action_number}
 use Rattle.json_fields.specs.declared.fault.WireFault.{WireFault}
 use Rattle.json_fields.specs.declared.fault.WireFault.TheVariants.{Invalid}
+use Rattle.first_fault.specs.Steps.{each}
 use Rattle.json_fields.specs.Gives.{◌>>=◌, or_fault, where_holds, read_each}
 use Rattle.json_fields.specs.Fields.{member_at, number_at, text_at, object_at, array_of, document_at}
 use Rattle.json_fields.specs.Unit.{name_of_unit, lacks_others, kind_told, units_at}
@@ -129,7 +130,7 @@ unfolding part_at part_data
 part_again kind done p h free = rw (part_units kind p.units (tag_of p) h, usage_again kind p.units p.tag, free) refl
 
 parts_again : (kind : UnitKind) (done ps : List UsedPart) → list_all (λ (p : UsedPart). nat_le p.units (most_units kind)) ps ≡ true → tags_differ (done ++ ps) ≡ true → read_each (part_at kind) done (part_items kind ps) ≡ Ok (done ++ ps)
-unfolding read_each
+unfolding each
 parts_again kind done [] h d = ap Ok (sym (append-nil done))
 parts_again kind done (p ∷ ps) h d =
     let q = and_parts (nat_le p.units (most_units kind)) (list_all (λ (x : UsedPart). nat_le x.units (most_units kind)) ps) h in
@@ -227,7 +228,7 @@ service_again phase done s is f free =
     rw (number_found avp.RatingGroup 0 4294967295 (service_members s.group requested used) s.group refl (omega arith) is.group, free, asked_again phase s.group s.requested s.used used is.requested f, reported_again phase s.group s.requested s.used requested is.used f) refl
 
 services_again : (phase : Phase) (done ss : List Service) → AllByRecursion IsService ss → list_all (fits phase) ss ≡ true → groups_differ (done ++ ss) ≡ true → read_each (service_at phase) done (service_items ss) ≡ Ok (done ++ ss)
-unfolding read_each
+unfolding each
 services_again phase done [] is f d = ap Ok (sym (append-nil done))
 services_again phase done (s ∷ ss) is f d =
     let q = and_parts (fits phase s) (list_all (fits phase) ss) f in

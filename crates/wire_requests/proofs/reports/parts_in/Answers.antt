@@ -12,7 +12,7 @@ returns-in_err-part c =
     let vs = c.args.list.now.items in
     let lt : c.loop-value.value-index < length vs = rw (← c.deref-value-items.ensures.value) c.loop-value-test.true in
     let is : c.value-item.result ≡ get_or vs c.loop-value.value-index c.value-item.result = rw (← c.deref-value-items.ensures.value) c.value-item.is in
-    let fault : Fails c.in_err-part.field-0.0 (part_at c.args.kind c.loop-value.done.items (view c.value-item.result)) = rw (← c.deref.ensures.value) c.in_err-part.ensures in
+    let fault : Fails c.in_err-part.field-0.0 (part_at c.args.kind c.loop-value.done.items (view c.value-item.result)) = λ other. rw (← c.deref.ensures.value) c.in_err-part.ensures in
     rw (p.1, p.2) (fails_at (part_at c.args.kind) c.in_err-part.field-0.0 c.loop-value.done.items vs c.loop-value.value-index c.value-item.result _ lt is fault c.loop-value.invariant)
 
 pub loop-value-preserved : goal.loop-value-preserved
