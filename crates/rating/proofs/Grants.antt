@@ -58,6 +58,21 @@ starts_to_end used n block some =
     ap (λ x. multiples_below x block) end ∙ below_multiple (multiples_below used block + n) block some in
     omega (arith, all, below)
 
+-- one unit more starts one block more
+below_next : (k block : ℕ) → 0 < block → multiples_below (k * block + 1) block ≡ k + 1
+below_next k block some =
+    let e : k * block + 1 + (block - 1) ≡ (k + 1) * block + 0 = omega arith in
+    rw e (div-mul-add (k + 1) block 0 some)
+
+pub starts_next : (used n block : ℕ) → 0 < block → started used (block_start used block + n * block - used + 1) block ≡ n + 1
+starts_next used n block some =
+    let (low, high) = end_bounds used block some in
+    let end : used + (block_start used block + n * block - used + 1) ≡ (multiples_below used block + n) * block + 1 = omega arith in
+    let all = started_is used (block_start used block + n * block - used + 1) block some in
+    let below : multiples_below (used + (block_start used block + n * block - used + 1)) block ≡ multiples_below used block + n + 1 =
+    ap (λ x. multiples_below x block) end ∙ below_next (multiples_below used block + n) block some in
+    omega (arith, all, below)
+
 -- they are no more than units that start more blocks
 pub less_to_end : (used wanted n block : ℕ) → 0 < block → n < started used wanted block → block_start used block + n * block - used ≤ wanted
 less_to_end used wanted n block some h =

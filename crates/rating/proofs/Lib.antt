@@ -1,4 +1,5 @@
 pub mod Sums
 pub mod RunFacts
+pub mod Bounds
 pub mod Reports
 pub mod Grants

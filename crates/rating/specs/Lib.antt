@@ -1,3 +1,3 @@
 pub mod Rated
 pub mod Granted
-pub mod Ends
+pub mod Runs

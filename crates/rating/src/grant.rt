@@ -3,12 +3,13 @@
 ghost use Rattle.std.specs.Prelude.{◌≡◌, ◌≤◌, ◌<◌, ◌+◌, ◌-◌, ◌*◌, ◌^◌};
 ghost use Rattle.units.specs.Blocks.{started};
 ghost use Rattle.tariffs.specs.Tariffs.{tiers_at};
-ghost use Rattle.rating.specs.Granted.{dearer, greatest_covered, IsGreatest, block_start, grant_of};
+ghost use Rattle.rating.specs.Granted.{dearer, IsGreatest, block_start, grant_of};
+ghost use Rattle.rating.specs.Runs.{bound_count};
 
-use crate::runs::{Run, dearer_run};
+use crate::runs::{Run, dearer_run, tiers_after};
 use calendar::Period;
 use tariffs::{Tariff, Tier};
-use units::{Amount, Blocks, Units, blocks_started};
+use units::{Amount, Blocks, Steps, Units, blocks_started};
 
 /// The periods of a grant: at the grant, and at its tariff switch (without a switch, the same).
 #[derive(Clone, Copy, Debug, PartialEq, Eq)]
@@ -36,33 +37,48 @@ fn covered_in(run: Run, funds: u128) -> u64
     ensures covered { result * run.price ≤ funds }
     ensures greatest { result < run.blocks → funds < (result + 1) * run.price }
 {
-    if run.price == 0 {
-        return run.blocks;
-    }
-    let covered = funds / run.price as u128;
-    if covered < run.blocks as u128 {
-        covered as u64
-    } else {
+    let price = run.price as u128;
+    if run.blocks as u128 * price <= funds {
         run.blocks
+    } else {
+        (funds / price) as u64
     }
 }
 
-/// The greatest of the first blocks wanted whose dearer prices the funds cover, with their sum.
-fn covered(before: &[Tier], after: &[Tier], place: u64, wanted: u64, funds: u128) -> (u64, u128)
+/// The greatest of the first blocks wanted whose dearer prices the funds cover, with their sum: a step for each run
+/// of one price between the bounds of both periods' tiers.
+fn covered_blocks(
+    before: &[Tier],
+    after: &[Tier],
+    place: u64,
+    wanted: u64,
+    funds: u128,
+    steps: &mut Steps,
+) -> (u64, u128)
+    requires before { bound_count before.now ≤ 7 }
+    requires after { bound_count after.now ≤ 7 }
+    requires steps { steps.old ≤ 1_000_000_000 }
     ensures greatest { IsGreatest before.now after.now place wanted funds result.0 }
     ensures amount { result.1 ≡ dearer before.now after.now place result.0 }
+    ensures steps { steps.new ≤ steps.old + 16 }
 {
+    // The tiers of each period that price the places still to come.
+    let mut tiers = before;
+    let mut dearer_tiers = after;
     let mut blocks = 0;
     let mut total = 0;
     while blocks < wanted {
-        let next = place as u128 + blocks as u128 + 1;
-        let run = dearer_run(before, after, next, wanted - blocks);
+        steps.tick();
+        let reached = place as u128 + blocks as u128;
+        let run = dearer_run(tiers, dearer_tiers, reached, wanted - blocks);
         let more = covered_in(run, funds - total);
         blocks += more;
         total += more as u128 * run.price as u128;
         if more < run.blocks {
             return (blocks, total);
         }
+        tiers = tiers_after(tiers, reached + run.blocks as u128);
+        dearer_tiers = tiers_after(dearer_tiers, reached + run.blocks as u128);
     }
     (blocks, total)
 }
@@ -79,9 +95,56 @@ fn units_to_end(used_before: Units, blocks: u64, block: u64) -> u64
     (first_start + u128::from(blocks) * size - used) as u64
 }
 
+/// As `greatest_grant`, and counts its steps: one for each run of blocks of one price between the bounds of both
+/// periods' tiers, at most 16.
+pub fn greatest_grant_steps(
+    tariff: &Tariff,
+    periods: Periods,
+    used_before: Units,
+    place: u64,
+    wanted: Units,
+    funds: Amount,
+    steps: &mut Steps,
+) -> Grant
+    requires { steps.old ≤ 1_000_000_000 }
+    ensures value { result ≡ grant_of tariff.now periods used_before.0 place wanted.0 funds.0 }
+    ensures greatest { IsGreatest (tiers_at tariff.now periods.before.0) (tiers_at tariff.now periods.after.0)
+        place (started used_before.0 wanted.0 tariff.now.block) funds.0 result.blocks.0 }
+    ensures starts { started used_before.0 result.units.0 tariff.now.block ≡ result.blocks.0 }
+    ensures within { result.units.0 ≤ wanted.0 }
+    ensures next { result.units.0 < wanted.0
+        → started used_before.0 (result.units.0 + 1) tariff.now.block ≡ result.blocks.0 + 1 }
+    ensures most { result.units.0 < wanted.0
+        → funds.0 < dearer (tiers_at tariff.now periods.before.0) (tiers_at tariff.now periods.after.0)
+        place (started used_before.0 (result.units.0 + 1) tariff.now.block) }
+    ensures steps { steps.new ≤ steps.old + 16 }
+{
+    let block = tariff.block();
+    let started = blocks_started(used_before, wanted, block);
+    let (blocks, amount) = covered_blocks(
+        tariff.tiers(periods.before),
+        tariff.tiers(periods.after),
+        place,
+        started.0,
+        funds.0,
+        steps,
+    );
+    let units = if blocks == started.0 {
+        wanted.0
+    } else {
+        units_to_end(used_before, blocks, block)
+    };
+    Grant {
+        blocks: Blocks(blocks),
+        units: Units(units),
+        amount: Amount(amount),
+    }
+}
+
 /// The grant of the wanted units that the funds cover (unit reservation, TS 32.299): the greatest number of new
 /// blocks whose prices, each the dearer of the two periods', sum to at most the funds; all wanted units where
-/// all their blocks are covered, else the units up to the end of the last covered block.
+/// all their blocks are covered, else the units up to the end of the last covered block, so that one unit more
+/// starts a block that the funds don't cover.
 pub fn greatest_grant(
     tariff: &Tariff,
     periods: Periods,
@@ -95,24 +158,20 @@ pub fn greatest_grant(
         place (started used_before.0 wanted.0 tariff.now.block) funds.0 result.blocks.0 }
     ensures starts { started used_before.0 result.units.0 tariff.now.block ≡ result.blocks.0 }
     ensures within { result.units.0 ≤ wanted.0 }
+    // One unit more starts a block more, which the funds don't cover.
+    ensures next { result.units.0 < wanted.0
+        → started used_before.0 (result.units.0 + 1) tariff.now.block ≡ result.blocks.0 + 1 }
+    ensures most { result.units.0 < wanted.0
+        → funds.0 < dearer (tiers_at tariff.now periods.before.0) (tiers_at tariff.now periods.after.0)
+        place (started used_before.0 (result.units.0 + 1) tariff.now.block) }
 {
-    let block = tariff.block();
-    let started = blocks_started(used_before, wanted, block);
-    let (blocks, amount) = covered(
-        tariff.tiers(periods.before),
-        tariff.tiers(periods.after),
+    greatest_grant_steps(
+        tariff,
+        periods,
+        used_before,
         place,
-        started.0,
-        funds.0,
-    );
-    let units = if blocks == started.0 {
-        wanted.0
-    } else {
-        units_to_end(used_before, blocks, block)
-    };
-    Grant {
-        blocks: Blocks(blocks),
-        units: Units(units),
-        amount: Amount(amount),
-    }
+        wanted,
+        funds,
+        &mut Steps::new(),
+    )
 }

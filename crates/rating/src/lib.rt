@@ -6,8 +6,8 @@ mod price;
 mod report;
 mod runs;
 
-pub use crate::grant::{Grant, Periods, greatest_grant};
-pub use crate::price::rate;
+pub use crate::grant::{Grant, Periods, greatest_grant, greatest_grant_steps};
+pub use crate::price::{rate, rate_steps};
 pub use crate::report::{Part, Rated, cutting, rate_report};
 
 #[cfg(test)]

@@ -1,30 +1,49 @@
 //! The prices of blocks.
 
-ghost use Rattle.std.specs.Prelude.{◌≡◌, ◌≤◌, ◌<◌, ◌^◌, ◌*◌};
+ghost use Rattle.std.specs.Prelude.{◌≡◌, ◌+◌, ◌≤◌, ◌<◌, ◌^◌, ◌*◌, length};
 ghost use Rattle.tariffs.specs.Prices.{ArePriced};
 ghost use Rattle.tariffs.specs.Tariffs.{tiers_at};
 ghost use Rattle.rating.specs.Rated.{rated_amount};
 
-use crate::runs::first_run;
+use crate::runs::blocks_within;
 use calendar::Period;
 use tariffs::{Tariff, Tier};
-use units::{Amount, Blocks};
+use units::{Amount, Blocks, Steps};
 
-/// The rated amount of some blocks at the places after one on the counter.
-pub(crate) fn rated_amount(tiers: &[Tier], place: u128, blocks: u64) -> u128
+/// The rated amount of some blocks at the places after one on the counter, tier by tier: a step a tier.
+pub(crate) fn rated_amount(tiers: &[Tier], place: u128, blocks: u64, steps: &mut Steps) -> u128
     requires tiers { ArePriced tiers.now }
+    requires few { length tiers.now ≤ 8 }
     requires place { place < 2 ^ 67 }
+    requires steps { steps.old ≤ 1_000_000_000 }
     ensures value { result ≡ rated_amount tiers.now place blocks }
     ensures bound { result ≤ blocks * 1_000_000_000 }
+    ensures steps { steps.new ≤ steps.old + 8 }
 {
     let mut done = 0;
     let mut total = 0;
-    while done < blocks {
-        let run = first_run(tiers, place + done as u128 + 1, blocks - done);
-        total += run.blocks as u128 * run.price as u128;
-        done += run.blocks;
+    for tier in tiers {
+        steps.tick();
+        let here = blocks_within(tier, place + done as u128, blocks - done);
+        total += here as u128 * tier.price as u128;
+        done += here;
     }
     total
+}
+
+/// As `rate`, and counts its steps: one for each tier of the period, at most 8.
+pub fn rate_steps(
+    tariff: &Tariff,
+    period: Period,
+    place: u64,
+    blocks: Blocks,
+    steps: &mut Steps,
+) -> Amount
+    requires { steps.old ≤ 1_000_000_000 }
+    ensures value { result.0 ≡ rated_amount (tiers_at tariff.now period.0) place blocks.0 }
+    ensures steps { steps.new ≤ steps.old + 8 }
+{
+    Amount(rated_amount(tariff.tiers(period), place as u128, blocks.0, steps))
 }
 
 /// The rated amount of some blocks in a period (TS 32.296, rating), in micro-units: each block at the price of its
@@ -32,5 +51,5 @@ pub(crate) fn rated_amount(tiers: &[Tier], place: u128, blocks: u64) -> u128
 pub fn rate(tariff: &Tariff, period: Period, place: u64, blocks: Blocks) -> Amount
     ensures { result.0 ≡ rated_amount (tiers_at tariff.now period.0) place blocks.0 }
 {
-    Amount(rated_amount(tariff.tiers(period), u128::from(place), blocks.0))
+    rate_steps(tariff, period, place, blocks, &mut Steps::new())
 }

@@ -6,7 +6,7 @@ ghost use Rattle.rating.specs.Rated.{rated_report, CutsAlike, FollowsOn};
 use crate::price::rated_amount;
 use calendar::Period;
 use tariffs::Tariff;
-use units::{Amount, Units, blocks_started};
+use units::{Amount, Steps, Units, blocks_started};
 
 /// A part of a report: units that are priced in one period (Used-Service-Unit, RFC 8506 section 8.19). A part of 0
 /// units starts no block and costs nothing.
@@ -54,6 +54,7 @@ pub fn rate_report(tariff: &Tariff, used_before: Units, place: u64, parts: &[Par
             tariff.tiers(part.period),
             u128::from(place) + blocks,
             started.0,
+            &mut Steps::new(),
         );
         blocks += started.0 as u128;
         into_block = place_in_block(into_block, part.units, block);

@@ -1,70 +1,34 @@
 //! Prices and grants of worked sessions. The expected values are reckoned by hand from the book's prices: seconds in
 //! blocks of 60 at 50000 or 100000 micro-units a block; octets in blocks of 1048576, of which the first 100 of a
-//! month are free and the others cost 10000; and octets in blocks of one, the first 400000000 at 2 and the others at 3,
-//! or in the dearer period the first 600000000 at 1 and the others at 7.
+//! month are free and the others cost 10000; and events at 90000. What tiers give is compared with a sum over blocks.
 
 use crate::{Grant, Part, Periods, Rated, greatest_grant, rate, rate_report};
 use calendar::Period;
 use std::test::Fail;
-use tariffs::{Tariff, TariffBook};
+use tariffs::{Tariff, TariffBook, Tier};
 use units::{Amount, Blocks, Units};
+use worked_book::BOOK;
 
 const OFF: Period = Period(0);
 
 const PEAK: Period = Period(1);
 
-const BOOK: &str = r#"zone = "+00:00"
+/// Prices by many tiers, in blocks of one. Group 40: the first 400000000 at 2 and the others at 3, or in the dearer
+/// period the first 600000000 at 1 and the others at 7. Groups 1 to 3: up to eight tiers with low bounds.
+const TIERS: &str = r#"zone = "+00:00"
 currency = 978
 validity = 3600
 periods = ["off", "peak"]
 [[week]]
+period = "off"
+days = [1, 2, 3, 4, 5, 6, 7]
+from = "00:00"
+to = "12:00"
+[[week]]
 period = "peak"
-days = [1, 2, 3, 4, 5]
-from = "08:00"
-to = "20:00"
-[[week]]
-period = "off"
-days = [1, 2, 3, 4, 5]
-from = "00:00"
-to = "08:00"
-[[week]]
-period = "off"
-days = [1, 2, 3, 4, 5]
-from = "20:00"
+days = [1, 2, 3, 4, 5, 6, 7]
+from = "12:00"
 to = "24:00"
-[[week]]
-period = "off"
-days = [6, 7]
-from = "00:00"
-to = "24:00"
-[[group]]
-id = 10
-unit = "time"
-block = 60
-slice = 600
-max_grant = 3600
-cycle = "none"
-final = "terminate"
-price = [{period = "off", tiers = [{price = 50000}]}, {period = "peak", tiers = [{price = 100000}]}]
-[[group]]
-id = 20
-unit = "octets"
-block = 1048576
-slice = 10485760
-max_grant = 1048576000
-cycle = "month"
-final = "redirect"
-redirect = "http://topup.example/"
-price = [{period = "off", tiers = [{upto = 100, price = 0}, {price = 10000}]}, {period = "peak", tiers = [{upto = 100, price = 0}, {price = 10000}]}]
-[[group]]
-id = 30
-unit = "events"
-block = 1
-slice = 1
-max_grant = 100
-cycle = "none"
-final = "terminate"
-price = [{period = "off", tiers = [{price = 90000}]}, {period = "peak", tiers = [{price = 90000}]}]
 [[group]]
 id = 40
 unit = "octets"
@@ -74,6 +38,33 @@ max_grant = 999999999
 cycle = "none"
 final = "terminate"
 price = [{period = "off", tiers = [{upto = 400000000, price = 2}, {price = 3}]}, {period = "peak", tiers = [{upto = 600000000, price = 1}, {price = 7}]}]
+[[group]]
+id = 1
+unit = "events"
+block = 1
+slice = 1
+max_grant = 100
+cycle = "none"
+final = "terminate"
+price = [{period = "off", tiers = [{upto = 1, price = 5}, {price = 3}]}, {period = "peak", tiers = [{upto = 2, price = 4}, {upto = 3, price = 9}, {price = 0}]}]
+[[group]]
+id = 2
+unit = "events"
+block = 1
+slice = 1
+max_grant = 100
+cycle = "none"
+final = "terminate"
+price = [{period = "off", tiers = [{upto = 1, price = 1}, {upto = 2, price = 9}, {upto = 3, price = 2}, {upto = 4, price = 8}, {upto = 5, price = 3}, {upto = 6, price = 7}, {upto = 7, price = 4}, {price = 6}]}, {period = "peak", tiers = [{upto = 2, price = 6}, {upto = 3, price = 0}, {upto = 5, price = 5}, {upto = 7, price = 10}, {upto = 11, price = 1}, {upto = 13, price = 2}, {upto = 17, price = 3}, {price = 4}]}]
+[[group]]
+id = 3
+unit = "events"
+block = 1
+slice = 1
+max_grant = 100
+cycle = "none"
+final = "terminate"
+price = [{period = "off", tiers = [{price = 7}]}, {period = "peak", tiers = [{upto = 10, price = 0}, {price = 20}]}]
 "#;
 
 fn grant_of(blocks: u64, units: u64, amount: u128) -> Grant {
@@ -151,7 +142,7 @@ fn rated_in(tariff: &Tariff, period: Period, place: u64, blocks: u64) -> Amount 
 
 #[test]
 fn a_billion_blocks_are_rated(rt: HostRuntime) -> Result<(), Fail> {
-    let book = TariffBook::read(rt.alloc(), BOOK.as_bytes())?;
+    let book = TariffBook::read(rt.alloc(), TIERS.as_bytes())?;
     let tariff = book.tariff(40).ok_or("no group 40")?;
     let cases = [
         (OFF, 0, 1_000_000_000, 2_600_000_000),
@@ -166,6 +157,23 @@ fn a_billion_blocks_are_rated(rt: HostRuntime) -> Result<(), Fail> {
     Ok(())
 }
 
+#[test]
+fn a_billion_blocks_of_a_book_are_rated(rt: HostRuntime) -> Result<(), Fail> {
+    let book = TariffBook::read(rt.alloc(), BOOK.as_bytes())?;
+    let octets = book.tariff(20).ok_or("no group 20")?;
+    let events = book.tariff(30).ok_or("no group 30")?;
+    // All but the first 100 at 10000; and all at 90000.
+    assert_eq!(rt;
+        rated_in(octets, OFF, 0, 1_000_000_000),
+        Amount(9_999_999_000_000)
+    );
+    assert_eq!(rt;
+        rated_in(events, PEAK, 0, 1_000_000_000),
+        Amount(90_000_000_000_000)
+    );
+    Ok(())
+}
+
 /// The grant of a session's first units, with a switch to the dearer period.
 fn granted_over_switch(tariff: &Tariff, wanted: u64, funds: u128) -> Grant {
     let periods = Periods {
@@ -177,7 +185,7 @@ fn granted_over_switch(tariff: &Tariff, wanted: u64, funds: u128) -> Grant {
 
 #[test]
 fn a_billion_blocks_are_granted(rt: HostRuntime) -> Result<(), Fail> {
-    let book = TariffBook::read(rt.alloc(), BOOK.as_bytes())?;
+    let book = TariffBook::read(rt.alloc(), TIERS.as_bytes())?;
     let tariff = book.tariff(40).ok_or("no group 40")?;
     // The dearer prices are 2 up to 400000000, 3 up to 600000000, and then 7.
     let cases = [
@@ -236,5 +244,97 @@ fn reports_are_rated(rt: HostRuntime) -> Result<(), Fail> {
         rated(octets, 103_809_024, 99, part(PEAK, 2_097_152), NONE),
         (10_000, 2)
     );
+    Ok(())
+}
+
+/// The price of the block at a place, by a look at one tier after another.
+fn price_at(tiers: &[Tier], place: u64) -> u128 {
+    for tier in tiers {
+        match tier.upto {
+            Some(bound) => {
+                if place <= bound {
+                    return u128::from(tier.price);
+                }
+            }
+            None => return u128::from(tier.price),
+        }
+    }
+    0
+}
+
+/// The prices of some blocks after a place, summed one by one.
+fn sum_by_blocks(tiers: &[Tier], place: u64, blocks: u64) -> u128 {
+    let mut total: u128 = 0;
+    for i in 0..blocks {
+        let next = place.saturating_add(i).saturating_add(1);
+        total = total.saturating_add(price_at(tiers, next));
+    }
+    total
+}
+
+/// The blocks that funds cover at the dearer of two prices, one by one, with their sum.
+fn covered_by_blocks(before: &[Tier], after: &[Tier], place: u64, funds: u128) -> (u64, u128) {
+    let mut total: u128 = 0;
+    for i in 0..20 {
+        let next = place.saturating_add(i).saturating_add(1);
+        let more = total.saturating_add(price_at(before, next).max(price_at(after, next)));
+        if funds < more {
+            return (i, total);
+        }
+        total = more;
+    }
+    (20, total)
+}
+
+/// At how many places the rated amount of some blocks isn't the sum over them.
+fn rated_otherwise(tariff: &Tariff, period: Period, blocks: u64) -> u64 {
+    let mut count: u64 = 0;
+    for place in 0..20 {
+        let sum = sum_by_blocks(tariff.tiers(period), place, blocks);
+        if rated_in(tariff, period, place, blocks).0 != sum {
+            count = count.saturating_add(1);
+        }
+    }
+    count
+}
+
+/// At how many places the grant of 20 blocks isn't what the funds cover one by one.
+fn granted_otherwise(tariff: &Tariff, periods: Periods, funds: u128) -> u64 {
+    let mut count: u64 = 0;
+    for place in 0..20 {
+        let (before, after) = (tariff.tiers(periods.before), tariff.tiers(periods.after));
+        let (blocks, amount) = covered_by_blocks(before, after, place, funds);
+        let grant = greatest_grant(tariff, periods, Units(0), place, Units(20), Amount(funds));
+        if grant != grant_of(blocks, blocks, amount) {
+            count = count.saturating_add(1);
+        }
+    }
+    count
+}
+
+/// How often tiers and blocks tell otherwise, over places, numbers of blocks, periods and funds.
+fn told_otherwise(tariff: &Tariff) -> u64 {
+    let mut count: u64 = 0;
+    for n in 0..20 {
+        for period in [OFF, PEAK] {
+            count = count.saturating_add(rated_otherwise(tariff, period, n));
+        }
+        for (before, after) in [(OFF, OFF), (OFF, PEAK), (PEAK, OFF)] {
+            let periods = Periods { before, after };
+            let funds = u128::from(n) * 5;
+            count = count.saturating_add(granted_otherwise(tariff, periods, funds));
+        }
+    }
+    count
+}
+
+#[test]
+fn tiers_tell_what_blocks_do(rt: HostRuntime) -> Result<(), Fail> {
+    let book = TariffBook::read(rt.alloc(), TIERS.as_bytes())?;
+    for group in [1, 2, 3] {
+        let tariff = book.tariff(group).ok_or("no such group")?;
+        let otherwise = told_otherwise(tariff);
+        assert_eq!(rt; otherwise, 0, "group {group}");
+    }
     Ok(())
 }

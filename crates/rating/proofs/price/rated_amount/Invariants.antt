@@ -1,9 +1,10 @@
-use Rattle.std.proofs.Common.{◌≡◌, ◌≤◌, ◌-◌}
+use Rattle.std.proofs.Common.{◌≡◌, ◌≤◌, ◌+◌, ◌-◌, drop}
 use Rattle.rating.specs.Rated.{rated_amount}
 use Rattle.rating.proofs.price.rated_amount.Given as goal
 
-abbrev pub invariant-loop-done : goal.invariant-loop-done
-invariant-loop-done l = record { sum : l.total ≡ rated_amount l.tiers l.place l.done; within : l.done ≤ l.blocks }
-
-abbrev pub decreases-loop-done : goal.decreases-loop-done
-decreases-loop-done l = l.blocks - l.done
+abbrev pub invariant-loop-tier : goal.invariant-loop-tier
+invariant-loop-tier l = record {
+  steps : l.steps ≡ l.fn.steps + l.tier-index;
+  within : l.done ≤ l.blocks;
+  sum : l.total + rated_amount (drop l.tier-index l.tiers) (l.place + l.done) (l.blocks - l.done) ≡ rated_amount l.tiers l.place l.blocks;
+}
