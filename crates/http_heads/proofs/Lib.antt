@@ -1,0 +1,4 @@
+pub mod Counts
+pub mod Founds
+pub mod Digits
+pub mod Nexts

@@ -1,0 +1,121 @@
+ghost use Rattle.std.specs.Prelude.{◌≡◌, ◌≤◌, ◌*◌, length, IfOk, IfSome};
+ghost use Rattle.httparse.specs.Grammar.{RequestHead};
+ghost use Rattle.http_heads.specs.Parts.{Part, whole, first_part, IsHeadPart, IsShort};
+ghost use Rattle.http_heads.specs.Requests.{TellsNext, IsHeadOf, Tells, after_head};
+
+use crate::head::{Head, read_head};
+use crate::head_part::{HeadPart, next_head_part};
+use crate::method::Method;
+use crate::status::Status;
+use byte_streams::{StreamFault, next_bytes};
+use httparse::spans::HeaderSpan;
+use std::alloc::Global;
+use std::io::Read;
+
+/// How many fields a head part has room for: each takes at least 3 bytes.
+pub const MAX_FIELDS: usize = 2731;
+
+/// A request.
+#[derive(Debug, Drop)]
+pub struct Request {
+    /// The method.
+    pub method: Method,
+    /// The target, as it stands.
+    pub target: String,
+    /// Whether the connection ends after it.
+    pub closes: bool,
+    /// The body; empty where there is none.
+    pub body: Vec<u8>,
+}
+
+/// What comes next in a stream.
+#[derive(Debug, Drop)]
+pub enum Taken {
+    /// A request.
+    Request(Request),
+    /// A refusal, after which nothing more is read.
+    Refused(Status),
+    /// The stream ends before a request does.
+    Ended,
+}
+
+/// Takes the next request off a stream: its head part, and the body that the head tells of. `room` is for the places of
+/// the head's fields.
+///
+/// # Errors
+/// `Memory` where a growth was refused, `Read` where the reader failed.
+pub fn next_request<R: Read>(
+    alloc: Global,
+    reader: &mut R,
+    room: &mut [HeaderSpan],
+) -> Result<Taken, StreamFault>
+    requires room { 8192 ≤ 3 * length room.old }
+    ensures { IfOk result (λ taken. IfSome (R.remaining reader.old)
+        (λ stream. TellsNext (first_part stream) taken (R.remaining reader.new))) }
+{
+    let part = next_head_part(alloc, reader)?;
+    after_part(alloc, reader, part, room)
+}
+
+/// The request that begins with what a stream begins with.
+fn after_part<R: Read>(
+    alloc: Global,
+    reader: &mut R,
+    part: HeadPart,
+    room: &mut [HeaderSpan],
+) -> Result<Taken, StreamFault>
+    requires short { IsShort part }
+    requires room { 8192 ≤ 3 * length room.old }
+    ensures { IfOk result (λ taken. (begun : Part) → IsHeadPart begun part (R.remaining reader.old) → TellsNext begun taken (R.remaining reader.new)) }
+{
+    match part {
+        HeadPart::Whole(part) => after_bytes(alloc, reader, part.as_slice(), room),
+        HeadPart::TooLong => Ok(Taken::Refused(Status::FieldsTooLarge)),
+        HeadPart::Ended => Ok(Taken::Ended),
+    }
+}
+
+/// The request that begins with a head part.
+fn after_bytes<R: Read>(
+    alloc: Global,
+    reader: &mut R,
+    part: &[u8],
+    room: &mut [HeaderSpan],
+) -> Result<Taken, StreamFault>
+    requires short { length part.now ≤ 8192 }
+    requires room { 8192 ≤ 3 * length room.old }
+    ensures { IfOk result (λ taken. IfSome (R.remaining reader.old)
+        (λ rest. TellsNext (whole part.now rest) taken (R.remaining reader.new))) }
+{
+    let head = read_head(alloc, part, room)?;
+    match head {
+        None => Ok(Taken::Refused(Status::BadRequest)),
+        Some(head) => with_body(alloc, reader, head),
+    }
+}
+
+/// The request of a head, with its body.
+fn with_body<R: Read>(alloc: Global, reader: &mut R, head: Head) -> Result<Taken, StreamFault>
+    ensures { IfOk result (λ taken. IfSome (R.remaining reader.old)
+        (λ rest. (said : RequestHead) → IsHeadOf said head → Tells (after_head said rest) taken (R.remaining reader.new))) }
+{
+    let Head {
+        method,
+        target,
+        length,
+        closes,
+    } = head;
+    let length = match length {
+        Ok(length) => length,
+        Err(status) => return Ok(Taken::Refused(status)),
+    };
+    match next_bytes(alloc, reader, length)? {
+        None => Ok(Taken::Ended),
+        Some(body) => Ok(Taken::Request(Request {
+            method,
+            target,
+            closes,
+            body,
+        })),
+    }
+}
