@@ -68,14 +68,14 @@ debited_parts a s g cycle units blocks rated holds buckets counters groups e h b
     λ i. record a { buckets = moved i; counters = counted i; groups = k i; next_charge = a.next_charge + 1 }
 
 -- the buckets don't know of empty rows
-buckets_later : (a : AccountRows) (s : List ℕ) (g c t : ℕ) → (advanced t (with_rows s g c a)).buckets ≡ (advanced t a).buckets
+pub buckets_later : (a : AccountRows) (s : List ℕ) (g c t : ℕ) → (advanced t (with_rows s g c a)).buckets ≡ (advanced t a).buckets
 buckets_later a s g c t =
     let keeps : List ℕ → Bool = is_live_in a.book.validity t a.sessions in
     let given : (b : Row) → lapsed_in keeps (with_group s g a.groups) b ≡ lapsed_in keeps a.groups b = λ b. held_by-with_group (λ x. not (keeps x)) s g a.groups b in
     λ i. map (λ b. with_end t (with_release t b (given b i))) a.buckets
 
 -- a debit finds the empty rows as none
-debited_later : (a : AccountRows) (s : List ℕ) (g t units blocks rated : ℕ) → debited_account s g units blocks rated (advanced t (with_rows s g (cycle_at a.book g t) a)) ≡ debited_account s g units blocks rated (advanced t a)
+pub debited_later : (a : AccountRows) (s : List ℕ) (g t units blocks rated : ℕ) → debited_account s g units blocks rated (advanced t (with_rows s g (cycle_at a.book g t) a)) ≡ debited_account s g units blocks rated (advanced t a)
 debited_later a s g t units blocks rated =
     let keeps : List ℕ → Bool = is_live_in a.book.validity t a.sessions in
     let c : ℕ = cycle_at a.book g t in

@@ -23,18 +23,52 @@ use Rattle.reserving.specs.Settlement.{reported, price_of, settled_by}
 use Rattle.reserving.specs.Changes.{advanced, lapse, lapse_group, lapsed_in, group_or_new, new_group, used_in, reserved_in, periods_in, count_in, price_in, with_use, with_count, ended_group, ended_rows, settled_account, settled_by_rows}
 use Rattle.reserving.specs.Rows.{AccountRows, EachIn, IsAccount, IsRowsOf}
 use Rattle.reserving.proofs.Advancing.{held_by-split, is_live_in-is}
+use Rattle.reserving.proofs.Lists.{not_both}
 use Rattle.reserving.proofs.Holds.{same_from, number_from}
 use Rattle.reserving.proofs.SettledRows.{IsRowsOf-settled_by}
 use Rattle.reserving.specs.Left.{LeftRows, merged, joined, IsDead, IsLeft, AreOfOtherCycles}
 use Rattle.reserving.proofs.LeftMerged.{map_merged, each_map, each_both, each_left, release_none, end_dead, settled_merged, released_merged}
 use Rattle.reserving.proofs.LeftJoined.{find_behind, put_behind, map_behind, each_in_map, held_behind, live_behind}
 
+-- a group that holds nothing stays as it is
+pub lapse_free : (keeps : List ℕ → Bool) (r : SessionGroup) → r.reservation ≡ None → lapse_group keeps r ≡ r
+lapse_free keeps r e = at (keeps r.session)
+  where
+    at : (k : Bool) → (if k then r else record r { reservation = None }) ≡ r
+    at true = refl
+    at false = λ i. record r { reservation = sym e i }
+
+-- nothing of a live session was left
+pub differs_from : (v t : ℕ) (rows : List Session) (s x : List ℕ) → is_live_in v t rows s ≡ true → session_in x rows ≡ None → is_same x s ≡ false
+differs_from v t rows s x alive none = at (is_same x s) refl
+  where
+    at : (b : Bool) → is_same x s ≡ b → b ≡ false
+    at true e = absurd (not_both (sym (ap (is_live_row v t) (ap (λ n. session_in n rows) (sym (same_from x s e)) ∙ none)) ∙ alive))
+    at false e = refl
+
+pub not_of_live : (left : LeftRows) (a : AccountRows) (t : ℕ) (s : List ℕ) (g : ℕ) → IsLeft left a → is_live_in a.book.validity t a.sessions s ≡ true → EachIn (λ r. is_of s g r ≡ false) left.groups
+not_of_live left a t s g h alive = each_in_map _ _ left.groups (λ r e. ap (λ b. b && r.group == g) (differs_from a.book.validity t a.sessions s r.session alive e)) h.others
+
+-- no counter of the cycle was left
+pub not_counted : (book : Book) (t g : ℕ) (rows : List Counter) → AreOfOtherCycles book t rows → EachIn (λ r. is_counter g (cycle_at book g t) r ≡ false) rows
+not_counted book t g rows cycles = each_in_map _ _ rows other cycles
+  where
+    other : (r : Counter) → (r.cycle == cycle_at book r.group t) ≡ false → is_counter g (cycle_at book g t) r ≡ false
+    other r e = at (r.group == g) refl
+      where
+        at : (b : Bool) → (r.group == g) ≡ b → (b && r.cycle == cycle_at book g t) ≡ false
+        at true k = ap (λ n. r.cycle == cycle_at book n t) (sym (number_from r.group g k)) ∙ e
+        at false k = refl
+
+pub count_beside : (book : Book) (t g : ℕ) (left rows : List Counter) → AreOfOtherCycles book t left → count_in g (cycle_at book g t) (left ++ rows) ≡ count_in g (cycle_at book g t) rows
+count_beside book t g left rows cycles = ap (λ o. unwrap_or (option_map (λ (r : Counter). r.blocks) o) 0) (find_behind (is_counter g (cycle_at book g t)) left rows (not_counted book t g left cycles))
+
 module _ (left : LeftRows) (a : AccountRows) (h : IsLeft left a) where
   pub live : (t : ℕ) (s : List ℕ) → is_live_in a.book.validity t (left.sessions ++ a.sessions) s ≡ is_live_in a.book.validity t a.sessions s
   live t s = live_behind a.book.validity t left.sessions a.sessions s h.over h.apart
 
   -- no reservation holds anything of a dead bucket
-  unheld : Each (λ b. held_by (λ s. true) a.groups b ≡ 0) left.buckets
+  pub unheld : Each (λ b. held_by (λ s. true) a.groups b ≡ 0) left.buckets
   unheld = each_both (λ b. held_by (λ s. true) (left.groups ++ a.groups) b ≡ b.reserved) IsDead (λ b. held_by (λ s. true) a.groups b ≡ 0) left.buckets
       (λ b e d. sym (held_behind (λ s. true) left.groups a.groups b h.free) ∙ e ∙ d.reserved)
       (each_left (λ b. held_by (λ s. true) (left.groups ++ a.groups) b ≡ b.reserved) left.buckets a.buckets h.whole.held) h.dead
@@ -73,40 +107,20 @@ module _ (left : LeftRows) (a : AccountRows) (h : IsLeft left a) where
     lapse_over : (r : Session) → is_open r.state ≡ false → lapse a.book.validity t r ≡ r
     lapse_over r e = rw e refl
 
-    lapse_free : (r : SessionGroup) → r.reservation ≡ None → lapse_group keeps r ≡ r
-    lapse_free r e = at (keeps r.session)
-      where
-        at : (k : Bool) → (if k then r else record r { reservation = None }) ≡ r
-        at true = refl
-        at false = λ i. record r { reservation = sym e i }
-
     sessions_later : map (lapse a.book.validity t) (left.sessions ++ a.sessions) ≡ left.sessions ++ map (lapse a.book.validity t) a.sessions
     sessions_later = map_behind (lapse a.book.validity t) left.sessions a.sessions (each_in_map _ _ left.sessions lapse_over h.over)
 
     groups_later : map (lapse_group whole_keeps) (left.groups ++ a.groups) ≡ left.groups ++ map (lapse_group keeps) a.groups
     groups_later =
         (λ i. map (lapse_group (λ s. live t s i)) (left.groups ++ a.groups))
-        ∙ map_behind (lapse_group keeps) left.groups a.groups (each_in_map _ _ left.groups lapse_free h.free)
+        ∙ map_behind (lapse_group keeps) left.groups a.groups (each_in_map _ _ left.groups (lapse_free keeps) h.free)
 
   pub advanced_joined' : (t : ℕ) → advanced t (joined left a) ≡ joined left (advanced t a)
   advanced_joined' t = λ i. record (joined left a) { as_of = t; buckets = buckets_later t i; sessions = sessions_later t i; groups = groups_later t i }
 
-  -- ---- a live session's groups, and counters of the cycle on
+  -- ---- the groups of a session of which none was left, and counters of the cycle on
 
-  module _ (s : List ℕ) (g : ℕ) (alive : is_live_in a.book.validity a.as_of a.sessions s ≡ true) where
-    unnamed : (r : SessionGroup) → session_in r.session a.sessions ≡ None → is_of s g r ≡ false
-    unnamed r none = at (is_same r.session s) refl
-      where
-        no : true ≡ false → ⊥
-        no e = cc
-
-        at : (t : Bool) → is_same r.session s ≡ t → (t && r.group == g) ≡ false
-        at true e = absurd (no (sym alive ∙ ap (is_live_row a.book.validity a.as_of) (ap (λ n. session_in n a.sessions) (sym (same_from r.session s e)) ∙ none)))
-        at false e = refl
-
-    pub not_of : EachIn (λ r. is_of s g r ≡ false) left.groups
-    not_of = each_in_map _ _ left.groups unnamed h.others
-
+  module _ (s : List ℕ) (g : ℕ) (not_of : EachIn (λ r. is_of s g r ≡ false) left.groups) where
     pub row_same : group_or_new s g (left.groups ++ a.groups) ≡ group_or_new s g a.groups
     row_same = ap (λ o. unwrap_or o (new_group s g)) (find_behind (is_of s g) left.groups a.groups not_of)
 
@@ -118,7 +132,7 @@ module _ (left : LeftRows) (a : AccountRows) (h : IsLeft left a) where
     abbrev holds : List Hold
     holds = reserved_in s g a.groups
 
-    holds_same : reserved_in s g (left.groups ++ a.groups) ≡ holds
+    pub holds_same : reserved_in s g (left.groups ++ a.groups) ≡ holds
     holds_same = ap (λ (r : SessionGroup). holds_in r.reservation) row_same
 
     one_held : (rows : List SessionGroup) (b : Row) → held_in (reserved_in s g rows) b ≤ held_by (λ x. true) rows b
@@ -130,7 +144,7 @@ module _ (left : LeftRows) (a : AccountRows) (h : IsLeft left a) where
         at true le = omega arith
         at false le = omega (arith, le)
 
-    holds_none : Each (λ b. held_in holds b ≡ 0) left.buckets
+    pub holds_none : Each (λ b. held_in holds b ≡ 0) left.buckets
     holds_none = each_map (λ b. held_by (λ x. true) a.groups b ≡ 0) (λ b. held_in holds b ≡ 0) left.buckets (λ b e. omega (arith, e, one_held a.groups b)) unheld
 
     settled_buckets : (rated : ℕ) → settled_rows (reserved_in s g (left.groups ++ a.groups)) g a.as_of rated (merged left.buckets a.buckets) ≡ merged left.buckets (settled_rows holds g a.as_of rated a.buckets)
@@ -147,23 +161,13 @@ module _ (left : LeftRows) (a : AccountRows) (h : IsLeft left a) where
         λ i. record (joined left a) { buckets = buckets i; groups = groups i }
 
     module _ (cycles : AreOfOtherCycles a.book a.as_of left.counters) where
-      other_cycle : (r : Counter) → (r.cycle == cycle_at a.book r.group a.as_of) ≡ false → is_counter g (cycle_at a.book g a.as_of) r ≡ false
-      other_cycle r e = at (r.group == g) refl
-        where
-          at : (t : Bool) → (r.group == g) ≡ t → (t && r.cycle == cycle_at a.book g a.as_of) ≡ false
-          at true k = ap (λ n. r.cycle == cycle_at a.book n a.as_of) (sym (number_from r.group g k)) ∙ e
-          at false k = refl
-
-      not_counted : EachIn (λ r. is_counter g (cycle_at a.book g a.as_of) r ≡ false) left.counters
-      not_counted = each_in_map _ _ left.counters other_cycle cycles
-
       pub count_same : count_in g (cycle_at a.book g a.as_of) (left.counters ++ a.counters) ≡ count_in g (cycle_at a.book g a.as_of) a.counters
-      count_same = ap (λ o. unwrap_or (option_map (λ (r : Counter). r.blocks) o) 0) (find_behind (is_counter g (cycle_at a.book g a.as_of)) left.counters a.counters not_counted)
+      count_same = count_beside a.book a.as_of g left.counters a.counters cycles
 
-      count_joined : (blocks : ℕ) → with_count g (cycle_at a.book g a.as_of) blocks (left.counters ++ a.counters) ≡ left.counters ++ with_count g (cycle_at a.book g a.as_of) blocks a.counters
+      pub count_joined : (blocks : ℕ) → with_count g (cycle_at a.book g a.as_of) blocks (left.counters ++ a.counters) ≡ left.counters ++ with_count g (cycle_at a.book g a.as_of) blocks a.counters
       count_joined blocks =
           (λ i. put (is_counter g (cycle_at a.book g a.as_of)) (record { group = g; cycle = cycle_at a.book g a.as_of; blocks = count_same i + blocks }) (left.counters ++ a.counters))
-          ∙ put_behind (is_counter g (cycle_at a.book g a.as_of)) (record { group = g; cycle = cycle_at a.book g a.as_of; blocks = count_in g (cycle_at a.book g a.as_of) a.counters + blocks }) left.counters a.counters not_counted
+          ∙ put_behind (is_counter g (cycle_at a.book g a.as_of)) (record { group = g; cycle = cycle_at a.book g a.as_of; blocks = count_in g (cycle_at a.book g a.as_of) a.counters + blocks }) left.counters a.counters (not_counted a.book a.as_of g left.counters cycles)
 
       pub settled_joined : (units blocks rated : ℕ) → settled_account s g units blocks rated (joined left a) ≡ joined left (settled_account s g units blocks rated a)
       settled_joined units blocks rated =
@@ -185,7 +189,7 @@ advanced_joined t left a h = advanced_joined' left a h t
 
 pub settled_by_joined : (left : LeftRows) (a : AccountRows) (s : List ℕ) (g : ℕ) (used_parts : List UsedPart) → IsLeft left a → AreOfOtherCycles a.book a.as_of left.counters →
     is_live_in a.book.validity a.as_of a.sessions s ≡ true → settled_by_rows s g used_parts (joined left a) ≡ joined left (settled_by_rows s g used_parts a)
-settled_by_joined left a s g used_parts h cycles alive = by_parts left a h s g alive cycles used_parts
+settled_by_joined left a s g used_parts h cycles alive = by_parts left a h s g (not_of_live left a a.as_of s g h alive) cycles used_parts
 
 -- the old theorem, at the whole account
 pub settled_with_left : (ledger : Ledger) (left : LeftRows) (a : AccountRows) (s : List ℕ) (g : ℕ) (used_parts : List UsedPart) → IsLeft left a → AreOfOtherCycles a.book a.as_of left.counters →

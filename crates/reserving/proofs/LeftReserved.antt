@@ -14,11 +14,11 @@ use Rattle.reserving.specs.Keyed.{put}
 use Rattle.reserving.specs.Pricing.{periods_at}
 use Rattle.reserving.specs.Sessions.{is_of, is_live_in}
 use Rattle.reserving.specs.Changes.{used_in, with_reservation, reserved_account}
-use Rattle.reserving.specs.Rows.{AccountRows}
+use Rattle.reserving.specs.Rows.{AccountRows, EachIn}
 use Rattle.reserving.specs.Left.{LeftRows, placed, merged, joined, IsDead, IsLeft}
 use Rattle.reserving.proofs.LeftMerged.{map_merged, each_map, share_merged, dead_amount}
 use Rattle.reserving.proofs.LeftJoined.{put_behind}
-use Rattle.reserving.proofs.LeftFrames.{row_same, not_of}
+use Rattle.reserving.proofs.LeftFrames.{not_of_live, row_same}
 
 -- ---- shares as holds
 
@@ -64,10 +64,11 @@ pub reserved_joined : (left : LeftRows) (a : AccountRows) (s : List ℕ) (g amou
     reserved_account s g amount (joined left a) ≡ joined left (reserved_account s g amount a)
 reserved_joined left a s g amount h alive =
     let p : Periods = periods_at a.book a.as_of in
+    let not_of : EachIn (λ r. is_of s g r ≡ false) left.groups = not_of_live left a a.as_of s g h alive in
     let hs : List Hold = holds_of g a.as_of amount a.buckets in
     let same : holds_of g a.as_of amount (merged left.buckets a.buckets) ≡ hs = holds_merged g a.as_of amount left.buckets a.buckets h.dead in
     let row : SessionGroup = record { session = s; group = g; used = used_in s g a.groups; reservation = Some (record { periods = p; holds = hs }) } in
     let groups : with_reservation s g p (holds_of g a.as_of amount (merged left.buckets a.buckets)) (left.groups ++ a.groups) ≡ left.groups ++ with_reservation s g p hs a.groups =
-    (λ i. put (is_of s g) (record { session = s; group = g; used = (row_same left a h s g alive i).used; reservation = Some (record { periods = p; holds = same i }) }) (left.groups ++ a.groups))
-    ∙ put_behind (is_of s g) row left.groups a.groups (not_of left a h s g alive) in
+    (λ i. put (is_of s g) (record { session = s; group = g; used = (row_same left a h s g not_of i).used; reservation = Some (record { periods = p; holds = same i }) }) (left.groups ++ a.groups))
+    ∙ put_behind (is_of s g) row left.groups a.groups not_of in
     λ i. record (joined left a) { buckets = held_merged g a.as_of amount left.buckets a.buckets h.dead i; groups = groups i }

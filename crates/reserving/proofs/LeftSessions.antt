@@ -9,7 +9,7 @@ use Rattle.reserving.specs.declared.session.Session.{Session}
 use Rattle.reserving.specs.declared.session.SessionState.{SessionState}
 use Rattle.reserving.specs.declared.session.SessionState.TheVariants.{Open, Ended, NeverOpened}
 use Rattle.reserving.specs.declared.session.SessionGroup.{SessionGroup}
-use Rattle.reserving.specs.Ledger.{Ledger, is_same, is_live}
+use Rattle.reserving.specs.Ledger.{Ledger, is_same}
 use Rattle.reserving.specs.Keyed.{put}
 use Rattle.reserving.specs.Sessions.{is_session, session_in, is_of, group_in, is_live_in, is_live_row, held_by}
 use Rattle.reserving.specs.Requests.{recorded, touched, closed, with_bar}
@@ -19,7 +19,7 @@ use Rattle.reserving.specs.Left.{LeftRows, merged, joined, IsLeft, NotLeft, IsWi
 use Rattle.reserving.proofs.Lists.{find-map, find-put_other, no_some, not_both}
 use Rattle.reserving.proofs.Keys.{is_same-sym, number_same}
 use Rattle.reserving.proofs.Holds.{same_from}
-use Rattle.reserving.proofs.Advancing.{held_by-split, is_live_in-is}
+use Rattle.reserving.proofs.Advancing.{held_by-split}
 use Rattle.reserving.proofs.Touching.{IsRowsOf-denied, IsRowsOf-opened}
 use Rattle.reserving.proofs.Closing.{IsRowsOf-touched, IsRowsOf-closed}
 use Rattle.reserving.proofs.Barring.{IsRowsOf-barred, IsAccount-barred}
@@ -27,7 +27,8 @@ use Rattle.reserving.proofs.Kept.{IsAccount-with_session, IsAccount-touched, IsA
 use Rattle.reserving.proofs.LeftMerged.{map_merged, each_map, release_none}
 use Rattle.reserving.proofs.LeftJoined.{find_behind, put_behind, map_behind, each_in_map, held_behind}
 use Rattle.reserving.proofs.LeftTests.{none_each, each_with}
-use Rattle.reserving.proofs.LeftFrames.{live, unheld, lapse_free}
+use Rattle.reserving.proofs.LeftFrames.{unheld, lapse_free, differs_from}
+use Rattle.reserving.proofs.LeftReadings.{live_told}
 
 -- ---- a new session
 
@@ -95,22 +96,6 @@ with_opened ledger left t a s n new le some gone h = record {
 }
 
 -- ---- a live session
-
--- nothing of a live session was left
-pub differs_from : (v t : ℕ) (rows : List Session) (s x : List ℕ) → is_live_in v t rows s ≡ true → session_in x rows ≡ None → is_same x s ≡ false
-differs_from v t rows s x alive none = at (is_same x s) refl
-  where
-    at : (b : Bool) → is_same x s ≡ b → b ≡ false
-    at true e = absurd (not_both (sym (ap (is_live_row v t) (ap (λ n. session_in n rows) (sym (same_from x s e)) ∙ none)) ∙ alive))
-    at false e = refl
-
--- by the ledger it is live too
-pub live_joined : (ledger : Ledger) (left : LeftRows) (t : ℕ) (a : AccountRows) (s : List ℕ) → a.as_of ≤ t → IsWith ledger left t a → is_live_in a.book.validity t a.sessions s ≡ true →
-    is_live_in a.book.validity t (joined left a).sessions s ≡ true
-live_joined ledger left t a s le h alive = live left a h.apart t s ∙ alive
-
-pub live_told : (ledger : Ledger) (left : LeftRows) (t : ℕ) (a : AccountRows) (s : List ℕ) → a.as_of ≤ t → IsWith ledger left t a → is_live a.book.validity t ledger s ≡ is_live_in a.book.validity t a.sessions s
-live_told ledger left t a s le h = sym (is_live_in-is ledger (joined left a) t s h.rows le) ∙ live left a h.apart t s
 
 module _ (left : LeftRows) (a : AccountRows) (h : IsLeft left a) (s : List ℕ) (alive : is_live_in a.book.validity a.as_of a.sessions s ≡ true) where
   others_there : EachIn (λ r. is_session s r ≡ false) left.sessions
@@ -192,7 +177,7 @@ with_touched ledger left a s n some h alive =
     record {
       apart = left_touched left a h.apart s alive n;
       cycles = h.cycles;
-      rows = subst (IsRowsOf (touched a.as_of s n ledger)) (touched_joined left a h.apart s alive n) (IsRowsOf-touched ledger (joined left a) s n h.rows (live_told ledger left a.as_of a s now h ∙ alive) some);
+      rows = subst (IsRowsOf (touched a.as_of s n ledger)) (touched_joined left a h.apart s alive n) (IsRowsOf-touched ledger (joined left a) s n h.rows (sym (live_told ledger left a.as_of a.as_of a s now h) ∙ alive) some);
     }
 
 pub with_closed : (ledger : Ledger) (left : LeftRows) (a : AccountRows) (s : List ℕ) → IsWith ledger left a.as_of a → is_live_in a.book.validity a.as_of a.sessions s ≡ true →
@@ -202,7 +187,7 @@ with_closed ledger left a s h alive =
     record {
       apart = left_closed left a h.apart s alive;
       cycles = h.cycles;
-      rows = subst (IsRowsOf (closed a.as_of s ledger)) (closed_joined left a h.apart s alive) (IsRowsOf-closed ledger (joined left a) s h.apart.whole h.rows (live_told ledger left a.as_of a s now h ∙ alive));
+      rows = subst (IsRowsOf (closed a.as_of s ledger)) (closed_joined left a h.apart s alive) (IsRowsOf-closed ledger (joined left a) s h.apart.whole h.rows (sym (live_told ledger left a.as_of a.as_of a s now h) ∙ alive));
     }
 
 -- ---- the account is barred, or no longer

@@ -6,17 +6,17 @@ use Rattle.rating.specs.declared.report.Rated.{Rated}
 use Rattle.reserving.specs.declared.session.SessionGroup.{SessionGroup}
 use Rattle.reserving.specs.Ledger.{Ledger, is_live}
 use Rattle.reserving.specs.Pricing.{cycle_at}
-use Rattle.reserving.specs.Sessions.{is_live_in}
+use Rattle.reserving.specs.Sessions.{is_of, is_live_in}
 use Rattle.reserving.specs.Settlement.{reported, passes, settled_by}
 use Rattle.reserving.specs.Changes.{advanced, used_in, count_in, price_in, ended_rows, settled_account, settled_by_rows}
 use Rattle.reserving.specs.Prepared.{with_rows}
-use Rattle.reserving.specs.Rows.{AccountRows, IsAccount, IsRowsOf}
+use Rattle.reserving.specs.Rows.{AccountRows, EachIn, IsAccount, IsRowsOf}
 use Rattle.reserving.specs.Left.{LeftRows, joined, IsWith}
 use Rattle.reserving.proofs.Advancing.{is_live_in-is}
 use Rattle.reserving.proofs.SettledKept.{IsAccount-settled}
 use Rattle.reserving.proofs.SettledParts.{used_later, settled_later}
 use Rattle.reserving.proofs.SettledCall.{price_later, within_used, within_counted, with_parts}
-use Rattle.reserving.proofs.LeftFrames.{live, row_same, count_same, settled_joined, settled_with_left}
+use Rattle.reserving.proofs.LeftFrames.{live, not_of_live, row_same, count_same, settled_joined, settled_with_left}
 use Rattle.reserving.proofs.LeftMore.{with_advanced, with_ended}
 
 -- the limits hold
@@ -31,8 +31,9 @@ pub with_settled : (ledger : Ledger) (left : LeftRows) (a : AccountRows) (s : Li
 with_settled ledger left a s g [] h alive fits = with_ended ledger left a s g h alive
 with_settled ledger left a s g (p ∷ ps) h alive fits =
     let x : Rated = price_in s g a.as_of (p ∷ ps) a in
-    let used : used_in s g (joined left a).groups ≡ used_in s g a.groups = ap (λ (r : SessionGroup). r.used) (row_same left a h.apart s g alive) in
-    let count : count_in g (cycle_at a.book g a.as_of) (joined left a).counters ≡ count_in g (cycle_at a.book g a.as_of) a.counters = count_same left a h.apart s g alive h.cycles in
+    let not_of : EachIn (λ r. is_of s g r ≡ false) left.groups = not_of_live left a a.as_of s g h.apart alive in
+    let used : used_in s g (joined left a).groups ≡ used_in s g a.groups = ap (λ (r : SessionGroup). r.used) (row_same left a h.apart s g not_of) in
+    let count : count_in g (cycle_at a.book g a.as_of) (joined left a).counters ≡ count_in g (cycle_at a.book g a.as_of) a.counters = count_same left a h.apart s g not_of h.cycles in
     record {
       apart = record {
         dead = h.apart.dead;
@@ -40,7 +41,7 @@ with_settled ledger left a s g (p ∷ ps) h alive fits =
         apart = h.apart.apart;
         free = h.apart.free;
         others = h.apart.others;
-        whole = subst IsAccount (settled_joined left a h.apart s g alive h.cycles (reported (p ∷ ps)) x.blocks x.amount.0)
+        whole = subst IsAccount (settled_joined left a h.apart s g not_of h.cycles (reported (p ∷ ps)) x.blocks x.amount.0)
             (IsAccount-settled (joined left a) s g (reported (p ∷ ps)) x.blocks x.amount.0 (omega (arith, used, fits.used)) (omega (arith, count, fits.counted)) fits.charges h.apart.whole);
       };
       cycles = h.cycles;
@@ -48,7 +49,7 @@ with_settled ledger left a s g (p ∷ ps) h alive fits =
     }
 
 -- the session lives on at the moment
-live_later : (ledger : Ledger) (left : LeftRows) (a : AccountRows) (s : List ℕ) (t : ℕ) → a.as_of ≤ t → IsWith ledger left t a → IsWith ledger left t (advanced t a) → is_live_in a.book.validity t a.sessions s ≡ true →
+pub live_later : (ledger : Ledger) (left : LeftRows) (a : AccountRows) (s : List ℕ) (t : ℕ) → a.as_of ≤ t → IsWith ledger left t a → IsWith ledger left t (advanced t a) → is_live_in a.book.validity t a.sessions s ≡ true →
     is_live_in a.book.validity t (advanced t a).sessions s ≡ true
 live_later ledger left a s t le h k alive =
     let now : t ≤ t = omega arith in
@@ -65,7 +66,7 @@ left_ended ledger left a middle after s g t used_parts h le alive empty m e =
     subst (λ ps. IsWith (settled_by a.book t s g ps ledger) left t after) (sym empty)
     (subst (IsWith (settled_by a.book t s g [] ledger) left t) (sym (e ∙ ap (ended_rows s g) m)) (with_ended ledger left (advanced t a) s g k (live_later ledger left a s t le h k alive)))
 
-most_charge : (before units count blocks charge : ℕ) → passes before units count blocks charge ≡ false → charge < 4294967296
+pub most_charge : (before units count blocks charge : ℕ) → passes before units count blocks charge ≡ false → charge < 4294967296
 most_charge before units count blocks charge h = grind (arith, nat_tests)
 
 pub left_settled : (ledger : Ledger) (left : LeftRows) (a middle after : AccountRows) (s : List ℕ) (g c t units blocks rated : ℕ) (used_parts : List UsedPart) →

@@ -45,3 +45,8 @@ pub mod LeftSettled
 pub mod LeftReserved
 pub mod LivePart
 pub mod LeftCredited
+pub mod LeftSessions
+pub mod LeftReadings
+pub mod LeftGranted
+pub mod LeftDebited
+pub mod LeftSettlement

@@ -45,7 +45,7 @@ buckets_later a s g t =
     let given : (y : Row) → lapsed_in keeps (with_group s g a.groups) y ≡ lapsed_in keeps a.groups y = λ y. held_by-with_group (λ z. not (keeps z)) s g a.groups y in
     λ i. map (λ y. with_end t (with_release t y (given y i))) a.buckets
 
-reserved_later : (a : AccountRows) (s : List ℕ) (g t amount : ℕ) → reserved_account s g amount (advanced t (with_group_row s g a)) ≡ reserved_account s g amount (advanced t a)
+pub reserved_later : (a : AccountRows) (s : List ℕ) (g t amount : ℕ) → reserved_account s g amount (advanced t (with_group_row s g a)) ≡ reserved_account s g amount (advanced t a)
 reserved_later a s g t amount =
     let keeps : List ℕ → Bool = is_live_in a.book.validity t a.sessions in
     let x : AccountRows = reserved_account s g amount (advanced t a) in

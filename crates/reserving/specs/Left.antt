@@ -123,6 +123,11 @@ pub record IsLoadedWith (ledger : Ledger) (t : ℕ) (w a : AccountRows) : Type 0
 abbrev pub IsLoadLaw : Type 0
 IsLoadLaw = (ledger : Ledger) (t : ℕ) (w a : AccountRows) → IsAccount w → IsAccount a → IsRowsOf ledger w → IsPartOf t w a → IsLoadedWith ledger t w a
 
+-- no row of a session was left: so of each live session, and of a new one
+pub record NotLeft (s : List ℕ) (left : LeftRows) : Type 0 where
+  pub session : session_in s left.sessions ≡ None
+  pub groups : (g : ℕ) → group_in s g left.groups ≡ None
+
 -- ---- rows that differ
 
 -- the rows that aren't among those before
@@ -144,6 +149,11 @@ IsChangeLaw =
     IsApartSessions before → IsApartSessions after → first_of (session_in s (differing eq before after)) (session_in s before) ≡ session_in s after
 
 -- ---- from a ledger whose rows an account's are together with those left
+
+-- beside an account at a moment rows may have been left
+pub record IsBeside (left : LeftRows) (t : ℕ) (a : AccountRows) : Type 0 where
+  pub apart : IsLeft left a
+  pub cycles : AreOfOtherCycles a.book t left.counters
 
 pub record IsWith (ledger : Ledger) (left : LeftRows) (t : ℕ) (a : AccountRows) : Type 0 where
   pub apart : IsLeft left a

@@ -1,7 +1,8 @@
-ghost use Rattle.std.specs.Prelude.{◌≡◌, [], None, false};
-ghost use Rattle.reserving.specs.Ledger.{Ledger, is_barred};
+ghost use Rattle.std.specs.Prelude.{◌≡◌, ◌≤◌, ℕ, [], None, false};
+ghost use Rattle.reserving.specs.Ledger.{Ledger, is_barred, is_live as is_live_at};
 ghost use Rattle.reserving.specs.Sessions.{is_live_in};
 ghost use Rattle.reserving.specs.Rows.{AccountRows, IsAccount, IsRowsOf};
+ghost use Rattle.reserving.specs.Left.{LeftRows, IsWith};
 
 use crate::advance::is_live;
 use crate::session::{Counter, Session, SessionGroup};
@@ -100,7 +101,11 @@ impl<'b> Account<'b> {
     /// times after its last accepted request, isn't over (profile, in the place of the supervision timer of RFC 8506
     /// section 13).
     pub fn is_live(&self, session: &SessionId, moment: Moment) -> bool
-        ensures { result ≡ is_live_in self.now.book.validity moment self.now.sessions session.now }
+        ensures rows { result ≡ is_live_in self.now.book.validity moment self.now.sessions session.now }
+        ensures ledger { (ledger : Ledger) → IsRowsOf ledger self.now → self.now.as_of ≤ moment →
+            result ≡ is_live_at self.now.book.validity moment ledger session.now }
+        ensures left { (ledger : Ledger) (left : LeftRows) → IsWith ledger left moment self.now → self.now.as_of ≤ moment →
+            result ≡ is_live_at self.now.book.validity moment ledger session.now }
     {
         is_live(&self.sessions, session, self.book.validity(), moment)
     }
@@ -141,10 +146,11 @@ impl<'b> Account<'b> {
         self.as_of
     }
 
-    /// Whether it is barred: it is granted and debited nothing (profile).
+    /// Whether it is barred (profile).
     pub fn is_barred(&self) -> bool
         ensures value { result ≡ self.now.barred }
         ensures ledger { (ledger : Ledger) → IsRowsOf ledger self.now → result ≡ is_barred ledger }
+        ensures left { (ledger : Ledger) (left : LeftRows) (t : ℕ) → IsWith ledger left t self.now → result ≡ is_barred ledger }
     {
         self.barred
     }

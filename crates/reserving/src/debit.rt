@@ -5,6 +5,7 @@ ghost use Rattle.reserving.specs.Pricing.{cycle_at};
 ghost use Rattle.reserving.specs.Sessions.{session_in, group_in, counter_in};
 ghost use Rattle.reserving.specs.Debiting.{event_price, is_covered, debit_passes};
 ghost use Rattle.reserving.specs.Rows.{IsRowsOf};
+ghost use Rattle.reserving.specs.Left.{LeftRows, joined, IsBeside, IsWith};
 ghost use Rattle.reserving.specs.Results.{IsDebit};
 ghost use Rattle.reserving.specs.Changes.{used_in, count_in, event_price_in, debited_account};
 
@@ -24,6 +25,8 @@ impl<'b> Account<'b> {
     pub fn quote(&self, group: u32, units: Units, moment: Moment) -> Amount
         ensures rows { result.0 ≡ (event_price_in group units.0 moment self.now).amount.0 }
         ensures ledger { (ledger : Ledger) → IsRowsOf ledger self.now →
+            result.0 ≡ (event_price self.now.book moment group units.0 ledger).amount.0 }
+        ensures left { (ledger : Ledger) (left : LeftRows) → IsWith ledger left moment self.now →
             result.0 ≡ (event_price self.now.book moment group units.0 ledger).amount.0 }
     {
         self.event_price(group, units, moment).amount
@@ -68,7 +71,11 @@ impl<'b> Account<'b> {
         requires { self.old.as_of ≤ moment }
         ensures debit { IfOk result (λ s. (ledger : Ledger) → IsRowsOf ledger self.old →
             IsDebit self.old.book moment session.now group units.0 ledger self.new s) }
+        ensures left { IfOk result (λ s. (ledger : Ledger) (left : LeftRows) → group_in session.now group left.groups ≡ None → IsWith ledger left moment self.old →
+            IsBeside left moment self.new × IsDebit self.old.book moment session.now group units.0 ledger (joined left self.new) s) }
         ensures limit { result ≡ Err AccountFault.Limit → (ledger : Ledger) → IsRowsOf ledger self.old →
+            (is_covered self.old.book moment group units.0 ledger ≡ true) × (debit_passes self.old.book moment session.now group units.0 ledger ≡ true) }
+        ensures limit_left { result ≡ Err AccountFault.Limit → (ledger : Ledger) (left : LeftRows) → group_in session.now group left.groups ≡ None → IsWith ledger left moment self.old →
             (is_covered self.old.book moment group units.0 ledger ≡ true) × (debit_passes self.old.book moment session.now group units.0 ledger ≡ true) }
         ensures uncovered { IfOk result (λ s. s ≡ None → self.new ≡ self.old) }
         ensures number { IfOk result (λ s. IfSome s (λ given. self.old.next_charge ≤ 4_294_967_295)) }

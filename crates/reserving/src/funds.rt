@@ -5,6 +5,7 @@ ghost use Rattle.reserving.specs.Ledger.{Ledger};
 ghost use Rattle.reserving.specs.Balance.{buckets_at};
 ghost use Rattle.reserving.specs.Sessions.{held_by, holds_in, is_live_in};
 ghost use Rattle.reserving.specs.Rows.{IsRowsOf};
+ghost use Rattle.reserving.specs.Left.{LeftRows, IsWith};
 ghost use Rattle.reserving.specs.Changes.{advanced, lapsed_in, amount_later};
 
 use crate::account::Account;
@@ -20,6 +21,8 @@ impl<'b> Account<'b> {
         requires { self.now.as_of ≤ moment }
         ensures rows { result.0 ≡ funds group moment (advanced moment self.now).buckets }
         ensures ledger { (ledger : Ledger) → IsRowsOf ledger self.now →
+            result.0 ≡ funds group moment (buckets_at self.now.book.validity moment ledger) }
+        ensures left { (ledger : Ledger) (left : LeftRows) → IsWith ledger left moment self.now →
             result.0 ≡ funds group moment (buckets_at self.now.book.validity moment ledger) }
     {
         let validity = self.book.validity();

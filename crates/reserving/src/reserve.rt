@@ -8,6 +8,7 @@ ghost use Rattle.reserving.specs.Quotas.{IsQuota};
 ghost use Rattle.reserving.specs.Changes.{advanced, used_in, count_in, reserved_account};
 ghost use Rattle.reserving.specs.Prepared.{with_group_row, reservation_in};
 ghost use Rattle.reserving.specs.Rows.{IsAccount, IsRowsOf};
+ghost use Rattle.reserving.specs.Left.{LeftRows, joined, IsBeside, IsWith};
 ghost use Rattle.reserving.specs.Results.{GivesGrant, IsWithinGrant};
 
 use crate::account::Account;
@@ -65,6 +66,8 @@ impl<'b> Account<'b> {
         requires free { reservation_in session.now group self.old.groups ≡ None }
         ensures rows { IfOk result (λ granted. (ledger : Ledger) → IsRowsOf ledger self.old →
             GivesGrant self.old.book moment session.now group (option_map (λ u. u.0) requested) ledger self.new granted) }
+        ensures left { IfOk result (λ granted. (ledger : Ledger) (left : LeftRows) → IsWith ledger left moment self.old →
+            IsBeside left moment self.new × GivesGrant self.old.book moment session.now group (option_map (λ u. u.0) requested) ledger (joined left self.new) granted) }
         ensures as_of { OnOk result (self.new.as_of ≡ moment) }
         ensures tariff { self.new.book ≡ self.old.book }
         ensures sessions { OnOk result (self.new.sessions ≡ (advanced moment self.old).sessions) }
@@ -94,7 +97,9 @@ impl<'b> Account<'b> {
     /// takes no memory and changes nothing.
     pub fn would_grant(&self, group: u32, requested: Option<Units>, moment: Moment) -> bool
         requires { self.now.as_of ≤ moment }
-        ensures { (ledger : Ledger) → IsRowsOf ledger self.now →
+        ensures ledger { (ledger : Ledger) → IsRowsOf ledger self.now →
+            result ≡ nat_lt 0 (grant_for self.now.book moment group 0 (option_map (λ u. u.0) requested) ledger).units.0 }
+        ensures left { (ledger : Ledger) (left : LeftRows) → IsWith ledger left moment self.now →
             result ≡ nat_lt 0 (grant_for self.now.book moment group 0 (option_map (λ u. u.0) requested) ledger).units.0 }
     {
         let periods = window_at(self.book, moment).periods;

@@ -3,6 +3,7 @@ ghost use Rattle.reserving.specs.declared.session.SessionState.TheVariants.{Open
 ghost use Rattle.reserving.specs.Ledger.{Ledger};
 ghost use Rattle.reserving.specs.Sessions.{session_in, is_live_in};
 ghost use Rattle.reserving.specs.Rows.{IsRowsOf};
+ghost use Rattle.reserving.specs.Left.{LeftRows, NotLeft, IsWith};
 ghost use Rattle.reserving.specs.Changes.{advanced, with_session, touched_account, touched_session, is_other, closed_account, closed_session, lapse_group, lapsed_rows, AreLapsable};
 ghost use Rattle.reserving.specs.Requests.{recorded, touched, closed};
 
@@ -28,6 +29,8 @@ impl<'b> Account<'b> {
         requires new { session_in session.now self.old.sessions ≡ None }
         ensures rows { OnOk result (self.new ≡ advanced moment (with_session session.now number moment Open self.old)) }
         ensures ledger { OnOk result ((ledger : Ledger) → IsRowsOf ledger self.old → IsRowsOf (touched moment session.now number ledger) self.new) }
+        ensures left { OnOk result ((ledger : Ledger) (left : LeftRows) → NotLeft session.now left → IsWith ledger left moment self.old →
+            IsWith (touched moment session.now number ledger) left moment self.new) }
         ensures memory { OnErr result (result ≡ Err AccountFault.Memory) }
         ensures err { OnErr result (self.new ≡ self.old) }
     {
@@ -49,6 +52,8 @@ impl<'b> Account<'b> {
         requires new { session_in session.now self.old.sessions ≡ None }
         ensures rows { OnOk result (self.new ≡ advanced moment (with_session session.now number moment NeverOpened self.old)) }
         ensures ledger { OnOk result ((ledger : Ledger) → IsRowsOf ledger self.old → IsRowsOf (recorded moment session.now number ledger) self.new) }
+        ensures left { OnOk result ((ledger : Ledger) (left : LeftRows) → NotLeft session.now left → IsWith ledger left moment self.old →
+            IsWith (recorded moment session.now number ledger) left moment self.new) }
         ensures memory { OnErr result (result ≡ Err AccountFault.Memory) }
         ensures err { OnErr result (self.new ≡ self.old) }
     {
@@ -64,6 +69,8 @@ impl<'b> Account<'b> {
         requires live { is_live_in self.old.book.validity moment self.old.sessions session.now ≡ true }
         ensures rows { self.new ≡ touched_account session.now number (advanced moment self.old) }
         ensures ledger { (ledger : Ledger) → IsRowsOf ledger self.old → IsRowsOf (touched moment session.now number ledger) self.new }
+        ensures left { (ledger : Ledger) (left : LeftRows) → IsWith ledger left moment self.old →
+            IsWith (touched moment session.now number ledger) left moment self.new }
     {
         self.advance(moment);
         touch_session(&mut self.sessions, session, number, moment);
@@ -76,6 +83,8 @@ impl<'b> Account<'b> {
         requires live { is_live_in self.old.book.validity moment self.old.sessions session.now ≡ true }
         ensures rows { self.new ≡ closed_account session.now (advanced moment self.old) }
         ensures ledger { (ledger : Ledger) → IsRowsOf ledger self.old → IsRowsOf (closed moment session.now ledger) self.new }
+        ensures left { (ledger : Ledger) (left : LeftRows) → IsWith ledger left moment self.old →
+            IsWith (closed moment session.now ledger) left moment self.new }
     {
         self.advance(moment);
         close_groups(&mut self.purse, &mut self.groups, session, moment);

@@ -1,4 +1,4 @@
-ghost use Rattle.std.specs.Prelude.{◌≡◌, ℕ, ◌+◌, ◌≤◌, ◌<◌, ◌^◌, true, false, None, is_some, OnOk, OnErr, IfOk, IfSome, List, Some, unwrap_or};
+ghost use Rattle.std.specs.Prelude.{◌≡◌, ℕ, [], ◌+◌, ◌≤◌, ◌<◌, ◌^◌, true, false, None, is_some, OnOk, OnErr, IsOk, IfOk, IfSome, List, Some, unwrap_or};
 ghost use Rattle.reserving.specs.Ledger.{Ledger};
 ghost use Rattle.reserving.specs.Sessions.{is_live_in};
 ghost use Rattle.reserving.specs.Settlement.{reported, price_of, passes, passes_limit, settled_by};
@@ -78,10 +78,18 @@ impl<'b> Account<'b> {
         ensures sessions { OnOk result (self.new.sessions ≡ (advanced moment self.old).sessions) }
         ensures settled { IfOk result (λ s. (ledger : Ledger) → IsRowsOf ledger self.old →
             IsSettlementOf self.old.book moment session.now group parts.now ledger s) }
+        ensures settled_left { IfOk result (λ s. (ledger : Ledger) (left : LeftRows) → IsWith ledger left moment self.old →
+            IsSettlementOf self.old.book moment session.now group parts.now ledger s) }
         ensures within { OnOk result ((ledger : Ledger) → IsRowsOf ledger self.old →
+            passes_limit self.old.book moment session.now group parts.now ledger ≡ false) }
+        ensures within_left { OnOk result ((ledger : Ledger) (left : LeftRows) → IsWith ledger left moment self.old →
             passes_limit self.old.book moment session.now group parts.now ledger ≡ false) }
         ensures limit { result ≡ Err AccountFault.Limit → (ledger : Ledger) → IsRowsOf ledger self.old →
             passes_limit self.old.book moment session.now group parts.now ledger ≡ true }
+        ensures limit_left { result ≡ Err AccountFault.Limit → (ledger : Ledger) (left : LeftRows) → IsWith ledger left moment self.old →
+            passes_limit self.old.book moment session.now group parts.now ledger ≡ true }
+        ensures sum { IfOk result (λ s. s.collected.0 + s.uncollected.0 ≡ s.rated.0) }
+        ensures ended { parts.now ≡ [] → IsOk result }
         ensures free { OnOk result (reservation_in session.now group self.new.groups ≡ None) }
         ensures others { OnOk result ((s : List ℕ) (g : ℕ) → reservation_in s g self.old.groups ≡ None → reservation_in s g self.new.groups ≡ None) }
         ensures err { OnErr result (self.new ≡ self.old) }

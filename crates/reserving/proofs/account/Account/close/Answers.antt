@@ -8,6 +8,10 @@ use Rattle.reserving.proofs.Advancing.{is_live_in-is}
 use Rattle.reserving.proofs.Lapsing.{lapsable_of}
 use Rattle.reserving.proofs.Closing.{IsRowsOf-closed}
 use Rattle.reserving.proofs.Kept.{IsAccount-closed, closed-parts}
+use Rattle.reserving.specs.Left.{LeftRows, IsWith}
+use Rattle.reserving.specs.Sessions.{is_live_in}
+use Rattle.reserving.proofs.LeftSettled.{live_later}
+use Rattle.reserving.proofs.LeftSessions.{with_closed}
 use Rattle.reserving.proofs.account.Account.close.Goals as goal
 
 pub close_groups-requires : goal.close_groups-requires
@@ -54,3 +58,10 @@ returns-clause-ledger c = λ ledger rows.
     let later : IsRowsOf ledger (advanced c.args.moment c.args.self.now) = subst (IsRowsOf ledger) c.advance.ensures.rows (c.advance.ensures.ledger ledger rows) in
     let live : is_live c.args.self.now.book.validity c.args.moment ledger c.args.session.now ≡ true = sym (is_live_in-is ledger c.args.self.now c.args.moment c.args.session.now rows c.requires.later) ∙ c.requires.live in
     subst (IsRowsOf (closed c.args.moment c.args.session.now ledger)) (sym (after_is c)) (IsRowsOf-closed ledger (advanced c.args.moment c.args.self.now) c.args.session.now (account_of c) later live)
+
+pub returns-clause-left : goal.returns-clause-left
+returns-clause-left c = λ ledger left h.
+    let later : IsWith ledger left c.args.moment (advanced c.args.moment c.args.self.now) = subst (IsWith ledger left c.args.moment) c.advance.ensures.rows (c.advance.ensures.left ledger left h) in
+    let live : is_live_in c.args.self.now.book.validity c.args.moment (advanced c.args.moment c.args.self.now).sessions c.args.session.now ≡ true = live_later ledger left c.args.self.now c.args.session.now c.args.moment c.requires.later h later c.requires.live in
+    subst (IsWith (closed c.args.moment c.args.session.now ledger) left c.args.moment) (sym (after_is c))
+    (with_closed ledger left (advanced c.args.moment c.args.self.now) c.args.session.now later live)

@@ -12,6 +12,11 @@ use Rattle.reserving.proofs.Advancing.{session_in-advanced}
 use Rattle.reserving.proofs.SettledCall.{within_used, within_counted, there_later, counter_there, used_middle, count_middle}
 use Rattle.reserving.proofs.ChargeRows.{charge-numbered}
 use Rattle.reserving.proofs.Debited.{covered_is, debit_passes_is, debit_is}
+use Rattle.reserving.specs.Sessions.{is_of}
+use Rattle.reserving.specs.Left.{LeftRows, joined, IsWith}
+use Rattle.reserving.proofs.LeftTests.{none_each}
+use Rattle.reserving.proofs.LeftReadings.{debit_passes_told, event_price_told}
+use Rattle.reserving.proofs.LeftDebited.{debit_beside, covered_beside}
 use Rattle.reserving.proofs.account.Account.debit.Goals as goal
 
 pub returns-then-lt-clause-debit : goal.returns-then-lt-clause-debit
@@ -71,3 +76,34 @@ returns-clause-new c = λ x h.
 pub returns-clause-number : goal.returns-clause-number
 returns-clause-number c =
     charge-numbered (used_in c.args.session.now c.args.group c.args.self.now.groups) c.args.units.0 (count_in c.args.group (cycle_at c.args.self.now.book c.args.group c.args.moment) c.args.self.now.counters) c.event_price-price.result.blocks c.args.self.now.next_charge c.in-Some.ensures.some
+
+pub returns-then-lt-clause-left : goal.returns-then-lt-clause-left
+returns-then-lt-clause-left c = λ ledger left gone h.
+    let price : c.event_price-price.result.amount.0 ≡ (event_price_in c.args.group c.args.units.0 c.args.moment c.args.self.now).amount.0 = ap (λ (x : Rated). x.amount.0) c.event_price-price.ensures in (
+      record { apart = h.apart; cycles = h.cycles },
+      covered_beside true ledger left c.args.moment c.args.self.now c.args.group c.args.units.0 c.funds.result.0 c.event_price-price.result.amount.0 h (c.funds.ensures.left ledger left h) price (sym c.lt.ensures ∙ c.if-lt.true),
+    )
+
+pub returns-in_default-clause-limit_left : goal.returns-in_default-clause-limit_left
+returns-in_default-clause-limit_left c = λ e ledger left gone h.
+    let a : AccountRows = c.args.self.now in
+    let price : c.event_price-price.result.amount.0 ≡ (event_price_in c.args.group c.args.units.0 c.args.moment c.args.self.now).amount.0 = ap (λ (x : Rated). x.amount.0) c.event_price-price.ensures in (
+      covered_beside false ledger left c.args.moment a c.args.group c.args.units.0 c.funds.result.0 c.event_price-price.result.amount.0 h (c.funds.ensures.left ledger left h) price (sym c.lt.ensures ∙ c.if-lt.false),
+      debit_passes_told ledger left c.args.moment a c.args.session.now c.args.group c.args.units.0 (none_each (is_of c.args.session.now c.args.group) left.groups gone) h
+          ∙ (λ i. passes (used_in c.args.session.now c.args.group a.groups) c.args.units.0 (count_in c.args.group (cycle_at a.book c.args.group c.args.moment) a.counters) (sym c.event_price-price.ensures i).blocks a.next_charge)
+          ∙ c.within_limits.ensures.none c.in_default.is,
+    )
+
+pub returns-clause-left : goal.returns-clause-left
+returns-clause-left c = λ ledger left gone h.
+    let a : AccountRows = c.args.self.now in
+    let price : c.in-Some.rated.amount.0 ≡ (event_price_in c.args.group c.args.units.0 c.args.moment a).amount.0 = ap (λ (x : Amount). x.0) c.in-Some.ensures.amount ∙ ap (λ (x : Rated). x.amount.0) c.event_price-price.ensures in
+    let blocks : c.in-Some.rated.blocks.0 ≡ (event_price_in c.args.group c.args.units.0 c.args.moment a).blocks = c.in-Some.ensures.blocks ∙ ap (λ (x : Rated). x.blocks) c.event_price-price.ensures in
+    debit_beside ledger left a c.advance.new.self c.charge_use-charged.new.self c.args.session.now c.args.group c.cycle_at-cycle.result c.args.moment c.args.units.0 c.funds.result.0 _
+    h gone c.requires c.cycle_at-cycle.ensures (c.funds.ensures.left ledger left h)
+    (ap (λ (x : Amount). is_lt (nat_cmp c.funds.result.0 x.0)) c.in-Some.ensures.amount ∙ sym c.lt.ensures ∙ c.if-lt.false)
+    (ap (λ (x : Rated). passes (used_in c.args.session.now c.args.group a.groups) c.args.units.0 (count_in c.args.group (cycle_at a.book c.args.group c.args.moment) a.counters) x.blocks a.next_charge) (sym c.event_price-price.ensures) ∙ c.in-Some.ensures.some)
+    blocks price
+    (c.advance.ensures.rows ∙ ap (advanced c.args.moment) c.in_ok-make_rows.ensures.ok)
+    (c.charge_use-charged.ensures.rows ∙ (λ i. debited_account c.args.session.now c.args.group (c.in-Some.ensures.units i).0 c.in-Some.rated.blocks.0 c.in-Some.rated.amount.0 c.advance.new.self))
+    c.charge_use-charged.ensures.uncollected c.charge_use-charged.ensures.collected

@@ -7,6 +7,7 @@ use Rattle.reserving.specs.Rows.{IsAccount}
 use Rattle.reserving.specs.Changes.{advanced, lapsed_in, funds_later}
 use Rattle.reserving.proofs.LaterFunds.{funds_later-is}
 use Rattle.reserving.proofs.Advancing.{IsRowsOf-advanced}
+use Rattle.reserving.proofs.LeftReadings.{funds_told}
 use Rattle.reserving.proofs.account.Account.funds.Goals as goal
 
 pub returns-clause-rows : goal.returns-clause-rows
@@ -23,3 +24,6 @@ pub returns-clause-ledger : goal.returns-clause-ledger
 returns-clause-ledger c = λ ledger rows.
     let account : IsAccount c.args.self.now = subst IsAccount c.self.view_is c.self.invariant in
     returns-clause-rows c ∙ ap (funds c.args.group c.args.moment) (IsRowsOf-advanced ledger c.args.self.now c.args.moment account rows c.requires).buckets
+
+pub returns-clause-left : goal.returns-clause-left
+returns-clause-left c = λ ledger left h. returns-clause-rows c ∙ funds_told ledger left c.args.moment c.args.self.now c.args.group c.requires h

@@ -10,6 +10,8 @@ use Rattle.reserving.specs.Changes.{advanced, used_in, count_in, reserved_accoun
 use Rattle.reserving.specs.Rows.{AccountRows}
 use Rattle.reserving.proofs.ReservedCall.{group_there, free_middle, covered_middle, QuotaOf, grant_told, quota_covered, grant_is, within_grant}
 use Rattle.reserving.proofs.StillFree.{others_advanced, others_reserved}
+use Rattle.reserving.specs.Left.{LeftRows, joined, IsWith}
+use Rattle.reserving.proofs.LeftGranted.{nothing_beside, grant_beside}
 use Rattle.reserving.proofs.account.Account.reserve.Goals as goal
 
 -- the quota that was reckoned with the window's periods
@@ -77,3 +79,28 @@ returns-clause-sessions c =
 
 pub returns-then-quota-eq0-clause-sessions : goal.returns-then-quota-eq0-clause-sessions
 returns-then-quota-eq0-clause-sessions c = ap (λ (x : AccountRows). x.sessions) c.advance.ensures.rows
+
+pub returns-then-quota-eq0-clause-left : goal.returns-then-quota-eq0-clause-left
+returns-then-quota-eq0-clause-left c = λ ledger left h.
+    let a : AccountRows = c.args.self.now in
+    let requested : Option ℕ = option_map (λ (u : Units). u.0) c.args.requested in
+    let later : IsWith ledger left c.args.moment c.advance.new.self = c.advance.ensures.left ledger left h in
+    let periods : c.window_at-window.result.periods ≡ periods_at a.book c.args.moment = c.window_at-window.ensures.periods ∙ ap (λ (x : AccountRows). periods_at x.book c.args.moment) c.self.view_is in
+    let q : QuotaOf a c.args.session.now c.args.group c.args.moment requested c.quota-quota.result.wanted c.quota-quota.result.grant = quota_is a c.args.session.now c.args.group c.args.moment requested c.quota-quota.result.wanted c.quota-quota.result.grant c.window_at-window.result.periods periods c.quota-quota.ensures.quota in (
+      record { apart = later.apart; cycles = later.cycles },
+      (sym (ap (λ (x : Grant). x.units.0) (nothing_beside ledger left c.args.moment a c.args.session.now c.args.group requested c.quota-quota.result.wanted c.quota-quota.result.grant h c.requires.moment c.requires.live q)) ∙ c.if-quota-eq0.true, later.rows),
+    )
+
+pub returns-clause-left : goal.returns-clause-left
+returns-clause-left c = λ ledger left h.
+    let a : AccountRows = c.args.self.now in
+    let requested : Option ℕ = option_map (λ (u : Units). u.0) c.args.requested in
+    let grant : Grant = c.quota-quota.result.grant in
+    let periods : c.window_at-window.result.periods ≡ periods_at a.book c.args.moment = c.window_at-window.ensures.periods ∙ ap (λ (x : AccountRows). periods_at x.book c.args.moment) c.self.view_is in
+    let q : QuotaOf a c.args.session.now c.args.group c.args.moment requested c.quota-quota.result.wanted grant = quota_is a c.args.session.now c.args.group c.args.moment requested c.quota-quota.result.wanted grant c.window_at-window.result.periods periods c.quota-quota.ensures.quota in
+    let some : 0 < grant.units.0 = omega (arith, c.if-quota-eq0.false) in
+    grant_beside ledger left a c.advance-2.new.self c.hold_quota.new.self c.args.session.now c.args.group c.args.moment requested c.quota-quota.result.wanted grant c.window_at-window.result.switch c.window_at-window.result.validity (nat_lt grant.units.0 c.quota-quota.result.wanted)
+    h c.requires.moment c.requires.live c.requires.free q some
+    (c.window_at-window.ensures.switch ∙ ap (λ (x : AccountRows). switch_at x.book c.args.moment) c.self.view_is)
+    (c.window_at-window.ensures.validity ∙ ap (λ (x : AccountRows). validity_at x.book c.args.moment) c.self.view_is) refl
+    (c.advance-2.ensures.rows ∙ ap (advanced c.args.moment) c.in_ok-room.ensures.ok) c.hold_quota.ensures

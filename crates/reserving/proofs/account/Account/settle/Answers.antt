@@ -10,6 +10,8 @@ use Rattle.reserving.proofs.SettledCall.{rows_ended, nothing_settled, within_use
 use Rattle.reserving.proofs.SettledFree.{ended_free, settled_free}
 use Rattle.reserving.proofs.StillFree.{others_ended, others_settled}
 use Rattle.reserving.proofs.LeftSettled.{left_ended, left_settled}
+use Rattle.reserving.proofs.LeftReadings.{passes_told}
+use Rattle.reserving.proofs.LeftSettlement.{settlement_beside}
 use Rattle.reserving.proofs.account.Account.settle.Goals as goal
 
 is_nothing : (ps : List UsedPart) → (length ps == 0) ≡ true → ps ≡ []
@@ -105,3 +107,24 @@ returns-clause-left c = λ ledger left h.
     h c.requires.moment c.requires.live (is_something c.args.parts.now (sym c.is_empty.ensures ∙ c.if-is_empty.false)) c.cycle_at-cycle.ensures
     c.in-Some.ensures.units c.in-Some.ensures.blocks c.in-Some.ensures.amount c.in-Some.ensures.some
     (c.advance-2.ensures.rows ∙ ap (advanced c.args.moment) c.in_ok-make_rows.ensures.ok) c.settle_use-charged.ensures.rows
+
+pub returns-then-is_empty-clause-settled_left : goal.returns-then-is_empty-clause-settled_left
+returns-then-is_empty-clause-settled_left c = λ ledger left h.
+    nothing_settled ledger c.args.self.now c.args.session.now c.args.group c.args.moment c.args.parts.now (is_nothing c.args.parts.now (sym c.is_empty.ensures ∙ c.if-is_empty.true))
+
+pub returns-in_default-clause-limit_left : goal.returns-in_default-clause-limit_left
+returns-in_default-clause-limit_left c = λ e ledger left h.
+    passes_told ledger left c.args.moment c.args.self.now c.args.session.now c.args.group c.args.parts.now c.requires.moment h c.requires.live (is_something c.args.parts.now (sym c.is_empty.ensures ∙ c.if-is_empty.false))
+    ∙ c.rate.ensures.none c.in_default.is
+
+pub returns-clause-settled_left : goal.returns-clause-settled_left
+returns-clause-settled_left c = λ ledger left h.
+    settlement_beside ledger left c.args.self.now c.advance-2.new.self c.args.session.now c.args.group c.cycle_at-cycle.result c.args.moment c.args.parts.now _
+    h c.requires.moment c.requires.live c.in-Some.ensures.blocks c.in-Some.ensures.amount
+    (c.advance-2.ensures.rows ∙ ap (advanced c.args.moment) c.in_ok-make_rows.ensures.ok) c.settle_use-charged.ensures.uncollected c.settle_use-charged.ensures.collected
+
+pub returns-clause-within_left : goal.returns-clause-within_left
+returns-clause-within_left c = λ ledger left h.
+    passes_told ledger left c.args.moment c.args.self.now c.args.session.now c.args.group c.args.parts.now c.requires.moment h c.requires.live (is_something c.args.parts.now (sym c.is_empty.ensures ∙ c.if-is_empty.false))
+    ∙ (λ i. passes (used_in c.args.session.now c.args.group c.args.self.now.groups) (sym c.in-Some.ensures.units i) (count_in c.args.group (cycle_at c.args.self.now.book c.args.group c.args.moment) c.args.self.now.counters) (sym c.in-Some.ensures.blocks i) c.args.self.now.next_charge)
+    ∙ c.in-Some.ensures.some

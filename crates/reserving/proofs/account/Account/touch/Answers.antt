@@ -6,6 +6,10 @@ use Rattle.reserving.specs.Changes.{advanced, touched_account, touched_session}
 use Rattle.reserving.proofs.Advancing.{is_live_in-is}
 use Rattle.reserving.proofs.Closing.{IsRowsOf-touched}
 use Rattle.reserving.proofs.Kept.{IsAccount-touched}
+use Rattle.reserving.specs.Left.{LeftRows, IsWith}
+use Rattle.reserving.specs.Sessions.{is_live_in}
+use Rattle.reserving.proofs.LeftSettled.{live_later}
+use Rattle.reserving.proofs.LeftSessions.{with_touched}
 use Rattle.reserving.proofs.account.Account.touch.Goals as goal
 
 abbrev rows_of : (c : goal.After-touch_session) → AccountRows
@@ -42,14 +46,21 @@ invariant_of-self c =
 pub returns-clause-rows : goal.returns-clause-rows
 returns-clause-rows c = after_is c
 
+positive : (c : goal.After-touch_session) → 0 < c.args.self.now.book.validity
+positive c =
+    let account : IsAccount (advanced c.args.moment c.args.self.now) = subst IsAccount (advanced_is c) c.self.invariant in
+    omega (arith, account.book.some_validity)
+
 pub returns-clause-ledger : goal.returns-clause-ledger
 returns-clause-ledger c = λ ledger rows.
     let some : 0 < c.args.self.now.book.validity = positive c in
     let later : IsRowsOf ledger (advanced c.args.moment c.args.self.now) = subst (IsRowsOf ledger) c.advance.ensures.rows (c.advance.ensures.ledger ledger rows) in
     let live : is_live c.args.self.now.book.validity c.args.moment ledger c.args.session.now ≡ true = sym (is_live_in-is ledger c.args.self.now c.args.moment c.args.session.now rows c.requires.later) ∙ c.requires.live in
     subst (IsRowsOf (touched c.args.moment c.args.session.now c.args.number ledger)) (sym (after_is c)) (IsRowsOf-touched ledger (advanced c.args.moment c.args.self.now) c.args.session.now c.args.number later live some)
-  where
-    positive : (c : goal.After-touch_session) → 0 < c.args.self.now.book.validity
-    positive c =
-        let account : IsAccount (advanced c.args.moment c.args.self.now) = subst IsAccount (advanced_is c) c.self.invariant in
-        omega (arith, account.book.some_validity)
+
+pub returns-clause-left : goal.returns-clause-left
+returns-clause-left c = λ ledger left h.
+    let later : IsWith ledger left c.args.moment (advanced c.args.moment c.args.self.now) = subst (IsWith ledger left c.args.moment) c.advance.ensures.rows (c.advance.ensures.left ledger left h) in
+    let live : is_live_in c.args.self.now.book.validity c.args.moment (advanced c.args.moment c.args.self.now).sessions c.args.session.now ≡ true = live_later ledger left c.args.self.now c.args.session.now c.args.moment c.requires.later h later c.requires.live in
+    subst (IsWith (touched c.args.moment c.args.session.now c.args.number ledger) left c.args.moment) (sym (after_is c))
+    (with_touched ledger left (advanced c.args.moment c.args.self.now) c.args.session.now c.args.number (positive c) later live)

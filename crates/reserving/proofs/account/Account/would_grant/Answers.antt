@@ -9,6 +9,7 @@ use Rattle.reserving.specs.Quotas.{IsQuota}
 use Rattle.reserving.specs.Changes.{advanced, count_in}
 use Rattle.reserving.specs.Rows.{AccountRows, IsAccount}
 use Rattle.reserving.proofs.ReservedCall.{new_told}
+use Rattle.reserving.proofs.LeftReadings.{new_told_beside}
 use Rattle.reserving.proofs.account.Account.would_grant.Goals as goal
 
 -- the quota that was reckoned with the window's periods
@@ -18,12 +19,22 @@ quota_is : (a : AccountRows) (g t : ℕ) (requested : Option ℕ) (units : ℕ) 
 quota_is a g t requested units grant periods is q =
     subst (λ p. IsQuota a.book 0 g requested p (count_in g (cycle_at a.book g t) a.counters) (funds g t (advanced t a).buckets) units grant) is q
 
-pub returns : goal.returns
-returns c = λ ledger rows.
+pub returns-clause-ledger : goal.returns-clause-ledger
+returns-clause-ledger c = λ ledger rows.
     let a : AccountRows = c.args.self.now in
     let requested : Option ℕ = option_map (λ (u : Units). u.0) c.args.requested in
     let grant : Grant = c.quota_after-quota.result.grant in
     let periods : c.window_at.result.periods ≡ periods_at a.book c.args.moment = c.window_at.ensures.periods ∙ ap (λ (x : AccountRows). periods_at x.book c.args.moment) c.self.view_is in
     ap (λ (x : Grant). nat_lt 0 x.units.0)
     (new_told ledger a c.args.group c.args.moment requested c.quota_after-quota.result.wanted grant (subst IsAccount c.self.view_is c.self.invariant) rows c.requires
+    (quota_is a c.args.group c.args.moment requested c.quota_after-quota.result.wanted grant c.window_at.result.periods periods c.quota_after-quota.ensures))
+
+pub returns-clause-left : goal.returns-clause-left
+returns-clause-left c = λ ledger left h.
+    let a : AccountRows = c.args.self.now in
+    let requested : Option ℕ = option_map (λ (u : Units). u.0) c.args.requested in
+    let grant : Grant = c.quota_after-quota.result.grant in
+    let periods : c.window_at.result.periods ≡ periods_at a.book c.args.moment = c.window_at.ensures.periods ∙ ap (λ (x : AccountRows). periods_at x.book c.args.moment) c.self.view_is in
+    ap (λ (x : Grant). nat_lt 0 x.units.0)
+    (new_told_beside ledger left c.args.moment a c.args.group requested c.quota_after-quota.result.wanted grant c.requires h
     (quota_is a c.args.group c.args.moment requested c.quota_after-quota.result.wanted grant c.window_at.result.periods periods c.quota_after-quota.ensures))
