@@ -4,3 +4,4 @@ pub mod Settling
 pub mod Parts
 pub mod Short
 pub mod Filtered
+pub mod Paid

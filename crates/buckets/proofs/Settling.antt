@@ -5,10 +5,12 @@ use Rattle.std.proofs.lemmas.List.Sums.{sum_by-cons}
 use Rattle.buckets.specs.declared.holds.Hold.{Hold}
 use Rattle.buckets.specs.Row.{Row, IsBalanced, precedes, eligible_amount, with_charge, with_charge_of_hold, with_release}
 use Rattle.buckets.specs.Share.{sum_before, share, by_shares, along}
-use Rattle.buckets.specs.Spend.{Each, IsInOrder, IsSound}
-use Rattle.buckets.specs.Holding.{held_in, held_sum, IsWithin, IsLeftWithin, with_rest_released, settled_row, settled_rows}
+use Rattle.buckets.specs.Spend.{Each, IsInOrder, AreDistinct, IsSound}
+use Rattle.buckets.specs.Holding.{held_in, held_sum, IsWithin, IsLeftWithin, with_rest_released, settled_row, settled_rows, rest_of_holds}
+use Rattle.buckets.specs.Laws.{SettlesAsCharged}
 use Rattle.buckets.proofs.SharesAlong.{KeepsPlaces, with_release_number, with_release_until, by_shares-along, charged_rows-along, IsInOrder-along, with_charge_keeps, with_charge_of_hold_keeps}
 use Rattle.buckets.proofs.Kept.{AreDistinct-along, balanced_release}
+use Rattle.buckets.proofs.Parts.{sum_at, sum_at-parts, held_in-sum_at}
 
 -- what is within stays within when the holds and then the rest are charged
 IsLeftWithin-charged : (holds : List Hold) (f : Row → ℕ) (left rest : ℕ) (rows : List Row) → IsWithin holds rows → IsLeftWithin holds left (along with_charge f rest (along with_charge_of_hold (held_in holds) left rows))
@@ -58,6 +60,26 @@ settled_rows-along holds group t amount rows h =
     sym (by_shares-along (with_rest_released holds t) (held_in holds) charged amount in_order)
     ∙ ap (λ xs. by_shares (with_rest_released holds t) (held_in holds) xs amount) (sym (charged_rows-along holds group t amount rows h))
     ∙ each_composed holds group t amount rows rows
+
+-- a charge, and then a release of what it leaves of the holds
+each_released : (holds : List Hold) (group t amount : ℕ) (rows xs : List Row) →
+    Each (λ b. sum_at b.number (rest_of_holds holds amount rows) ≡ held_in holds b - share (held_in holds) rows amount b) xs →
+    (let first : Row → Row = λ b. with_charge_of_hold b (share (held_in holds) rows amount b) in
+    let second : Row → Row = λ b. with_charge b (share (eligible_amount group t) (map first rows) (amount - held_sum holds rows) b) in
+    let third : Row → Row = λ b. with_release t b (held_in (rest_of_holds holds amount rows) b) in
+    map third (map second (map first xs)) ≡ map (settled_row holds group t amount rows) xs)
+each_released holds group t amount rows [] rest = refl
+each_released holds group t amount rows (b ∷ bs) rest =
+    let first : Row → Row = λ x. with_charge_of_hold x (share (held_in holds) rows amount x) in
+    let left : ℕ = amount - held_sum holds rows in
+    let s1 : ℕ = share (held_in holds) rows amount b in
+    let e1 : sum_before (eligible_amount group t) (first b) (map first rows) ≡ sum_before (eligible_amount group t) b rows = sum_before_eligible group t (share (held_in holds) rows amount) b s1 rows in
+    let e2 : held_in (rest_of_holds holds amount rows) b ≡ held_in holds b - s1 = held_in-sum_at (rest_of_holds holds amount rows) b ∙ rest.0 in
+    λ i. with_release t (with_charge (with_charge_of_hold b s1) (min (eligible_amount group t b) (left - e1 i))) (e2 i) ∷ each_released holds group t amount rows bs rest.1 i
+
+pub settles_as_charged : SettlesAsCharged
+settles_as_charged holds group at amount rows distinct =
+    sym (each_released holds group at amount rows rows (sum_at-parts (λ b. held_in holds b - share (held_in holds) rows amount b) rows distinct))
 
 -- what each purse keeps is kept by the last walk
 released_keeps : (holds : List Hold) (t : ℕ) → KeepsPlaces (with_rest_released holds t)

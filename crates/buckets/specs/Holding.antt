@@ -1,6 +1,7 @@
 -- What a reservation holds of the buckets.
 -- Source: TS 32.299, session charging with unit reservation; shares in order: profile.
-use Rattle.std.specs.Prelude.{ℕ, ◌-◌, ◌+◌, ◌≤◌, List, [], ◌∷◌, map, sum_by, ◌==◌, if◌then◌else◌, min}
+use Rattle.std.specs.Prelude.{◌≢◌, ℕ, ◌-◌, ◌+◌, ◌≤◌, ◌<◌, List, [], ◌∷◌, map, sum_by, ◌==◌, if◌then◌else◌, min}
+use Rattle.std.specs.List.{AllByRecursion}
 use Rattle.buckets.specs.declared.holds.Hold.{Hold}
 use Rattle.buckets.specs.Row.{Row, eligible_amount, with_charge_of_hold, with_charge, with_release}
 use Rattle.buckets.specs.Share.{share, by_shares, parts}
@@ -9,6 +10,11 @@ use Rattle.buckets.specs.Spend.{funds}
 -- the shares of an amount over the eligible buckets, as holds
 abbrev pub holds_of : ℕ → ℕ → ℕ → List Row → List Hold
 holds_of group at amount rows = parts (share (eligible_amount group at) rows amount) rows
+
+-- each hold is above 0, and of another bucket than those after it
+abbrev pub AreHolds : List Hold → Type 0
+AreHolds [] = Unit {0}
+AreHolds (h ∷ hs) = (0 < h.amount) × AllByRecursion (λ other. other.bucket ≢ h.bucket) hs × AreHolds hs
 
 -- what the holds have of a bucket
 abbrev pub held_in : List Hold → Row → ℕ

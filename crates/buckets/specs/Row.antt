@@ -16,7 +16,7 @@ pub record Row : Type 0 where
 -- what was credited is in exactly one of the four columns, and is an amount of money
 pub record IsBalanced (b : Row) : Type 0 where
   pub sum : b.credited ≡ b.available + b.reserved + b.charged + b.expired
-  pub most : b.credited ≤ 1000000000000000
+  pub most : b.credited ≤ 1_000_000_000_000_000
 
 -- the bucket pays for the group
 abbrev pub covers : Option ℕ → ℕ → Bool

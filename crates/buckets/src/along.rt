@@ -15,11 +15,7 @@ use units::Moment;
 pub(crate) fn part_of(column: u64, left: u128) -> u64
     ensures { result ≡ min column left }
 {
-    if (column as u128) < left {
-        column
-    } else {
-        left as u64
-    }
+    (column as u128).min(left) as u64
 }
 
 /// What the eligible buckets have.
@@ -176,13 +172,6 @@ pub(crate) fn release_all(buckets: &mut Vec<Bucket>, holds: &[Hold], at: Moment)
     }
 }
 
-/// The lesser of two amounts.
-fn min_of(one: u128, other: u128) -> u128
-    ensures { result ≡ min one other }
-{
-    if one < other { one } else { other }
-}
-
 /// What a part leaves of what is held of a bucket.
 fn rest_within(holds: &[Hold], bucket: &Bucket, part: u128) -> u64
     requires rest { held_in holds.now bucket.now - part ≤ bucket.now.reserved }
@@ -200,7 +189,7 @@ pub(crate) fn release_rest(buckets: &mut Vec<Bucket>, holds: &[Hold], at: Moment
 {
     let mut left = amount;
     for bucket in buckets.iter_mut() {
-        let part = min_of(held_in(holds, bucket), left);
+        let part = held_in(holds, bucket).min(left);
         let rest = rest_within(holds, bucket, part);
         bucket.release(rest, at);
         left -= part;

@@ -38,17 +38,7 @@ impl Model for Bucket {
       expired = b.expired;
     } };
 
-    ghost invariant = { λ b. IsBalanced (record {
-      number = b.number;
-      from = b.from;
-      until = b.until;
-      scope = b.scope;
-      credited = b.credited;
-      available = b.available;
-      reserved = b.reserved;
-      charged = b.charged;
-      expired = b.expired;
-    }) };
+    ghost invariant = { λ b. IsBalanced (view b) };
 }
 
 impl Bucket {

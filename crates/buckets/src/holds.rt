@@ -14,7 +14,7 @@ pub struct Hold {
     pub amount: u64,
 }
 
-/// What a reservation holds, in the order of the buckets, each hold above 0.
+/// What a reservation holds: each hold above 0, and of another bucket than the others.
 #[derive(Clone, Debug, Drop)]
 pub struct Holds {
     pub(crate) items: Vec<Hold>,
@@ -23,14 +23,17 @@ pub struct Holds {
 impl Model for Holds {
     ghost use Rattle.std.specs.Prelude.{List};
     ghost use Rattle.buckets.specs.declared.holds.Hold.{Hold};
+    ghost use Rattle.buckets.specs.Holding.{AreHolds};
 
     ghost Value = { List Hold };
 
     ghost view = { λ h. h.items.items };
+
+    ghost invariant = { λ h. AreHolds h.items.items };
 }
 
 impl Holds {
-    ghost use Rattle.buckets.specs.Holding.{held_in};
+    ghost use Rattle.buckets.specs.Holding.{held_in, AreHolds};
 
     /// No holds. It takes no memory.
     pub fn none(alloc: Global) -> Self
@@ -48,9 +51,10 @@ impl Holds {
         along::held_in(&self.items, bucket)
     }
 
-    /// The holds one after another.
+    /// The holds one after another, in the order of the buckets.
     pub fn as_slice(&self) -> &[Hold]
-        ensures { result.now ≡ self.now }
+        ensures value { result.now ≡ self.now }
+        ensures holds { AreHolds self.now }
     {
         self.items.as_slice()
     }

@@ -10,5 +10,7 @@ mod purse;
 
 pub use crate::bucket::Bucket;
 pub use crate::holds::{Hold, HoldRoom, Holds};
-pub use crate::laws::nothing_left_where_short;
+pub use crate::laws::{
+    nothing_left_where_short, settles_as_charged_and_released, shares_sum_to_the_amount,
+};
 pub use crate::purse::{Charged, Purse, PurseFault};

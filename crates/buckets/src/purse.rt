@@ -1,4 +1,4 @@
-ghost use Rattle.std.specs.Prelude.{◌≡◌, ℕ, ◌+◌, ◌-◌, ◌≤◌, ◌<◌, ◌↔◌, ◌==◌, ◌&&◌, not, [], OnOk, OnErr, IfOk, IsErrOf, map, length, filter};
+ghost use Rattle.std.specs.Prelude.{◌≡◌, ℕ, ◌+◌, ◌-◌, ◌≤◌, ◌<◌, ◌^◌, ◌↔◌, ◌==◌, ◌&&◌, not, [], OnOk, OnErr, IfOk, IsErrOf, map, length, filter};
 ghost use Rattle.buckets.specs.Row.{Row, with_end, new_row};
 ghost use Rattle.buckets.specs.Spend.{funds, held_rows, IsBelow, inserted, IsSound};
 ghost use Rattle.buckets.specs.Holding.{holds_of, IsWithin, charged_rows, released_rows, uncollected, rest_of_holds, settled_rows};
@@ -39,6 +39,7 @@ pub struct Charged {
     pub collected: Amount,
     /// What they didn't reach.
     pub uncollected: Amount,
+    ghost sum: { collected.0 + uncollected.0 < 2 ^ 128 },
 }
 
 /// The buckets of an account, by end and then by number: the order in which they are used (TS 32.296, account
