@@ -16,6 +16,7 @@ use Rattle.reserving.specs.Balance.{credits, buckets_at}
 use Rattle.reserving.specs.Sessions.{holds_at}
 use Rattle.reserving.specs.Settlement.{reported, report_price, charge_facts, settled_by}
 use Rattle.reserving.specs.Reservation.{hold_facts, grant_for}
+use Rattle.charging.specs.SessionReports.{Report}
 use Rattle.charging.specs.Quotas.{OpenGrant, grant_open, IsWithinGrant, AreQuotasPaid}
 use Rattle.charging.proofs.BucketSums.{sum_by-moved, held_sum-parts}
 use Rattle.charging.proofs.Steps.{is_quiet, with_grant, granted, Keeps}
@@ -26,8 +27,8 @@ use Rattle.charging.proofs.GrantsLeft.{held_together}
 use Rattle.charging.proofs.GrantsHeld.{has_blocks, IsCovered, AreCovered, covered_none, covered_quiet, covered_credit, covered_settle, covered_debit, covered_grant}
 
 -- what each ledger of an account keeps: it is paid, its open grants are covered, and its uses within them are collected
-pub record IsGuaranteed (b : Book) (ledger : Ledger) : Type 0 where
-  pub paying : IsPaying b ledger
+pub record IsGuaranteed (b : Book) (reports : List Report) (ledger : Ledger) : Type 0 where
+  pub paying : IsPaying b reports ledger
   pub covered : AreCovered b ledger
   pub quotas : AreQuotasPaid b ledger
 
@@ -56,10 +57,10 @@ held_at v t s g ledger made =
     held_sum-parts (λ c. held (only s g) c.number ledger) (buckets_at v t ledger) (distinct v t ledger made)
     ∙ sum_by-moved (λ n. held (only s g) n ledger) v t ledger (credits ledger)
 
-within_grant : (b : Book) → IsBook b → (t : ℕ) (s : List ℕ) (g : ℕ) (used_parts : List UsedPart) (ledger : Ledger) → IsGuaranteed b ledger →
+within_grant : (b : Book) → IsBook b → (t : ℕ) (s : List ℕ) (g : ℕ) (used_parts : List UsedPart) (reports : List Report) (ledger : Ledger) → IsGuaranteed b reports ledger →
     (x : OpenGrant) → grant_open s g ledger ≡ Some x → reported used_parts ≤ x.units → counter (cycle_at b g) g (cycle_at b g t) ledger ≡ x.counter →
     uncollected (holds_at b.validity t s g ledger) g t (report_price b t s g used_parts ledger).amount.0 (buckets_at b.validity t ledger) ≡ 0
-within_grant b is t s g used_parts ledger h x e le place_is =
+within_grant b is t s g used_parts reports ledger h x e le place_is =
     let covered : IsCovered b s g ledger x = h.covered s g x e in
     let place : ℕ = counter (cycle_at b g) g (cycle_at b g t) ledger in
     let before : ℕ = used s g ledger in
@@ -71,12 +72,12 @@ within_grant b is t s g used_parts ledger h x e le place_is =
     ap (λ n. grant_price (tariff_of b g) covered.periods before n x.units) place_is in
     omega (arith, price, most, moved, covered.held, held_at b.validity t s g ledger h.paying.credits)
 
-settled_quotas : (b : Book) → IsBook b → (t : ℕ) (s : List ℕ) (g : ℕ) (used_parts : List UsedPart) (ledger : Ledger) → IsGuaranteed b ledger → AreQuotasPaid b (settled_by b t s g used_parts ledger)
-settled_quotas b is t s g [] ledger h = (tt, h.quotas)
-settled_quotas b is t s g (p ∷ ps) ledger h = (
+settled_quotas : (b : Book) → IsBook b → (t : ℕ) (s : List ℕ) (g : ℕ) (used_parts : List UsedPart) (reports : List Report) (ledger : Ledger) → IsGuaranteed b reports ledger → AreQuotasPaid b (settled_by b t s g used_parts ledger)
+settled_quotas b is t s g [] reports ledger h = (tt, h.quotas)
+settled_quotas b is t s g (p ∷ ps) reports ledger h = (
   tt,
   (
-    subst (IsWithinGrant b t s g (reported (p ∷ ps)) (uncollected holds g t rated rows)) (sym (before_charges-charges t hs ledger h.paying.begins)) (within_grant b is t s g (p ∷ ps) ledger h),
+    subst (IsWithinGrant b t s g (reported (p ∷ ps)) (uncollected holds g t rated rows)) (sym (before_charges-charges t hs ledger h.paying.begins)) (within_grant b is t s g (p ∷ ps) reports ledger h),
     AreQuotasPaid-charges b t hs ledger h.quotas,
   ),
 )
@@ -103,16 +104,33 @@ granted_quotas b t s g asked ledger h =
 pub keeps_guaranteed : (b : Book) → IsBook b → Keeps b (IsGuaranteed b)
 keeps_guaranteed b is = record {
   none = record { paying = paying.none; covered = covered_none b; quotas = tt };
-  quiet = λ t f ledger q h. record { paying = paying.quiet t f ledger q h.paying; covered = covered_quiet b t f ledger q h.covered; quotas = quiet_quotas b t f ledger q h.quotas };
-  credit = λ t from until scope amount ledger h. record { paying = paying.credit t from until scope amount ledger h.paying; covered = covered_credit b t from until scope amount ledger h.covered; quotas = (tt, h.quotas) };
-  settle = λ t s g used_parts ledger h. record { paying = paying.settle t s g used_parts ledger h.paying; covered = covered_settle b t s g used_parts ledger h.covered; quotas = settled_quotas b is t s g used_parts ledger h };
-  grant = λ t s g asked ledger recorded h. record {
-    paying = paying.grant t s g asked ledger recorded h.paying;
+  quiet = λ t f reports ledger q n h. record {
+    paying = paying.quiet t f reports ledger q n h.paying;
+    covered = covered_quiet b t f ledger q h.covered;
+    quotas = quiet_quotas b t f ledger q h.quotas;
+  };
+  touch = λ t s n reports ledger h. record {
+    paying = paying.touch t s n reports ledger h.paying;
+    covered = covered_quiet b t (Recorded s n) (record { at = t; fact = Touch s } ∷ ledger) refl (covered_quiet b t (Touch s) ledger refl h.covered);
+    quotas = (tt, (tt, h.quotas));
+  };
+  credit = λ t from until scope amount reports ledger h. record {
+    paying = paying.credit t from until scope amount reports ledger h.paying;
+    covered = covered_credit b t from until scope amount ledger h.covered;
+    quotas = (tt, h.quotas);
+  };
+  settle = λ t s g used_parts reports ledger touches h. record {
+    paying = paying.settle t s g used_parts reports ledger touches h.paying;
+    covered = covered_settle b t s g used_parts ledger h.covered;
+    quotas = settled_quotas b is t s g used_parts reports ledger h;
+  };
+  grant = λ t s g asked reports ledger recorded h. record {
+    paying = paying.grant t s g asked reports ledger recorded h.paying;
     covered = covered_grant b is t s g asked ledger h.paying.credits recorded h.covered;
     quotas = granted_quotas b t s g asked ledger h.quotas;
   };
-  debit = λ t s g units ledger new covered h. record {
-    paying = paying.debit t s g units ledger new covered h.paying;
+  debit = λ t s g units reports ledger new covered h. record {
+    paying = paying.debit t s g units reports ledger new covered h.paying;
     covered = covered_debit b t s g units ledger new h.covered;
     quotas = (λ x e le place. refl, AreQuotasPaid-charges b t _ ledger h.quotas);
   };

@@ -1,7 +1,8 @@
--- What each step of a ledger keeps, the ledger of each history keeps.
+-- What each step of a ledger keeps, the reports and the ledger of each history keep.
 use Rattle.std.proofs.Common.{ℕ, Bool, true, false, List, [], ◌∷◌, refl, Option, Some, None}
 use Rattle.std.specs.Prelude.{if◌then◌else◌}
 use Rattle.commands.specs.declared.answer.Answer.{Answer}
+use Rattle.commands.specs.declared.answer.Answer.TheVariants as answer
 use Rattle.commands.specs.declared.command.Command.{Command}
 use Rattle.commands.specs.declared.command.Command.TheVariants as command
 use Rattle.commands.specs.declared.command.Content.{Content}
@@ -12,66 +13,82 @@ use Rattle.tariffs.specs.Books.{Book}
 use Rattle.reserving.specs.Ledger.{Ledger}
 use Rattle.reserving.specs.Ledger.Fact.{Barred}
 use Rattle.decisions.specs.Decided.{Decision}
-use Rattle.decisions.specs.Decisions.{decision, is_read}
+use Rattle.decisions.specs.Decisions.{decision, answer_of, is_read}
 use Rattle.keepers.specs.declared.key.KeptAnswer.{KeptAnswer}
 use Rattle.keepers.specs.Keys.{key_of}
 use Rattle.keepers.specs.Histories.{History, kept_under}
 use Rattle.keepers.specs.Accepted.{Accepted, Outcome, account_of, names}
-use Rattle.charging.specs.Outcomes.{unless_kept, decided_by, request_outcome, from_of, until_of, is_out_of_range, new_credit, credit_outcome, opened_outcome, unopened_outcome, outcome}
+use Rattle.charging.specs.Outcomes.{told, keeping, unless_kept, decided_by, request_outcome, from_of, until_of, is_out_of_range, new_credit, credit_outcome, opened_outcome, unopened_outcome, outcome}
 use Rattle.charging.specs.Served.{history}
+use Rattle.charging.specs.SessionReports.{Report, with_ask, with_reports, reports_of}
 use Rattle.charging.proofs.Steps.{Keeps}
 use Rattle.charging.proofs.KeptDecisions.{kept_decided}
 
-module _ (b : Book) (P : Ledger → Type 0) (k : Keeps b P) where
-  either_outcome : (c : Bool) (x y : Outcome) → P x.after.ledger → P y.after.ledger → P (if c then x else y).after.ledger
-  either_outcome true x y p q = p
-  either_outcome false x y p q = q
+module _ (b : Book) (P : List Report → Ledger → Type 0) (k : Keeps b P) where
+  -- what a command comes to, with its reports where it is accepted
+  abbrev IsKept : Command → ℕ → List Report → Outcome → Type 0
+  IsKept c t reports o = P (if o.accepted then with_reports b t c reports else reports) o.after.ledger
 
-  kept_unless : (o : Option KeptAnswer) (new : Content) (conflict : Answer) (h : History) (fresh : Outcome) → P h.ledger → P fresh.after.ledger → P (unless_kept o new conflict h fresh).after.ledger
-  kept_unless None new conflict h fresh p q = q
-  kept_unless (Some kept) new conflict h fresh p q = p
+  either_outcome : (c : Command) (t : ℕ) (reports : List Report) (v : Bool) (x y : Outcome) → IsKept c t reports x → IsKept c t reports y → IsKept c t reports (if v then x else y)
+  either_outcome c t reports true x y p q = p
+  either_outcome c t reports false x y p q = q
+
+  kept_unless : (c : Command) (t : ℕ) (reports : List Report) (o : Option KeptAnswer) (new : Content) (conflict : Answer) (h : History) (fresh : Outcome) → P reports h.ledger → IsKept c t reports fresh →
+      IsKept c t reports (unless_kept o new conflict h fresh)
+  kept_unless c t reports None new conflict h fresh p q = q
+  kept_unless c t reports (Some kept) new conflict h fresh p q = p
 
   -- ---- a command
 
-  kept_request : (r : Request) (t : ℕ) (h : History) → P h.ledger → P (request_outcome b r t h).after.ledger
-  kept_request r t h p =
+  kept_decision : (r : Request) (t : ℕ) (reports : List Report) (d : Decision) (h : History) → P reports h.ledger → P (if d.accepted then with_ask b t r.session r.ask reports else reports) d.after →
+      IsKept (command.Ccr r) t reports (decided_by r d h)
+  kept_decision r t reports d h p = at d.accepted
+    where
+      at : (v : Bool) → P (if v then with_ask b t r.session r.ask reports else reports) d.after →
+          IsKept (command.Ccr r) t reports (if v then keeping (content.Request r) (answer.Request (answer_of r d.outcome)) d.after h else told (answer.Request (answer_of r d.outcome)) h)
+      at true q = q
+      at false q = p
+
+  kept_request : (r : Request) (t : ℕ) (reports : List Report) (h : History) → P reports h.ledger → IsKept (command.Ccr r) t reports (request_outcome b r t h)
+  kept_request r t reports h p =
       let d : Decision = decision b t r h.ledger in
-      either_outcome (is_read r.ask) _ _ p
-      (kept_unless (kept_under (key_of (content.Request r)) h) (content.Request r) _ h (decided_by r d h) p
-      (either_outcome d.accepted _ _ (kept_decided b P k t r.session r.number r.ask h.ledger p) p))
+      either_outcome (command.Ccr r) t reports (is_read r.ask) _ _ p
+      (kept_unless (command.Ccr r) t reports (kept_under (key_of (content.Request r)) h) (content.Request r) _ h (decided_by r d h) p
+      (kept_decision r t reports d h p (kept_decided b P k t r.session r.number r.ask reports h.ledger p)))
 
-  kept_credit : (c : Credit) (t : ℕ) (h : History) → P h.ledger → P (credit_outcome c t h).after.ledger
-  kept_credit c t h p =
-      kept_unless (kept_under (key_of (content.Credit c)) h) (content.Credit c) _ h (new_credit c t h) p
-      (either_outcome (is_out_of_range c t h.ledger) _ _ p (k.credit t (from_of c t) (until_of c) c.scope c.amount h.ledger p))
+  kept_credit : (c : Credit) (t : ℕ) (reports : List Report) (h : History) → P reports h.ledger → IsKept (command.Credit c) t reports (credit_outcome c t h)
+  kept_credit c t reports h p =
+      kept_unless (command.Credit c) t reports (kept_under (key_of (content.Credit c)) h) (content.Credit c) _ h (new_credit c t h) p
+      (either_outcome (command.Credit c) t reports (is_out_of_range c t h.ledger) _ _ p (k.credit t (from_of c t) (until_of c) c.scope c.amount reports h.ledger p))
 
-  kept_opened : (h : History) (c : Command) (t : ℕ) → P h.ledger → P (opened_outcome b h c t).after.ledger
-  kept_opened h (command.Ccr r) t p = kept_request r t h p
-  kept_opened h (command.OpenAccount n) t p = p
-  kept_opened h (command.Credit c) t p = kept_credit c t h p
-  kept_opened h (command.Bar n) t p = k.quiet t (Barred true) h.ledger refl p
-  kept_opened h (command.Unbar n) t p = k.quiet t (Barred false) h.ledger refl p
-  kept_opened h command.Sweep t p = p
+  kept_opened : (h : History) (c : Command) (t : ℕ) (reports : List Report) → P reports h.ledger → IsKept c t reports (opened_outcome b h c t)
+  kept_opened h (command.Ccr r) t reports p = kept_request r t reports h p
+  kept_opened h (command.OpenAccount n) t reports p = p
+  kept_opened h (command.Credit c) t reports p = kept_credit c t reports h p
+  kept_opened h (command.Bar n) t reports p = k.quiet t (Barred true) reports h.ledger refl refl p
+  kept_opened h (command.Unbar n) t reports p = k.quiet t (Barred false) reports h.ledger refl refl p
+  kept_opened h command.Sweep t reports p = p
 
-  kept_unopened : (h : History) (c : Command) → P h.ledger → P (unopened_outcome h c).after.ledger
-  kept_unopened h (command.Ccr r) p = p
-  kept_unopened h (command.OpenAccount n) p = p
-  kept_unopened h (command.Credit c) p = p
-  kept_unopened h (command.Bar n) p = p
-  kept_unopened h (command.Unbar n) p = p
-  kept_unopened h command.Sweep p = p
+  kept_unopened : (h : History) (c : Command) (t : ℕ) (reports : List Report) → P reports h.ledger → IsKept c t reports (unopened_outcome h c)
+  kept_unopened h (command.Ccr r) t reports p = p
+  kept_unopened h (command.OpenAccount n) t reports p = p
+  kept_unopened h (command.Credit c) t reports p = p
+  kept_unopened h (command.Bar n) t reports p = p
+  kept_unopened h (command.Unbar n) t reports p = p
+  kept_unopened h command.Sweep t reports p = p
 
-  kept_outcome : (h : History) (c : Command) (t : ℕ) → P h.ledger → P (outcome b h c t).after.ledger
-  kept_outcome h c t p = either_outcome h.opened (opened_outcome b h c t) (unopened_outcome h c) (kept_opened h c t p) (kept_unopened h c p)
+  kept_outcome : (h : History) (c : Command) (t : ℕ) (reports : List Report) → P reports h.ledger → IsKept c t reports (outcome b h c t)
+  kept_outcome h c t reports p =
+      either_outcome c t reports h.opened (opened_outcome b h c t) (unopened_outcome h c) (kept_opened h c t reports p) (kept_unopened h c t reports p)
 
   -- ---- a list of accepted commands
 
-  either_history : (c : Bool) (x y : History) → P x.ledger → P y.ledger → P (if c then x else y).ledger
-  either_history true x y p q = p
-  either_history false x y p q = q
+  either_history : (v : Bool) (more reports : List Report) (x y : History) → P more x.ledger → P reports y.ledger → P (if v then more else reports) (if v then x else y).ledger
+  either_history true more reports x y p q = p
+  either_history false more reports x y p q = q
 
-  pub kept_history : (a : List ℕ) (list : List Accepted) → P (history b a list).ledger
+  pub kept_history : (a : List ℕ) (list : List Accepted) → P (reports_of b a list) (history b a list).ledger
   kept_history a [] = k.none
   kept_history a (d ∷ before) =
-      let older : P (history b a before).ledger = kept_history a before in
-      either_history (names a (account_of d.command)) _ (history b a before) (kept_outcome (history b a before) d.command d.moment older) older
+      let older : P (reports_of b a before) (history b a before).ledger = kept_history a before in
+      either_history (names a (account_of d.command)) _ (reports_of b a before) _ (history b a before) (kept_outcome (history b a before) d.command d.moment (reports_of b a before) older) older

@@ -1,6 +1,7 @@
--- An account that was never opened has an empty ledger.
-use Rattle.std.proofs.Common.{◌≡◌, ℕ, Bool, true, false, true≢false, List, [], ◌∷◌, refl, sym, subst, ◌∙◌, Option, Some, None}
+-- An account that was never opened has an empty ledger, and nothing is kept of it.
+use Rattle.std.proofs.Common.{◌≡◌, ℕ, Bool, true, false, true≢false, List, [], ◌∷◌, refl, sym, ap, subst, ◌∙◌, Option, Some, None}
 use Rattle.std.specs.Prelude.{if◌then◌else◌}
+use Rattle.std.specs.List.{find}
 use Rattle.commands.specs.declared.command.Command.{Command}
 use Rattle.commands.specs.declared.command.Command.TheVariants as command
 use Rattle.commands.specs.declared.answer.Answer.{Answer}
@@ -16,12 +17,14 @@ use Rattle.tariffs.specs.Books.{Book}
 use Rattle.reserving.specs.Ledger.{next_bucket}
 use Rattle.reserving.specs.Requests.{credited}
 use Rattle.reserving.specs.Stored.{StoredRows}
+use Rattle.reserving.proofs.Lists.{no_some}
 use Rattle.decisions.specs.Decided.{Decision}
 use Rattle.decisions.specs.Decisions.{decision, answer_of, is_read}
+use Rattle.keepers.specs.declared.key.Key.{Key}
 use Rattle.keepers.specs.declared.key.KeptAnswer.{KeptAnswer}
 use Rattle.keepers.specs.Keys.{key_of}
 use Rattle.keepers.specs.Tables.{Tables}
-use Rattle.keepers.specs.Histories.{History, kept_under}
+use Rattle.keepers.specs.Histories.{History, is_kept_under, kept_under}
 use Rattle.keepers.specs.Accepted.{Accepted, Outcome, account_of, names, as_of, IsRow}
 use Rattle.charging.specs.Outcomes.{outcome, opened_outcome, unopened_outcome, told, keeping, unless_kept, failed, decided_by, request_outcome, from_of, until_of, is_out_of_range, new_credit}
 use Rattle.charging.specs.Served.{history, AreTables}
@@ -63,29 +66,43 @@ opened_stays b h command.Sweep t = refl
 
 -- ---- before it is opened nothing is written
 
-unopened_ledger : (h : History) (c : Command) → h.ledger ≡ [] → (unopened_outcome h c).after.ledger ≡ []
-unopened_ledger h (command.Ccr r) e = e
-unopened_ledger h (command.OpenAccount n) e = e
-unopened_ledger h (command.Credit c) e = e
-unopened_ledger h (command.Bar n) e = e
-unopened_ledger h (command.Unbar n) e = e
-unopened_ledger h command.Sweep e = e
+abbrev IsEmpty : History → Type 0
+IsEmpty h = (h.ledger ≡ []) × (h.kept ≡ [])
 
-outcome_ledger : (b : Book) (h : History) (c : Command) (t : ℕ) → (h.opened ≡ false → h.ledger ≡ []) → (outcome b h c t).after.opened ≡ false → (outcome b h c t).after.ledger ≡ []
-outcome_ledger b h c t empty = at h.opened refl
+unopened_empty : (h : History) (c : Command) → IsEmpty h → IsEmpty (unopened_outcome h c).after
+unopened_empty h (command.Ccr r) e = e
+unopened_empty h (command.OpenAccount n) e = e
+unopened_empty h (command.Credit c) e = e
+unopened_empty h (command.Bar n) e = e
+unopened_empty h (command.Unbar n) e = e
+unopened_empty h command.Sweep e = e
+
+outcome_empty : (b : Book) (h : History) (c : Command) (t : ℕ) → (h.opened ≡ false → IsEmpty h) → (outcome b h c t).after.opened ≡ false → IsEmpty (outcome b h c t).after
+outcome_empty b h c t empty = at h.opened refl
   where
-    at : (v : Bool) → h.opened ≡ v → (if v then opened_outcome b h c t else unopened_outcome h c).after.opened ≡ false → (if v then opened_outcome b h c t else unopened_outcome h c).after.ledger ≡ []
+    at : (v : Bool) → h.opened ≡ v → (if v then opened_outcome b h c t else unopened_outcome h c).after.opened ≡ false → IsEmpty (if v then opened_outcome b h c t else unopened_outcome h c).after
     at true opened e = absurd (true≢false (sym opened ∙ sym (opened_stays b h c t) ∙ e))
-    at false opened e = unopened_ledger h c (empty opened)
+    at false opened e = unopened_empty h c (empty opened)
+
+unopened-empty : (b : Book) (a : List ℕ) (list : List Accepted) → (history b a list).opened ≡ false → IsEmpty (history b a list)
+unopened-empty b a [] e = (refl, refl)
+unopened-empty b a (d ∷ before) e = at (names a (account_of d.command)) (unopened-empty b a before) e
+  where
+    at : (v : Bool) → ((history b a before).opened ≡ false → IsEmpty (history b a before)) → (if v then (outcome b (history b a before) d.command d.moment).after else history b a before).opened ≡ false →
+        IsEmpty (if v then (outcome b (history b a before) d.command d.moment).after else history b a before)
+    at true empty closed = outcome_empty b (history b a before) d.command d.moment empty closed
+    at false empty closed = empty closed
 
 pub unopened-ledger : (b : Book) (a : List ℕ) (list : List Accepted) → (history b a list).opened ≡ false → (history b a list).ledger ≡ []
-unopened-ledger b a [] e = refl
-unopened-ledger b a (d ∷ before) e = at (names a (account_of d.command)) (unopened-ledger b a before) e
+unopened-ledger b a list e = (unopened-empty b a list e).0
+
+-- an account of which something is kept was opened
+pub kept-opened : (b : Book) (a : List ℕ) (list : List Accepted) (k : Key) (kept : KeptAnswer) → kept_under k (history b a list) ≡ Some kept → (history b a list).opened ≡ true
+kept-opened b a list k kept is = at (history b a list).opened refl
   where
-    at : (v : Bool) → ((history b a before).opened ≡ false → (history b a before).ledger ≡ []) → (if v then (outcome b (history b a before) d.command d.moment).after else history b a before).opened ≡ false →
-        (if v then (outcome b (history b a before) d.command d.moment).after else history b a before).ledger ≡ []
-    at true empty closed = outcome_ledger b (history b a before) d.command d.moment empty closed
-    at false empty closed = empty closed
+    at : (v : Bool) → (history b a list).opened ≡ v → (history b a list).opened ≡ true
+    at true e = e
+    at false e = absurd (no_some kept (sym (ap (find (is_kept_under k)) (unopened-empty b a list e).1) ∙ is))
 
 -- an account that isn't in the tables wasn't opened
 pub closed : (b : Book) (a : List ℕ) (list : List Accepted) (tables : Tables) → AreTables b list tables → tables.accounts a ≡ None → (history b a list).opened ≡ false

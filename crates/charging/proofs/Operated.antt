@@ -13,6 +13,7 @@ use Rattle.reserving.specs.Ledger.{Ledger, next_bucket}
 use Rattle.reserving.specs.Charges.{charge_rows}
 use Rattle.reserving.specs.Requests.{credited, with_bar}
 use Rattle.reserving.specs.Rows.{AccountRows, IsAccount, IsRowsOf}
+use Rattle.keepers.specs.declared.key.Key.{Key}
 use Rattle.keepers.specs.declared.key.KeptAnswer.{KeptAnswer}
 use Rattle.keepers.specs.declared.loaded.Change.{Change}
 use Rattle.keepers.specs.declared.loaded.Loaded.{Loaded}
@@ -28,7 +29,7 @@ use Rattle.charging.specs.Stepping.{IsLoaded, Credits, bar_command}
 use Rattle.charging.proofs.Loading.{IsOpened, is_opened}
 use Rattle.charging.proofs.NeverOpened.{unopened-ledger, closed}
 use Rattle.charging.proofs.KeptKeys.{credit-repeated, credit-fresh}
-use Rattle.charging.proofs.Serving.{held, keeps-none, keeps-some, counted, served-told, served-done, outcome-unopened, outcome-opened}
+use Rattle.charging.proofs.Serving.{held, keeps-none, keeps-some, counted, served-told, served-done, outcome-unopened, outcome-opened, outcome-kept}
 
 -- ---- a sweep
 
@@ -38,6 +39,7 @@ sweep-served b list t n old new ranges time tables le count grown = record {
   answer = ap answer.Swept (count ∙ tables.count);
   tables = subst (λ (x : Tables). AreTables b (record { moment = t; command = command.Sweep } ∷ list) x) (sym grown)
       (tables_swept (outcome b) b (record { moment = t; command = command.Sweep }) list old ranges time le refl refl tables);
+  time = (le, time);
   same = λ e. absurd (true≢false e);
 }
 
@@ -47,16 +49,16 @@ pub open-again : (b : Book) (list : List Accepted) (n : List ℕ) (t : ℕ) (old
     IsServed b list (command.OpenAccount n) t old new (answer.Refused AccountExists)
 open-again b list n t old new found time le tables loads same =
     let account : IsOpened b list t n old found = is_opened b list t n old found time le tables loads in
-    served-told b list (command.OpenAccount n) t n refl (told (answer.Refused AccountExists) (history b n list)) (answer.Refused AccountExists) old new
+    served-told b list (command.OpenAccount n) t n refl time le (told (answer.Refused AccountExists) (history b n list)) (answer.Refused AccountExists) old new
     (outcome-opened b list (command.OpenAccount n) t n refl old account.stored_rows tables account.there) refl refl same tables
 
-pub open-done : (b : Book) (list : List Accepted) (n : List ℕ) (t : ℕ) (change : Change) (old new : Tables) → AreTables b list old → old.accounts n ≡ None → n ≡ change.account.number → change.moment ≡ t →
+pub open-done : (b : Book) (list : List Accepted) (n : List ℕ) (t : ℕ) (change : Change) (old new : Tables) → IsInTime list → last_moment list ≤ t → AreTables b list old → old.accounts n ≡ None → n ≡ change.account.number → change.moment ≡ t →
     change.kept ≡ None → change.charges.items ≡ [] → IsAccount change.account.account → change.account.account.book ≡ b → change.account.account.as_of ≡ t → IsRowsOf [] change.account.account → new ≡ changed change old →
     IsServed b list (command.OpenAccount n) t old new answer.Done
-open-done b list n t change old new tables none number moment kept charges is book as_of rows grown =
+open-done b list n t change old new time le tables none number moment kept charges is book as_of rows grown =
     let h : History = history b n list in
     let empty : h.ledger ≡ [] = unopened-ledger b n list (closed b n list old tables none) in
-    served-done b list (command.OpenAccount n) t n refl (unopened_outcome h (command.OpenAccount n)) answer.Done change old new
+    served-done b list (command.OpenAccount n) t n refl time le (unopened_outcome h (command.OpenAccount n)) answer.Done change old new
     (outcome-unopened b list (command.OpenAccount n) t n refl old tables none)
     refl refl number
     (record {
@@ -87,10 +89,10 @@ bar-opens : (n : List ℕ) (barred : Bool) → is_opening (bar_command n barred)
 bar-opens n true = refl
 bar-opens n false = refl
 
-pub bar-unknown : (b : Book) (list : List Accepted) (n : List ℕ) (barred : Bool) (t : ℕ) (old new : Tables) → AreTables b list old → old.accounts n ≡ None → new ≡ old →
+pub bar-unknown : (b : Book) (list : List Accepted) (n : List ℕ) (barred : Bool) (t : ℕ) (old new : Tables) → IsInTime list → last_moment list ≤ t → AreTables b list old → old.accounts n ≡ None → new ≡ old →
     IsServed b list (bar_command n barred) t old new (answer.Refused AccountUnknown)
-bar-unknown b list n barred t old new tables none same =
-    served-told b list (bar_command n barred) t n (bar-named n barred) (told (answer.Refused AccountUnknown) (history b n list)) (answer.Refused AccountUnknown) old new
+bar-unknown b list n barred t old new time le tables none same =
+    served-told b list (bar_command n barred) t n (bar-named n barred) time le (told (answer.Refused AccountUnknown) (history b n list)) (answer.Refused AccountUnknown) old new
     (outcome-unopened b list (bar_command n barred) t n (bar-named n barred) old tables none ∙ bar-unopened (history b n list) n barred) refl refl same tables
 
 pub bar-done : (b : Book) (list : List Accepted) (n : List ℕ) (barred : Bool) (t m : ℕ) (found : Loaded) (change : Change) (old new : Tables) → IsInTime list → last_moment list ≤ t → AreTables b list old → IsLoaded b n old found →
@@ -101,7 +103,7 @@ bar-done b list n barred t m found change old new time le tables loads moment nu
     let h : History = history b n list in
     let account : IsOpened b list t n old found = is_opened b list t n old found time le tables loads in
     let now : m ≡ t = moment ∙ account.moment in
-    served-done b list (bar_command n barred) t n (bar-named n barred) (done answer.Done (with_ledger (with_bar t barred h.ledger) h)) answer.Done change old new
+    served-done b list (bar_command n barred) t n (bar-named n barred) time le (done answer.Done (with_ledger (with_bar t barred h.ledger) h)) answer.Done change old new
     (outcome-opened b list (bar_command n barred) t n (bar-named n barred) old account.stored_rows tables account.there ∙ bar-opened b h n barred t)
     refl refl (account.number ∙ number)
     (record {
@@ -118,11 +120,20 @@ bar-done b list n barred t m found change old new time le tables loads moment nu
 
 -- ---- a credit
 
-pub credit-unknown : (b : Book) (list : List Accepted) (c : Credit) (t : ℕ) (old new : Tables) → AreTables b list old → old.accounts c.account ≡ None → new ≡ old →
+pub credit-unknown : (b : Book) (list : List Accepted) (c : Credit) (t : ℕ) (old new : Tables) → IsInTime list → last_moment list ≤ t → AreTables b list old → old.accounts c.account ≡ None → new ≡ old →
     IsServed b list (command.Credit c) t old new (answer.Refused AccountUnknown)
-credit-unknown b list c t old new tables none same =
-    served-told b list (command.Credit c) t c.account refl (told (answer.Refused AccountUnknown) (history b c.account list)) (answer.Refused AccountUnknown) old new
+credit-unknown b list c t old new time le tables none same =
+    served-told b list (command.Credit c) t c.account refl time le (told (answer.Refused AccountUnknown) (history b c.account list)) (answer.Refused AccountUnknown) old new
     (outcome-unopened b list (command.Credit c) t c.account refl old tables none) refl refl same tables
+
+pub credit-again : (b : Book) (list : List Accepted) (c : Credit) (t : ℕ) (old new : Tables) (kept : KeptAnswer) (given : Answer) → IsInTime list → last_moment list ≤ t → AreTables b list old →
+    old.answers c.account (key_of (content.Credit c)) ≡ Some kept → given ≡ repeated kept (content.Credit c) (answer.Refused ContentDiffers) → new ≡ old → IsServed b list (command.Credit c) t old new given
+credit-again b list c t old new kept given time le tables is answers same =
+    let h : History = history b c.account list in
+    let k : Key = key_of (content.Credit c) in
+    served-told b list (command.Credit c) t c.account refl time le (told (repeated kept (content.Credit c) (answer.Refused ContentDiffers)) h) given old new
+    (outcome-kept b list (command.Credit c) t c.account refl old k kept tables is ∙ credit-repeated c t h kept (sym (tables.answers c.account k) ∙ is))
+    refl answers same tables
 
 module _ (b : Book) (list : List Accepted) (c : Credit) (t : ℕ) (old : Tables) (found : Loaded) (time : IsInTime list) (le : last_moment list ≤ t) (tables : AreTables b list old) (loads : IsLoaded b c.account old found) where
   abbrev h : History
@@ -134,13 +145,6 @@ module _ (b : Book) (list : List Accepted) (c : Credit) (t : ℕ) (old : Tables)
   opened-is : outcome b h (command.Credit c) t ≡ opened_outcome b h (command.Credit c) t
   opened-is = outcome-opened b list (command.Credit c) t c.account refl old account.stored_rows tables account.there
 
-  pub credit-again : (kept : KeptAnswer) (new : Tables) (given : Answer) → old.answers c.account (key_of (content.Credit c)) ≡ Some kept → given ≡ repeated kept (content.Credit c) (answer.Refused ContentDiffers) → new ≡ old →
-      IsServed b list (command.Credit c) t old new given
-  credit-again kept new given is answers same =
-      served-told b list (command.Credit c) t c.account refl (told (repeated kept (content.Credit c) (answer.Refused ContentDiffers)) h) given old new
-      (opened-is ∙ credit-repeated c t h kept (sym (tables.answers c.account (key_of (content.Credit c))) ∙ is))
-      refl answers same tables
-
   module _ (m : ℕ) (fresh : old.answers c.account (key_of (content.Credit c)) ≡ None) (moment : m ≡ max t found.account.as_of) where
     now : m ≡ t
     now = moment ∙ account.moment
@@ -151,7 +155,7 @@ module _ (b : Book) (list : List Accepted) (c : Credit) (t : ℕ) (old : Tables)
     pub credit-told : (o : Option ℕ) (new : Tables) (after : AccountRows) → o ≡ None → ((ledger : Ledger) → IsRowsOf ledger found.account → Credits o c m ledger after) → new ≡ old → IsServed b list (command.Credit c) t old new (answer.Refused OutOfRange)
     credit-told o new after none wrong same =
         let refused : is_out_of_range c t h.ledger ≡ true = ap (λ x. is_out_of_range c x h.ledger) (sym now) ∙ subst (λ (x : Option ℕ). Credits x c m h.ledger after) none (wrong h.ledger account.rows) in
-        served-told b list (command.Credit c) t c.account refl (told (answer.Refused OutOfRange) h) (answer.Refused OutOfRange) old new
+        served-told b list (command.Credit c) t c.account refl time le (told (answer.Refused OutOfRange) h) (answer.Refused OutOfRange) old new
         (fresh-is ∙ ap (λ v. if v then told (answer.Refused OutOfRange) h else keeping (content.Credit c) (answer.Bucket (next_bucket h.ledger)) (credited t (from_of c t) (until_of c) c.scope c.amount h.ledger) h) refused)
         refl refl same tables
 
@@ -163,7 +167,7 @@ module _ (b : Book) (list : List Accepted) (c : Credit) (t : ℕ) (old : Tables)
         let as_of : change.account.account.as_of ≡ m = subst (λ (x : Option ℕ). IfSome x (λ n. change.account.account.as_of ≡ m)) some stands in
         let after : Ledger = credited t (from_of c t) (until_of c) c.scope c.amount h.ledger in
         let allowed : is_out_of_range c t h.ledger ≡ false = ap (λ x. is_out_of_range c x h.ledger) (sym now) ∙ credit.0 in
-        served-done b list (command.Credit c) t c.account refl (keeping (content.Credit c) (answer.Bucket (next_bucket h.ledger)) after h) (answer.Bucket number) change old new
+        served-done b list (command.Credit c) t c.account refl time le (keeping (content.Credit c) (answer.Bucket (next_bucket h.ledger)) after h) (answer.Bucket number) change old new
         (fresh-is ∙ ap (λ v. if v then told (answer.Refused OutOfRange) h else keeping (content.Credit c) (answer.Bucket (next_bucket h.ledger)) after h) allowed)
         refl (ap answer.Bucket credit.1) (account.number ∙ names)
         (record {

@@ -1,6 +1,6 @@
 -- What a request comes to: of an unknown account, of a key that is kept, and of one that isn't.
-use Rattle.std.proofs.Common.{◌≡◌, ℕ, ◌≤◌, Bool, true, false, List, ◌∷◌, ◌++◌, refl, sym, ap, subst, ◌∙◌, Some, None}
-use Rattle.std.specs.Prelude.{max, Result, MatchResult, IfOk, OnErr, Ok, Err}
+use Rattle.std.proofs.Common.{◌≡◌, ℕ, ◌≤◌, Bool, true, false, List, ◌∷◌, ◌++◌, refl, sym, ap, subst, ◌∙◌, Option, Some, None}
+use Rattle.std.specs.Prelude.{if◌then◌else◌, max, Result, MatchResult, IfOk, OnErr, Ok, Err}
 use Rattle.commands.specs.declared.answer.Answer.{Answer}
 use Rattle.commands.specs.declared.answer.Answer.TheVariants as answer
 use Rattle.commands.specs.declared.answer.Failure.TheVariants.{UserUnknown, InvalidAvpValue}
@@ -13,7 +13,9 @@ use Rattle.tariffs.specs.Books.{Book}
 use Rattle.reserving.specs.Ledger.{Ledger}
 use Rattle.reserving.specs.Charges.{charge_rows}
 use Rattle.reserving.specs.Rows.{IsAccount, IsRowsOf}
-use Rattle.decisions.specs.Decisions.{decision, answer_of}
+use Rattle.reserving.proofs.Lists.{no_some}
+use Rattle.decisions.specs.Decisions.{decision, answer_of, is_read}
+use Rattle.keepers.specs.declared.key.Key.{Key}
 use Rattle.keepers.specs.declared.key.KeptAnswer.{KeptAnswer}
 use Rattle.keepers.specs.declared.loaded.Change.{Change}
 use Rattle.keepers.specs.declared.loaded.Loaded.{Loaded}
@@ -27,12 +29,27 @@ use Rattle.charging.specs.Served.{history, AreTables, IsServed}
 use Rattle.charging.specs.Stepping.{IsLoaded, kept_of_request}
 use Rattle.charging.proofs.Loading.{IsOpened, is_opened}
 use Rattle.charging.proofs.KeptKeys.{request-repeated, request-fresh, decided-told, decided-kept}
-use Rattle.charging.proofs.Serving.{held, keeps-some, counted, served-told, served-done, outcome-unopened, outcome-opened}
+use Rattle.charging.proofs.Serving.{held, keeps-some, counted, served-told, served-done, outcome-unopened, outcome-opened, outcome-kept}
 
 pub request-unknown : (b : Book) (list : List Accepted) (r : Request) (t : ℕ) (old new : Tables) (given : Answer) →
-    AreTables b list old → old.accounts r.account ≡ None → given ≡ failed r UserUnknown → new ≡ old → IsServed b list (Ccr r) t old new given
-request-unknown b list r t old new given tables none answers same =
-    served-told b list (Ccr r) t r.account refl (unopened_outcome (history b r.account list) (Ccr r)) given old new (outcome-unopened b list (Ccr r) t r.account refl old tables none) refl answers same tables
+    IsInTime list → last_moment list ≤ t → AreTables b list old → old.accounts r.account ≡ None → given ≡ failed r UserUnknown → new ≡ old → IsServed b list (Ccr r) t old new given
+request-unknown b list r t old new given time le tables none answers same =
+    served-told b list (Ccr r) t r.account refl time le (unopened_outcome (history b r.account list) (Ccr r)) given old new (outcome-unopened b list (Ccr r) t r.account refl old tables none) refl answers same tables
+
+kept-answer : (v : Bool) (o : Option KeptAnswer) (kept : KeptAnswer) → (if v then None else o) ≡ Some kept → o ≡ Some kept
+kept-answer true o kept e = absurd (no_some kept e)
+kept-answer false o kept e = e
+
+pub request-again : (b : Book) (list : List Accepted) (r : Request) (t : ℕ) (old new : Tables) (kept : KeptAnswer) (given : Answer) →
+    IsInTime list → last_moment list ≤ t → AreTables b list old → kept_of_request r old ≡ Some kept → given ≡ repeated kept (content.Request r) (failed r (InvalidAvpValue RequestNumber)) → new ≡ old →
+    IsServed b list (Ccr r) t old new given
+request-again b list r t old new kept given time le tables is answers same =
+    let h : History = history b r.account list in
+    let k : Key = key_of (content.Request r) in
+    served-told b list (Ccr r) t r.account refl time le (told (repeated kept (content.Request r) (failed r (InvalidAvpValue RequestNumber))) h) given old new
+    (outcome-kept b list (Ccr r) t r.account refl old k kept tables (kept-answer (is_read r.ask) (old.answers r.account k) kept is)
+    ∙ request-repeated b r t h kept (old.answers r.account k) (tables.answers r.account k) is)
+    refl answers same tables
 
 module _ (b : Book) (list : List Accepted) (r : Request) (t : ℕ) (old : Tables) (found : Loaded) (time : IsInTime list) (le : last_moment list ≤ t) (tables : AreTables b list old) (loads : IsLoaded b r.account old found) where
   abbrev h : History
@@ -40,14 +57,6 @@ module _ (b : Book) (list : List Accepted) (r : Request) (t : ℕ) (old : Tables
 
   account : IsOpened b list t r.account old found
   account = is_opened b list t r.account old found time le tables loads
-
-  pub request-again : (kept : KeptAnswer) (new : Tables) (given : Answer) → kept_of_request r old ≡ Some kept → given ≡ repeated kept (content.Request r) (failed r (InvalidAvpValue RequestNumber)) → new ≡ old →
-      IsServed b list (Ccr r) t old new given
-  request-again kept new given is answers same =
-      served-told b list (Ccr r) t r.account refl (told (repeated kept (content.Request r) (failed r (InvalidAvpValue RequestNumber))) h) given old new
-      (outcome-opened b list (Ccr r) t r.account refl old account.stored_rows tables account.there
-      ∙ request-repeated b r t h kept (old.answers r.account (key_of (content.Request r))) (tables.answers r.account (key_of (content.Request r))) is)
-      refl answers same tables
 
   -- what was decided at the moment, by the account's rows
   module _ (m : ℕ) (given : RequestAnswer) (accepted : Bool) (fresh : kept_of_request r old ≡ None) (moment : m ≡ max t found.account.as_of)
@@ -72,7 +81,7 @@ module _ (b : Book) (list : List Accepted) (r : Request) (t : ℕ) (old : Tables
 
     pub request-told : (new : Tables) → accepted ≡ false → new ≡ old → IsServed b list (Ccr r) t old new (answer.Request given)
     request-told new refused same =
-        served-told b list (Ccr r) t r.account refl (told (answer.Request (answer_of r (decision b t r h.ledger).outcome)) h) (answer.Request given) old new
+        served-told b list (Ccr r) t r.account refl time le (told (answer.Request (answer_of r (decision b t r h.ledger).outcome)) h) (answer.Request given) old new
         (fresh-is ∙ decided-told b r t h (accepts-is ∙ refused))
         refl (ap answer.Request answer-is) same tables
 
@@ -84,7 +93,7 @@ module _ (b : Book) (list : List Accepted) (r : Request) (t : ℕ) (old : Tables
     request-done change new result done number moments kept is book as_of rows charges results grown =
         let after : Ledger = (decision b t r h.ledger).after in
         let same : (decision found.account.book m r h.ledger).after ≡ after = λ i. (decision-is i).after in
-        served-done b list (Ccr r) t r.account refl (keeping (content.Request r) (answer.Request (answer_of r (decision b t r h.ledger).outcome)) after h) result change old new
+        served-done b list (Ccr r) t r.account refl time le (keeping (content.Request r) (answer.Request (answer_of r (decision b t r h.ledger).outcome)) after h) result change old new
         (fresh-is ∙ decided-kept b r t h (accepts-is ∙ done))
         refl
         (results ∙ ap answer.Request answer-is)

@@ -1,5 +1,5 @@
 -- What a command comes to that names an account: its answer, the list after it, and the tables.
-use Rattle.std.proofs.Common.{◌≡◌, ℕ, ◌+◌, true, false, true≢false, List, ◌∷◌, ◌++◌, refl, sym, ap, subst, ◌∙◌, Option, Some, None}
+use Rattle.std.proofs.Common.{◌≡◌, ℕ, ◌+◌, Bool, true, false, true≢false, List, ◌∷◌, ◌++◌, ◌≤◌, refl, sym, ap, subst, ◌∙◌, Option, Some, None}
 use Rattle.std.specs.Prelude.{if◌then◌else◌, is_some}
 use Rattle.std.specs.Cmp.Lexicographic.{bytes_decides}
 use Rattle.commands.specs.Alike.{same_name}
@@ -16,9 +16,10 @@ use Rattle.keepers.specs.declared.loaded.Change.{Change}
 use Rattle.keepers.specs.Tables.{Tables}
 use Rattle.keepers.specs.Change.{kept_after, changed}
 use Rattle.keepers.specs.Histories.{History, kept_under}
-use Rattle.keepers.specs.Accepted.{Accepted, Outcome, account_of, names, is_opening, as_of, IsHeld, IsRow}
+use Rattle.keepers.specs.Accepted.{Accepted, Outcome, account_of, names, is_opening, as_of, last_moment, IsInTime, IsHeld, IsRow}
 use Rattle.keepers.proofs.AcceptedTables.{Adds, tables_changed}
 use Rattle.charging.specs.Outcomes.{outcome, opened_outcome, unopened_outcome}
+use Rattle.charging.proofs.NeverOpened.{kept-opened}
 use Rattle.charging.specs.Served.{history, AreTables, answer_on, answer_to, accepts_on, accepts, with_command, IsServed}
 
 name_itself : (a : List ℕ) → same_name a a ≡ true
@@ -60,6 +61,14 @@ keeps-none e xs = sym (ap (λ o. keeps o xs) e)
 pub counted : (tables : Tables) (a : List ℕ) (rows : StoredRows) → tables.accounts a ≡ Some rows → (if is_some (tables.accounts a) then tables.count else tables.count + 1) ≡ tables.count
 counted tables a rows there = ap (λ o. if is_some o then tables.count else tables.count + 1) there
 
+-- the list stays in time
+pub in-time : (b : Book) (list : List Accepted) (c : Command) (t : ℕ) → IsInTime list → last_moment list ≤ t → IsInTime (with_command b list c t)
+in-time b list c t time le = at (accepts b list c t)
+  where
+    at : (v : Bool) → IsInTime (if v then record { moment = t; command = c } ∷ list else list)
+    at true = (le, time)
+    at false = time
+
 module _ (b : Book) (list : List Accepted) (c : Command) (t : ℕ) (a : List ℕ) (named : account_of c ≡ Some a) where
   answer_named : answer_to b list c t ≡ (outcome b (history b a list) c t).answer
   answer_named = ap (λ o. answer_on o b list c t) named
@@ -79,10 +88,11 @@ module _ (b : Book) (list : List Accepted) (c : Command) (t : ℕ) (a : List ℕ
   with_told e = ap (λ v. if v then record { moment = t; command = c } ∷ list else list) (accepts_named ∙ e)
 
   -- it isn't accepted
-  pub served-told : (o : Outcome) (given : Answer) (old new : Tables) → outcome b (history b a list) c t ≡ o → o.accepted ≡ false → given ≡ o.answer → new ≡ old → AreTables b list old → IsServed b list c t old new given
-  served-told o given old new is refused answers same tables = record {
+  pub served-told : IsInTime list → last_moment list ≤ t → (o : Outcome) (given : Answer) (old new : Tables) → outcome b (history b a list) c t ≡ o → o.accepted ≡ false → given ≡ o.answer → new ≡ old → AreTables b list old → IsServed b list c t old new given
+  served-told time le o given old new is refused answers same tables = record {
     answer = answers ∙ sym (answer_named ∙ (λ i. (is i).answer));
     tables = subst (λ (x : List Accepted). AreTables b x new) (sym (with_told ((λ i. (is i).accepted) ∙ refused))) (subst (λ (x : Tables). AreTables b list x) (sym same) tables);
+    time = in-time b list c t time le;
     same = λ e. same;
   }
 
@@ -104,12 +114,13 @@ module _ (b : Book) (list : List Accepted) (c : Command) (t : ℕ) (a : List ℕ
         count = x.count;
       }
 
-  pub served-done : (o : Outcome) (given : Answer) (change : Change) (old new : Tables) → outcome b (history b a list) c t ≡ o → o.accepted ≡ true → given ≡ o.answer → a ≡ change.account.number →
+  pub served-done : IsInTime list → last_moment list ≤ t → (o : Outcome) (given : Answer) (change : Change) (old new : Tables) → outcome b (history b a list) c t ≡ o → o.accepted ≡ true → given ≡ o.answer → a ≡ change.account.number →
       IsChange b t c (history b a list) o.after change old → new ≡ changed change old → AreTables b list old → IsServed b list c t old new given
-  served-done o given change old new is done answers number x grown tables = record {
+  served-done time le o given change old new is done answers number x grown tables = record {
     answer = answers ∙ sym (answer_named ∙ (λ i. (is i).answer));
     tables = subst (λ (x : List Accepted). AreTables b x new) (sym (with_accepted ((λ i. (is i).accepted) ∙ done)))
         (subst (λ (x : Tables). AreTables b (record { moment = t; command = c } ∷ list) x) (sym grown) (tables_changed (outcome b) b (record { moment = t; command = c }) list change old (adds o change old is number x) tables));
+    time = in-time b list c t time le;
     same = λ e. absurd (true≢false (sym done ∙ sym (λ i. (is i).accepted) ∙ sym accepts_named ∙ e));
   }
 
@@ -124,3 +135,8 @@ module _ (b : Book) (list : List Accepted) (c : Command) (t : ℕ) (a : List ℕ
   outcome-opened old rows tables there =
       let row : ((history b a list).opened ≡ true) × IsHeld b (as_of a list) (history b a list) rows = subst (λ (o : Option StoredRows). IsRow b (as_of a list) (history b a list) o) there (tables.accounts a) in
       ap (λ v. if v then opened_outcome b (history b a list) c t else unopened_outcome (history b a list) c) row.0
+
+  -- something is kept of it: it is there
+  pub outcome-kept : (old : Tables) (k : Key) (kept : KeptAnswer) → AreTables b list old → old.answers a k ≡ Some kept → outcome b (history b a list) c t ≡ opened_outcome b (history b a list) c t
+  outcome-kept old k kept tables is =
+      ap (λ v. if v then opened_outcome b (history b a list) c t else unopened_outcome (history b a list) c) (kept-opened b a list k kept (sym (tables.answers a k) ∙ is))

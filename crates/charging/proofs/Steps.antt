@@ -6,10 +6,12 @@ use Rattle.rating.specs.declared.grant.Grant.{Grant as RatedGrant}
 use Rattle.reserving.specs.Ledger.{Fact, Ledger, last_recording, used, counter}
 use Rattle.reserving.specs.Ledger.Fact.{Grant, Touch, Close, Recorded, Barred}
 use Rattle.reserving.specs.Pricing.{cycle_at, periods_at}
-use Rattle.reserving.specs.Requests.{credited}
+use Rattle.reserving.specs.Requests.{touched, credited}
 use Rattle.reserving.specs.Settlement.{settled_by}
 use Rattle.reserving.specs.Reservation.{reserved, grant_for}
 use Rattle.reserving.specs.Debiting.{debited, is_covered}
+use Rattle.charging.specs.SessionReports.{Report, with_report}
+use Rattle.charging.specs.Paid.{is_touched}
 
 -- facts that speak neither of buckets nor of groups
 abbrev pub is_quiet : Fact → Bool
@@ -27,13 +29,21 @@ with_grant b t s g units ledger = record { at = t; fact = Grant s g (periods_at 
 abbrev pub granted : Book → ℕ → List ℕ → ℕ → Option ℕ → Ledger → Ledger
 granted b t s g asked ledger = let grant : RatedGrant = grant_for b t g (used s g ledger) asked ledger in reserved b t s g grant.units.0 grant.amount.0 ledger
 
--- a property of ledgers is kept by each step that an account's commands take
-pub record Keeps (b : Book) (P : Ledger → Type 0) : Type 0 where
-  pub none : P []
-  pub quiet : (t : ℕ) (f : Fact) (ledger : Ledger) → is_quiet f ≡ true → P ledger → P (record { at = t; fact = f } ∷ ledger)
-  pub credit : (t from until : ℕ) (scope : Option ℕ) (amount : ℕ) (ledger : Ledger) → P ledger → P (credited t from until scope amount ledger)
-  pub settle : (t : ℕ) (s : List ℕ) (g : ℕ) (used_parts : List UsedPart) (ledger : Ledger) → P ledger → P (settled_by b t s g used_parts ledger)
+abbrev pub is_touch : Fact → Bool
+is_touch (Touch session) = true
+is_touch _ = false
+
+-- a property of an account's reports and ledger is kept by each step that its commands take
+pub record Keeps (b : Book) (P : List Report → Ledger → Type 0) : Type 0 where
+  pub none : P [] []
+  pub quiet : (t : ℕ) (f : Fact) (reports : List Report) (ledger : Ledger) → is_quiet f ≡ true → is_touch f ≡ false → P reports ledger → P reports (record { at = t; fact = f } ∷ ledger)
+  pub touch : (t : ℕ) (s : List ℕ) (n : ℕ) (reports : List Report) (ledger : Ledger) → P reports ledger → P reports (touched t s n ledger)
+  pub credit : (t from until : ℕ) (scope : Option ℕ) (amount : ℕ) (reports : List Report) (ledger : Ledger) → P reports ledger → P reports (credited t from until scope amount ledger)
+  -- of a session that was touched
+  pub settle : (t : ℕ) (s : List ℕ) (g : ℕ) (parts : List UsedPart) (reports : List Report) (ledger : Ledger) → is_touched s ledger ≡ true → P reports ledger →
+      P (with_report t s g parts reports) (settled_by b t s g parts ledger)
   -- of a session that is recorded
-  pub grant : (t : ℕ) (s : List ℕ) (g : ℕ) (asked : Option ℕ) (ledger : Ledger) → (last_recording s ledger ≡ None → ⊥) → P ledger → P (granted b t s g asked ledger)
+  pub grant : (t : ℕ) (s : List ℕ) (g : ℕ) (asked : Option ℕ) (reports : List Report) (ledger : Ledger) → (last_recording s ledger ≡ None → ⊥) → P reports ledger → P reports (granted b t s g asked ledger)
   -- of an event whose name isn't recorded yet
-  pub debit : (t : ℕ) (s : List ℕ) (g units : ℕ) (ledger : Ledger) → last_recording s ledger ≡ None → is_covered b t g units ledger ≡ true → P ledger → P (debited b t s g units ledger)
+  pub debit : (t : ℕ) (s : List ℕ) (g units : ℕ) (reports : List Report) (ledger : Ledger) → last_recording s ledger ≡ None → is_covered b t g units ledger ≡ true → P reports ledger →
+      P reports (debited b t s g units ledger)

@@ -15,19 +15,20 @@ use Rattle.keepers.specs.Accepted.{Accepted, IsInTime}
 use Rattle.charging.specs.declared.running.DatedCommand.{DatedCommand}
 use Rattle.charging.specs.Served.{AreTables, history}
 use Rattle.charging.specs.Runs.{after_commands}
+use Rattle.charging.specs.SessionReports.{Report, reports_of}
 use Rattle.charging.specs.Paid.{ArePaid}
 use Rattle.charging.specs.Quotas.{AreQuotasPaid}
 
-pub record IsAccounted (b : Book) (ledger : Ledger) (rows : StoredRows) (told : List ChargeRow) : Type 0 where
+pub record IsAccounted (b : Book) (reports : List Report) (ledger : Ledger) (rows : StoredRows) (told : List ChargeRow) : Type 0 where
   -- each bucket is what the ledger sums to, as of the account's last command
   pub buckets : rows.buckets ≡ buckets_at b.validity rows.as_of ledger
   -- what was credited is available, reserved, charged or expired
   pub balanced : Each IsBalanced rows.buckets
   -- the charges are the ledger's uses, in order
   pub charges : told ≡ charge_rows ledger
-  -- of each use what is collected and what isn't are the price of the blocks that it started, and something isn't only
-  -- where its reservation and every eligible bucket are empty
-  pub paid : ArePaid b ledger
+  -- of each use what is collected and what isn't are the price of the blocks that its report or debit started, and
+  -- something isn't only where its reservation and every eligible bucket are empty
+  pub paid : ArePaid b reports ledger
   -- a use within its grant is collected whole
   pub quotas : AreQuotasPaid b ledger
 
@@ -35,4 +36,5 @@ pub record IsAccounted (b : Book) (ledger : Ledger) (rows : StoredRows) (told : 
 abbrev pub AreAccounted : Book → List DatedCommand → Tables → Tables → List Answer → Type 0
 AreAccounted b commands old new given =
     (list : List Accepted) → IsInTime list → AreTables b list old → (a : List ℕ) (rows : StoredRows) → new.accounts a ≡ Some rows →
-    IsAccounted b (history b a (after_commands b list (take (length given) commands))).ledger rows (new.charges a)
+    IsAccounted b (reports_of b a (after_commands b list (take (length given) commands)))
+    (history b a (after_commands b list (take (length given) commands))).ledger rows (new.charges a)

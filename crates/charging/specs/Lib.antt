@@ -2,6 +2,7 @@ pub mod Outcomes
 pub mod Served
 pub mod Stepping
 pub mod Runs
+pub mod SessionReports
 pub mod Paid
 pub mod Quotas
 pub mod Isolation

@@ -1,17 +1,17 @@
 -- What each use in an account's ledger came from, and what paid for it (RFC 8506 section 5.3: used units are debited;
 -- TS 32.296, account balance management function).
-use Rattle.std.specs.Prelude.{◌≡◌, ◌⊎◌, ℕ, ◌+◌, ◌<◌, Bool, true, false, List, [], ◌∷◌, if◌then◌else◌}
-use Rattle.units.specs.declared.blocks.UsedPart.{UsedPart}
+use Rattle.std.specs.Prelude.{◌≡◌, ℕ, ◌+◌, ◌<◌, Bool, true, false, List, [], ◌∷◌, is_some, if◌then◌else◌}
 use Rattle.tariffs.specs.Books.{Book}
 use Rattle.buckets.specs.Row.{Row, eligible_amount}
 use Rattle.buckets.specs.Holding.{held_in, paid_of_hold, settled_row}
 use Rattle.buckets.specs.Laws.{IsAmong}
-use Rattle.reserving.specs.Ledger.{Fact, Ledger}
+use Rattle.reserving.specs.Ledger.{Fact, Ledger, last_touch}
 use Rattle.reserving.specs.Ledger.Fact.{Use, Charge}
 use Rattle.reserving.specs.Balance.{buckets_at}
 use Rattle.reserving.specs.Sessions.{holds_at}
 use Rattle.reserving.specs.Settlement.{reported, report_price, missing}
 use Rattle.reserving.specs.Debiting.{event_price, is_covered}
+use Rattle.charging.specs.SessionReports.{Report}
 
 -- ---- the charges of a use stand right before it
 
@@ -43,14 +43,22 @@ IsSpent b t s g rated before =
     (paid_of_hold (holds_at b.validity t s g before) rated (buckets_at b.validity t before) x ≡ held_in (holds_at b.validity t s g before) x)
     × (eligible_amount g t (settled_row (holds_at b.validity t s g before) g t rated (buckets_at b.validity t before) x) ≡ 0)
 
--- a session's report: it has the price of the blocks that it started
-pub record IsReport (b : Book) (t : ℕ) (s : List ℕ) (g units blocks rated uncollected : ℕ) (before : Ledger) : Type 0 where
-  pub parts : List UsedPart
-  pub units_are : units ≡ reported parts
-  pub blocks_are : blocks ≡ (report_price b t s g parts before).blocks
-  pub rated_is : rated ≡ (report_price b t s g parts before).amount.0
-  pub uncollected_is : uncollected ≡ missing b t s g parts before
+-- the use that a report made: it has the price of the blocks that the report's parts started, each part in its period
+pub record IsReport (b : Book) (r : Report) (t : ℕ) (s : List ℕ) (g units blocks rated uncollected : ℕ) (before : Ledger) : Type 0 where
+  pub moment : t ≡ r.at
+  pub session : s ≡ r.session
+  pub group : g ≡ r.group
+  pub units_are : units ≡ reported r.parts
+  pub blocks_are : blocks ≡ (report_price b t s g r.parts before).blocks
+  pub rated_is : rated ≡ (report_price b t s g r.parts before).amount.0
+  pub uncollected_is : uncollected ≡ missing b t s g r.parts before
   pub short : 0 < uncollected → IsSpent b t s g rated before
+
+-- the same of the last of some reports
+abbrev pub IsLastReport : Book → List Report → ℕ → List ℕ → ℕ → ℕ → ℕ → ℕ → ℕ → Ledger → Type 0
+IsLastReport b [] t s g units blocks rated uncollected before = ⊥
+IsLastReport b (r ∷ older) t s g units blocks rated uncollected before =
+    IsReport b r t s g units blocks rated uncollected before
 
 -- a debit: the eligible buckets had the price of the blocks that it started
 pub record IsEvent (b : Book) (t : ℕ) (g units blocks rated uncollected : ℕ) (before : Ledger) : Type 0 where
@@ -59,14 +67,37 @@ pub record IsEvent (b : Book) (t : ℕ) (g units blocks rated uncollected : ℕ)
   pub covered : is_covered b t g units before ≡ true
   pub whole : uncollected ≡ 0
 
--- what is collected and what isn't are the price
-abbrev pub IsPaid : Book → ℕ → Fact → Ledger → Type 0
-IsPaid b t (Use s g units blocks rated uncollected) older =
-    (collected older + uncollected ≡ rated)
-    × (IsReport b t s g units blocks rated uncollected (before_charges older) ⊎ IsEvent b t g units blocks rated uncollected (before_charges older))
-IsPaid b t _ older = Unit {0}
+-- ---- each use
 
--- each use of a ledger is
-abbrev pub ArePaid : Book → Ledger → Type 0
-ArePaid b [] = Unit {0}
-ArePaid b (d ∷ older) = IsPaid b d.at d.fact older × ArePaid b older
+-- only sessions are touched, and no event
+abbrev pub is_touched : List ℕ → Ledger → Bool
+is_touched s ledger = is_some (last_touch s ledger)
+
+-- what is collected and what isn't are the price: of the session's report where its session was touched, else of a debit
+pub record IsPaidUse (b : Book) (reports : List Report) (t : ℕ) (s : List ℕ) (g units blocks rated uncollected : ℕ) (older : Ledger) : Type 0 where
+  pub sum : collected older + uncollected ≡ rated
+  pub report : is_touched s (before_charges older) ≡ true →
+      IsLastReport b reports t s g units blocks rated uncollected (before_charges older)
+  pub event : is_touched s (before_charges older) ≡ false →
+      IsEvent b t g units blocks rated uncollected (before_charges older)
+
+abbrev pub IsPaid : Book → List Report → ℕ → Fact → Ledger → Type 0
+IsPaid b reports t (Use s g units blocks rated uncollected) older =
+    IsPaidUse b reports t s g units blocks rated uncollected older
+IsPaid b reports t _ older = Unit {0}
+
+abbrev pub without_last : List Report → List Report
+without_last [] = []
+without_last (r ∷ older) = older
+
+-- the reports before a fact: without the last one where the fact is its use
+abbrev pub reports_before : Fact → Ledger → List Report → List Report
+reports_before (Use s g units blocks rated uncollected) older reports =
+    if is_touched s (before_charges older) then without_last reports else reports
+reports_before _ older reports = reports
+
+-- each use of a ledger is paid, and each of the reports made one of them, in their order
+abbrev pub ArePaid : Book → List Report → Ledger → Type 0
+ArePaid b reports [] = reports ≡ []
+ArePaid b reports (d ∷ older) =
+    IsPaid b reports d.at d.fact older × ArePaid b (reports_before d.fact older reports) older

@@ -45,11 +45,12 @@ with_command b list c t = if accepts b list c t then record { moment = t; comman
 
 -- ---- a step
 
--- the answer is the definition's, and the tables are those of the list with the command where it is accepted; a command
--- that isn't changes no table
+-- the answer is the definition's, and the tables are those of the list with the command where it is accepted, which is in
+-- time again; a command that isn't accepted changes no table
 pub record IsServed (b : Book) (list : List Accepted) (c : Command) (t : ℕ) (old new : Tables) (given : Answer) : Type 0 where
   pub answer : given ≡ answer_to b list c t
   pub tables : AreTables b (with_command b list c t) new
+  pub time : IsInTime (with_command b list c t)
   pub same : accepts b list c t ≡ false → new ≡ old
 
 -- for every list of accepted commands whose tables a keeper holds: the command is served, or the tables are as before

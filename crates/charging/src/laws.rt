@@ -1,20 +1,30 @@
 //! Laws of the definitions by which commands are answered: functions that do nothing.
 
-ghost use Rattle.std.specs.Prelude.{ℕ, List};
+ghost use Rattle.std.specs.Prelude.{ℕ, List, []};
 ghost use Rattle.tariffs.specs.Books.{Book, IsBook};
-ghost use Rattle.keepers.specs.Accepted.{Accepted};
-ghost use Rattle.charging.specs.Served.{history};
+ghost use Rattle.keepers.specs.Tables.{no_tables};
+ghost use Rattle.keepers.specs.Accepted.{Accepted, IsInTime};
+ghost use Rattle.charging.specs.Served.{history, AreTables};
+ghost use Rattle.charging.specs.SessionReports.{reports_of};
 ghost use Rattle.charging.specs.Paid.{ArePaid};
 ghost use Rattle.charging.specs.Quotas.{AreQuotasPaid};
 ghost use Rattle.charging.specs.Repeats.{AnswersOnce};
 ghost use Rattle.charging.specs.declared.running.DatedCommand.{DatedCommand};
 ghost use Rattle.charging.specs.Isolation.{IsIsolated};
 
+/// Before any command the tables are empty: those of `MemoryKeeper::new`, with which a first call can begin.
+pub fn beginning()
+    ensures time { IsInTime [] }
+    ensures tables { (b : Book) → AreTables b [] no_tables }
+{}
+
 /// Each report and each debit of an account has the price of the blocks that it started: what is collected of it and
 /// what isn't are that price, and something is uncollected only where its reservation is used up and no eligible
-/// bucket has anything left (RFC 8506 section 5.3; TS 32.296, account balance management function).
+/// bucket has anything left (RFC 8506 section 5.3; TS 32.296, account balance management function). The reports are
+/// those of the accepted updates and terminations, in their order, each priced by the parts that it names.
 pub fn payment()
-    ensures { (b : Book) (a : List ℕ) (list : List Accepted) → ArePaid b (history b a list).ledger }
+    ensures { (b : Book) (a : List ℕ) (list : List Accepted) →
+        ArePaid b (reports_of b a list) (history b a list).ledger }
 {}
 
 /// A quota pays: a report that ends a grant, has at most its units and starts at its place of the group's counter is

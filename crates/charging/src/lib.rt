@@ -6,12 +6,13 @@ mod answers;
 mod committing;
 mod laws;
 mod operators;
+mod repetition;
 mod requests;
 mod running;
 mod stepping;
 
 pub use crate::answers::Run;
-pub use crate::laws::{isolation, payment, quota, repeats};
+pub use crate::laws::{beginning, isolation, payment, quota, repeats};
 pub use crate::running::{DatedCommand, run};
 pub use crate::stepping::step;
 pub use commands::{Answer, Command};

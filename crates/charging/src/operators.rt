@@ -8,11 +8,12 @@ ghost use Rattle.reserving.specs.Ledger.{Ledger};
 ghost use Rattle.reserving.specs.Rows.{IsRowsOf};
 ghost use Rattle.keepers.specs.Keys.{key_of};
 ghost use Rattle.keepers.specs.Faults.{HasCause};
-ghost use Rattle.charging.specs.Outcomes.{repeated, is_unusable};
+ghost use Rattle.charging.specs.Outcomes.{is_unusable};
 ghost use Rattle.charging.specs.Stepping.{ServesAt, IsLoaded, Credits, bar_command};
 
 use crate::committing::{commit, moment_on};
-use commands::{Answer, Content, Credit, Refusal, same_content};
+use crate::repetition::repeated;
+use commands::{Answer, Content, Credit, Refusal};
 use identifiers::AccountNumber;
 use keepers::{Keeper, KeptAnswer, Key, Loaded, StoreFault};
 use reserving::{Account, AccountFault};
@@ -96,20 +97,14 @@ pub(crate) fn serve_credit<K: Keeper>(
     ensures cause { HasCause (K.failed keeper.old) (K.failed keeper.new) result }
 {
     let kept = find_credit(keeper, &credit)?;
+    if let Some(kept) = kept {
+        let conflict = Answer::Refused(Refusal::ContentDiffers);
+        return Ok(repeated(kept, &Content::Credit(credit), conflict));
+    }
     let Some(loaded) = keeper.load(book, &credit.account)? else {
         return Ok(Answer::Refused(Refusal::AccountUnknown));
     };
-    match kept {
-        Some(kept) => {
-            keeper.abandon(loaded);
-            Ok(repeated(
-                kept,
-                &Content::Credit(credit),
-                Answer::Refused(Refusal::ContentDiffers),
-            ))
-        }
-        None => credit_account(alloc, keeper, loaded, credit, moment),
-    }
+    credit_account(alloc, keeper, loaded, credit, moment)
 }
 
 /// What is kept under a credit's reference.
@@ -121,17 +116,6 @@ fn find_credit<K: Keeper>(keeper: &mut K, credit: &Credit) -> Result<Option<Kept
 {
     let key = Key::Reference(credit.reference.clone()?);
     keeper.find_answer(&credit.account, &key)
-}
-
-/// The answer to a command whose key is kept.
-pub(crate) fn repeated(kept: KeptAnswer, content: &Content, conflict: Answer) -> Answer
-    ensures { result ≡ repeated kept content.now conflict }
-{
-    if same_content(&kept.content, content) {
-        kept.answer
-    } else {
-        conflict
-    }
 }
 
 /// Whether a credit is of nothing, or there is no moment left at which it could be used.

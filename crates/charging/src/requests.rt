@@ -15,9 +15,9 @@ ghost use Rattle.charging.specs.Outcomes.{failed, repeated};
 ghost use Rattle.charging.specs.Stepping.{ServesAt, IsLoaded, kept_of_request};
 
 use crate::committing::{commit, moment_on};
-use crate::operators::repeated;
+use crate::repetition::repeated;
 use commands::{Answer, Ask, Avp, Content, EventAction, Failure, Outcome, Request, RequestAnswer};
-use decisions::{Decided, decide};
+use decisions::{Decided, decide, read};
 use keepers::{Keeper, KeptAnswer, Key, Loaded, StoreFault, copy_answer};
 use std::alloc::{AllocError, Global};
 use tariffs::TariffBook;
@@ -37,16 +37,13 @@ pub(crate) fn serve_request<K: Keeper>(
     ensures cause { HasCause (K.failed keeper.old) (K.failed keeper.new) result }
 {
     let kept = find_kept(keeper, &request)?;
+    if let Some(kept) = kept {
+        return Ok(repeat(kept, request)?);
+    }
     let Some(loaded) = keeper.load(book, &request.account)? else {
         return Ok(failed(&request, Failure::UserUnknown)?);
     };
-    match kept {
-        Some(kept) => {
-            keeper.abandon(loaded);
-            Ok(repeat(kept, request)?)
-        }
-        None => decide_on(alloc, keeper, loaded, request, moment),
-    }
+    answer_on(alloc, keeper, loaded, request, moment)
 }
 
 /// Whether the request is a read: it is answered anew each time.
@@ -95,6 +92,34 @@ fn repeat(kept: KeptAnswer, request: Request) -> Result<Answer, AllocError>
 {
     let conflict = failed(&request, Failure::InvalidAvpValue(Avp::RequestNumber))?;
     Ok(repeated(kept, &Content::Request(request), conflict))
+}
+
+/// Answers a request on its account: a read by the account as it stands, any other is decided.
+fn answer_on<K: Keeper>(
+    alloc: Global,
+    keeper: &mut K,
+    loaded: Loaded,
+    request: Request,
+    moment: Moment,
+) -> Result<Answer, StoreFault>
+    ensures served { K.clean keeper.new → (b : Book) → IsLoaded b request.account (K.content keeper.old) loaded.entry → kept_of_request request (K.content keeper.old) ≡ None →
+        ServesAt b (Ccr request) moment (K.content keeper.old) (K.content keeper.new) result }
+    ensures err { K.clean keeper.new → OnErr result (K.content keeper.new ≡ K.content keeper.old) }
+    ensures cleanness { K.clean keeper.new → K.clean keeper.old }
+    ensures cause { HasCause (K.failed keeper.old) (K.failed keeper.new) result }
+{
+    let now = moment_on(&loaded, moment);
+    match read(&loaded.account, &request, now) {
+        Ok(Some(answer)) => {
+            keeper.abandon(loaded);
+            Ok(Answer::Request(answer))
+        }
+        Ok(None) => decide_on(alloc, keeper, loaded, request, moment),
+        Err(AllocError) => {
+            keeper.abandon(loaded);
+            Err(StoreFault::Memory)
+        }
+    }
 }
 
 /// Decides a request, and commits it where it is accepted.

@@ -1,4 +1,4 @@
-ghost use Rattle.std.specs.Prelude.{◌≡◌, ◌≤◌, ◌<◌, ◌+◌, Some, None, length, min, IfNone, IfSome};
+ghost use Rattle.std.specs.Prelude.{◌≡◌, ◌≤◌, ◌<◌, ◌+◌, [], Some, None, length, min, IfNone, IfSome};
 ghost use Rattle.keepers.specs.Faults.{max_failures};
 ghost use Rattle.keepers.specs.declared.fault.StoreFault.TheVariants.{Store};
 ghost use Rattle.charging.specs.Runs.{Runs};
@@ -25,8 +25,8 @@ pub struct DatedCommand {
 /// those of the definitions, each by the histories that the commands before it left; each account's buckets and charges
 /// are then the sums of its ledger.
 ///
-/// At a store fault the answers before it are given, and what was accepted is that of a beginning of the commands:
-/// fault 1 where a growth was refused, 2 where the store failed.
+/// At a store fault the answers before it are given, and what was accepted is that of a beginning of the commands: fault
+/// 1 where a growth was refused, 2 where the store failed. Where none is answered nothing has changed.
 pub fn run<K: Keeper>(
     alloc: Global,
     keeper: &mut K,
@@ -37,6 +37,7 @@ pub fn run<K: Keeper>(
     ensures beginning { length result.answers.items ≤ length commands.items }
     ensures whole { IfNone result.fault (length result.answers.items ≡ length commands.items) }
     ensures stopped { IfSome result.fault (λ fault. length result.answers.items < length commands.items) }
+    ensures unchanged { K.clean keeper.new → result.answers.items ≡ [] → K.content keeper.new ≡ K.content keeper.old }
     ensures cleanness { K.clean keeper.new → K.clean keeper.old }
     ensures failures { K.failed keeper.old ≤ K.failed keeper.new }
     ensures cause { result.fault ≡ Some Store → min (K.failed keeper.old + 1) max_failures ≤ K.failed keeper.new }
@@ -57,6 +58,7 @@ fn answer_each<K: Keeper>(
     ensures beginning { length result.answers.items ≤ length commands.items }
     ensures whole { IfNone result.fault (length result.answers.items ≡ length commands.items) }
     ensures stopped { IfSome result.fault (λ fault. length result.answers.items < length commands.items) }
+    ensures unchanged { K.clean keeper.new → result.answers.items ≡ [] → K.content keeper.new ≡ K.content keeper.old }
     ensures cleanness { K.clean keeper.new → K.clean keeper.old }
     ensures failures { K.failed keeper.old ≤ K.failed keeper.new }
     ensures cause { result.fault ≡ Some Store → min (K.failed keeper.old + 1) max_failures ≤ K.failed keeper.new }

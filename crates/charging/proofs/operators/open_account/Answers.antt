@@ -21,7 +21,7 @@ returns-clause-served g c = λ clean list time is le.
       charges = c.new.result;
       kept = None;
     } in
-    open-done c.args.book.now list c.args.number c.args.moment change (g.K.Keeper.content c.args.keeper.now) (g.K.Keeper.content c.commit.new.keeper) is
+    open-done c.args.book.now list c.args.number c.args.moment change (g.K.Keeper.content c.args.keeper.now) (g.K.Keeper.content c.commit.new.keeper) time le is
     (unknown c.args.book.now c.args.number (g.K.Keeper.content c.args.keeper.now) (g.K.Keeper.content c.args.keeper.now) c.in_ok-loaded.field-0 refl (c.in_ok-loaded.ensures.found clean_load) c.in_default.is)
     refl (λ i. (c.advance.ensures.rows i).as_of) refl c.new.ensures.items c.in_ok-commit.ensures.account
     ((λ i. (c.advance.ensures.rows i).book) ∙ (λ i. (c.new-account.ensures.rows i).book)) (λ i. (c.advance.ensures.rows i).as_of)

@@ -8,31 +8,25 @@ use Rattle.charging.proofs.Loading.{unknown, is_loaded}
 use Rattle.charging.proofs.Operated.{credit-unknown, credit-again}
 use Rattle.charging.proofs.operators.serve_credit.Goals as goal
 
-pub returns-in_default-clause-served : goal.returns-in_default-clause-served
-returns-in_default-clause-served g c = λ clean list time is le.
+pub returns-in-Some-clause-served : goal.returns-in-Some-clause-served
+returns-in-Some-clause-served g c = λ clean list time is le.
+    credit-again c.args.book.now list c.args.credit c.args.moment (g.K.Keeper.content c.args.keeper.now) (g.K.Keeper.content c.find_credit.new.keeper) c.in-Some.kept c.repeated.result time le is
+    (sym (c.in_ok-kept.ensures.found clean) ∙ c.in-Some.is) c.repeated.ensures (c.in_ok-kept.ensures.same clean)
+
+pub returns-in_default-2-clause-served : goal.returns-in_default-2-clause-served
+returns-in_default-2-clause-served g c = λ clean list time is le.
     let same = c.in_ok-kept.ensures.same (c.in_ok-loaded.ensures.cleanness clean) in
-    credit-unknown c.args.book.now list c.args.credit c.args.moment (g.K.Keeper.content c.args.keeper.now) (g.K.Keeper.content c.load.new.self) is
-    (unknown c.args.book.now c.args.credit.account (g.K.Keeper.content c.find_credit.new.keeper) (g.K.Keeper.content c.args.keeper.now) c.in_ok-loaded.field-0 same (c.in_ok-loaded.ensures.found clean) c.in_default.is)
+    credit-unknown c.args.book.now list c.args.credit c.args.moment (g.K.Keeper.content c.args.keeper.now) (g.K.Keeper.content c.load.new.self) time le is
+    (unknown c.args.book.now c.args.credit.account (g.K.Keeper.content c.find_credit.new.keeper) (g.K.Keeper.content c.args.keeper.now) c.in_ok-loaded.field-0 same (c.in_ok-loaded.ensures.found clean) c.in_default-2.is)
     (c.in_ok-loaded.ensures.same clean ∙ same)
 
-pub returns-in-Some-kept-clause-served : goal.returns-in-Some-kept-clause-served
-returns-in-Some-kept-clause-served g c = λ clean list time is le.
-    let clean_load = subst g.K.Keeper.clean c.abandon.ensures clean in
-    let clean_find = c.in_ok-loaded.ensures.cleanness clean_load in
-    let same = c.in_ok-kept.ensures.same clean_find in
-    let loads = is_loaded c.args.book.now c.args.credit.account (g.K.Keeper.content c.find_credit.new.keeper) (g.K.Keeper.content c.args.keeper.now) c.in_ok-loaded.field-0 c.in-Some.loaded same (c.in_ok-loaded.ensures.found clean_load) c.in-Some.is in
-    credit-again c.args.book.now list c.args.credit c.args.moment (g.K.Keeper.content c.args.keeper.now) c.in-Some.loaded time le is loads
-    c.in-Some-kept.kept (g.K.Keeper.content c.abandon.new.self) c.repeated.result
-    (sym (c.in_ok-kept.ensures.found clean_find) ∙ c.in-Some-kept.is) c.repeated.ensures
-    (ap g.K.Keeper.content c.abandon.ensures ∙ c.in_ok-loaded.ensures.same clean_load ∙ same)
-
-pub returns-in-None-clause-served : goal.returns-in-None-clause-served
-returns-in-None-clause-served g c = λ clean.
+pub returns-clause-served : goal.returns-clause-served
+returns-clause-served g c = λ clean.
     let clean_load = c.credit_account.ensures.cleanness clean in
     let clean_find = c.in_ok-loaded.ensures.cleanness clean_load in
     let same_load = c.in_ok-loaded.ensures.same clean_load in
     let same = c.in_ok-kept.ensures.same clean_find in
-    let loads = is_loaded c.args.book.now c.args.credit.account (g.K.Keeper.content c.find_credit.new.keeper) (g.K.Keeper.content c.load.new.self) c.in_ok-loaded.field-0 c.in-Some.loaded (sym same_load) (c.in_ok-loaded.ensures.found clean_load) c.in-Some.is in
-    let fresh = (λ i. ((same_load ∙ same) i).answers c.args.credit.account (key_of (content.Credit c.args.credit))) ∙ sym (c.in_ok-kept.ensures.found clean_find) ∙ c.in-None.is in
+    let loads = is_loaded c.args.book.now c.args.credit.account (g.K.Keeper.content c.find_credit.new.keeper) (g.K.Keeper.content c.load.new.self) c.in_ok-loaded.field-0 c.in-Some-2.loaded (sym same_load) (c.in_ok-loaded.ensures.found clean_load) c.in-Some-2.is in
+    let fresh = (λ i. ((same_load ∙ same) i).answers c.args.credit.account (key_of (content.Credit c.args.credit))) ∙ sym (c.in_ok-kept.ensures.found clean_find) ∙ c.in_default.is in
     subst (λ (x : Tables). ServesAt c.args.book.now (command.Credit c.args.credit) c.args.moment x (g.K.Keeper.content c.credit_account.new.keeper) c.credit_account.result) (same_load ∙ same)
     (c.credit_account.ensures.served clean c.args.book.now loads fresh)

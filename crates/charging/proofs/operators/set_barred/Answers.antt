@@ -7,7 +7,7 @@ use Rattle.charging.proofs.operators.set_barred.Goals as goal
 
 pub returns-in_default-clause-served : goal.returns-in_default-clause-served
 returns-in_default-clause-served g c = λ clean list time is le.
-    bar-unknown c.args.book.now list c.args.number c.args.barred c.args.moment (g.K.Keeper.content c.args.keeper.now) (g.K.Keeper.content c.load.new.self) is
+    bar-unknown c.args.book.now list c.args.number c.args.barred c.args.moment (g.K.Keeper.content c.args.keeper.now) (g.K.Keeper.content c.load.new.self) time le is
     (unknown c.args.book.now c.args.number (g.K.Keeper.content c.args.keeper.now) (g.K.Keeper.content c.args.keeper.now) c.in_ok-loaded.field-0 refl (c.in_ok-loaded.ensures.found clean) c.in_default.is)
     (c.in_ok-loaded.ensures.same clean)
 

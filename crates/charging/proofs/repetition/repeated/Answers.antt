@@ -1,6 +1,6 @@
 use Rattle.std.proofs.Common.{◌∙◌, ap, sym, if◌then◌else◌}
 use Rattle.charging.proofs.KeptKeys.{same-content}
-use Rattle.charging.proofs.operators.repeated.Goals as goal
+use Rattle.charging.proofs.repetition.repeated.Goals as goal
 
 pub returns-then-same_content : goal.returns-then-same_content
 returns-then-same_content c =

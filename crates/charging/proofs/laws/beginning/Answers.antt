@@ -1,0 +1,6 @@
+use Rattle.keepers.proofs.AcceptedTables.{tables_none}
+use Rattle.charging.specs.Outcomes.{outcome}
+use Rattle.charging.proofs.laws.beginning.Goals as goal
+
+pub returns-clause-tables : goal.returns-clause-tables
+returns-clause-tables c = λ b. tables_none (outcome b) b

@@ -1,0 +1,61 @@
+-- What the sessions of an account report, as its accepted commands tell (RFC 8506 sections 8.16 and 8.18).
+use Rattle.std.specs.Prelude.{ℕ, ◌&&◌, List, [], ◌∷◌, if◌then◌else◌}
+use Rattle.units.specs.declared.blocks.UsedPart.{UsedPart}
+use Rattle.commands.specs.declared.command.Command.{Command}
+use Rattle.commands.specs.declared.command.Command.TheVariants as command
+use Rattle.commands.specs.declared.request.Ask.{Ask}
+use Rattle.commands.specs.declared.request.Ask.TheVariants.{Initial, Update, Termination, Event, Refund}
+use Rattle.commands.specs.declared.service.Service.{Service}
+use Rattle.tariffs.specs.Books.{Book}
+use Rattle.decisions.specs.Known.{is_known}
+use Rattle.decisions.specs.Reports.{parts_of}
+use Rattle.keepers.specs.Accepted.{Accepted, account_of, names}
+use Rattle.charging.specs.Outcomes.{outcome}
+use Rattle.charging.specs.Served.{history}
+
+-- a session's report of a rating group: its parts tell which units were used before, on both sides of and after a
+-- tariff switch
+pub record Report : Type 0 where
+  pub at : ℕ
+  pub session : List ℕ
+  pub group : ℕ
+  pub parts : List UsedPart
+
+-- a group that is named without a part is not reported
+abbrev pub with_report : ℕ → List ℕ → ℕ → List UsedPart → List Report → List Report
+with_report t s g [] reports = reports
+with_report t s g (p ∷ ps) reports =
+    record { at = t; session = s; group = g; parts = p ∷ ps } ∷ reports
+
+-- of a request's services those report whose groups have a tariff, in the request's order
+abbrev pub with_services : Book → ℕ → List ℕ → List Service → List Report → List Report
+with_services b t s [] reports = reports
+with_services b t s (x ∷ xs) reports =
+    with_services b t s xs
+    (if is_known b x.group then with_report t s x.group (parts_of x.used) reports else reports)
+
+-- updates and terminations report
+abbrev pub with_ask : Book → ℕ → List ℕ → Ask → List Report → List Report
+with_ask b t s (Initial services) reports = reports
+with_ask b t s (Update services) reports = with_services b t s services reports
+with_ask b t s (Termination services) reports = with_services b t s services reports
+with_ask b t s (Event event) reports = reports
+with_ask b t s (Refund refund) reports = reports
+
+abbrev pub with_reports : Book → ℕ → Command → List Report → List Report
+with_reports b t (command.Ccr r) reports = with_ask b t r.session r.ask reports
+with_reports b t (command.OpenAccount n) reports = reports
+with_reports b t (command.Credit c) reports = reports
+with_reports b t (command.Bar n) reports = reports
+with_reports b t (command.Unbar n) reports = reports
+with_reports b t command.Sweep reports = reports
+
+-- the reports of an account's sessions, the newest first
+abbrev pub reports_of : Book → List ℕ → List Accepted → List Report
+reports_of b a [] = []
+reports_of b a (d ∷ before) =
+    if names a (account_of d.command)
+    then (if (outcome b (history b a before) d.command d.moment).accepted
+    then with_reports b d.moment d.command (reports_of b a before)
+    else reports_of b a before)
+    else reports_of b a before
