@@ -1,8 +1,8 @@
 -- The buckets that pass a test, in their order.
-use Rattle.std.proofs.Common.{◌≡◌, ◌≢◌, Bool, true, false, cond, List, [], ◌∷◌}
+use Rattle.std.proofs.Common.{◌≢◌, Bool, true, false, cond, List, [], ◌∷◌}
 use Rattle.std.specs.Prelude.{filter}
 use Rattle.buckets.specs.Row.{Row, IsBalanced}
-use Rattle.buckets.specs.Spend.{Each, IsSound, IsInOrder, AreDistinct, DiffersFromAll, PrecedesAll}
+use Rattle.buckets.specs.Spend.{Each, IsSound, IsInOrder, AreDistinct, PrecedesAll}
 
 all_filter : (x : Row) (p : Row → Bool) (xs : List Row) → PrecedesAll x xs → PrecedesAll x (filter p xs)
 all_filter x p [] h = tt

@@ -1,5 +1,5 @@
 -- What buckets pay together.
-use Rattle.std.proofs.Common.{◌≡◌, ◌≢◌, ℕ, ◌+◌, ◌-◌, ◌≤◌, ◌<◌, Bool, true, false, List, [], ◌∷◌, refl, sym, ap, ◌∙◌, arith}
+use Rattle.std.proofs.Common.{◌≡◌, ◌≢◌, ℕ, ◌+◌, ◌-◌, Bool, true, false, List, [], ◌∷◌, refl, sym, ap, ◌∙◌, arith}
 use Rattle.std.specs.Prelude.{if◌then◌else◌, nat_lt, min, sum_by}
 use Rattle.std.specs.List.{AllByRecursion}
 use Rattle.std.proofs.lemmas.Bool.Decides.{nat_tests}
@@ -8,7 +8,7 @@ use Rattle.buckets.specs.declared.holds.Hold.{Hold}
 use Rattle.buckets.specs.Row.{Row, eligible_amount}
 use Rattle.buckets.specs.Share.{share, parts, parts_along}
 use Rattle.buckets.specs.Spend.{IsInOrder, AreDistinct, DiffersFromAll, funds}
-use Rattle.buckets.specs.Holding.{held_in, held_sum, paid, paid_of_hold, paid_of_rest, uncollected, AreHolds}
+use Rattle.buckets.specs.Holding.{held_in, held_sum, paid, paid_of_hold, paid_of_rest, AreHolds}
 use Rattle.buckets.specs.Laws.{PaysAll}
 use Rattle.buckets.proofs.SharesAlong.{parts-along}
 
