@@ -9,7 +9,7 @@ use Rattle.reserving.specs.Balance.{credits}
 use Rattle.reserving.specs.Settlement.{charge_facts}
 use Rattle.reserving.specs.Reservation.{hold_facts}
 use Rattle.reserving.proofs.Keys.{is_key, is_key-sym, key_session, key_group}
-use Rattle.reserving.proofs.SettledHolds.{held_same}
+use Rattle.reserving.proofs.Holds.{held_same}
 use Rattle.charging.specs.Quotas.{grant_open}
 use Rattle.charging.proofs.BucketSums.{sum_by-most, sum_by-inserted}
 

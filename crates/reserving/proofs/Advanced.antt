@@ -48,7 +48,7 @@ IsAccount-advanced a t is = record {
   named = λ b le. named_lapsed (is_live_in a.book.validity t a.sessions) t a.groups b (is.named b le);
 }
 
-map_twice : {A : Type 0} (f g : A → A) (xs : List A) → map f (map g xs) ≡ map (λ x. f (g x)) xs
+pub map_twice : {A : Type 0} (f g : A → A) (xs : List A) → map f (map g xs) ≡ map (λ x. f (g x)) xs
 map_twice f g [] = refl
 map_twice f g (x ∷ xs) = ap (λ ys. f (g x) ∷ ys) (map_twice f g xs)
 

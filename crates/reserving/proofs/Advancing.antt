@@ -206,7 +206,7 @@ group_later v t1 t2 ledger sessions s g le live = at (has_group s g ledger)
 
 -- ---- all of it
 
-lapse-id : (v t : ℕ) (s : List ℕ) (r : Session) → is_session s (lapse v t r) ≡ is_session s r
+pub lapse-id : (v t : ℕ) (s : List ℕ) (r : Session) → is_session s (lapse v t r) ≡ is_session s r
 lapse-id v t s r = elim (is_open r.state && not (nat_lt t (r.touched + 2 * v))) as (λ l. is_session s (if l then record r { state = Ended } else r) ≡ is_session s r) [ true ↦ refl | false ↦ refl ]
 
 -- a session without a row has none later

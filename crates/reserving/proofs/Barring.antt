@@ -1,29 +1,14 @@
 -- The account is barred, or no longer: what that leaves of the rows.
-use Rattle.std.proofs.Common.{◌≡◌, ℕ, ◌+◌, Bool, true, false, refl, sym, ◌∙◌, arith}
-use Rattle.std.specs.Prelude.{if◌then◌else◌, ◌==◌}
-use Rattle.reserving.specs.Ledger.{Ledger, counter}
+use Rattle.std.proofs.Common.{◌≡◌, ℕ, Bool, refl, sym, ◌∙◌}
+use Rattle.reserving.specs.Ledger.{Ledger}
 use Rattle.reserving.specs.Pricing.{cycle_at}
 use Rattle.reserving.specs.Rows.{AccountRows, IsAccount, IsRowsOf}
 use Rattle.reserving.specs.Requests.{with_bar}
-use Rattle.reserving.proofs.Touching.{SameMoney, buckets_at-same, group_at-same, reservation_at-same, counter_at-same, unknown-same}
+use Rattle.reserving.proofs.KeptSessions.{IsAccount-with}
+use Rattle.reserving.proofs.Touching.{SameMoney, same_more, buckets_at-same, group_at-same, reservation_at-same, counter_at-same, unknown-same}
 
 pub same_barred : (t : ℕ) (barred : Bool) (ledger : Ledger) → SameMoney (with_bar t barred ledger) ledger
-same_barred t barred ledger = record {
-  charged = λ m. omega arith;
-  held = λ p m. omega arith;
-  credits = refl;
-  used = λ x g. omega arith;
-  has_group = λ x g. refl;
-  open_grant = λ x g. refl;
-  counter = λ f g c. none (f t == c) (counter f g c ledger);
-  has_counter = λ f g c. refl;
-  next_bucket = omega arith;
-  next_charge = omega arith;
-}
-  where
-    none : (b : Bool) (m : ℕ) → (if b then 0 else 0) + m ≡ m
-    none true m = omega arith
-    none false m = omega arith
+same_barred t barred ledger = same_more t (with_bar t barred ledger) ledger (λ m. refl) (λ p m. refl) refl (λ x g. refl) (λ x g. refl) (λ x g. refl) (λ f g c. refl) (λ f g c. refl) refl refl
 
 pub IsRowsOf-barred : (ledger : Ledger) (a : AccountRows) (t : ℕ) (barred : Bool) → IsRowsOf ledger a → IsRowsOf (with_bar t barred ledger) (record a { barred = barred })
 IsRowsOf-barred ledger a t barred rows = record {
@@ -48,17 +33,4 @@ IsRowsOf-barred ledger a t barred rows = record {
 
 -- what each account keeps doesn't speak of the bar
 pub IsAccount-barred : (a : AccountRows) (barred : Bool) → IsAccount a → IsAccount (record a { barred = barred })
-IsAccount-barred a barred is = record {
-  book = is.book;
-  sound = is.sound;
-  below = is.below;
-  next_bucket = is.next_bucket;
-  next_charge = is.next_charge;
-  sessions = is.sessions;
-  groups = is.groups;
-  counters = is.counters;
-  used = is.used;
-  counted = is.counted;
-  held = is.held;
-  named = is.named;
-}
+IsAccount-barred a barred is = IsAccount-with a barred a.sessions is.sessions is

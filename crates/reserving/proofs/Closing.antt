@@ -19,7 +19,7 @@ use Rattle.reserving.specs.Requests.{touched, closed}
 use Rattle.reserving.specs.Changes.{touched_account, touched_session, closed_account, closed_session, is_other, lapse_group, lapsed_in}
 use Rattle.reserving.proofs.Lists.{find-map, no_some}
 use Rattle.reserving.proofs.Holds.{one_if, IsSplit, held_split, held_same, same_itself, same_from}
-use Rattle.reserving.proofs.Positions.{balanced_le, balance_by, release_by}
+use Rattle.reserving.proofs.Columns.{balanced_le, balance_by, release_by}
 use Rattle.reserving.proofs.Advancing.{held_by-is, groups_each, found_each, IsGroupsOf}
 use Rattle.reserving.proofs.Touching.{IsRowsOf-leaves, SameMoney, same_touched, same_closed, reservation_at-same, counter_at-same, unknown-same, same_back}
 

@@ -16,7 +16,8 @@ use Rattle.reserving.specs.Changes.{credited_account}
 use Rattle.buckets.specs.Row.{with_end, with_release}
 use Rattle.reserving.specs.Sessions.{is_live_in}
 use Rattle.reserving.specs.Changes.{advanced, lapsed_in}
-use Rattle.reserving.proofs.Positions.{parts-at, with_columns}
+use Rattle.reserving.proofs.Columns.{with_columns}
+use Rattle.reserving.proofs.Positions.{parts-at}
 use Rattle.reserving.proofs.Lapsing.{ends_keep}
 use Rattle.reserving.proofs.Advancing.{held_by-split, IsRowsOf-advanced}
 

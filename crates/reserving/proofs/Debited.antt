@@ -94,6 +94,12 @@ debited_later a s g t units blocks rated =
       groups = groups i;
     }
 
+-- the rows as the call leaves them
+pub debited_is : (a middle after : AccountRows) (s : List ℕ) (g c t units blocks rated : ℕ) → c ≡ cycle_at a.book g t → middle ≡ advanced t (with_rows s g c a) → after ≡ debited_account s g units blocks rated middle →
+    after ≡ debited_account s g units blocks rated (advanced t a)
+debited_is a middle after s g c t units blocks rated k m e =
+    e ∙ ap (debited_account s g units blocks rated) (m ∙ (λ i. advanced t (with_rows s g (k i) a))) ∙ debited_later a s g t units blocks rated
+
 -- the rows of the ledger with the debit
 pub rows_debited : (ledger : Ledger) (a middle after : AccountRows) (s : List ℕ) (g c t units blocks rated : ℕ) →
     IsAccount a → IsRowsOf ledger a → a.as_of ≤ t → c ≡ cycle_at a.book g t →
@@ -103,8 +109,7 @@ pub rows_debited : (ledger : Ledger) (a middle after : AccountRows) (s : List �
 rows_debited ledger a middle after s g c t units blocks rated account rows le k b r m e =
     let later : AccountRows = advanced t a in
     let cost : event_price_in g units t a ≡ event_price a.book t g units ledger = event_price_is ledger a g units t rows in
-    let m' : middle ≡ advanced t (with_rows s g (cycle_at a.book g t) a) = m ∙ (λ i. advanced t (with_rows s g (k i) a)) in
-    let same : after ≡ debited_account s g units blocks rated later = e ∙ ap (debited_account s g units blocks rated) m' ∙ debited_later a s g t units blocks rated in
+    let same : after ≡ debited_account s g units blocks rated later = debited_is a middle after s g c t units blocks rated k m e in
     let done : IsRowsOf (charged_use a.book.validity t s g units blocks rated ledger) after =
     subst (IsRowsOf (charged_use a.book.validity t s g units blocks rated ledger)) (sym same) (IsRowsOf-debited ledger later s g units blocks rated (IsAccount-advanced a t account) (IsRowsOf-advanced ledger a t account rows le)) in
     subst (λ n. IsRowsOf (charged_use a.book.validity t s g units n (event_price a.book t g units ledger).amount.0 ledger) after) (b ∙ ap (λ (x : Rated). x.blocks) cost)

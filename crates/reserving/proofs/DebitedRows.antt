@@ -21,7 +21,8 @@ use Rattle.reserving.specs.Rows.{AccountRows, IsAccount, IsRowsOf, IsUnknown}
 use Rattle.reserving.proofs.Lists.{find-put, find-put_other}
 use Rattle.reserving.proofs.Keys.{is_key, own_key, key_session, key_group, other_row}
 use Rattle.reserving.proofs.SettledFacts.{is_barred-front, total-front, newest-front, any-front, any_dated-front, each_charge, held-charge_facts, credits-charge_facts, charged-charge_facts, IsMoved, SameSessions, SameGroup, same_live, same_session, same_touched, same_reservation, same_group}
-use Rattle.reserving.proofs.SettledBuckets.{balance_by-settled, balanced_le, eligible_le}
+use Rattle.reserving.proofs.Columns.{balanced_le}
+use Rattle.reserving.proofs.SettledBuckets.{balance_by-settled, eligible_le}
 use Rattle.reserving.proofs.SettledKept.{settled_number}
 use Rattle.reserving.proofs.SettledRows.{used_in_is, count_in_is, open_none, if_none, counters_used, differs_above, sum_at_none}
 

@@ -1,9 +1,9 @@
 -- What reservations hold of a bucket, split by reservation; and as the sum over the rows of groups.
-use Rattle.std.proofs.Common.{◌≡◌, ℕ, ◌+◌, Bool, true, false, List, [], ◌∷◌, refl, ap, arith}
+use Rattle.std.proofs.Common.{◌≡◌, ℕ, ◌+◌, Bool, true, false, List, [], ◌∷◌, refl, ap, ◌∙◌, arith}
 use Rattle.std.specs.Prelude.{if◌then◌else◌, ◌==◌, ◌&&◌, not}
 use Rattle.std.proofs.lemmas.Bool.Decides.{nat_tests}
 use Rattle.identifiers.proofs.Equality.{equal_names, names_equal}
-use Rattle.reserving.specs.Ledger.{Fact, Ledger, is_same, counts_before, hold_of, held}
+use Rattle.reserving.specs.Ledger.{Fact, Ledger, is_same, counts_before, hold_of, held, only}
 use Rattle.reserving.specs.Ledger.Fact.{Credit, Grant, Hold as HoldFact, End, Use, Charge, Touch, Close, Recorded, Barred}
 
 abbrev pub one_if : Bool → ℕ
@@ -63,34 +63,21 @@ split_by p q s g = one (p s g) (q s g)
 pub held_same : (p q : List ℕ → ℕ → Bool) (n : ℕ) (ledger : Ledger) → ((s : List ℕ) (g : ℕ) → p s g ≡ q s g) → held p n ledger ≡ held q n ledger
 held_same p q n ledger h = let same : p ≡ q = λ i s g. h s g i in ap (λ c. held c n ledger) same
 
--- no reservation counts
-hold_none : (p : List ℕ → ℕ → Bool) (n : ℕ) (f : Fact) → ((s : List ℕ) (g : ℕ) → p s g ≡ false) → hold_of p n f ≡ 0
-hold_none p n (HoldFact s g b a) h = rw (h s g) refl
-hold_none p n (Credit a b c d e) h = refl
-hold_none p n (Grant a b c d e) h = refl
-hold_none p n (End a b) h = refl
-hold_none p n (Use a b c d e f) h = refl
-hold_none p n (Charge a b) h = refl
-hold_none p n (Touch a) h = refl
-hold_none p n (Close a) h = refl
-hold_none p n (Recorded a b) h = refl
-hold_none p n (Barred a) h = refl
-
-before_none : (p : List ℕ → ℕ → Bool) (f : Fact) → ((s : List ℕ) (g : ℕ) → p s g ≡ false) → (s : List ℕ) (g : ℕ) → counts_before f p s g ≡ false
-before_none p (End s' g') h = λ s g. rw (h s g) refl
-before_none p (HoldFact s g b a) h = h
-before_none p (Credit a b c d e) h = h
-before_none p (Grant a b c d e) h = h
-before_none p (Use a b c d e f) h = h
-before_none p (Charge a b) h = h
-before_none p (Touch a) h = h
-before_none p (Close a) h = h
-before_none p (Recorded a b) h = h
-before_none p (Barred a) h = h
-
+-- where none counts, nothing is held
 pub held_none : (p : List ℕ → ℕ → Bool) (n : ℕ) (ledger : Ledger) → ((s : List ℕ) (g : ℕ) → p s g ≡ false) → held p n ledger ≡ 0
-held_none p n [] h = refl
-held_none p n (d ∷ older) h = omega (arith, hold_none p n d.fact h, held_none (counts_before d.fact p) n older (before_none p d.fact h))
+held_none p n ledger h =
+    let twice : IsSplit p p p = λ s g. rw (h s g) refl in
+    omega (arith, held_split p p p n ledger twice)
+
+split_one : (l t x : Bool) → (t ≡ true → l ≡ true) → one_if l ≡ one_if (l && not (t && x)) + one_if (t && x)
+split_one l true true h = rw (h refl) refl
+split_one l true false h = rw (h refl) refl
+split_one true false x h = refl
+split_one false false x h = refl
+
+-- a live session's reservations, and one of them
+pub one_split : (live : List ℕ → Bool) (session : List ℕ) (group : ℕ) → live session ≡ true → IsSplit (λ s g. live s) (λ s g. live s && not (is_same s session && g == group)) (only session group)
+one_split live session group h s g = split_one (live s) (is_same s session) (g == group) (λ e. ap live (equal_names s session e) ∙ h)
 
 -- ---- names of sessions
 

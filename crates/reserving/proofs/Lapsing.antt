@@ -13,7 +13,7 @@ use Rattle.reserving.specs.declared.session.SessionGroup.{SessionGroup}
 use Rattle.reserving.specs.declared.session.Reservation.{Reservation}
 use Rattle.reserving.specs.Sessions.{held_by, holds_in}
 use Rattle.reserving.specs.Changes.{lapse_from, lapsed_rows, lapsed_in, lapse_group, AreLapsable}
-use Rattle.reserving.proofs.Positions.{with_columns}
+use Rattle.reserving.proofs.Columns.{with_columns}
 use Rattle.reserving.proofs.Advancing.{held_by-split}
 
 -- ---- what is given up of a bucket

@@ -1,13 +1,14 @@
 -- The funds of a group at a later moment, summed before time goes on.
-use Rattle.std.proofs.Common.{◌≡◌, ℕ, ◌+◌, ◌-◌, Bool, true, false, List, [], ◌∷◌, map, refl, sym, ◌∙◌}
+use Rattle.std.proofs.Common.{◌≡◌, ℕ, ◌+◌, ◌-◌, Bool, true, false, List, [], ◌∷◌, map, refl, sym, ◌∙◌, arith}
 use Rattle.std.specs.Prelude.{if◌then◌else◌, ◌&&◌, nat_lt, nat_le}
 use Rattle.std.proofs.lemmas.List.Sums.{sum_by-cons}
 use Rattle.buckets.specs.Row.{Row, is_eligible, eligible_amount, covers, with_end, with_release}
 use Rattle.buckets.specs.Spend.{funds}
 use Rattle.reserving.specs.declared.session.Session.{Session}
 use Rattle.reserving.specs.declared.session.SessionGroup.{SessionGroup}
-use Rattle.reserving.specs.Sessions.{is_live_in}
+use Rattle.reserving.specs.Sessions.{is_live_in, held_by}
 use Rattle.reserving.specs.Changes.{lapsed_in, amount_later, funds_later}
+use Rattle.reserving.proofs.Advancing.{held_by-split}
 
 -- an eligible bucket hasn't ended, so that what is given up is available
 amount_is : (group t n : ℕ) (b : Row) → eligible_amount group t (with_end t (with_release t b n)) ≡ (if is_eligible group t b then b.available + n else 0)
@@ -27,3 +28,7 @@ funds_later-is group v t sessions groups (b ∷ bs) =
     sum_by-cons (amount_later group v t sessions groups) b bs
     ∙ (λ i. sym (amount_is group t (lapsed_in (is_live_in v t sessions) groups b) b) i + funds_later-is group v t sessions groups bs i)
     ∙ sym (sum_by-cons (eligible_amount group t) (with_end t (with_release t b (lapsed_in (is_live_in v t sessions) groups b))) (map (λ x. with_end t (with_release t x (lapsed_in (is_live_in v t sessions) groups x))) bs))
+
+-- nothing is given up of a bucket of which nothing is held
+pub lapsed_none : (keeps : List ℕ → Bool) (groups : List SessionGroup) (b : Row) → held_by (λ s. true) groups b ≡ 0 → lapsed_in keeps groups b ≡ 0
+lapsed_none keeps groups b e = omega (arith, e, held_by-split keeps b groups)

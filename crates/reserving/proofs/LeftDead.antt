@@ -10,12 +10,11 @@ use Rattle.reserving.specs.Ledger.{Ledger, is_same, is_live, held, only}
 use Rattle.reserving.specs.Balance.{credits, bucket_at, buckets_at}
 use Rattle.reserving.specs.Sessions.{holds_at}
 use Rattle.reserving.specs.Settlement.{settled}
-use Rattle.reserving.specs.Laws.{ended_between}
-use Rattle.reserving.proofs.Holds.{held_split, split_by}
-use Rattle.reserving.proofs.SettledHolds.{one_split}
+use Rattle.reserving.specs.Laws.{ended_between, AreDeadKept}
+use Rattle.reserving.proofs.Holds.{held_split, split_by, one_split}
 use Rattle.reserving.proofs.Positions.{bucket_at-later}
 use Rattle.reserving.proofs.SettledBuckets.{buckets_at-settled}
-use Rattle.reserving.specs.Left.{IsDead, AreDeadKept}
+use Rattle.reserving.specs.Left.{IsDead}
 use Rattle.reserving.proofs.LeftMerged.{release_none, end_dead, settled_dead}
 
 -- ---- as time goes on

@@ -22,7 +22,7 @@ use Rattle.reserving.specs.Rows.{AccountRows, EachIn, IsAccount, IsRowsOf}
 use Rattle.reserving.specs.Results.{IsDebitOf}
 use Rattle.reserving.specs.Left.{LeftRows, merged, joined, IsDead, IsLeft, AreOfOtherCycles, IsBeside, IsWith}
 use Rattle.reserving.proofs.DebitedKept.{IsAccount-debited}
-use Rattle.reserving.proofs.Debited.{covered_is, debit_is, debited_later, buckets_later}
+use Rattle.reserving.proofs.Debited.{covered_is, debit_is, debited_is, debited_later, buckets_later}
 use Rattle.reserving.proofs.SettledCall.{within_used, within_counted}
 use Rattle.reserving.proofs.SettledParts.{used_later}
 use Rattle.reserving.proofs.LeftMerged.{each_map, settled_merged}
@@ -74,8 +74,7 @@ debit_beside ledger left a middle after s g c t units paid x h gone le k f cover
     let with_later : IsWith ledger left t later = with_advanced ledger left t a le h in
     let count : count_in g (cycle_at a.book g t) whole.counters ≡ count_in g (cycle_at a.book g t) a.counters = count_beside a.book t g left.counters a.counters h.cycles in
     let cost : event_price_in g units t whole ≡ event_price_in g units t a = event_price_joined left a g units t h.cycles in
-    let m' : middle ≡ advanced t (with_rows s g (cycle_at a.book g t) a) = m ∙ (λ i. advanced t (with_rows s g (k i) a)) in
-    let is : after ≡ debited_account s g units blocks rated later = e ∙ ap (debited_account s g units blocks rated) m' ∙ debited_later a s g t units blocks rated in
+    let is : after ≡ debited_account s g units blocks rated later = debited_is a middle after s g c t units blocks rated k m e in
     let same : debited_account s g units blocks rated (advanced t (with_rows s g c whole)) ≡ joined left after =
     (λ i. debited_account s g units blocks rated (advanced t (with_rows s g (k i) whole)))
     ∙ debited_later whole s g t units blocks rated

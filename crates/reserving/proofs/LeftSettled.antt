@@ -14,8 +14,8 @@ use Rattle.reserving.specs.Rows.{AccountRows, EachIn, IsAccount, IsRowsOf}
 use Rattle.reserving.specs.Left.{LeftRows, joined, IsWith}
 use Rattle.reserving.proofs.Advancing.{is_live_in-is}
 use Rattle.reserving.proofs.SettledKept.{IsAccount-settled}
-use Rattle.reserving.proofs.SettledParts.{used_later, settled_later}
-use Rattle.reserving.proofs.SettledCall.{price_later, within_used, within_counted, with_parts}
+use Rattle.reserving.proofs.SettledParts.{used_later}
+use Rattle.reserving.proofs.SettledCall.{price_later, within_used, within_counted, settled_is}
 use Rattle.reserving.proofs.LeftFrames.{live, not_of_live, row_same, count_same, settled_joined, settled_with_left}
 use Rattle.reserving.proofs.LeftMore.{with_advanced, with_ended}
 
@@ -80,11 +80,7 @@ left_settled ledger left a middle after s g c t units blocks rated used_parts h 
     let later : AccountRows = advanced t a in
     let with_later : IsWith ledger left t later = with_advanced ledger left t a le h in
     let cost : price_in s g t used_parts a ≡ price_in s g t used_parts later = price_later a s g t used_parts alive in
-    let m' : middle ≡ advanced t (with_rows s g (cycle_at a.book g t) a) = m ∙ (λ i. advanced t (with_rows s g (k i) a)) in
-    let same : after ≡ settled_by_rows s g used_parts later =
-    e ∙ ap (settled_account s g units blocks rated) m' ∙ settled_later a s g t units blocks rated
-    ∙ (λ i. settled_account s g (u i) ((b ∙ ap (λ (x : Rated). x.blocks) cost) i) ((r ∙ ap (λ (x : Rated). x.amount.0) cost) i) later)
-    ∙ with_parts later s g used_parts some in
+    let same : after ≡ settled_by_rows s g used_parts later = settled_is a middle after s g c t units blocks rated used_parts alive some k u b r m e in
     let blocks_are : blocks ≡ (price_in s g t used_parts later).blocks = b ∙ ap (λ (x : Rated). x.blocks) cost in
     let used : used_in s g later.groups ≡ used_in s g a.groups = used_later (is_live_in a.book.validity t a.sessions) s g a.groups in
     let within : used_in s g a.groups + units ≤ 1000000000000000000 = within_used (used_in s g a.groups) units (count_in g (cycle_at a.book g t) a.counters) blocks a.next_charge fits in

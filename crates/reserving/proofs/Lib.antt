@@ -13,7 +13,6 @@ pub mod Crediting
 pub mod Empty
 pub mod Keys
 pub mod KeysFound
-pub mod SettledHolds
 pub mod SettledFacts
 pub mod SettledBuckets
 pub mod SettledComplete
@@ -50,3 +49,5 @@ pub mod LeftReadings
 pub mod LeftGranted
 pub mod LeftDebited
 pub mod LeftSettlement
+pub mod Columns
+pub mod KeptSessions

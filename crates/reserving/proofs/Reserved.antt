@@ -28,7 +28,7 @@ use Rattle.reserving.specs.Rows.{AccountRows, IsAccount, IsRowsOf, IsUnknown}
 use Rattle.reserving.proofs.Lists.{find-put, find-put_other, EachIn-put, no_some}
 use Rattle.reserving.proofs.Keys.{is_key, own_key, key_session, key_group, other_row, not_true, first_true}
 use Rattle.reserving.proofs.SettledFacts.{is_barred-front, total-front, newest-front, any-front, any_dated-front, each_hold, held-hold_facts, held-hold_facts_other, credits-hold_facts, charged-hold_facts, IsMoved, SameSessions, SameGroup, same_session, same_live, same_touched, same_group}
-use Rattle.reserving.proofs.SettledBuckets.{balance_by, with_columns}
+use Rattle.reserving.proofs.Columns.{balance_by, with_columns}
 use Rattle.reserving.proofs.SettledComplete.{held_free}
 use Rattle.reserving.proofs.SettledRows.{used_in_is, if_none, differs_above, sum_at_none}
 use Rattle.reserving.proofs.SettledKept.{held_by-put, held_by_number, AreApart-put, used_le, IsBelow-map}

@@ -12,27 +12,11 @@ use Rattle.reserving.specs.Ledger.Fact.{End}
 use Rattle.reserving.specs.Balance.{credits, balance_of, bucket_at, buckets_at}
 use Rattle.reserving.specs.Sessions.{holds_at}
 use Rattle.reserving.specs.Settlement.{charge_facts, settled}
-use Rattle.reserving.proofs.SettledHolds.{held_split, one_split}
+use Rattle.reserving.proofs.Columns.{balance_by, release_by, with_columns, balanced_le}
+use Rattle.reserving.proofs.Holds.{held_split, one_split}
 use Rattle.reserving.proofs.SettledFacts.{SameSessions, same_live, newest-front, any-front, each_charge, held-charge_facts, credits-charge_facts, charged-charge_facts}
 
 -- ---- one bucket's columns
-
-abbrev pub balance_by : Bool → Row → ℕ → ℕ → Row
-balance_by b c charged held = record c {
-  available = (if b then c.credited - charged - held else 0);
-  reserved = held;
-  charged = charged;
-  expired = (if b then 0 else c.credited - charged - held);
-}
-
-abbrev pub release_by : Bool → Row → ℕ → Row
-release_by t b amount =
-    if t
-    then record b { reserved = b.reserved - amount; available = b.available + amount }
-    else record b { reserved = b.reserved - amount; expired = b.expired + amount }
-
-pub with_columns : (c : Row) (a a' r r' ch ch' x x' : ℕ) → a ≡ a' → r ≡ r' → ch ≡ ch' → x ≡ x' → (let y : Row = record c { available = a; reserved = r; charged = ch; expired = x } in y) ≡ (let y : Row = record c { available = a'; reserved = r'; charged = ch'; expired = x' } in y)
-with_columns c a a' r r' ch ch' x x' p q s t = λ i. record c { available = p i; reserved = q i; charged = s i; expired = t i }
 
 -- what is paid, s1 of h and s2 of the rest, and what is given up
 pub balance_by-settled : (b : Bool) (c : Row) (ch h r s1 s2 : ℕ) → ch + (r + h) ≤ c.credited → s1 ≤ h → s2 ≤ (if b then c.credited - ch - (r + h) else 0) → balance_by b c (s1 + s2 + ch) r ≡ release_by b (with_charge (with_charge_of_hold (balance_by b c ch (r + h)) s1) s2) (h - s1)
@@ -42,10 +26,6 @@ balance_by-settled false c ch h r s1 s2 w p q = with_columns c _ _ _ _ _ _ _ _ (
 balance_by-ended : (b : Bool) (c : Row) (ch h r : ℕ) → ch + (r + h) ≤ c.credited → balance_by b c ch r ≡ release_by b (balance_by b c ch (r + h)) h
 balance_by-ended true c ch h r w = with_columns c _ _ _ _ _ _ _ _ (omega arith) (omega arith) refl refl
 balance_by-ended false c ch h r w = with_columns c _ _ _ _ _ _ _ _ refl (omega arith) refl (omega arith)
-
-pub balanced_le : (b : Bool) (c : Row) (ch r : ℕ) → c.credited ≡ (if b then c.credited - ch - r else 0) + r + ch + (if b then 0 else c.credited - ch - r) → ch + r ≤ c.credited
-balanced_le true c ch r h = omega arith
-balanced_le false c ch r h = omega arith
 
 pub eligible_le : (e : Bool) (a x m : ℕ) → a ≡ x → min (if e then a else 0) m ≤ x
 eligible_le true a x m h = omega arith

@@ -113,6 +113,22 @@ pub with_parts : (a : AccountRows) (s : List ℕ) (g : ℕ) (used_parts : List U
 with_parts a s g [] some = absurd (some refl)
 with_parts a s g (p ∷ ps) some = refl
 
+-- the rows as the call leaves them
+pub settled_is : (a middle after : AccountRows) (s : List ℕ) (g c t units blocks rated : ℕ) (used_parts : List UsedPart) →
+    is_live_in a.book.validity t a.sessions s ≡ true → (used_parts ≡ [] → ⊥) → c ≡ cycle_at a.book g t →
+    units ≡ reported used_parts → blocks ≡ (price_in s g t used_parts a).blocks → rated ≡ (price_in s g t used_parts a).amount.0 →
+    middle ≡ advanced t (with_rows s g c a) → after ≡ settled_account s g units blocks rated middle →
+    after ≡ settled_by_rows s g used_parts (advanced t a)
+settled_is a middle after s g c t units blocks rated used_parts live_in some k u b r m e =
+    let cost : price_in s g t used_parts a ≡ price_in s g t used_parts (advanced t a) = price_later a s g t used_parts live_in in
+    e ∙ ap (settled_account s g units blocks rated) (m ∙ (λ i. advanced t (with_rows s g (k i) a))) ∙ settled_later a s g t units blocks rated
+    ∙ (λ i. settled_account s g (u i) ((b ∙ ap (λ (x : Rated). x.blocks) cost) i) ((r ∙ ap (λ (x : Rated). x.amount.0) cost) i) (advanced t a))
+    ∙ with_parts (advanced t a) s g used_parts some
+
+pub ended_is : (a middle after : AccountRows) (s : List ℕ) (g t : ℕ) (used_parts : List UsedPart) → used_parts ≡ [] → middle ≡ advanced t a → after ≡ ended_rows s g middle →
+    after ≡ settled_by_rows s g used_parts (advanced t a)
+ended_is a middle after s g t used_parts empty m e = e ∙ ap (ended_rows s g) m ∙ ap (λ ps. settled_by_rows s g ps (advanced t a)) (sym empty)
+
 -- the rows of the ledger with the settlement
 pub rows_settled : (ledger : Ledger) (a middle after : AccountRows) (s : List ℕ) (g c t units blocks rated : ℕ) (used_parts : List UsedPart) →
     IsAccount a → IsRowsOf ledger a → a.as_of ≤ t → is_live_in a.book.validity t a.sessions s ≡ true →
@@ -125,12 +141,7 @@ rows_settled ledger a middle after s g c t units blocks rated used_parts account
     let later : AccountRows = advanced t a in
     let account' : IsAccount later = IsAccount-advanced a t account in
     let rows' : IsRowsOf ledger later = IsRowsOf-advanced ledger a t account rows le in
-    let cost : price_in s g t used_parts a ≡ price_in s g t used_parts later = price_later a s g t used_parts live_in in
-    let m' : middle ≡ advanced t (with_rows s g (cycle_at a.book g t) a) = m ∙ (λ i. advanced t (with_rows s g (k i) a)) in
-    let same : after ≡ settled_by_rows s g used_parts later =
-    e ∙ ap (settled_account s g units blocks rated) m' ∙ settled_later a s g t units blocks rated
-    ∙ (λ i. settled_account s g (u i) ((b ∙ ap (λ (x : Rated). x.blocks) cost) i) ((r ∙ ap (λ (x : Rated). x.amount.0) cost) i) later)
-    ∙ with_parts later s g used_parts some in
+    let same : after ≡ settled_by_rows s g used_parts later = settled_is a middle after s g c t units blocks rated used_parts live_in some k u b r m e in
     subst (IsRowsOf (settled_by a.book t s g used_parts ledger)) (sym same) (IsRowsOf-settled_by ledger later s g used_parts account' rows' live)
 
 -- what the call answers

@@ -19,7 +19,7 @@ use Rattle.reserving.specs.Prepared.{reservation_in}
 use Rattle.reserving.specs.Rows.{EachIn, AreApart, AccountRows, IsAccount, IsRowsOf}
 use Rattle.reserving.proofs.Lists.{some_of, no_some}
 use Rattle.reserving.proofs.Keys.{is_key, key_session, key_group, is_key-sym, found_own, not_true, first_true, second_true}
-use Rattle.reserving.proofs.SettledHolds.{one_if, IsSplit, held_split, held_none, held_same}
+use Rattle.reserving.proofs.Holds.{one_if, IsSplit, held_split, held_none, held_same}
 
 -- ---- the reservations that rows have
 

@@ -26,7 +26,7 @@ use Rattle.reserving.specs.Changes.{new_group, used_in, reserved_in, periods_in,
 use Rattle.reserving.specs.Rows.{AccountRows, IsAccount, IsRowsOf, IsUnknown}
 use Rattle.reserving.proofs.Lists.{find-put, find-put_other, find-map}
 use Rattle.reserving.proofs.Keys.{is_key, own_key, key_session, key_group, key_of, other_row, is_cycle, own_cycle, cycle_group, cycle_cycle, other_counter, same_tests, not_true}
-use Rattle.reserving.proofs.SettledHolds.{one_if, held_split, held_same}
+use Rattle.reserving.proofs.Holds.{one_if, held_split, held_same}
 use Rattle.reserving.proofs.SettledFacts.{is_barred-front, total-front, newest-front, any-front, any_dated-front, each_charge, held-charge_facts, charged-charge_facts, IsMoved, SameSessions, SameGroup, same_session, same_touched, same_group}
 use Rattle.reserving.proofs.SettledBuckets.{with_end, buckets_at-settled, buckets_at-ended, same_sessions-settled, same_sessions-ended}
 use Rattle.reserving.proofs.SettledComplete.{reserved_in_is}

@@ -7,7 +7,8 @@ use Rattle.buckets.specs.Share.{parts}
 use Rattle.reserving.specs.declared.session.Session.{Session}
 use Rattle.reserving.specs.declared.session.SessionState.{SessionState}
 use Rattle.reserving.specs.declared.session.SessionState.TheVariants.{Open, NeverOpened}
-use Rattle.reserving.specs.Ledger.{Ledger, Recording, is_barred, is_same, is_live, is_closed, last_touch, last_recording, or_else, charged, held, only, used, counter, has_group, has_counter, open_grant, next_bucket, next_charge}
+use Rattle.reserving.specs.Ledger.{Ledger, Recording, is_barred, is_same, is_live, is_closed, last_touch, last_recording, or_else, charged, held, only, used, counter, has_group, has_counter, open_grant, next_bucket, next_charge, total, credits_in, uses_in}
+use Rattle.reserving.specs.Ledger.Fact.{Touch}
 use Rattle.reserving.specs.Balance.{credits, bucket_at, buckets_at, balance_of}
 use Rattle.reserving.specs.Sessions.{is_session, session_in, session_at, session_row, state_at, group_at, reservation_at, reservation_of, holds_at, counter_at}
 use Rattle.reserving.specs.Keyed.{put}
@@ -33,59 +34,55 @@ pub record SameMoney (new old : Ledger) : Type 0 where
   pub next_bucket : next_bucket new ≡ next_bucket old
   pub next_charge : next_charge new ≡ next_charge old
 
-pub same_recorded : (t : ℕ) (s : List ℕ) (n : ℕ) (ledger : Ledger) → SameMoney (recorded t s n ledger) ledger
-same_recorded t s n ledger = record {
-  charged = λ m. omega arith;
-  held = λ p m. omega arith;
-  credits = refl;
-  used = λ x g. omega arith;
-  has_group = λ x g. refl;
-  open_grant = λ x g. refl;
-  counter = λ f g c. none (f t == c) (counter f g c ledger);
-  has_counter = λ f g c. refl;
-  next_bucket = omega arith;
-  next_charge = omega arith;
+-- a fact that adds nothing to any sum
+pub same_more : (t : ℕ) (new old : Ledger) →
+    ((m : ℕ) → charged m new ≡ 0 + charged m old) → ((p : List ℕ → ℕ → Bool) (m : ℕ) → held p m new ≡ 0 + held p m old) → credits new ≡ credits old →
+    ((s : List ℕ) (g : ℕ) → used s g new ≡ 0 + used s g old) → ((s : List ℕ) (g : ℕ) → has_group s g new ≡ has_group s g old) → ((s : List ℕ) (g : ℕ) → open_grant s g new ≡ open_grant s g old) →
+    ((f : ℕ → ℕ) (g c : ℕ) → counter f g c new ≡ (if f t == c then 0 else 0) + counter f g c old) → ((f : ℕ → ℕ) (g c : ℕ) → has_counter f g c new ≡ has_counter f g c old) →
+    total (λ d. credits_in d.fact) new ≡ 0 + total (λ d. credits_in d.fact) old → total (λ d. uses_in d.fact) new ≡ 0 + total (λ d. uses_in d.fact) old →
+    SameMoney new old
+same_more t new old ch he cr us gr op co hc nb nc = record {
+  charged = λ m. omega (arith, ch m);
+  held = λ p m. omega (arith, he p m);
+  credits = cr;
+  used = λ s g. omega (arith, us s g);
+  has_group = gr;
+  open_grant = op;
+  counter = λ f g c. co f g c ∙ none (f t == c) (counter f g c old);
+  has_counter = hc;
+  next_bucket = omega (arith, nb);
+  next_charge = omega (arith, nc);
 }
   where
     none : (b : Bool) (m : ℕ) → (if b then 0 else 0) + m ≡ m
     none true m = omega arith
     none false m = omega arith
+
+pub same_then : (new middle old : Ledger) → SameMoney new middle → SameMoney middle old → SameMoney new old
+same_then new middle old h k = record {
+  charged = λ m. h.charged m ∙ k.charged m;
+  held = λ p m. h.held p m ∙ k.held p m;
+  credits = h.credits ∙ k.credits;
+  used = λ s g. h.used s g ∙ k.used s g;
+  has_group = λ s g. h.has_group s g ∙ k.has_group s g;
+  open_grant = λ s g. h.open_grant s g ∙ k.open_grant s g;
+  counter = λ f g c. h.counter f g c ∙ k.counter f g c;
+  has_counter = λ f g c. h.has_counter f g c ∙ k.has_counter f g c;
+  next_bucket = h.next_bucket ∙ k.next_bucket;
+  next_charge = h.next_charge ∙ k.next_charge;
+}
+
+pub same_recorded : (t : ℕ) (s : List ℕ) (n : ℕ) (ledger : Ledger) → SameMoney (recorded t s n ledger) ledger
+same_recorded t s n ledger = same_more t (recorded t s n ledger) ledger (λ m. refl) (λ p m. refl) refl (λ x g. refl) (λ x g. refl) (λ x g. refl) (λ f g c. refl) (λ f g c. refl) refl refl
 
 pub same_touched : (t : ℕ) (s : List ℕ) (n : ℕ) (ledger : Ledger) → SameMoney (touched t s n ledger) ledger
-same_touched t s n ledger = record {
-  charged = λ m. omega arith;
-  held = λ p m. omega arith;
-  credits = refl;
-  used = λ x g. omega arith;
-  has_group = λ x g. refl;
-  open_grant = λ x g. refl;
-  counter = λ f g c. none (f t == c) (counter f g c ledger);
-  has_counter = λ f g c. refl;
-  next_bucket = omega arith;
-  next_charge = omega arith;
-}
-  where
-    none : (b : Bool) (m : ℕ) → (if b then 0 else 0) + ((if b then 0 else 0) + m) ≡ m
-    none true m = omega arith
-    none false m = omega arith
+same_touched t s n ledger =
+    let touch : Ledger = record { at = t; fact = Touch s } ∷ ledger in
+    same_then (touched t s n ledger) touch ledger (same_recorded t s n touch)
+    (same_more t touch ledger (λ m. refl) (λ p m. refl) refl (λ x g. refl) (λ x g. refl) (λ x g. refl) (λ f g c. refl) (λ f g c. refl) refl refl)
 
 pub same_closed : (t : ℕ) (s : List ℕ) (ledger : Ledger) → SameMoney (closed t s ledger) ledger
-same_closed t s ledger = record {
-  charged = λ m. omega arith;
-  held = λ p m. omega arith;
-  credits = refl;
-  used = λ x g. omega arith;
-  has_group = λ x g. refl;
-  open_grant = λ x g. refl;
-  counter = λ f g c. none (f t == c) (counter f g c ledger);
-  has_counter = λ f g c. refl;
-  next_bucket = omega arith;
-  next_charge = omega arith;
-}
-  where
-    none : (b : Bool) (m : ℕ) → (if b then 0 else 0) + m ≡ m
-    none true m = omega arith
-    none false m = omega arith
+same_closed t s ledger = same_more t (closed t s ledger) ledger (λ m. refl) (λ p m. refl) refl (λ x g. refl) (λ x g. refl) (λ x g. refl) (λ f g c. refl) (λ f g c. refl) refl refl
 
 -- ---- what such facts leave
 

@@ -1,9 +1,12 @@
 -- Laws over the definitions alone.
 -- Source: profile.
-use Rattle.std.specs.Prelude.{◌≡◌, ℕ, ◌≤◌, ◌&&◌, Bool, not, List}
+use Rattle.std.specs.Prelude.{◌≡◌, ℕ, ◌≤◌, ◌&&◌, Bool, true, not, List, [], ◌∷◌}
 use Rattle.buckets.specs.Row.{Row, IsBalanced, with_end, with_release}
 use Rattle.reserving.specs.Ledger.{Ledger, is_live, held}
-use Rattle.reserving.specs.Balance.{bucket_at}
+use Rattle.buckets.specs.Spend.{Each, AreDistinct}
+use Rattle.reserving.specs.Balance.{bucket_at, buckets_at}
+use Rattle.reserving.specs.Settlement.{settled}
+use Rattle.reserving.specs.Left.{IsDead}
 
 -- the reservations of sessions that ended between two moments
 abbrev pub ended_between : ℕ → ℕ → ℕ → Ledger → List ℕ → ℕ → Bool
@@ -23,3 +26,21 @@ abbrev pub IsBroughtAlike : Type 0
 IsBroughtAlike =
     (v t1 t2 t3 : ℕ) (ledger : Ledger) (c : Row) → t1 ≤ t2 → t2 ≤ t3 → IsBalanced (bucket_at v t1 ledger c) →
     brought v t2 t3 ledger (brought v t1 t2 ledger (bucket_at v t1 ledger c)) ≡ brought v t1 t3 ledger (bucket_at v t1 ledger c)
+
+-- ---- a dead bucket never changes again: a law of the ledger
+
+abbrev pub AreDeadKept : List Row → List Row → Type 0
+AreDeadKept [] [] = Unit {0}
+AreDeadKept [] (y ∷ ys) = Unit {0}
+AreDeadKept (x ∷ xs) [] = ⊥
+AreDeadKept (x ∷ xs) (y ∷ ys) = (IsDead x → y ≡ x) × AreDeadKept xs ys
+
+-- as time goes on
+abbrev pub IsDeadLater : Type 0
+IsDeadLater = (v t u : ℕ) (ledger : Ledger) → t ≤ u → Each IsBalanced (buckets_at v t ledger) → AreDeadKept (buckets_at v t ledger) (buckets_at v u ledger)
+
+-- and by a settlement
+abbrev pub IsDeadSettled : Type 0
+IsDeadSettled =
+    (v t : ℕ) (session : List ℕ) (group units blocks rated : ℕ) (ledger : Ledger) → is_live v t ledger session ≡ true → Each IsBalanced (buckets_at v t ledger) → AreDistinct (buckets_at v t ledger) →
+    AreDeadKept (buckets_at v t ledger) (buckets_at v t (settled v t session group units blocks rated ledger))

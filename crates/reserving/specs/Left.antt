@@ -1,25 +1,19 @@
 -- What of an account's rows isn't loaded: it is left in the keeper.
 -- Source: profile.
-use Rattle.std.specs.Prelude.{◌≡◌, ℕ, ◌≤◌, Bool, true, false, not, ◌==◌, ◌&&◌, if◌then◌else◌, cond, List, [], ◌∷◌, ◌++◌, Option, Some, None, filter}
+use Rattle.std.specs.Prelude.{◌≡◌, ℕ, Bool, true, false, not, ◌==◌, ◌&&◌, if◌then◌else◌, List, [], ◌∷◌, ◌++◌, Option, Some, None, filter}
 use Rattle.std.specs.List.{find, list_any}
 use Rattle.buckets.specs.Row.{Row, precedes}
-use Rattle.buckets.specs.Spend.{Each, AreDistinct, inserted, IsBelow, IsSound}
-use Rattle.buckets.specs.Row.{IsBalanced}
-use Rattle.reserving.specs.Ledger.{is_live}
-use Rattle.reserving.specs.Balance.{buckets_at}
-use Rattle.reserving.specs.Settlement.{settled}
-use Rattle.units.specs.declared.blocks.UsedPart.{UsedPart}
+use Rattle.buckets.specs.Spend.{Each}
 use Rattle.reserving.specs.declared.session.Session.{Session}
 use Rattle.reserving.specs.declared.session.SessionGroup.{SessionGroup}
 use Rattle.reserving.specs.declared.session.Counter.{Counter}
 use Rattle.tariffs.specs.Books.{Book}
 use Rattle.reserving.specs.Ledger.{Ledger}
 use Rattle.reserving.specs.Pricing.{cycle_at}
-use Rattle.reserving.specs.Sessions.{is_session, is_open, session_in, group_in, counter_in, is_live_in}
+use Rattle.reserving.specs.Sessions.{is_session, is_open, session_in, group_in, counter_in}
 use Rattle.reserving.specs.Rows.{AccountRows, EachIn, AreApart, IsAccount, IsRowsOf}
-use Rattle.reserving.specs.Changes.{advanced, settled_by_rows, reserved_account}
-use Rattle.reserving.specs.Settlement.{settled_by}
 
+-- rows of an account that stay where they are kept while the others are loaded
 pub record LeftRows : Type 0 where
   pub buckets : List Row
   pub counters : List Counter
@@ -63,22 +57,6 @@ pub record IsLeft (left : LeftRows) (a : AccountRows) : Type 0 where
 abbrev pub AreOfOtherCycles : Book → ℕ → List Counter → Type 0
 AreOfOtherCycles book t counters = EachIn (λ r. (r.cycle == cycle_at book r.group t) ≡ false) counters
 
--- time goes on for both alike
-abbrev pub IsAdvancedApart : Type 0
-IsAdvancedApart = (t : ℕ) (left : LeftRows) (a : AccountRows) → IsLeft left a → advanced t (joined left a) ≡ joined left (advanced t a)
-
-abbrev pub IsSettledApart : Type 0
-IsSettledApart =
-    (left : LeftRows) (a : AccountRows) (s : List ℕ) (g : ℕ) (used_parts : List UsedPart) → IsLeft left a → AreOfOtherCycles a.book a.as_of left.counters →
-    is_live_in a.book.validity a.as_of a.sessions s ≡ true → settled_by_rows s g used_parts (joined left a) ≡ joined left (settled_by_rows s g used_parts a)
-
--- a settlement, from a ledger whose rows are the account's together with those left
-abbrev pub IsSettledWithLeft : Type 0
-IsSettledWithLeft =
-    (ledger : Ledger) (left : LeftRows) (a : AccountRows) (s : List ℕ) (g : ℕ) (used_parts : List UsedPart) → IsLeft left a → AreOfOtherCycles a.book a.as_of left.counters →
-    is_live_in a.book.validity a.as_of a.sessions s ≡ true → IsRowsOf ledger (joined left a) →
-    IsRowsOf (settled_by a.book a.as_of s g used_parts ledger) (joined left (settled_by_rows s g used_parts a))
-
 -- ---- what is loaded at a moment
 
 abbrev pub is_dead : Row → Bool
@@ -120,9 +98,6 @@ pub record IsLoadedWith (ledger : Ledger) (t : ℕ) (w a : AccountRows) : Type 0
   pub cycles : AreOfOtherCycles a.book t (left_of t w).counters
   pub rows : IsRowsOf ledger (joined (left_of t w) a)
 
-abbrev pub IsLoadLaw : Type 0
-IsLoadLaw = (ledger : Ledger) (t : ℕ) (w a : AccountRows) → IsAccount w → IsAccount a → IsRowsOf ledger w → IsPartOf t w a → IsLoadedWith ledger t w a
-
 -- no row of a session was left: so of each live session, and of a new one
 pub record NotLeft (s : List ℕ) (left : LeftRows) : Type 0 where
   pub session : session_in s left.sessions ≡ None
@@ -138,15 +113,9 @@ abbrev pub first_of : {A : Type 0} → Option A → Option A → Option A
 first_of None y = y
 first_of (Some x) y = Some x
 
--- written over the rows before they give the rows after, wherever no row vanishes
+-- no two sessions have one name
 abbrev pub IsApartSessions : List Session → Type 0
 IsApartSessions rows = AreApart (λ x y. is_session x.id y) rows
-
-abbrev pub IsChangeLaw : Type 0
-IsChangeLaw =
-    (before after : List Session) (eq : Session → Session → Bool) → ((x y : Session) → eq x y ≡ true → x ≡ y) →
-    (s : List ℕ) → (session_in s after ≡ None → session_in s before ≡ None) →
-    IsApartSessions before → IsApartSessions after → first_of (session_in s (differing eq before after)) (session_in s before) ≡ session_in s after
 
 -- ---- from a ledger whose rows an account's are together with those left
 
@@ -155,69 +124,17 @@ pub record IsBeside (left : LeftRows) (t : ℕ) (a : AccountRows) : Type 0 where
   pub apart : IsLeft left a
   pub cycles : AreOfOtherCycles a.book t left.counters
 
+-- the account's rows and those left are together the ledger's; at the moment no counter that was left is of a cycle
 pub record IsWith (ledger : Ledger) (left : LeftRows) (t : ℕ) (a : AccountRows) : Type 0 where
   pub apart : IsLeft left a
   pub cycles : AreOfOtherCycles a.book t left.counters
   pub rows : IsRowsOf ledger (joined left a)
 
--- the clause of a settlement at the account's moment: the ledger with the settlement, and the same rows left
-abbrev pub IsSettledClause : Type 0
-IsSettledClause =
-    (ledger : Ledger) (left : LeftRows) (a : AccountRows) (s : List ℕ) (g : ℕ) → IsWith ledger left a.as_of a →
-    is_live_in a.book.validity a.as_of a.sessions s ≡ true →
-    IsWith (settled_by a.book a.as_of s g [] ledger) left a.as_of (settled_by_rows s g [] a)
-
--- time goes on, and the same rows are left
-abbrev pub IsAdvancedClause : Type 0
-IsAdvancedClause = (ledger : Ledger) (left : LeftRows) (t : ℕ) (a : AccountRows) → a.as_of ≤ t → IsWith ledger left t a → IsWith ledger left t (advanced t a)
-
--- a bucket that is made stands among those left as it does among those loaded
-abbrev pub IsCreditedApart : Type 0
-IsCreditedApart = (b : Row) (left rows : List Row) → IsBelow b.number left → inserted b (merged left rows) ≡ merged left (inserted b rows)
+-- ---- a bucket, by its number
 
 abbrev pub bucket_in : ℕ → List Row → Option Row
 bucket_in n rows = find (λ b. b.number == n) rows
 
--- buckets in the order of their use are told by what is found under each number
-abbrev pub AreTold : Type 0
-AreTold = (xs ys : List Row) → IsSound xs → IsSound ys → ((n : ℕ) → bucket_in n xs ≡ bucket_in n ys) → xs ≡ ys
-
--- what a commit leaves: the rows that differ are written over those stored, and give those of the account after it
--- together with those left
-abbrev pub IsCommitLaw : Type 0
-IsCommitLaw =
-    (left before after : List Session) (stored : List ℕ → Option Session) (eq : Session → Session → Bool) → ((x y : Session) → eq x y ≡ true → x ≡ y) →
-    IsApartSessions before → IsApartSessions (left ++ after) → IsApartSessions after →
-    (s : List ℕ) → stored s ≡ session_in s (left ++ before) → (session_in s (left ++ after) ≡ None → session_in s (left ++ before) ≡ None) →
-    (session_in s left ≡ None → session_in s after ≡ None → session_in s before ≡ None) →
-    first_of (session_in s (differing eq before after)) (stored s) ≡ session_in s (left ++ after)
-
--- ---- a dead bucket never changes again: a law of the ledger
-
-abbrev pub AreDeadKept : List Row → List Row → Type 0
-AreDeadKept [] [] = Unit {0}
-AreDeadKept [] (y ∷ ys) = Unit {0}
-AreDeadKept (x ∷ xs) [] = ⊥
-AreDeadKept (x ∷ xs) (y ∷ ys) = (IsDead x → y ≡ x) × AreDeadKept xs ys
-
--- as time goes on
-abbrev pub IsDeadLater : Type 0
-IsDeadLater = (v t u : ℕ) (ledger : Ledger) → t ≤ u → Each IsBalanced (buckets_at v t ledger) → AreDeadKept (buckets_at v t ledger) (buckets_at v u ledger)
-
--- and by a settlement
-abbrev pub IsDeadSettled : Type 0
-IsDeadSettled =
-    (v t : ℕ) (session : List ℕ) (group units blocks rated : ℕ) (ledger : Ledger) → is_live v t ledger session ≡ true → Each IsBalanced (buckets_at v t ledger) → AreDistinct (buckets_at v t ledger) →
-    AreDeadKept (buckets_at v t ledger) (buckets_at v t (settled v t session group units blocks rated ledger))
-
--- nothing is left: the whole account is loaded
+-- nothing was left: the whole account is loaded
 abbrev pub none_left : LeftRows
 none_left = record { buckets = []; counters = []; sessions = []; groups = [] }
-
-abbrev pub IsWhole : Type 0
-IsWhole = (ledger : Ledger) (t : ℕ) (a : AccountRows) → IsAccount a → IsRowsOf ledger a → IsWith ledger none_left t a
-
-abbrev pub IsReservedApart : Type 0
-IsReservedApart =
-    (left : LeftRows) (a : AccountRows) (s : List ℕ) (g amount : ℕ) → IsLeft left a → is_live_in a.book.validity a.as_of a.sessions s ≡ true →
-    reserved_account s g amount (joined left a) ≡ joined left (reserved_account s g amount a)

@@ -34,29 +34,11 @@ impl<'b> Model for Account<'b> {
 
     ghost Value = { AccountRows };
 
-    ghost view = { λ a. record {
-      book = a.book.now;
-      as_of = a.as_of;
-      barred = a.barred;
-      buckets = a.purse;
-      counters = a.counters.items;
-      sessions = a.sessions.items;
-      groups = a.groups.items;
-      next_bucket = a.next_bucket;
-      next_charge = a.next_charge;
-    } };
+    ghost use Rattle.reserving.specs.Inside.{rows_of};
 
-    ghost invariant = { λ a. IsAccount (record {
-      book = a.book.now;
-      as_of = a.as_of;
-      barred = a.barred;
-      buckets = a.purse;
-      counters = a.counters.items;
-      sessions = a.sessions.items;
-      groups = a.groups.items;
-      next_bucket = a.next_bucket;
-      next_charge = a.next_charge;
-    }) };
+    ghost view = { rows_of };
+
+    ghost invariant = { λ a. IsAccount (rows_of a) };
 }
 
 impl<'b> Account<'b> {

@@ -7,7 +7,7 @@ ghost use Rattle.reserving.specs.Debiting.{event_price, is_covered, debit_passes
 ghost use Rattle.reserving.specs.Rows.{IsRowsOf};
 ghost use Rattle.reserving.specs.Left.{LeftRows, joined, IsBeside, IsWith};
 ghost use Rattle.reserving.specs.Results.{IsDebit};
-ghost use Rattle.reserving.specs.Changes.{used_in, count_in, event_price_in, debited_account};
+ghost use Rattle.reserving.specs.Changes.{advanced, used_in, count_in, event_price_in, debited_account};
 
 use crate::account::Account;
 use crate::fault::AccountFault;
@@ -77,6 +77,8 @@ impl<'b> Account<'b> {
             (is_covered self.old.book moment group units.0 ledger ≡ true) × (debit_passes self.old.book moment session.now group units.0 ledger ≡ true) }
         ensures limit_left { result ≡ Err AccountFault.Limit → (ledger : Ledger) (left : LeftRows) → group_in session.now group left.groups ≡ None → IsWith ledger left moment self.old →
             (is_covered self.old.book moment group units.0 ledger ≡ true) × (debit_passes self.old.book moment session.now group units.0 ledger ≡ true) }
+        ensures by_rows { IfOk result (λ s. IfSome s (λ given. self.new ≡ debited_account session.now group units.0
+            (event_price_in group units.0 moment self.old).blocks (event_price_in group units.0 moment self.old).amount.0 (advanced moment self.old))) }
         ensures uncovered { IfOk result (λ s. s ≡ None → self.new ≡ self.old) }
         ensures number { IfOk result (λ s. IfSome s (λ given. self.old.next_charge ≤ 4_294_967_295)) }
         ensures as_of { IfOk result (λ s. IfSome s (λ given. self.new.as_of ≡ moment)) }

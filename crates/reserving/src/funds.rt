@@ -56,13 +56,33 @@ fn available_later(
 {
     let _reserved = bucket.reserved();
     if bucket.is_eligible(group, at) {
-        bucket.available() as u128 + lapsed(bucket, groups, sessions, validity, at)
+        bucket.available() as u128 + lapsed_part(bucket, groups, sessions, validity, at)
     } else {
         0
     }
 }
 
-/// What the reservations of sessions that have ended by the moment hold of a bucket.
+/// What the reservations of sessions that have ended by the moment hold of a bucket. Where nothing of it is reserved
+/// they hold nothing of it, and no group is asked.
+fn lapsed_part(
+    bucket: &Bucket,
+    groups: &[SessionGroup],
+    sessions: &[Session],
+    validity: u32,
+    at: Moment,
+) -> u128
+    requires { held_by (λ s. true) groups.now bucket.now ≡ bucket.now.reserved }
+    ensures value { result ≡ lapsed_in (is_live_in validity at sessions.now) groups.now bucket.now }
+    ensures most { result ≤ 1_000_000_000_000_000 }
+{
+    let reserved = bucket.reserved();
+    if reserved == 0 {
+        return 0;
+    }
+    lapsed(bucket, groups, sessions, validity, at)
+}
+
+/// The same, by a walk over the groups.
 fn lapsed(
     bucket: &Bucket,
     groups: &[SessionGroup],

@@ -1,14 +1,15 @@
-ghost use Rattle.reserving.specs.Laws.{IsBroughtOn, IsBroughtAlike};
-ghost use Rattle.reserving.specs.Left.{IsReservedApart};
+ghost use Rattle.reserving.specs.Laws.{IsBroughtOn, IsBroughtAlike, IsDeadLater, IsDeadSettled};
 
-/// Time goes on alike in one step and in two: a bucket's position, brought to a later moment, is its position
-/// then, so that two advances leave what the later one alone leaves.
+/// Time goes on alike in one step and in two: a bucket's position, brought to a later moment, is its position then,
+/// and in two steps it is brought to where one step brings it.
 pub fn going_on()
     ensures position { IsBroughtOn }
     ensures steps { IsBroughtAlike }
 {}
 
-/// A grant leaves the rows that were left as they are.
-pub fn apart()
-    ensures { IsReservedApart }
+/// A bucket of which nothing is available and nothing reserved never changes again: not as time goes on, and not by a
+/// settlement.
+pub fn dead_for_good()
+    ensures later { IsDeadLater }
+    ensures settled { IsDeadSettled }
 {}

@@ -97,6 +97,8 @@ impl<'b> Account<'b> {
     /// takes no memory and changes nothing.
     pub fn would_grant(&self, group: u32, requested: Option<Units>, moment: Moment) -> bool
         requires { self.now.as_of ≤ moment }
+        ensures rows { result ≡ nat_lt 0 (grant_with (tariff_of self.now.book group) (periods_at self.now.book moment) 0
+            (count_in group (cycle_at self.now.book group moment) self.now.counters) (option_map (λ u. u.0) requested) (funds group moment (advanced moment self.now).buckets)).units.0 }
         ensures ledger { (ledger : Ledger) → IsRowsOf ledger self.now →
             result ≡ nat_lt 0 (grant_for self.now.book moment group 0 (option_map (λ u. u.0) requested) ledger).units.0 }
         ensures left { (ledger : Ledger) (left : LeftRows) → IsWith ledger left moment self.now →

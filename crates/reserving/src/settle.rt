@@ -11,7 +11,7 @@ ghost use Rattle.units.specs.declared.blocks.TariffChangeUsage.TheVariants.{Unit
 ghost use Rattle.calendar.specs.Timetable.{period_at};
 ghost use Rattle.reserving.specs.Pricing.{cycle_at, units_of, one_period};
 ghost use Rattle.reserving.specs.Sessions.{group_in, counter_in};
-ghost use Rattle.reserving.specs.Changes.{advanced, used_in, reserved_in, periods_in, count_in, price_in, settled_account, ended_rows};
+ghost use Rattle.reserving.specs.Changes.{advanced, used_in, reserved_in, periods_in, count_in, price_in, settled_account, settled_by_rows, ended_rows};
 ghost use Rattle.reserving.specs.Prepared.{with_rows, reservation_in};
 
 use crate::account::Account;
@@ -73,6 +73,7 @@ impl<'b> Account<'b> {
             IsRowsOf (settled_by self.old.book moment session.now group parts.now ledger) self.new) }
         ensures left { OnOk result ((ledger : Ledger) (left : LeftRows) → IsWith ledger left moment self.old →
             IsWith (settled_by self.old.book moment session.now group parts.now ledger) left moment self.new) }
+        ensures by_rows { OnOk result (self.new ≡ settled_by_rows session.now group parts.now (advanced moment self.old)) }
         ensures as_of { OnOk result (self.new.as_of ≡ moment) }
         ensures tariff { self.new.book ≡ self.old.book }
         ensures sessions { OnOk result (self.new.sessions ≡ (advanced moment self.old).sessions) }

@@ -32,27 +32,11 @@ impl Model for StoredAccount {
 
     ghost Value = { StoredRows };
 
-    ghost view = { λ a. record {
-      as_of = a.as_of;
-      barred = a.barred;
-      buckets = a.purse;
-      counters = a.counters.items;
-      sessions = a.sessions.items;
-      groups = a.groups.items;
-      next_bucket = a.next_bucket;
-      next_charge = a.next_charge;
-    } };
+    ghost use Rattle.reserving.specs.Inside.{stored_of};
 
-    ghost invariant = { λ a. IsStored (record {
-      as_of = a.as_of;
-      barred = a.barred;
-      buckets = a.purse;
-      counters = a.counters.items;
-      sessions = a.sessions.items;
-      groups = a.groups.items;
-      next_bucket = a.next_bucket;
-      next_charge = a.next_charge;
-    }) };
+    ghost view = { stored_of };
+
+    ghost invariant = { λ a. IsStored (stored_of a) };
 }
 
 impl StoredAccount {

@@ -8,45 +8,23 @@ use Rattle.reserving.proofs.Advancing.{IsRowsOf-advanced}
 use Rattle.reserving.proofs.Advanced.{IsAccount-advanced, advanced-parts}
 use Rattle.reserving.specs.Left.{IsWith}
 use Rattle.reserving.proofs.LeftMore.{with_advanced}
+use Rattle.reserving.specs.Inside.{rows_of}
 use Rattle.reserving.proofs.account.Account.advance.Goals as goal
 
 pub lapse_groups-requires : goal.lapse_groups-requires
 lapse_groups-requires c =
     lapsable_of (λ s. not (is_live_in c.validity-validity.result c.args.moment c.deref.result.now s)) c.self.inside.groups.items c.self.inside.purse c.self.invariant.held
 
-abbrev rows_of : (c : goal.After-moment-1) → AccountRows
-rows_of c = record {
-  book = c.self.inside.book.now;
-  as_of = c.self.inside.as_of;
-  barred = c.self.inside.barred;
-  buckets = c.self.inside.purse;
-  counters = c.self.inside.counters.items;
-  sessions = c.self.inside.sessions.items;
-  groups = c.self.inside.groups.items;
-  next_bucket = c.self.inside.next_bucket;
-  next_charge = c.self.inside.next_charge;
-}
-
 abbrev after : (c : goal.After-moment-1) → AccountRows
-after c = record {
-  book = c.self.inside.book.now;
-  as_of = c.args.moment;
-  barred = c.self.inside.barred;
-  buckets = c.expire.new.self;
-  counters = c.self.inside.counters.items;
-  sessions = c.lapse_sessions.new.sessions.items;
-  groups = c.lapse_groups.new.groups.items;
-  next_bucket = c.self.inside.next_bucket;
-  next_charge = c.self.inside.next_charge;
-}
+after c = record (rows_of c.self.inside) { as_of = c.args.moment; buckets = c.expire.new.self; sessions = c.lapse_sessions.new.sessions.items; groups = c.lapse_groups.new.groups.items }
 
-is_advanced : (c : goal.After-moment-1) → after c ≡ advanced c.args.moment (rows_of c)
+is_advanced : (c : goal.After-moment-1) → after c ≡ advanced c.args.moment (rows_of c.self.inside)
 is_advanced c =
-    advanced-parts (rows_of c) c.args.moment c.validity-validity.result c.deref.result.now c.lapse_groups.new.purse c.expire.new.self c.lapse_sessions.new.sessions.items c.lapse_groups.new.groups.items
+    advanced-parts (rows_of c.self.inside) c.args.moment c.validity-validity.result c.deref.result.now c.lapse_groups.new.purse c.expire.new.self c.lapse_sessions.new.sessions.items c.lapse_groups.new.groups.items
     c.validity-validity.ensures.value c.deref.ensures.value c.lapse_groups.ensures.purse c.expire.ensures c.lapse_sessions.ensures c.lapse_groups.ensures.groups
 
 pub invariant_of-self : goal.invariant_of-self
-invariant_of-self c = subst IsAccount (sym (is_advanced c)) (IsAccount-advanced (rows_of c) c.args.moment c.self.invariant)
+invariant_of-self c = subst IsAccount (sym (is_advanced c)) (IsAccount-advanced (rows_of c.self.inside) c.args.moment c.self.invariant)
 
 pub returns-clause-rows : goal.returns-clause-rows
 returns-clause-rows c = is_advanced c ∙ ap (advanced c.args.moment) c.self.view_is

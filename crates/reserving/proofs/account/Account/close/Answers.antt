@@ -12,31 +12,19 @@ use Rattle.reserving.specs.Left.{LeftRows, IsWith}
 use Rattle.reserving.specs.Sessions.{is_live_in}
 use Rattle.reserving.proofs.LeftSettled.{live_later}
 use Rattle.reserving.proofs.LeftSessions.{with_closed}
+use Rattle.reserving.specs.Inside.{rows_of}
 use Rattle.reserving.proofs.account.Account.close.Goals as goal
 
 pub close_groups-requires : goal.close_groups-requires
 close_groups-requires c = lapsable_of (λ s. not (is_other c.args.session.now s)) c.self.inside.groups.items c.self.inside.purse c.self.invariant.held
 
-abbrev rows_of : (c : goal.After-close_session) → AccountRows
-rows_of c = record {
-  book = c.self.inside.book.now;
-  as_of = c.self.inside.as_of;
-  barred = c.self.inside.barred;
-  buckets = c.self.inside.purse;
-  counters = c.self.inside.counters.items;
-  sessions = c.self.inside.sessions.items;
-  groups = c.self.inside.groups.items;
-  next_bucket = c.self.inside.next_bucket;
-  next_charge = c.self.inside.next_charge;
-}
-
 -- the account after time went on
-advanced_is : (c : goal.After-close_session) → rows_of c ≡ advanced c.args.moment c.args.self.now
+advanced_is : (c : goal.After-close_session) → rows_of c.self.inside ≡ advanced c.args.moment c.args.self.now
 advanced_is c = c.self.view_is ∙ c.advance.ensures.rows
 
-after_is : (c : goal.After-close_session) → (let a : AccountRows = record (rows_of c) { buckets = c.close_groups.new.purse; sessions = c.close_session.new.sessions.items; groups = c.close_groups.new.groups.items } in a) ≡ closed_account c.args.session.now (advanced c.args.moment c.args.self.now)
+after_is : (c : goal.After-close_session) → (let a : AccountRows = record (rows_of c.self.inside) { buckets = c.close_groups.new.purse; sessions = c.close_session.new.sessions.items; groups = c.close_groups.new.groups.items } in a) ≡ closed_account c.args.session.now (advanced c.args.moment c.args.self.now)
 after_is c =
-    closed-parts (rows_of c) c.args.session.now c.close_groups.new.purse c.close_session.new.sessions.items c.close_groups.new.groups.items
+    closed-parts (rows_of c.self.inside) c.args.session.now c.close_groups.new.purse c.close_session.new.sessions.items c.close_groups.new.groups.items
     (c.close_groups.ensures.purse ∙ ap (λ t. lapsed_rows (is_other c.args.session.now) t c.self.inside.groups.items c.self.inside.purse) moment)
     c.close_session.ensures c.close_groups.ensures.groups
     ∙ ap (closed_account c.args.session.now) (advanced_is c)

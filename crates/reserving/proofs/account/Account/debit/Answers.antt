@@ -11,7 +11,7 @@ use Rattle.reserving.specs.Rows.{AccountRows}
 use Rattle.reserving.proofs.Advancing.{session_in-advanced}
 use Rattle.reserving.proofs.SettledCall.{within_used, within_counted, there_later, counter_there, used_middle, count_middle}
 use Rattle.reserving.proofs.ChargeRows.{charge-numbered}
-use Rattle.reserving.proofs.Debited.{covered_is, debit_passes_is, debit_is}
+use Rattle.reserving.proofs.Debited.{debited_is, covered_is, debit_passes_is, debit_is}
 use Rattle.reserving.specs.Sessions.{is_of}
 use Rattle.reserving.specs.Left.{LeftRows, joined, IsWith}
 use Rattle.reserving.proofs.LeftTests.{none_each}
@@ -107,3 +107,13 @@ returns-clause-left c = λ ledger left gone h.
     (c.advance.ensures.rows ∙ ap (advanced c.args.moment) c.in_ok-make_rows.ensures.ok)
     (c.charge_use-charged.ensures.rows ∙ (λ i. debited_account c.args.session.now c.args.group (c.in-Some.ensures.units i).0 c.in-Some.rated.blocks.0 c.in-Some.rated.amount.0 c.advance.new.self))
     c.charge_use-charged.ensures.uncollected c.charge_use-charged.ensures.collected
+
+pub returns-clause-by_rows : goal.returns-clause-by_rows
+returns-clause-by_rows c =
+    let a : AccountRows = c.args.self.now in
+    let price : c.in-Some.rated.amount.0 ≡ (event_price_in c.args.group c.args.units.0 c.args.moment a).amount.0 = ap (λ (x : Amount). x.0) c.in-Some.ensures.amount ∙ ap (λ (x : Rated). x.amount.0) c.event_price-price.ensures in
+    let blocks : c.in-Some.rated.blocks.0 ≡ (event_price_in c.args.group c.args.units.0 c.args.moment a).blocks = c.in-Some.ensures.blocks ∙ ap (λ (x : Rated). x.blocks) c.event_price-price.ensures in
+    debited_is a c.advance.new.self c.charge_use-charged.new.self c.args.session.now c.args.group c.cycle_at-cycle.result c.args.moment c.args.units.0 c.in-Some.rated.blocks.0 c.in-Some.rated.amount.0 c.cycle_at-cycle.ensures
+    (c.advance.ensures.rows ∙ ap (advanced c.args.moment) c.in_ok-make_rows.ensures.ok)
+    (c.charge_use-charged.ensures.rows ∙ (λ i. debited_account c.args.session.now c.args.group (c.in-Some.ensures.units i).0 c.in-Some.rated.blocks.0 c.in-Some.rated.amount.0 c.advance.new.self))
+    ∙ (λ i. debited_account c.args.session.now c.args.group c.args.units.0 (blocks i) (price i) (advanced c.args.moment a))

@@ -4,6 +4,7 @@ use Rattle.reserving.specs.Rows.{AccountRows, IsAccount}
 use Rattle.reserving.specs.Changes.{ended_rows}
 use Rattle.reserving.proofs.SettledKept.{within_of, IsAccount-ended}
 use Rattle.reserving.proofs.SettledParts.{ended_parts}
+use Rattle.reserving.specs.Inside.{rows_of}
 use Rattle.reserving.proofs.account.Account.end_reservation.Goals as goal
 
 pub release-requires : goal.release-requires
@@ -13,33 +14,13 @@ release-requires c =
 
 pub invariant_of-self : goal.invariant_of-self
 invariant_of-self c =
-    let a : AccountRows = record {
-      book = c.self.inside.book.now;
-      as_of = c.self.inside.as_of;
-      barred = c.self.inside.barred;
-      buckets = c.self.inside.purse;
-      counters = c.self.inside.counters.items;
-      sessions = c.self.inside.sessions.items;
-      groups = c.self.inside.groups.items;
-      next_bucket = c.self.inside.next_bucket;
-      next_charge = c.self.inside.next_charge;
-    } in
+    let a : AccountRows = rows_of c.self.inside in
     subst IsAccount (sym (ended_parts a c.args.session.now c.args.group c.end_group-holds.result c.release.new.self c.end_group-holds.new.groups.items c.end_group-holds.ensures.holds c.release.ensures c.end_group-holds.ensures.groups))
     (IsAccount-ended a c.args.session.now c.args.group c.self.invariant)
 
 pub returns-clause-rows : goal.returns-clause-rows
 returns-clause-rows c =
-    let a : AccountRows = record {
-      book = c.self.inside.book.now;
-      as_of = c.self.inside.as_of;
-      barred = c.self.inside.barred;
-      buckets = c.self.inside.purse;
-      counters = c.self.inside.counters.items;
-      sessions = c.self.inside.sessions.items;
-      groups = c.self.inside.groups.items;
-      next_bucket = c.self.inside.next_bucket;
-      next_charge = c.self.inside.next_charge;
-    } in
+    let a : AccountRows = rows_of c.self.inside in
     ended_parts a c.args.session.now c.args.group c.end_group-holds.result c.release.new.self c.end_group-holds.new.groups.items c.end_group-holds.ensures.holds c.release.ensures c.end_group-holds.ensures.groups
     ∙ ap (ended_rows c.args.session.now c.args.group) c.self.view_is
 

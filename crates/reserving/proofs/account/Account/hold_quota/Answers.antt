@@ -5,21 +5,12 @@ use Rattle.reserving.specs.Changes.{reserved_account}
 use Rattle.reserving.specs.Prepared.{reservation_in}
 use Rattle.reserving.proofs.Reserved.{IsAccount-reserved}
 use Rattle.reserving.proofs.ReservedCall.{reserved_parts}
+use Rattle.reserving.specs.Inside.{rows_of}
 use Rattle.reserving.proofs.account.Account.hold_quota.Goals as goal
 
 pub invariant_of-self : goal.invariant_of-self
 invariant_of-self c =
-    let a : AccountRows = record {
-      book = c.self.inside.book.now;
-      as_of = c.self.inside.as_of;
-      barred = c.self.inside.barred;
-      buckets = c.self.inside.purse;
-      counters = c.self.inside.counters.items;
-      sessions = c.self.inside.sessions.items;
-      groups = c.self.inside.groups.items;
-      next_bucket = c.self.inside.next_bucket;
-      next_charge = c.self.inside.next_charge;
-    } in
+    let a : AccountRows = rows_of c.self.inside in
     let none : reservation_in c.args.session.now c.args.group a.groups ≡ None = subst (λ (x : AccountRows). reservation_in c.args.session.now c.args.group x.groups ≡ None) (sym c.self.view_is) c.requires.free in
     let periods : c.args.periods ≡ periods_at a.book a.as_of = subst (λ (x : AccountRows). c.args.periods ≡ periods_at x.book x.as_of) (sym c.self.view_is) c.requires.periods in
     subst IsAccount (sym (reserved_parts a c.args.session.now c.args.group c.args.amount.0 c.args.periods c.hold_in-holds.result c.hold_in-holds.new.self c.reserve_group.new.groups.items periods c.hold_in-holds.ensures.rows c.hold_in-holds.ensures.holds c.reserve_group.ensures))
@@ -27,17 +18,7 @@ invariant_of-self c =
 
 pub returns : goal.returns
 returns c =
-    let a : AccountRows = record {
-      book = c.self.inside.book.now;
-      as_of = c.self.inside.as_of;
-      barred = c.self.inside.barred;
-      buckets = c.self.inside.purse;
-      counters = c.self.inside.counters.items;
-      sessions = c.self.inside.sessions.items;
-      groups = c.self.inside.groups.items;
-      next_bucket = c.self.inside.next_bucket;
-      next_charge = c.self.inside.next_charge;
-    } in
+    let a : AccountRows = rows_of c.self.inside in
     let periods : c.args.periods ≡ periods_at a.book a.as_of = subst (λ (x : AccountRows). c.args.periods ≡ periods_at x.book x.as_of) (sym c.self.view_is) c.requires.periods in
     reserved_parts a c.args.session.now c.args.group c.args.amount.0 c.args.periods c.hold_in-holds.result c.hold_in-holds.new.self c.reserve_group.new.groups.items periods c.hold_in-holds.ensures.rows c.hold_in-holds.ensures.holds c.reserve_group.ensures
     ∙ ap (reserved_account c.args.session.now c.args.group c.args.amount.0) c.self.view_is

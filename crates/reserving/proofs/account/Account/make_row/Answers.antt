@@ -1,19 +1,10 @@
 use Rattle.std.proofs.Common.{sym, subst}
 use Rattle.reserving.specs.Rows.{AccountRows, IsAccount}
 use Rattle.reserving.proofs.SettledKept.{IsAccount-with_group_row}
+use Rattle.reserving.specs.Inside.{rows_of}
 use Rattle.reserving.proofs.account.Account.make_row.Goals as goal
 
 pub invariant_of-self-2 : goal.invariant_of-self-2
 invariant_of-self-2 c =
-    let a : AccountRows = record {
-      book = c.self.inside.book.now;
-      as_of = c.self.inside.as_of;
-      barred = c.self.inside.barred;
-      buckets = c.self.inside.purse;
-      counters = c.self.inside.counters.items;
-      sessions = c.self.inside.sessions.items;
-      groups = c.self.inside.groups.items;
-      next_bucket = c.self.inside.next_bucket;
-      next_charge = c.self.inside.next_charge;
-    } in
+    let a : AccountRows = rows_of c.self.inside in
     subst IsAccount (λ i. record a { groups = sym c.in_ok-add_group.ensures.ok i }) (IsAccount-with_group_row a c.args.session.now c.args.group c.self.invariant)

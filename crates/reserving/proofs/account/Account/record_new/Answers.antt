@@ -4,20 +4,8 @@ use Rattle.reserving.specs.Sessions.{is_session, session_in}
 use Rattle.reserving.specs.Rows.{AccountRows, IsAccount}
 use Rattle.reserving.specs.Changes.{with_session}
 use Rattle.reserving.proofs.Kept.{put_new, IsAccount-with_session}
+use Rattle.reserving.specs.Inside.{rows_of}
 use Rattle.reserving.proofs.account.Account.record_new.Goals as goal
-
-abbrev rows_of : (c : goal.After-push_reserved) → AccountRows
-rows_of c = record {
-  book = c.self.inside.book.now;
-  as_of = c.self.inside.as_of;
-  barred = c.self.inside.barred;
-  buckets = c.self.inside.purse;
-  counters = c.self.inside.counters.items;
-  sessions = c.self.inside.sessions.items;
-  groups = c.self.inside.groups.items;
-  next_bucket = c.self.inside.next_bucket;
-  next_charge = c.self.inside.next_charge;
-}
 
 abbrev new_row : (c : goal.After-push_reserved) → Session
 new_row c = record { id = c.in_ok-id.id; last_number = c.args.number; touched = c.args.moment; state = c.args.state }
@@ -25,7 +13,7 @@ new_row c = record { id = c.in_ok-id.id; last_number = c.args.number; touched = 
 is_new : (c : goal.After-push_reserved) → session_in c.args.session.now c.self.inside.sessions.items ≡ None
 is_new c = ap (λ (a : AccountRows). session_in c.args.session.now a.sessions) c.self.view_is ∙ c.requires
 
-sessions_are : (c : goal.After-push_reserved) → c.push_reserved.new.self.items ≡ (with_session c.args.session.now c.args.number c.args.moment c.args.state (rows_of c)).sessions
+sessions_are : (c : goal.After-push_reserved) → c.push_reserved.new.self.items ≡ (with_session c.args.session.now c.args.number c.args.moment c.args.state (rows_of c.self.inside)).sessions
 sessions_are c =
     let row : Session = record { id = c.args.session.now; last_number = c.args.number; touched = c.args.moment; state = c.args.state } in
     c.push_reserved.ensures.items
@@ -33,12 +21,12 @@ sessions_are c =
     ∙ ap (λ id. c.self.inside.sessions.items ++ record { id = id; last_number = c.args.number; touched = c.args.moment; state = c.args.state } ∷ []) c.in_ok-id.ensures
     ∙ sym (put_new (is_session c.args.session.now) row c.self.inside.sessions.items (is_new c))
 
-after_is : (c : goal.After-push_reserved) → (let a : AccountRows = record (rows_of c) { sessions = c.push_reserved.new.self.items } in a) ≡ with_session c.args.session.now c.args.number c.args.moment c.args.state (rows_of c)
-after_is c = λ i. record (rows_of c) { sessions = sessions_are c i }
+after_is : (c : goal.After-push_reserved) → (let a : AccountRows = record (rows_of c.self.inside) { sessions = c.push_reserved.new.self.items } in a) ≡ with_session c.args.session.now c.args.number c.args.moment c.args.state (rows_of c.self.inside)
+after_is c = λ i. record (rows_of c.self.inside) { sessions = sessions_are c i }
 
 pub invariant_of-self-2 : goal.invariant_of-self-2
 invariant_of-self-2 c =
-    subst IsAccount (sym (after_is c)) (IsAccount-with_session (rows_of c) c.args.session.now c.args.number c.args.moment c.args.state (is_new c) c.self.invariant)
+    subst IsAccount (sym (after_is c)) (IsAccount-with_session (rows_of c.self.inside) c.args.session.now c.args.number c.args.moment c.args.state (is_new c) c.self.invariant)
 
 pub returns-clause-rows : goal.returns-clause-rows
 returns-clause-rows c = after_is c ∙ ap (with_session c.args.session.now c.args.number c.args.moment c.args.state) c.self.view_is

@@ -6,7 +6,7 @@ use Rattle.reserving.specs.Changes.{advanced, used_in, count_in, settled_account
 use Rattle.reserving.specs.Pricing.{cycle_at}
 use Rattle.reserving.specs.Rows.{AccountRows}
 use Rattle.reserving.specs.Settlement.{passes}
-use Rattle.reserving.proofs.SettledCall.{rows_ended, nothing_settled, within_used, within_counted, passes_is, there_later, counter_there, used_middle, count_middle, rows_settled, settlement_is}
+use Rattle.reserving.proofs.SettledCall.{rows_ended, nothing_settled, within_used, within_counted, passes_is, there_later, counter_there, used_middle, count_middle, rows_settled, settled_is, ended_is, settlement_is}
 use Rattle.reserving.proofs.SettledFree.{ended_free, settled_free}
 use Rattle.reserving.proofs.StillFree.{others_ended, others_settled}
 use Rattle.reserving.proofs.LeftSettled.{left_ended, left_settled}
@@ -128,3 +128,15 @@ returns-clause-within_left c = λ ledger left h.
     passes_told ledger left c.args.moment c.args.self.now c.args.session.now c.args.group c.args.parts.now c.requires.moment h c.requires.live (is_something c.args.parts.now (sym c.is_empty.ensures ∙ c.if-is_empty.false))
     ∙ (λ i. passes (used_in c.args.session.now c.args.group c.args.self.now.groups) (sym c.in-Some.ensures.units i) (count_in c.args.group (cycle_at c.args.self.now.book c.args.group c.args.moment) c.args.self.now.counters) (sym c.in-Some.ensures.blocks i) c.args.self.now.next_charge)
     ∙ c.in-Some.ensures.some
+
+pub returns-then-is_empty-clause-by_rows : goal.returns-then-is_empty-clause-by_rows
+returns-then-is_empty-clause-by_rows c =
+    ended_is c.args.self.now c.advance.new.self c.end_reservation.new.self c.args.session.now c.args.group c.args.moment c.args.parts.now
+    (is_nothing c.args.parts.now (sym c.is_empty.ensures ∙ c.if-is_empty.true)) c.advance.ensures.rows c.end_reservation.ensures.rows
+
+pub returns-clause-by_rows : goal.returns-clause-by_rows
+returns-clause-by_rows c =
+    settled_is c.args.self.now c.advance-2.new.self c.settle_use-charged.new.self c.args.session.now c.args.group c.cycle_at-cycle.result c.args.moment c.in-Some.rated.units.0 c.in-Some.rated.blocks.0 c.in-Some.rated.amount.0 c.args.parts.now
+    c.requires.live (is_something c.args.parts.now (sym c.is_empty.ensures ∙ c.if-is_empty.false)) c.cycle_at-cycle.ensures
+    c.in-Some.ensures.units c.in-Some.ensures.blocks c.in-Some.ensures.amount
+    (c.advance-2.ensures.rows ∙ ap (advanced c.args.moment) c.in_ok-make_rows.ensures.ok) c.settle_use-charged.ensures.rows

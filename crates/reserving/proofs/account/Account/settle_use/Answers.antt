@@ -5,6 +5,7 @@ use Rattle.reserving.specs.Rows.{AccountRows, IsAccount}
 use Rattle.reserving.specs.Changes.{used_in, count_in}
 use Rattle.reserving.proofs.SettledKept.{within_of, IsAccount-settled}
 use Rattle.reserving.proofs.SettledParts.{settled_parts}
+use Rattle.reserving.specs.Inside.{rows_of}
 use Rattle.reserving.proofs.account.Account.settle_use.Goals as goal
 
 pub settle-charged-requires : goal.settle-charged-requires
@@ -14,17 +15,7 @@ settle-charged-requires c =
 
 pub invariant_of-self : goal.invariant_of-self
 invariant_of-self c =
-    let a : AccountRows = record {
-      book = c.self.inside.book.now;
-      as_of = c.self.inside.as_of;
-      barred = c.self.inside.barred;
-      buckets = c.self.inside.purse;
-      counters = c.self.inside.counters.items;
-      sessions = c.self.inside.sessions.items;
-      groups = c.self.inside.groups.items;
-      next_bucket = c.self.inside.next_bucket;
-      next_charge = c.self.inside.next_charge;
-    } in
+    let a : AccountRows = rows_of c.self.inside in
     let is : a ≡ c.args.self.now = c.self.view_is in
     let cycle : c.args.cycle ≡ cycle_at a.book c.args.group a.as_of = subst (λ x. c.args.cycle ≡ cycle_at x.book c.args.group x.as_of) (sym is) c.requires.cycle in
     let used : used_in c.args.session.now c.args.group a.groups + c.args.rated.units.0 ≤ 1000000000000000000 = subst (λ x. used_in c.args.session.now c.args.group x.groups + c.args.rated.units.0 ≤ 1000000000000000000) (sym is) c.requires.used in

@@ -10,29 +10,17 @@ use Rattle.reserving.specs.Left.{LeftRows, IsWith}
 use Rattle.reserving.specs.Sessions.{is_live_in}
 use Rattle.reserving.proofs.LeftSettled.{live_later}
 use Rattle.reserving.proofs.LeftSessions.{with_touched}
+use Rattle.reserving.specs.Inside.{rows_of}
 use Rattle.reserving.proofs.account.Account.touch.Goals as goal
 
-abbrev rows_of : (c : goal.After-touch_session) → AccountRows
-rows_of c = record {
-  book = c.self.inside.book.now;
-  as_of = c.self.inside.as_of;
-  barred = c.self.inside.barred;
-  buckets = c.self.inside.purse;
-  counters = c.self.inside.counters.items;
-  sessions = c.self.inside.sessions.items;
-  groups = c.self.inside.groups.items;
-  next_bucket = c.self.inside.next_bucket;
-  next_charge = c.self.inside.next_charge;
-}
-
 -- the account after time went on
-advanced_is : (c : goal.After-touch_session) → rows_of c ≡ advanced c.args.moment c.args.self.now
+advanced_is : (c : goal.After-touch_session) → rows_of c.self.inside ≡ advanced c.args.moment c.args.self.now
 advanced_is c = c.self.view_is ∙ c.advance.ensures.rows
 
-after_is : (c : goal.After-touch_session) → (let a : AccountRows = record (rows_of c) { sessions = c.touch_session.new.sessions.items } in a) ≡ touched_account c.args.session.now c.args.number (advanced c.args.moment c.args.self.now)
+after_is : (c : goal.After-touch_session) → (let a : AccountRows = record (rows_of c.self.inside) { sessions = c.touch_session.new.sessions.items } in a) ≡ touched_account c.args.session.now c.args.number (advanced c.args.moment c.args.self.now)
 after_is c =
-    (λ i. record (rows_of c) { sessions = c.touch_session.ensures i })
-    ∙ (λ i. record (rows_of c) { sessions = map (touched_session c.args.session.now c.args.number (moment i)) c.self.inside.sessions.items })
+    (λ i. record (rows_of c.self.inside) { sessions = c.touch_session.ensures i })
+    ∙ (λ i. record (rows_of c.self.inside) { sessions = map (touched_session c.args.session.now c.args.number (moment i)) c.self.inside.sessions.items })
     ∙ ap (touched_account c.args.session.now c.args.number) (advanced_is c)
   where
     moment : c.args.moment ≡ c.self.inside.as_of

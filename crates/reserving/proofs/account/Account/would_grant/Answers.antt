@@ -38,3 +38,12 @@ returns-clause-left c = λ ledger left h.
     ap (λ (x : Grant). nat_lt 0 x.units.0)
     (new_told_beside ledger left c.args.moment a c.args.group requested c.quota_after-quota.result.wanted grant c.requires h
     (quota_is a c.args.group c.args.moment requested c.quota_after-quota.result.wanted grant c.window_at.result.periods periods c.quota_after-quota.ensures))
+
+pub returns-clause-rows : goal.returns-clause-rows
+returns-clause-rows c =
+    let a : AccountRows = c.args.self.now in
+    let requested : Option ℕ = option_map (λ (u : Units). u.0) c.args.requested in
+    let grant : Grant = c.quota_after-quota.result.grant in
+    let periods : c.window_at.result.periods ≡ periods_at a.book c.args.moment = c.window_at.ensures.periods ∙ ap (λ (x : AccountRows). periods_at x.book c.args.moment) c.self.view_is in
+    ap (λ (x : Grant). nat_lt 0 x.units.0)
+    (quota_is a c.args.group c.args.moment requested c.quota_after-quota.result.wanted grant c.window_at.result.periods periods c.quota_after-quota.ensures).grant

@@ -8,20 +8,12 @@ use Rattle.reserving.specs.Stored.{StoredRows}
 use Rattle.reserving.specs.Left.{is_dead}
 use Rattle.reserving.specs.Live.{live_part, is_live_group}
 use Rattle.reserving.proofs.LivePart.{IsAccount-live}
+use Rattle.reserving.specs.Inside.{stored_of}
 use Rattle.reserving.proofs.stored.StoredAccount.load_at.Goals as goal
 
 pub invariant_of-result : goal.invariant_of-result
 invariant_of-result c =
-    let rows : StoredRows = record {
-      as_of = c.self.inside.as_of;
-      barred = c.self.inside.barred;
-      buckets = c.self.inside.purse;
-      counters = c.self.inside.counters.items;
-      sessions = c.self.inside.sessions.items;
-      groups = c.self.inside.groups.items;
-      next_bucket = c.self.inside.next_bucket;
-      next_charge = c.self.inside.next_charge;
-    } in
+    let rows : StoredRows = stored_of c.self.inside in
     let buckets = sym (c.drop_dead.ensures ∙ ap (filter (λ b. not (is_dead b))) c.in_ok-purse.ensures) in
     let counters = sym (c.in_ok-live_counters.ensures ∙ ap (λ xs. filter (λ (r : Counter). r.cycle == cycle_at c.args.book.now r.group c.args.moment) (c.args.others.now ++ xs)) c.deref.ensures.value) in
     let sessions = sym c.in_ok-open_sessions.ensures in
