@@ -1,6 +1,6 @@
 -- What each step of a ledger keeps, each decision keeps.
 use Rattle.std.proofs.Common.{◌≡◌, ℕ, Bool, true, false, List, [], ◌∷◌, ◌++◌, refl, sym, ap, subst, ◌∙◌, Option, Some, None}
-use Rattle.std.specs.Prelude.{if◌then◌else◌, ◌&&◌, not, is_some, nat_lt, option_map}
+use Rattle.std.specs.Prelude.{if◌then◌else◌, not, is_some, nat_lt, option_map}
 use Rattle.std.proofs.lemmas.Bool.{and_parts}
 use Rattle.commands.specs.declared.answer.Failure.{Failure}
 use Rattle.commands.specs.declared.answer.Failure.TheVariants.{UnknownSessionId}
@@ -21,7 +21,7 @@ use Rattle.buckets.specs.declared.holds.Hold.{Hold}
 use Rattle.buckets.specs.Share.{parts}
 use Rattle.buckets.specs.Holding.{holds_of, paid}
 use Rattle.reserving.specs.Ledger.{Ledger, Recording, or_else, is_barred, is_within, is_live, is_closed, last_touch, last_recording, recording_in, used, next_bucket}
-use Rattle.reserving.specs.Ledger.Fact.{Touch, Close, Recorded}
+use Rattle.reserving.specs.Ledger.Fact.{Close, Recorded}
 use Rattle.reserving.specs.Balance.{buckets_at}
 use Rattle.reserving.specs.Sessions.{holds_at}
 use Rattle.reserving.specs.Pricing.{tariff_of}

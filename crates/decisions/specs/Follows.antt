@@ -1,6 +1,6 @@
 -- What a call on an account comes to, for each ledger whose rows the account is.
 -- Source: profile.
-use Rattle.std.specs.Prelude.{◌≡◌, ℕ, Bool, true, false, List, [], ◌∷◌, ◌++◌, Option, Some, None}
+use Rattle.std.specs.Prelude.{◌≡◌, ℕ, Bool, true, false, if◌then◌else◌, List, [], ◌∷◌, ◌++◌, Option, Some, None}
 use Rattle.commands.specs.declared.service.Service.{Service}
 use Rattle.commands.specs.declared.answer.Outcome.{Outcome}
 use Rattle.commands.specs.declared.answer.ServiceOutcome.{ServiceOutcome}
@@ -13,6 +13,7 @@ use Rattle.reserving.specs.Ledger.{Ledger}
 use Rattle.reserving.specs.Rows.{AccountRows, IsRowsOf}
 use Rattle.reserving.specs.Settlement.{settled_by, passes_limit}
 use Rattle.reserving.specs.Charges.{charge_rows}
+use Rattle.decisions.specs.declared.ruling.Ruling.{Ruling}
 use Rattle.decisions.specs.Granting.{Answered, grant_answers, after_grants}
 use Rattle.decisions.specs.Settling.{settled_services, any_passes}
 use Rattle.decisions.specs.Decided.{Decision}
@@ -28,6 +29,12 @@ pub record Agrees (outcome : Outcome) (accepted : Bool) (charges : List ChargeRo
 
 abbrev pub Follows : AccountRows → AccountRows → Outcome → Bool → List ChargeRow → (Ledger → Decision) → Type 0
 Follows old new outcome accepted charges decision = (ledger : Ledger) → IsRowsOf ledger old → Agrees outcome accepted charges (decision ledger) ledger new
+
+-- what is accepted leaves the account at the moment; what isn't changes nothing and charges nothing
+pub record StandsAt (t : ℕ) (old new : AccountRows) (r : Ruling) : Type 0 where
+  pub moment : new.as_of ≡ (if r.accepted then t else old.as_of)
+  pub same : r.accepted ≡ false → new ≡ old
+  pub unwritten : r.accepted ≡ false → r.charges.items ≡ []
 
 -- ---- settlements
 

@@ -6,7 +6,7 @@ ghost use Rattle.reserving.specs.Sessions.{is_live_in};
 ghost use Rattle.commands.specs.Services.{groups_differ};
 ghost use Rattle.commands.specs.declared.request.Ask.TheVariants as ask;
 ghost use Rattle.decisions.specs.Free.{AreFree};
-ghost use Rattle.decisions.specs.Follows.{Follows, Settles, IsRefusal};
+ghost use Rattle.decisions.specs.Follows.{Follows, StandsAt, Settles, IsRefusal};
 ghost use Rattle.decisions.specs.Events.{event_decision};
 ghost use Rattle.decisions.specs.Decisions.{decision, decided, initial_decision, update_decision, termination_decision, answer_of, is_read};
 
@@ -37,48 +37,50 @@ pub struct Decided {
 fn initial(
     alloc: Global,
     account: &mut Account,
-    session: &SessionId,
-    number: u32,
+    request: &Request,
     services: &[Service],
     moment: Moment,
 ) -> Result<Ruling, AllocError>
     requires apart { groups_differ services.now ≡ true }
     requires later { account.old.as_of ≤ moment }
-    ensures follows { IfOk result (λ r. Follows account.old account.new r.outcome r.accepted r.charges.items (initial_decision account.old.book moment session.now number services.now)) }
-    ensures moment { IfOk result (λ r. account.new.as_of ≡ if r.accepted then moment else account.old.as_of) }
+    ensures follows { IfOk result (λ r. Follows account.old account.new r.outcome r.accepted r.charges.items (initial_decision account.old.book moment request.now.session request.now.number services.now)) }
+    ensures stands { IfOk result (StandsAt moment account.old account.new) }
     ensures tariff { account.new.book ≡ account.old.book }
-    ensures same { IfOk result (λ r. r.accepted ≡ false → account.new ≡ account.old) }
-    ensures unwritten { IfOk result (λ r. r.accepted ≡ false → r.charges.items ≡ []) }
 {
-    if let Some(failure) = initial_refusal(account, session, services) {
+    if let Some(failure) = initial_refusal(account, &request.session, services) {
         return Ok(Ruling::refused(alloc, failure));
     }
-    open_unless_barred(alloc, account, session, number, services, moment)
+    open_unless_barred(alloc, account, request, services, moment)
 }
 
 /// Settles the services of a session's update or termination, and answers their charges; or why it is refused.
 fn settle_or_refuse(
     alloc: Global,
     account: &mut Account,
-    session: &SessionId,
-    number: u32,
+    request: &Request,
     services: &[Service],
     moment: Moment,
 ) -> Result<Result<Vec<ChargeRow>, Failure>, AllocError>
     requires later { account.old.as_of ≤ moment }
-    ensures unrefused { IfOk result (λ r. IfOk r (λ charges. IsRefusal None account.old moment session.now number services.now)) }
-    ensures settles { IfOk result (λ r. IfOk r (λ charges. Settles charges.items account.old account.new moment session.now services.now)) }
-    ensures refused { IfOk result (λ r. IfErr r (λ failure. IsRefusal (Some failure) account.old moment session.now number services.now)) }
+    ensures unrefused { IfOk result (λ r. IfOk r (λ charges. IsRefusal None account.old moment request.now.session request.now.number services.now)) }
+    ensures settles { IfOk result (λ r. IfOk r (λ charges. Settles charges.items account.old account.new moment request.now.session services.now)) }
+    ensures refused { IfOk result (λ r. IfErr r (λ failure. IsRefusal (Some failure) account.old moment request.now.session request.now.number services.now)) }
     ensures same { IfOk result (λ r. IfErr r (λ failure. account.new ≡ account.old)) }
-    ensures live { IfOk result (λ r. OnOk r (is_live_in account.new.book.validity moment account.new.sessions session.now ≡ true)) }
-    ensures free { IfOk result (λ r. OnOk r (AreFree account.old.book session.now services.now account.new.groups)) }
+    ensures live { IfOk result (λ r. OnOk r (is_live_in account.new.book.validity moment account.new.sessions request.now.session ≡ true)) }
+    ensures free { IfOk result (λ r. OnOk r (AreFree account.old.book request.now.session services.now account.new.groups)) }
     ensures later { account.new.as_of ≤ moment }
     ensures tariff { account.new.book ≡ account.old.book }
 {
-    if let Some(failure) = early_refusal(account, session, number, services, moment) {
+    if let Some(failure) = early_refusal(
+        account,
+        &request.session,
+        request.number,
+        services,
+        moment,
+    ) {
         return Ok(Err(failure));
     }
-    match settle_services(alloc, account, session, services, moment) {
+    match settle_services(alloc, account, &request.session, services, moment) {
         Ok(charges) => Ok(Ok(charges)),
         Err(AccountFault::Limit) => Ok(Err(Failure::UnableToComply)),
         Err(AccountFault::Memory) => Err(AllocError),
@@ -88,68 +90,59 @@ fn settle_or_refuse(
 fn update(
     alloc: Global,
     account: &mut Account,
-    session: &SessionId,
-    number: u32,
+    request: &Request,
     services: &[Service],
     moment: Moment,
 ) -> Result<Ruling, AllocError>
     requires apart { groups_differ services.now ≡ true }
     requires later { account.old.as_of ≤ moment }
-    ensures follows { IfOk result (λ r. Follows account.old account.new r.outcome r.accepted r.charges.items (update_decision account.old.book moment session.now number services.now)) }
-    ensures moment { IfOk result (λ r. account.new.as_of ≡ if r.accepted then moment else account.old.as_of) }
+    ensures follows { IfOk result (λ r. Follows account.old account.new r.outcome r.accepted r.charges.items (update_decision account.old.book moment request.now.session request.now.number services.now)) }
+    ensures stands { IfOk result (StandsAt moment account.old account.new) }
     ensures tariff { account.new.book ≡ account.old.book }
-    ensures same { IfOk result (λ r. r.accepted ≡ false → account.new ≡ account.old) }
-    ensures unwritten { IfOk result (λ r. r.accepted ≡ false → r.charges.items ≡ []) }
 {
-    let charges = match settle_or_refuse(alloc, account, session, number, services, moment)? {
+    let charges = match settle_or_refuse(alloc, account, request, services, moment)? {
         Ok(charges) => charges,
         Err(failure) => return Ok(Ruling::refused(alloc, failure)),
     };
-    let answers = renew(alloc, account, session, number, services, moment)?;
+    let answers = renew(alloc, account, request, services, moment)?;
     Ok(Ruling::accepted(Outcome::Services(answers), charges))
 }
 
 fn terminate(
     alloc: Global,
     account: &mut Account,
-    session: &SessionId,
-    number: u32,
+    request: &Request,
     services: &[Service],
     moment: Moment,
 ) -> Result<Ruling, AllocError>
     requires later { account.old.as_of ≤ moment }
-    ensures follows { IfOk result (λ r. Follows account.old account.new r.outcome r.accepted r.charges.items (termination_decision account.old.book moment session.now number services.now)) }
-    ensures moment { IfOk result (λ r. account.new.as_of ≡ if r.accepted then moment else account.old.as_of) }
+    ensures follows { IfOk result (λ r. Follows account.old account.new r.outcome r.accepted r.charges.items (termination_decision account.old.book moment request.now.session request.now.number services.now)) }
+    ensures stands { IfOk result (StandsAt moment account.old account.new) }
     ensures tariff { account.new.book ≡ account.old.book }
-    ensures same { IfOk result (λ r. r.accepted ≡ false → account.new ≡ account.old) }
-    ensures unwritten { IfOk result (λ r. r.accepted ≡ false → r.charges.items ≡ []) }
 {
-    let charges = match settle_or_refuse(alloc, account, session, number, services, moment)? {
+    let charges = match settle_or_refuse(alloc, account, request, services, moment)? {
         Ok(charges) => charges,
         Err(failure) => return Ok(Ruling::refused(alloc, failure)),
     };
     let answers = settled_answers(alloc, account.book(), services)?;
-    end(account, session, number, moment);
+    end(account, request, moment);
     Ok(Ruling::accepted(Outcome::Services(answers), charges))
 }
 
 fn decide_event(
     alloc: Global,
     account: &mut Account,
-    session: &SessionId,
-    number: u32,
+    request: &Request,
     event: &Event,
     moment: Moment,
 ) -> Result<Ruling, AllocError>
     requires later { account.old.as_of ≤ moment }
-    ensures follows { IfOk result (λ r. Follows account.old account.new r.outcome r.accepted r.charges.items (event_decision account.old.book moment session.now number event.now)) }
-    ensures moment { IfOk result (λ r. account.new.as_of ≡ if r.accepted then moment else account.old.as_of) }
+    ensures follows { IfOk result (λ r. Follows account.old account.new r.outcome r.accepted r.charges.items (event_decision account.old.book moment request.now.session request.now.number event.now)) }
+    ensures stands { IfOk result (StandsAt moment account.old account.new) }
     ensures tariff { account.new.book ≡ account.old.book }
-    ensures same { IfOk result (λ r. r.accepted ≡ false → account.new ≡ account.old) }
-    ensures unwritten { IfOk result (λ r. r.accepted ≡ false → r.charges.items ≡ []) }
 {
     match event.action {
-        EventAction::DirectDebiting => debit(alloc, account, session, number, event, moment),
+        EventAction::DirectDebiting => debit(alloc, account, request, event, moment),
         EventAction::CheckBalance => {
             let outcome = checked(account, event, moment);
             Ok(Ruling::told(alloc, outcome))
@@ -164,30 +157,26 @@ fn decide_event(
 fn decide_ask(
     alloc: Global,
     account: &mut Account,
-    session: &SessionId,
-    number: u32,
-    ask: &Ask,
+    request: &Request,
     moment: Moment,
 ) -> Result<Ruling, AllocError>
     requires later { account.old.as_of ≤ moment }
-    ensures follows { IfOk result (λ r. Follows account.old account.new r.outcome r.accepted r.charges.items (decided account.old.book moment session.now number ask.now)) }
-    ensures moment { IfOk result (λ r. account.new.as_of ≡ if r.accepted then moment else account.old.as_of) }
+    ensures follows { IfOk result (λ r. Follows account.old account.new r.outcome r.accepted r.charges.items (decided account.old.book moment request.now.session request.now.number request.now.ask)) }
+    ensures stands { IfOk result (StandsAt moment account.old account.new) }
     ensures tariff { account.new.book ≡ account.old.book }
-    ensures same { IfOk result (λ r. r.accepted ≡ false → account.new ≡ account.old) }
-    ensures unwritten { IfOk result (λ r. r.accepted ≡ false → r.charges.items ≡ []) }
 {
-    match ask {
-        Ask::Initial(services) => {
-            initial(alloc, account, session, number, services.as_slice(), moment)
-        }
-        Ask::Update(services) => {
-            update(alloc, account, session, number, services.as_slice(), moment)
-        }
-        Ask::Termination(services) => {
-            terminate(alloc, account, session, number, services.as_slice(), moment)
-        }
-        Ask::Event(event) => decide_event(alloc, account, session, number, event, moment),
-        Ask::Refund(money) => refund(alloc, account, session, number, *money, moment),
+    match &request.ask {
+        Ask::Initial(services) => initial(alloc, account, request, services.as_slice(), moment),
+        Ask::Update(services) => update(alloc, account, request, services.as_slice(), moment),
+        Ask::Termination(services) => terminate(
+            alloc,
+            account,
+            request,
+            services.as_slice(),
+            moment,
+        ),
+        Ask::Event(event) => decide_event(alloc, account, request, event, moment),
+        Ask::Refund(money) => refund(alloc, account, request, *money, moment),
     }
 }
 
@@ -232,14 +221,7 @@ pub fn decide(
     ensures unwritten { IfOk result (λ d. d.accepted ≡ false → d.charges.items ≡ []) }
 {
     let session = request.session.clone()?;
-    let ruling = decide_ask(
-        alloc,
-        account,
-        &request.session,
-        request.number,
-        &request.ask,
-        moment,
-    )?;
+    let ruling = decide_ask(alloc, account, request, moment)?;
     Ok(Decided {
         answer: answer_to(request, session, ruling.outcome),
         accepted: ruling.accepted,

@@ -1,12 +1,12 @@
 //! Debits and refunds.
 
-ghost use Rattle.std.specs.Prelude.{◌≡◌, ◌≤◌, None, Some, IfOk, OnOk, true, false, [], ◌∷◌, if◌then◌else◌};
+ghost use Rattle.std.specs.Prelude.{◌≡◌, ◌≤◌, None, Some, IfOk, true, false, [], ◌∷◌};
 ghost use Rattle.commands.specs.declared.answer.ServiceOutcome.TheVariants as service;
 ghost use Rattle.reserving.specs.Sessions.{session_in};
 ghost use Rattle.reserving.specs.Pricing.{tariff_of};
 ghost use Rattle.decisions.specs.Reports.{asks_other};
 ghost use Rattle.decisions.specs.Events.{event_fault, charged_if_covered, charged_unless_barred, debit_decision, event_units, refunded, refund_decision};
-ghost use Rattle.decisions.specs.Follows.{Follows};
+ghost use Rattle.decisions.specs.Follows.{Follows, StandsAt};
 
 use crate::charges::charge_row;
 use crate::looking::tariff_of;
@@ -14,10 +14,9 @@ use crate::refusing::{debit_refusal, refund_refusal};
 use crate::reports::event_quantity;
 use crate::ruling::{Ruling, deny};
 use commands::{
-    Event, Failure, Outcome, Quantity, Refund, ServiceAnswer, ServiceAnswers, ServiceFailure,
-    ServiceOutcome,
+    Event, Failure, Outcome, Quantity, Refund, Request, ServiceAnswer, ServiceAnswers,
+    ServiceFailure, ServiceOutcome,
 };
-use identifiers::SessionId;
 use reserving::{Account, AccountFault, ChargeRow};
 use std::alloc::{AllocError, Global};
 use tariffs::Tariff;
@@ -48,37 +47,39 @@ fn charged(
 fn charge(
     alloc: Global,
     account: &mut Account,
-    session: &SessionId,
-    number: u32,
+    request: &Request,
     tariff: &Tariff,
     event: &Event,
     moment: Moment,
 ) -> Result<Ruling, AllocError>
     requires later { account.old.as_of ≤ moment }
-    requires new { session_in session.now account.old.sessions ≡ None }
+    requires new { session_in request.now.session account.old.sessions ≡ None }
     requires kind { asks_other tariff.now.unit (Some event.now.requested) ≡ false }
     ensures follows { IfOk result (λ r. Follows account.old account.new r.outcome r.accepted r.charges.items
-        (charged_if_covered account.old.book tariff.now moment session.now number event.now.group (event_units tariff.now event.now.requested))) }
-    ensures moment { IfOk result (λ r. account.new.as_of ≡ if r.accepted then moment else account.old.as_of) }
+        (charged_if_covered account.old.book tariff.now moment request.now.session request.now.number event.now.group (event_units tariff.now event.now.requested))) }
+    ensures stands { IfOk result (StandsAt moment account.old account.new) }
     ensures tariff { account.new.book ≡ account.old.book }
-    ensures same { IfOk result (λ r. r.accepted ≡ false → account.new ≡ account.old) }
-    ensures unwritten { IfOk result (λ r. r.accepted ≡ false → r.charges.items ≡ []) }
 {
     let quantity = event_quantity(tariff, &event.requested);
     let next = account.next_charge();
-    let settled = match account.debit(session, event.group, Units(quantity.units()), moment) {
+    let settled = match account.debit(
+        &request.session,
+        event.group,
+        Units(quantity.units()),
+        moment,
+    ) {
         Ok(Some(settled)) => settled,
         Ok(None) => {
             let why = ServiceFailure::CreditLimitReached;
-            return deny(alloc, account, session, number, why, moment);
+            return deny(alloc, account, request, why, moment);
         }
         Err(AccountFault::Limit) => return Ok(Ruling::refused(alloc, Failure::UnableToComply)),
         Err(AccountFault::Memory) => return Err(AllocError),
     };
-    let Ok(()) = account.deny(session, number, moment) else {
+    let Ok(()) = account.deny(&request.session, request.number, moment) else {
         return Err(AllocError);
     };
-    let name = session.clone()?;
+    let name = request.session.clone()?;
     let row = charge_row(next as u32, name, event.group, settled, moment);
     charged(alloc, event.group, quantity, row)
 }
@@ -87,76 +88,67 @@ fn charge(
 fn charge_unless_denied(
     alloc: Global,
     account: &mut Account,
-    session: &SessionId,
-    number: u32,
+    request: &Request,
     event: &Event,
     moment: Moment,
 ) -> Result<Ruling, AllocError>
     requires later { account.old.as_of ≤ moment }
-    requires new { session_in session.now account.old.sessions ≡ None }
+    requires new { session_in request.now.session account.old.sessions ≡ None }
     requires units { event_fault account.old.book event.now ≡ None }
-    ensures follows { IfOk result (λ r. Follows account.old account.new r.outcome r.accepted r.charges.items (charged_unless_barred account.old.book moment session.now number event.now)) }
-    ensures moment { IfOk result (λ r. account.new.as_of ≡ if r.accepted then moment else account.old.as_of) }
+    ensures follows { IfOk result (λ r. Follows account.old account.new r.outcome r.accepted r.charges.items (charged_unless_barred account.old.book moment request.now.session request.now.number event.now)) }
+    ensures stands { IfOk result (StandsAt moment account.old account.new) }
     ensures tariff { account.new.book ≡ account.old.book }
-    ensures same { IfOk result (λ r. r.accepted ≡ false → account.new ≡ account.old) }
-    ensures unwritten { IfOk result (λ r. r.accepted ≡ false → r.charges.items ≡ []) }
 {
     if account.is_barred() {
         let why = ServiceFailure::EndUserServiceDenied;
-        return deny(alloc, account, session, number, why, moment);
+        return deny(alloc, account, request, why, moment);
     }
     let Some(tariff) = tariff_of(account, event.group) else {
         let why = ServiceFailure::RatingFailed;
-        return deny(alloc, account, session, number, why, moment);
+        return deny(alloc, account, request, why, moment);
     };
-    charge(alloc, account, session, number, tariff, event, moment)
+    charge(alloc, account, request, tariff, event, moment)
 }
 
 /// Decides a debit: an event's units are charged at once (RFC 8506 section 6.3; TS 32.299, immediate event charging).
 pub(crate) fn debit(
     alloc: Global,
     account: &mut Account,
-    session: &SessionId,
-    number: u32,
+    request: &Request,
     event: &Event,
     moment: Moment,
 ) -> Result<Ruling, AllocError>
     requires later { account.old.as_of ≤ moment }
-    ensures follows { IfOk result (λ r. Follows account.old account.new r.outcome r.accepted r.charges.items (debit_decision account.old.book moment session.now number event.now)) }
-    ensures moment { IfOk result (λ r. account.new.as_of ≡ if r.accepted then moment else account.old.as_of) }
+    ensures follows { IfOk result (λ r. Follows account.old account.new r.outcome r.accepted r.charges.items (debit_decision account.old.book moment request.now.session request.now.number event.now)) }
+    ensures stands { IfOk result (StandsAt moment account.old account.new) }
     ensures tariff { account.new.book ≡ account.old.book }
-    ensures same { IfOk result (λ r. r.accepted ≡ false → account.new ≡ account.old) }
-    ensures unwritten { IfOk result (λ r. r.accepted ≡ false → r.charges.items ≡ []) }
 {
-    if let Some(failure) = debit_refusal(account, session, event) {
+    if let Some(failure) = debit_refusal(account, &request.session, event) {
         return Ok(Ruling::refused(alloc, failure));
     }
-    charge_unless_denied(alloc, account, session, number, event, moment)
+    charge_unless_denied(alloc, account, request, event, moment)
 }
 
 /// Pays money back into a bucket for all rating groups, from the moment on, without an end.
 fn pay_back(
     alloc: Global,
     account: &mut Account,
-    session: &SessionId,
-    number: u32,
+    request: &Request,
     refund: Refund,
     moment: Moment,
 ) -> Result<Ruling, AllocError>
     requires later { account.old.as_of ≤ moment }
-    requires new { session_in session.now account.old.sessions ≡ None }
-    ensures follows { IfOk result (λ r. Follows account.old account.new r.outcome r.accepted r.charges.items (refunded moment session.now number refund)) }
-    ensures moment { IfOk result (λ r. account.new.as_of ≡ if r.accepted then moment else account.old.as_of) }
+    requires new { session_in request.now.session account.old.sessions ≡ None }
+    ensures follows { IfOk result (λ r. Follows account.old account.new r.outcome r.accepted r.charges.items (refunded moment request.now.session request.now.number refund)) }
+    ensures stands { IfOk result (StandsAt moment account.old account.new) }
     ensures tariff { account.new.book ≡ account.old.book }
-    ensures same { IfOk result (λ r. r.accepted ≡ false → account.new ≡ account.old) }
-    ensures unwritten { IfOk result (λ r. r.accepted ≡ false → r.charges.items ≡ []) }
 {
     match account.credit(moment, Moment::no_end(), None, refund.money(), moment) {
         Ok(_) => {}
         Err(AccountFault::Limit) => return Ok(Ruling::refused(alloc, Failure::UnableToComply)),
         Err(AccountFault::Memory) => return Err(AllocError),
     }
-    let Ok(()) = account.deny(session, number, moment) else {
+    let Ok(()) = account.deny(&request.session, request.number, moment) else {
         return Err(AllocError);
     };
     Ok(Ruling::accepted(Outcome::Refunded, Vec::new(alloc)))
@@ -166,20 +158,17 @@ fn pay_back(
 pub(crate) fn refund(
     alloc: Global,
     account: &mut Account,
-    session: &SessionId,
-    number: u32,
+    request: &Request,
     refund: Refund,
     moment: Moment,
 ) -> Result<Ruling, AllocError>
     requires later { account.old.as_of ≤ moment }
-    ensures follows { IfOk result (λ r. Follows account.old account.new r.outcome r.accepted r.charges.items (refund_decision account.old.book moment session.now number refund)) }
-    ensures moment { IfOk result (λ r. account.new.as_of ≡ if r.accepted then moment else account.old.as_of) }
+    ensures follows { IfOk result (λ r. Follows account.old account.new r.outcome r.accepted r.charges.items (refund_decision account.old.book moment request.now.session request.now.number refund)) }
+    ensures stands { IfOk result (StandsAt moment account.old account.new) }
     ensures tariff { account.new.book ≡ account.old.book }
-    ensures same { IfOk result (λ r. r.accepted ≡ false → account.new ≡ account.old) }
-    ensures unwritten { IfOk result (λ r. r.accepted ≡ false → r.charges.items ≡ []) }
 {
-    if let Some(failure) = refund_refusal(account, session, refund) {
+    if let Some(failure) = refund_refusal(account, &request.session, refund) {
         return Ok(Ruling::refused(alloc, failure));
     }
-    pay_back(alloc, account, session, number, refund, moment)
+    pay_back(alloc, account, request, refund, moment)
 }

@@ -10,13 +10,15 @@ ghost use Rattle.decisions.specs.Known.{is_known};
 ghost use Rattle.decisions.specs.Free.{AreFree, OthersKept};
 ghost use Rattle.decisions.specs.Granting.{granted, granted_units, grants_new, any_grants, denial, first_denial};
 ghost use Rattle.decisions.specs.Decisions.{opened, opened_unless_barred};
-ghost use Rattle.decisions.specs.Follows.{Grants, GrantsAll, Follows};
+ghost use Rattle.decisions.specs.Follows.{Grants, GrantsAll, Follows, StandsAt};
 
 use crate::answering::granted_outcome;
 use crate::looking::{is_known, tariff_of};
 use crate::reports::{asked_units, requested_units};
 use crate::ruling::{Ruling, deny};
-use commands::{Outcome, Service, ServiceAnswer, ServiceAnswers, ServiceFailure, ServiceOutcome};
+use commands::{
+    Outcome, Request, Service, ServiceAnswer, ServiceAnswers, ServiceFailure, ServiceOutcome,
+};
 use identifiers::SessionId;
 use reserving::{Account, Granted};
 use std::alloc::{AllocError, Global};
@@ -182,29 +184,27 @@ fn grant_services(
 fn open(
     alloc: Global,
     account: &mut Account,
-    session: &SessionId,
-    number: u32,
+    request: &Request,
     services: &[Service],
     moment: Moment,
 ) -> Result<Ruling, AllocError>
     requires apart { groups_differ services.now ≡ true }
     requires later { account.old.as_of ≤ moment }
-    requires new { session_in session.now account.old.sessions ≡ None }
-    requires free { AreFree account.old.book session.now services.now account.old.groups }
-    ensures follows { IfOk result (λ r. Follows account.old account.new r.outcome r.accepted r.charges.items (opened account.old.book moment session.now number services.now)) }
-    ensures accepted { IfOk result (λ r. r.accepted ≡ true) }
-    ensures moment { OnOk result (account.new.as_of ≡ moment) }
+    requires new { session_in request.now.session account.old.sessions ≡ None }
+    requires free { AreFree account.old.book request.now.session services.now account.old.groups }
+    ensures follows { IfOk result (λ r. Follows account.old account.new r.outcome r.accepted r.charges.items (opened account.old.book moment request.now.session request.now.number services.now)) }
+    ensures stands { IfOk result (StandsAt moment account.old account.new) }
     ensures tariff { account.new.book ≡ account.old.book }
 {
     let _ranges = account.book().validity();
     if !any_grants(account, services, moment) {
         let why = first_denial(account.book(), services);
-        return deny(alloc, account, session, number, why, moment);
+        return deny(alloc, account, request, why, moment);
     }
-    let Ok(()) = account.open(session, number, moment) else {
+    let Ok(()) = account.open(&request.session, request.number, moment) else {
         return Err(AllocError);
     };
-    let answers = grant_services(alloc, account, session, services, moment)?;
+    let answers = grant_services(alloc, account, &request.session, services, moment)?;
     Ok(Ruling::accepted(Outcome::Services(answers), Vec::new(alloc)))
 }
 
@@ -212,46 +212,43 @@ fn open(
 pub(crate) fn open_unless_barred(
     alloc: Global,
     account: &mut Account,
-    session: &SessionId,
-    number: u32,
+    request: &Request,
     services: &[Service],
     moment: Moment,
 ) -> Result<Ruling, AllocError>
     requires apart { groups_differ services.now ≡ true }
     requires later { account.old.as_of ≤ moment }
-    requires new { session_in session.now account.old.sessions ≡ None }
-    requires free { AreFree account.old.book session.now services.now account.old.groups }
-    ensures follows { IfOk result (λ r. Follows account.old account.new r.outcome r.accepted r.charges.items (opened_unless_barred account.old.book moment session.now number services.now)) }
-    ensures accepted { IfOk result (λ r. r.accepted ≡ true) }
-    ensures moment { OnOk result (account.new.as_of ≡ moment) }
+    requires new { session_in request.now.session account.old.sessions ≡ None }
+    requires free { AreFree account.old.book request.now.session services.now account.old.groups }
+    ensures follows { IfOk result (λ r. Follows account.old account.new r.outcome r.accepted r.charges.items (opened_unless_barred account.old.book moment request.now.session request.now.number services.now)) }
+    ensures stands { IfOk result (StandsAt moment account.old account.new) }
     ensures tariff { account.new.book ≡ account.old.book }
 {
     if account.is_barred() {
         let why = ServiceFailure::EndUserServiceDenied;
-        return deny(alloc, account, session, number, why, moment);
+        return deny(alloc, account, request, why, moment);
     }
-    open(alloc, account, session, number, services, moment)
+    open(alloc, account, request, services, moment)
 }
 
 /// Touches a live session with an update, whose services are settled, and grants them what they ask for.
 pub(crate) fn renew(
     alloc: Global,
     account: &mut Account,
-    session: &SessionId,
-    number: u32,
+    request: &Request,
     services: &[Service],
     moment: Moment,
 ) -> Result<ServiceAnswers, AllocError>
     requires apart { groups_differ services.now ≡ true }
     requires later { account.old.as_of ≤ moment }
-    requires live { is_live_in account.old.book.validity moment account.old.sessions session.now ≡ true }
-    requires free { AreFree account.old.book session.now services.now account.old.groups }
+    requires live { is_live_in account.old.book.validity moment account.old.sessions request.now.session ≡ true }
+    requires free { AreFree account.old.book request.now.session services.now account.old.groups }
     ensures grants { IfOk result (λ answers. (ledger : Ledger) → IsRowsOf ledger account.old →
-        GrantsAll answers account.old.book moment session.now services.now (touched moment session.now number ledger) account.new) }
+        GrantsAll answers account.old.book moment request.now.session services.now (touched moment request.now.session request.now.number ledger) account.new) }
     ensures moment { OnOk result (account.new.as_of ≡ moment) }
     ensures tariff { account.new.book ≡ account.old.book }
 {
     let _ranges = account.book().validity();
-    account.touch(session, number, moment);
-    grant_services(alloc, account, session, services, moment)
+    account.touch(&request.session, request.number, moment);
+    grant_services(alloc, account, &request.session, services, moment)
 }

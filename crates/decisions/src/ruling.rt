@@ -1,12 +1,11 @@
 //! What a request comes to, before its answer is made.
 
-ghost use Rattle.std.specs.Prelude.{◌≡◌, ◌≤◌, IfOk, OnOk, None, true, false, []};
+ghost use Rattle.std.specs.Prelude.{◌≡◌, ◌≤◌, IfOk, None, true, false, []};
 ghost use Rattle.reserving.specs.Sessions.{session_in};
 ghost use Rattle.decisions.specs.Decided.{denied};
-ghost use Rattle.decisions.specs.Follows.{Follows};
+ghost use Rattle.decisions.specs.Follows.{Follows, StandsAt};
 
-use commands::{Failure, Outcome, ServiceFailure};
-use identifiers::SessionId;
+use commands::{Failure, Outcome, Request, ServiceFailure};
 use reserving::{Account, ChargeRow};
 use std::alloc::{AllocError, Global};
 use units::Moment;
@@ -60,19 +59,17 @@ impl Ruling {
 pub(crate) fn deny(
     alloc: Global,
     account: &mut Account,
-    session: &SessionId,
-    number: u32,
+    request: &Request,
     why: ServiceFailure,
     moment: Moment,
 ) -> Result<Ruling, AllocError>
     requires later { account.old.as_of ≤ moment }
-    requires new { session_in session.now account.old.sessions ≡ None }
-    ensures follows { IfOk result (λ r. Follows account.old account.new r.outcome r.accepted r.charges.items (denied moment session.now number why)) }
-    ensures accepted { IfOk result (λ r. r.accepted ≡ true) }
-    ensures moment { OnOk result (account.new.as_of ≡ moment) }
+    requires new { session_in request.now.session account.old.sessions ≡ None }
+    ensures follows { IfOk result (λ r. Follows account.old account.new r.outcome r.accepted r.charges.items (denied moment request.now.session request.now.number why)) }
+    ensures stands { IfOk result (StandsAt moment account.old account.new) }
     ensures tariff { account.new.book ≡ account.old.book }
 {
-    match account.deny(session, number, moment) {
+    match account.deny(&request.session, request.number, moment) {
         Ok(()) => Ok(Ruling::accepted(Outcome::Failed(Failure::Denied(why)), Vec::new(alloc))),
         Err(_) => Err(AllocError),
     }

@@ -11,7 +11,7 @@ ghost use Rattle.decisions.specs.Follows.{Reports, PassesBy, Settles, Passes, ch
 use crate::charges::charge_row;
 use crate::looking::is_known;
 use crate::reports::parts_of;
-use commands::Service;
+use commands::{Request, Service};
 use identifiers::SessionId;
 use reserving::{Account, AccountFault, ChargeRow};
 use std::alloc::Global;
@@ -132,32 +132,8 @@ fn settle_one(
     Ok(charges)
 }
 
-/// Settles several services: on a copy, so that a fault leaves the account as it was.
-fn settle_several(
-    alloc: Global,
-    account: &mut Account,
-    session: &SessionId,
-    services: &[Service],
-    moment: Moment,
-) -> Result<Vec<ChargeRow>, AccountFault>
-    requires later { account.old.as_of ≤ moment }
-    requires live { is_live_in account.old.book.validity moment account.old.sessions session.now ≡ true }
-    ensures settles { IfOk result (λ charges. Settles charges.items account.old account.new moment session.now services.now) }
-    ensures limit { result ≡ Err AccountFault.Limit → Passes account.old moment session.now services.now }
-    ensures live { is_live_in account.new.book.validity moment account.new.sessions session.now ≡ true }
-    ensures later { account.new.as_of ≤ moment }
-    ensures free { OnOk result (AreFree account.old.book session.now services.now account.new.groups) }
-    ensures tariff { account.new.book ≡ account.old.book }
-    ensures err { OnErr result (account.new ≡ account.old) }
-{
-    let mut settled = account.copy()?;
-    let charges = settle_each(alloc, &mut settled, session, services, moment)?;
-    *account = settled;
-    Ok(charges)
-}
-
 /// Settles the services of a session's request, in its order, and answers their charges. At a fault nothing has
-/// changed.
+/// changed: several are settled on a copy.
 pub(crate) fn settle_services(
     alloc: Global,
     account: &mut Account,
@@ -178,19 +154,25 @@ pub(crate) fn settle_services(
     match services {
         [] => Ok(Vec::new(alloc)),
         [service] => settle_one(alloc, account, session, service, moment),
-        _ => settle_several(alloc, account, session, services, moment),
+        _ => {
+            let mut settled = account.copy()?;
+            let charges = settle_each(alloc, &mut settled, session, services, moment)?;
+            *account = settled;
+            Ok(charges)
+        }
     }
 }
 
 /// Ends a live session with its last request.
-pub(crate) fn end(account: &mut Account, session: &SessionId, number: u32, moment: Moment)
+pub(crate) fn end(account: &mut Account, request: &Request, moment: Moment)
     requires later { account.old.as_of ≤ moment }
-    requires live { is_live_in account.old.book.validity moment account.old.sessions session.now ≡ true }
-    ensures ledger { (ledger : Ledger) → IsRowsOf ledger account.old → IsRowsOf (closed moment session.now (touched moment session.now number ledger)) account.new }
+    requires live { is_live_in account.old.book.validity moment account.old.sessions request.now.session ≡ true }
+    ensures ledger { (ledger : Ledger) → IsRowsOf ledger account.old →
+        IsRowsOf (closed moment request.now.session (touched moment request.now.session request.now.number ledger)) account.new }
     ensures moment { account.new.as_of ≡ moment }
     ensures tariff { account.new.book ≡ account.old.book }
 {
     let _ranges = account.book().validity();
-    account.touch(session, number, moment);
-    account.close(session, moment);
+    account.touch(&request.session, request.number, moment);
+    account.close(&request.session, moment);
 }

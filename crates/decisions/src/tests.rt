@@ -22,50 +22,6 @@ use std::test::Fail;
 use tariffs::TariffBook;
 use units::{Moment, Money};
 
-const BOOK: &str = r#"zone = "+00:00"
-currency = 978
-validity = 3600
-periods = ["off", "peak"]
-[[week]]
-period = "peak"
-days = [1, 2, 3, 4, 5]
-from = "08:00"
-to = "20:00"
-[[week]]
-period = "off"
-days = [1, 2, 3, 4, 5]
-from = "00:00"
-to = "08:00"
-[[week]]
-period = "off"
-days = [1, 2, 3, 4, 5]
-from = "20:00"
-to = "24:00"
-[[week]]
-period = "off"
-days = [6, 7]
-from = "00:00"
-to = "24:00"
-[[group]]
-id = 10
-unit = "time"
-block = 60
-slice = 600
-max_grant = 3600
-cycle = "none"
-final = "terminate"
-price = [{period = "off", tiers = [{price = 50000}]}, {period = "peak", tiers = [{price = 100000}]}]
-[[group]]
-id = 30
-unit = "events"
-block = 1
-slice = 1
-max_grant = 100
-cycle = "none"
-final = "terminate"
-price = [{period = "off", tiers = [{price = 90000}]}, {period = "peak", tiers = [{price = 90000}]}]
-"#;
-
 fn service(group: u32) -> Service
     ensures { result ≡ record { group = group; requested = Some Slice; used = None } }
 {
@@ -282,7 +238,7 @@ fn given(
 
 /// Tries the lines of a scenario on an account that begins empty.
 fn try_all(rt: &impl Abort, alloc: Global, lines: &str) -> Result<(), Fail> {
-    let book = TariffBook::read(alloc, BOOK.as_bytes())?;
+    let book = TariffBook::read(alloc, worked_book::BOOK.as_bytes())?;
     let mut account = Account::new(alloc, &book);
     for line in lines.lines() {
         let (call, expected) = line.split_once(" -> ").ok_or("a line")?;

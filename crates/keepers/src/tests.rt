@@ -24,29 +24,8 @@ struct Seen {
     expired: u64,
 }
 
-/// One rating group at one price.
-const BOOK: &str = r#"zone = "+00:00"
-currency = 978
-validity = 3600
-periods = ["all"]
-[[week]]
-period = "all"
-days = [1, 2, 3, 4, 5, 6, 7]
-from = "00:00"
-to = "24:00"
-[[group]]
-id = 10
-unit = "time"
-block = 60
-slice = 600
-max_grant = 3600
-cycle = "none"
-final = "terminate"
-price = [{period = "all", tiers = [{price = 100000}]}]
-"#;
-
 fn book(alloc: Global) -> Result<TariffBook, Fail> {
-    Ok(TariffBook::read(alloc, BOOK.as_bytes())?)
+    Ok(TariffBook::read(alloc, worked_book::BOOK.as_bytes())?)
 }
 
 fn moment(seconds: u64) -> Result<Moment, Fail> {

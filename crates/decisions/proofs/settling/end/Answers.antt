@@ -13,10 +13,10 @@ close-requires-clause-live c =
     let ranges : IsBook c.book.result.now = c.validity-ranges.ensures.book in
     let lower : 0 < c.book.result.now.validity = omega (arith, ranges.some_validity) in
     let some : 0 < a.book.validity = subst (λ (book : Book). 0 < book.validity) c.book.ensures lower in
-    subst (λ (r : AccountRows). is_live_in r.book.validity c.args.moment r.sessions c.args.session.now ≡ true) (sym c.touch.ensures.rows)
-    (live_touched a.book.validity c.args.moment c.args.number c.args.session.now (map (lapse a.book.validity c.args.moment) a.sessions) some
-    (live_lapsed a.book.validity c.args.moment a.sessions c.args.session.now c.requires.live))
+    subst (λ (r : AccountRows). is_live_in r.book.validity c.args.moment r.sessions c.args.request.now.session ≡ true) (sym c.touch.ensures.rows)
+    (live_touched a.book.validity c.args.moment c.args.request.now.number c.args.request.now.session (map (lapse a.book.validity c.args.moment) a.sessions) some
+    (live_lapsed a.book.validity c.args.moment a.sessions c.args.request.now.session c.requires.live))
 
 pub returns-clause-ledger : goal.returns-clause-ledger
 returns-clause-ledger c = λ ledger rows.
-    c.close.ensures.ledger (touched c.args.moment c.args.session.now c.args.number ledger) (c.touch.ensures.ledger ledger rows)
+    c.close.ensures.ledger (touched c.args.moment c.args.request.now.session c.args.request.now.number ledger) (c.touch.ensures.ledger ledger rows)
