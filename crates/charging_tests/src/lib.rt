@@ -1,5 +1,5 @@
-//! Tests of runs of commands over the keeper in memory: worked sessions, events, repeats, denials and sweeps, and a
-//! store that fails at each call. Expected values are reckoned by hand from the book of the scenarios.
+//! Tests of runs of commands over the keeper in memory: worked sessions, events, repeats, denials, operators' commands
+//! and sweeps, and a store that fails at each call. Expected values are reckoned by hand from the book of the scenarios.
 #![tactic(auto)]
 
 #[cfg(test)]
@@ -14,6 +14,8 @@ mod events;
 mod failures;
 #[cfg(test)]
 mod lines;
+#[cfg(test)]
+mod operators;
 #[cfg(test)]
 mod repeats;
 #[cfg(test)]

@@ -1,12 +1,13 @@
-//! Commands as lines of text: `MOMENT open ACCOUNT`, `MOMENT credit ACCOUNT BODY`, `MOMENT bar ACCOUNT`,
-//! `MOMENT unbar ACCOUNT`, `MOMENT sweep`, and a request as `MOMENT BODY`.
+//! Commands as lines of text: `MOMENT open ACCOUNT`, `MOMENT credit ACCOUNT BODY`,
+//! `MOMENT credit-nothing ACCOUNT REFERENCE`, `MOMENT bar ACCOUNT`, `MOMENT unbar ACCOUNT`, `MOMENT sweep`, and a
+//! request as `MOMENT BODY`.
 
 use charging::DatedCommand;
-use commands::Command;
-use identifiers::AccountNumber;
+use commands::{Command, Credit};
+use identifiers::{AccountNumber, Reference};
 use std::alloc::Global;
 use std::test::Fail;
-use units::Moment;
+use units::{Moment, Money};
 use wire::{read_credit, read_request};
 
 pub(crate) fn account(alloc: Global, word: &str) -> Result<AccountNumber, Fail> {
@@ -24,10 +25,24 @@ fn credit(alloc: Global, words: &str) -> Result<Command, Fail> {
     Ok(Command::Credit(read_credit(alloc, number, body.as_bytes())?))
 }
 
+/// `ACCOUNT REFERENCE`: a credit of 0, which no body can tell.
+fn nothing(alloc: Global, words: &str) -> Result<Command, Fail> {
+    let (number, reference) = words.split_once(" ").ok_or("an account and a reference")?;
+    Ok(Command::Credit(Credit {
+        account: account(alloc, number)?,
+        amount: Money::new(0).ok_or("an amount")?,
+        from: None,
+        until: None,
+        scope: None,
+        reference: Reference::new(alloc, reference)?.ok_or("a reference")?,
+    }))
+}
+
 fn command(alloc: Global, name: &str, words: &str) -> Result<Command, Fail> {
     match name {
         "open" => Ok(Command::OpenAccount(account(alloc, words)?)),
         "credit" => credit(alloc, words),
+        "credit-nothing" => nothing(alloc, words),
         "bar" => Ok(Command::Bar(account(alloc, words)?)),
         "unbar" => Ok(Command::Unbar(account(alloc, words)?)),
         _ => Ok(Command::Sweep),

@@ -1,4 +1,4 @@
-//! The rows of account 49151 as text, a line a table.
+//! The rows of accounts as text, a line a table.
 
 use crate::lines::account;
 use identifiers::AccountNumber;
@@ -126,20 +126,34 @@ fn charges(alloc: Global, rows: &[ChargeRow]) -> Result<String, AllocError> {
     Ok(text)
 }
 
-/// The rows of account 49151, and the moment of the last accepted command.
+/// The rows of an account and its charges, each line after this word.
+fn rows_of(
+    alloc: Global,
+    keeper: &mut MemoryKeeper,
+    book: &TariffBook,
+    number: &str,
+    word: &str,
+) -> Result<String, Fail> {
+    let number = account(alloc, number)?;
+    let account = loaded_rows(alloc, keeper, book, &number)?;
+    let charges = charges(alloc, keeper.charges(&number))?;
+    let rows = format!(in alloc; "{}{}", account.as_str(), charges.as_str())?;
+    let mut text = String::new(alloc);
+    for line in rows.lines() {
+        let line = format!(in alloc; "{}{}\n", word, line)?;
+        text.push_str(line.as_str())?;
+    }
+    Ok(text)
+}
+
+/// The moment of the last accepted command, the rows of account 49151, and those of account 49152 after its number.
 pub(crate) fn rows(
     alloc: Global,
     keeper: &mut MemoryKeeper,
     book: &TariffBook,
 ) -> Result<String, Fail> {
-    let number = account(alloc, "49151")?;
-    let account = loaded_rows(alloc, keeper, book, &number)?;
-    let charges = charges(alloc, keeper.charges(&number))?;
     let last = keeper.last()?.seconds();
-    Ok(format!(in alloc;
-        "last: {}\n{}{}\n",
-        last,
-        account.as_str(),
-        charges.as_str()
-    )?)
+    let first = rows_of(alloc, keeper, book, "49151", "")?;
+    let second = rows_of(alloc, keeper, book, "49152", "49152 ")?;
+    Ok(format!(in alloc; "last: {}\n{}{}", last, first.as_str(), second.as_str())?)
 }

@@ -81,13 +81,33 @@ fn told(
     Ok(format!(in alloc; "{}{}", answered.as_str(), looked.as_str())?)
 }
 
-/// Tries the parts of a scenario over a new keeper.
-pub(crate) fn try_all(rt: &impl Abort, alloc: Global, scenario: &str) -> Result<(), Fail> {
-    let book = book(alloc)?;
+fn try_parts(
+    rt: &impl Abort,
+    alloc: Global,
+    book: &TariffBook,
+    scenario: &str,
+) -> Result<(), Fail> {
     let mut keeper = MemoryKeeper::new(alloc);
     for part in scenario.split("\n\n") {
-        let told = told(alloc, &mut keeper, &book, part)?;
+        let told = told(alloc, &mut keeper, book, part)?;
         assert_eq!(rt; told.as_str().trim_end(), part.trim_end());
     }
     Ok(())
+}
+
+/// Tries the parts of a scenario over a new keeper, by the worked book.
+pub(crate) fn try_all(rt: &impl Abort, alloc: Global, scenario: &str) -> Result<(), Fail> {
+    let book = book(alloc)?;
+    try_parts(rt, alloc, &book, scenario)
+}
+
+/// Tries the parts of a scenario over a new keeper, by this book.
+pub(crate) fn try_with(
+    rt: &impl Abort,
+    alloc: Global,
+    book: &str,
+    scenario: &str,
+) -> Result<(), Fail> {
+    let book = TariffBook::read(alloc, book.as_bytes())?;
+    try_parts(rt, alloc, &book, scenario)
 }
