@@ -1,15 +1,12 @@
 -- Runs of blocks of one price: what the tiers of a price give of them, and what some more of them cost.
-use Rattle.std.proofs.Common.{◌≡◌, ℕ, zero, suc, ◌+◌, ◌-◌, ◌*◌, ◌/◌, ◌≤◌, ◌<◌, max, min, nat_le, Bool, true, false, List, [], ◌∷◌, Option, Some, None, is_some, length, drop, get_or, refl, ap, sym, ◌∙◌, arith, inl, inr, if◌then◌else◌, ◌⊎◌, mul-zero}
-use Rattle.std.proofs.lemmas.Bool.{cases_lt}
+use Rattle.std.proofs.Common.{◌≡◌, ℕ, zero, suc, ◌+◌, ◌-◌, ◌*◌, ◌≤◌, ◌<◌, max, true, false, List, [], ◌∷◌, Option, Some, None, length, drop, get_or, refl, ap, ◌∙◌, arith, if◌then◌else◌}
 use Rattle.std.proofs.lemmas.Bool.Decides.{nat_tests}
 use Rattle.std.proofs.lemmas.List.{drop_more, drop_all}
-use Rattle.std.specs.List.{AllByRecursion}
 use Rattle.tariffs.specs.declared.tiers.Tier.{Tier}
-use Rattle.tariffs.specs.Prices.{reaches, block_price, ArePriced, IsOpen, AreTiers}
-use Rattle.rating.specs.declared.runs.Run.{Run}
+use Rattle.tariffs.specs.Prices.{reaches, block_price, ArePriced}
 use Rattle.rating.specs.Rated.{rated_amount}
 use Rattle.rating.specs.Granted.{dearer, IsGreatest}
-use Rattle.rating.specs.Runs.{blocks_within, first_run, dearer_run, is_passed, tiers_after, bound_count}
+use Rattle.rating.specs.Runs.{blocks_within}
 use Rattle.rating.proofs.Sums.{rated_none, rated_more, rated_cut, price_bound, dearer_more, most_is}
 
 -- no block costs more than 10^9

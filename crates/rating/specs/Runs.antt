@@ -1,5 +1,5 @@
 -- Runs of blocks of one price, tier by tier.
-use Rattle.std.specs.Prelude.{ℕ, ◌+◌, ◌-◌, ◌==◌, min, max, nat_le, Bool, true, false, List, [], ◌∷◌, Option, Some, None, if◌then◌else◌, is_some}
+use Rattle.std.specs.Prelude.{ℕ, ◌+◌, ◌-◌, min, max, nat_le, Bool, false, List, [], ◌∷◌, Option, Some, None, if◌then◌else◌, is_some}
 use Rattle.tariffs.specs.declared.tiers.Tier.{Tier}
 use Rattle.rating.specs.declared.runs.Run.{Run}
 

@@ -2,7 +2,7 @@ use Rattle.std.proofs.Common.{◌≡◌, ◌+◌, ◌-◌, refl, sym, ap, ◌∙
 use Rattle.rating.specs.Runs.{tiers_after, bound_count}
 use Rattle.rating.proofs.Sums.{dearer_none}
 use Rattle.rating.proofs.RunFacts.{dearer_run_more, greatest_in_run}
-use Rattle.rating.proofs.Bounds.{IsRun, run_is, bounds_after, PricesAfter-after}
+use Rattle.rating.proofs.Bounds.{run_is, bounds_after, PricesAfter-after}
 use Rattle.rating.proofs.grant.covered_blocks.Goals as goal
 
 pub loop-blocks-init : goal.loop-blocks-init

@@ -1,4 +1,4 @@
-use Rattle.std.proofs.Common.{◌≡◌, ◌+◌, ◌<◌, arith, sym, ◌∙◌, ap}
+use Rattle.std.proofs.Common.{◌≡◌, ◌<◌, arith, sym, ◌∙◌, ap}
 use Rattle.units.specs.Blocks.{started}
 use Rattle.rating.proofs.Grants.{starts_to_end, starts_next, less_to_end, granted_all, granted_some, grant_is}
 use Rattle.rating.proofs.Bounds.{few_bounds}

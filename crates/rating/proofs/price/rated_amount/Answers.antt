@@ -1,4 +1,4 @@
-use Rattle.std.proofs.Common.{◌≡◌, ◌≤◌, ◌+◌, ◌-◌, ◌*◌, arith}
+use Rattle.std.proofs.Common.{◌+◌, ◌-◌, arith}
 use Rattle.rating.proofs.RunFacts.{rated_step, rated_end, rated_bound, blocks_within-le}
 use Rattle.rating.proofs.price.rated_amount.Goals as goal
 
