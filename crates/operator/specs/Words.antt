@@ -1,6 +1,6 @@
 -- The program's words: `once --credit AMOUNT --price PRICE --block SIZE` after its name.
 -- Source: profile.
-use Rattle.std.specs.Prelude.{◌≡◌, ℕ, ◌&&◌, nat_le, if◌then◌else◌, List, [], length, Option, Some, None, codes, slice_index_or, option_and_then, ◌≤◌}
+use Rattle.std.specs.Prelude.{◌≡◌, ℕ, ◌&&◌, nat_le, if◌then◌else◌, List, [], length, Option, Some, None, codes, get_or, map, option_and_then, ◌≤◌}
 use Rattle.std.specs.Borrow.{Bor}
 use Rattle.operator.specs.Numbers.{number_of}
 use Rattle.operator.specs.declared.words.OnceWords.{OnceWords}
@@ -10,7 +10,7 @@ Words = List (Bor (List ℕ))
 
 -- the text of a word, empty past the end
 abbrev pub word : Words → ℕ → List ℕ
-word words i = (slice_index_or words i (record { ref_ptr = (0, 0); now = [] })).now
+word words i = get_or (map (λ w. w.now) words) i []
 
 -- the words have this form
 pub record IsOnce (words : Words) : Type 0 where
