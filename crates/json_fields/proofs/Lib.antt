@@ -6,3 +6,4 @@ pub mod Tokens
 pub mod Fit
 pub mod Found
 pub mod Kept
+pub mod Order

@@ -1,4 +1,4 @@
-ghost use Rattle.std.specs.Prelude.{◌≡◌, ◌≤◌, IfOk, IfSome};
+ghost use Rattle.std.specs.Prelude.{◌≡◌, ◌≤◌, ◌↔◌, IfOk, IfSome, IsTrue};
 ghost use Rattle.serde_json.specs.View.{view, items_view};
 ghost use Rattle.json_fields.specs.Gives.{Gives, Says, or_fault};
 ghost use Rattle.json_fields.specs.Fields.{json_of, document_at, member_at, whole_in, number_at, optional_at, text_at, object_at, array_of};
@@ -106,4 +106,11 @@ pub fn array<'v>(value: &'v Value, told: Avp) -> Result<&'v Vec<Value>, WireFaul
     ensures { Says (λ v. items_view v.now.items) result (array_of told (view value.now)) }
 {
     value.as_array().ok_or(WireFault::Invalid(told))
+}
+
+/// Whether the bytes are those of the text.
+pub fn is_text(text: &str, bytes: &[u8]) -> bool
+    ensures { IsTrue result ↔ (text.now ≡ bytes.now) }
+{
+    text.as_bytes() == bytes
 }

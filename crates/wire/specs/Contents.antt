@@ -1,35 +1,49 @@
 -- What is kept of a command, as text.
-use Rattle.std.specs.Prelude.{◌≡◌, ℕ, List, Result, Ok, Err}
-use Rattle.commands.specs.declared.avp.Avp.{Avp}
+use Rattle.std.specs.Prelude.{◌≡◌, ℕ, List, Option, Some, None, Result, Ok, Err, ⊤, nat_eq}
+use Rattle.std.specs.Cmp.Lexicographic.{pointwise}
+use Rattle.serde_json.specs.Data.{Data}
+use Rattle.serde_json.specs.Find.{get}
+use Rattle.commands.specs.Names.{name_of}
 use Rattle.commands.specs.declared.avp.Avp.TheVariants as avp
-use Rattle.commands.specs.declared.request.Request.{Request}
+use Rattle.commands.specs.declared.command.Credit.{Credit}
 use Rattle.commands.specs.declared.command.Content.{Content}
 use Rattle.commands.specs.declared.command.Content.TheVariants as content
 use Rattle.json_fields.specs.declared.fault.WireFault.{WireFault}
-use Rattle.json_fields.specs.declared.fault.WireFault.TheVariants.{NotRequest, Missing, Invalid, Memory}
-use Rattle.json_fields.specs.Gives.{◌>>=◌}
-use Rattle.wire_requests.specs.Reading.{request_of}
+use Rattle.json_fields.specs.declared.fault.WireFault.TheVariants.{Invalid}
+use Rattle.json_fields.specs.Gives.{◌>>=◌, where_holds, Gives}
+use Rattle.json_fields.specs.Fields.{document_at}
+use Rattle.json_fields.specs.Order.{AreInByteOrder}
+use Rattle.wire_requests.specs.Reading.{request_in}
 use Rattle.wire_requests.specs.Spelled.{request_text}
 use Rattle.wire_requests.specs.Rules.{IsRequest}
-use Rattle.wire.specs.Credits.{kept_credit_of, credit_text, IsCredit}
+use Rattle.wire.specs.Credits.{credit_at, credit_text, IsCredit}
 
 -- the text that is kept
 abbrev pub content_text : Content → List ℕ
 content_text (content.Request r) = request_text r
 content_text (content.Credit c) = credit_text c
 
-abbrev pub credit_content_of : List ℕ → List ℕ → Result Content WireFault
-credit_content_of account bytes = kept_credit_of account bytes >>= λ c. Ok (content.Credit c)
+-- a request that is kept is one of the account that it is kept under
+unfoldable pub request_content_in : List ℕ → Data → Result Content WireFault
+request_content_in account d = do
+  r ← request_in d
+  where_holds (pointwise nat_eq r.account account) (Invalid avp.SubscriptionIdData) (content.Request r)
 
--- a text without a Session-Id is a credit's
-abbrev pub content_after : List ℕ → List ℕ → Result Request WireFault → Result Content WireFault
-content_after account bytes (Ok r) = Ok (content.Request r)
-content_after account bytes (Err (Missing avp.SessionId)) = credit_content_of account bytes
-content_after account bytes (Err e) = Err e
+unfoldable pub credit_content_in : List ℕ → Data → Result Content WireFault
+credit_content_in account d = do
+  c ← credit_at account d
+  Ok (content.Credit c)
+
+-- what a kept text is, by the member that stands: a request has a Session-Id
+abbrev pub content_when : List ℕ → Data → Option Data → Result Content WireFault
+content_when account d (Some session) = request_content_in account d
+content_when account d None = credit_content_in account d
 
 -- the content that a kept text is; the account of a credit is known from where it is kept
 unfoldable pub content_of : List ℕ → List ℕ → Result Content WireFault
-content_of account bytes = content_after account bytes (request_of bytes)
+content_of account bytes = do
+  d ← document_at bytes
+  content_when account d (get (name_of avp.SessionId) d)
 
 abbrev pub account_of : Content → List ℕ
 account_of (content.Request r) = r.account
@@ -39,6 +53,19 @@ abbrev pub IsContent : Content → Type 0
 IsContent (content.Request r) = IsRequest r
 IsContent (content.Credit c) = IsCredit c
 
+-- a credit is kept with the ranges of its body; a request has no ranges beside those of its types
+abbrev pub IsKept : Content → Type 0
+IsKept (content.Request r) = ⊤
+IsKept (content.Credit c) = IsCredit c
+
 -- what was written is read again
 abbrev pub ContentsReadAgain : (Content → List ℕ) → Type 0
 ContentsReadAgain text = (c : Content) → IsContent c → content_of (account_of c) (text c) ≡ Ok c
+
+-- a text that was written for this account is read as its content, unless memory runs out
+abbrev pub ReadsWritten : List ℕ → List ℕ → Result Content WireFault → Type 0
+ReadsWritten account bytes returned = (c : Content) → IsContent c → account_of c ≡ account → content_text c ≡ bytes → Gives (λ x. x) returned (Ok c)
+
+-- what was written has its members in byte order
+abbrev pub CreditsAreInOrder : (Credit → Data) → Type 0
+CreditsAreInOrder spelled = (c : Credit) → IsCredit c → AreInByteOrder (spelled c)

@@ -16,29 +16,22 @@ reference_at d = do
   s ← text_at avp.Reference d
   where_holds (is_reference s) (Invalid avp.Reference) s
 
--- Amount, From, Until, Scope and Reference, in this order: an amount from `least` on, From up to `last_from`, Until from
--- `first_until` to `last_until`
-unfoldable pub credit_at : ℕ → ℕ → ℕ → ℕ → List ℕ → Data → Result Credit WireFault
-credit_at least last_from first_until last_until account d = do
-  amount ← number_at avp.Amount least 1000000000000000 d
-  from ← optional_at avp.From 0 last_from d
-  until ← optional_at avp.Until first_until last_until d
-  scope ← optional_at avp.Scope 0 4294967295 d
+-- Amount, From, Until, Scope and Reference, in this order: 1 to 10^15 micro-units, from a moment of a command on, until
+-- one or "no end"
+unfoldable pub credit_at : List ℕ → Data → Result Credit WireFault
+credit_at account d = do
+  amount ← number_at avp.Amount 1 1_000_000_000_000_000 d
+  from ← optional_at avp.From 0 4_102_444_799 d
+  until ← optional_at avp.Until 1 4_102_444_800 d
+  scope ← optional_at avp.Scope 0 4_294_967_295 d
   reference ← reference_at d
   Ok (record { account = account; amount = amount; from = from; until = until; scope = scope; reference = reference })
 
--- the credit that the body of an operator's request is, or the first fault: 1 to 10^15 micro-units, from a moment of a
--- command on, until one or "no end"
+-- the credit that the body of an operator's request is, or the first fault
 unfoldable pub credit_of : List ℕ → List ℕ → Result Credit WireFault
 credit_of account bytes = do
   d ← document_at bytes
-  credit_at 1 4102444799 1 4102444800 account d
-
--- a credit that is kept: all that its types can hold
-unfoldable pub kept_credit_of : List ℕ → List ℕ → Result Credit WireFault
-kept_credit_of account bytes = do
-  d ← document_at bytes
-  credit_at 0 4102488000 0 4102488000 account d
+  credit_at account d
 
 -- ---- as it is kept
 
@@ -53,10 +46,11 @@ credit_data c = object
 unfoldable pub credit_text : Credit → List ℕ
 credit_text c = compact_text (credit_data c)
 
--- what the types of a credit's parts keep
+-- the ranges of a credit's body
 pub record IsCredit (c : Credit) : Type 0 where
-  pub amount : c.amount ≤ 1000000000000000
-  pub from : IfSome c.from (λ m. m ≤ 4102488000)
-  pub until : IfSome c.until (λ m. m ≤ 4102488000)
-  pub scope : IfSome c.scope (λ g. g ≤ 4294967295)
+  pub some : 1 ≤ c.amount
+  pub amount : c.amount ≤ 1_000_000_000_000_000
+  pub from : IfSome c.from (λ m. m ≤ 4_102_444_799)
+  pub until : IfSome c.until (λ m. (1 ≤ m) × (m ≤ 4_102_444_800))
+  pub scope : IfSome c.scope (λ g. g ≤ 4_294_967_295)
   pub reference : is_reference c.reference ≡ true

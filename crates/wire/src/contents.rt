@@ -1,18 +1,24 @@
 ghost use Rattle.std.specs.Prelude.{◌≡◌, IfOk, Ok, string_bytes};
+ghost use Rattle.serde_json.specs.Find.{get};
+ghost use Rattle.serde_json.specs.View.{view};
+ghost use Rattle.commands.specs.Names.{name_of};
 ghost use Rattle.json_fields.specs.Gives.{Gives};
-ghost use Rattle.wire.specs.Contents.{content_text, content_of, account_of, ContentsReadAgain};
+ghost use Rattle.wire.specs.Credits.{credit_data};
+ghost use Rattle.wire.specs.Contents.{content_text, content_of, request_content_in, credit_content_in, content_when, account_of, IsKept, ContentsReadAgain, ReadsWritten, CreditsAreInOrder};
 
-use crate::credits::{credit_written, kept_credit};
+use crate::credits::{credit_in, credit_written};
 use commands::{Avp, Content, Credit, Request};
 use identifiers::AccountNumber;
-use json_fields::WireFault;
+use json_fields::{WireFault, document, is_text};
+use serde_json::Value;
 use std::alloc::{AllocError, Global};
-use wire_requests::{read_request, write_request};
+use wire_requests::{request, write_request};
 
 fn write_credit(alloc: Global, credit: &Credit) -> Result<String, AllocError>
     ensures text { IfOk result (λ s. string_bytes s ≡ content_text (Content.Credit credit.now)) }
     ensures read_again { IfOk result
-        (λ s. content_of credit.now.account (string_bytes s) ≡ Ok (Content.Credit credit.now)) }
+        (λ s. IsKept (Content.Credit credit.now) →
+        content_of credit.now.account (string_bytes s) ≡ Ok (Content.Credit credit.now)) }
 {
     let text = credit_written(alloc, credit)?;
     Ok(text)
@@ -28,11 +34,12 @@ fn write_kept_request(alloc: Global, request: &Request) -> Result<String, AllocE
 }
 
 /// The text that is kept of an accepted command: of a request its text, of a credit its body, as compact JSON with
-/// the members in the byte order of their names. It is read again as the same content.
+/// the members in the byte order of their names. It is read again as the same content, where a credit is within the
+/// ranges of its body.
 pub fn write_content(alloc: Global, content: &Content) -> Result<String, AllocError>
     ensures text { IfOk result (λ s. string_bytes s ≡ content_text content.now) }
     ensures read_again { IfOk result
-        (λ s. content_of (account_of content.now) (string_bytes s) ≡ Ok content.now) }
+        (λ s. IsKept content.now → content_of (account_of content.now) (string_bytes s) ≡ Ok content.now) }
 {
     match content {
         Content::Request(request) => write_kept_request(alloc, request),
@@ -40,24 +47,72 @@ pub fn write_content(alloc: Global, content: &Content) -> Result<String, AllocEr
     }
 }
 
-/// The content that a kept text of this account is.
+#[tactic(auto, unfolding(crate::specs::Contents::request_content_in))]
+fn request_content(
+    alloc: Global,
+    account: AccountNumber,
+    parent: &Value,
+) -> Result<Content, WireFault>
+    ensures { Gives (λ c. c) result (request_content_in account (view parent.now)) }
+{
+    let request = request(alloc, parent)?;
+    if request.account == account {
+        Ok(Content::Request(request))
+    } else {
+        Err(WireFault::Invalid(Avp::SubscriptionIdData))
+    }
+}
+
+#[tactic(auto, unfolding(crate::specs::Contents::credit_content_in))]
+fn credit_content(
+    alloc: Global,
+    account: AccountNumber,
+    parent: &Value,
+) -> Result<Content, WireFault>
+    ensures { Gives (λ c. c) result (credit_content_in account (view parent.now)) }
+{
+    Ok(Content::Credit(credit_in(alloc, account, parent)?))
+}
+
+/// What a kept object of this account is, by the member that stands.
+fn content_in(alloc: Global, account: AccountNumber, parent: &Value) -> Result<Content, WireFault>
+    ensures { Gives (λ c. c) result
+        (content_when account (view parent.now) (get (name_of Avp.SessionId) (view parent.now))) }
+{
+    match parent.get(Avp::SessionId.name()) {
+        Some(_) => request_content(alloc, account, parent),
+        None => credit_content(alloc, account, parent),
+    }
+}
+
+#[tactic(auto, unfolding(crate::specs::Contents::content_of))]
+fn content(alloc: Global, account: AccountNumber, bytes: &[u8]) -> Result<Content, WireFault>
+    ensures { Gives (λ c. c) result (content_of account bytes.now) }
+{
+    let parent = document(alloc, bytes)?;
+    content_in(alloc, account, &parent)
+}
+
+/// The content of this account whose text the bytes are, as `write_content` writes it.
 ///
 /// # Errors
-/// The fault of the request, or of the credit where the text has no Session-Id.
-#[tactic(auto, unfolding(crate::specs::Contents::content_of))]
+/// The first fault of the request, or of the credit where the text has no Session-Id; `NotRequest` also where the bytes
+/// say a content and aren't its text; `Memory` where memory ran out.
 pub fn read_content(
     alloc: Global,
     account: AccountNumber,
     bytes: &[u8],
 ) -> Result<Content, WireFault>
-    ensures { Gives (λ c. c) result (content_of account bytes.now) }
+    ensures text { IfOk result (λ c. content_text c ≡ bytes.now) }
+    ensures account { IfOk result (λ c. account_of c ≡ account) }
+    ensures written { ReadsWritten account bytes.now result }
 {
-    match read_request(alloc, bytes) {
-        Ok(request) => Ok(Content::Request(request)),
-        Err(WireFault::Missing(Avp::SessionId)) => Ok(Content::Credit(kept_credit(
-            alloc, account, bytes,
-        )?)),
-        Err(fault) => Err(fault),
+    let content = content(alloc, account, bytes)?;
+    let text = write_content(alloc, &content)?;
+    if is_text(&text, bytes) {
+        Ok(content)
+    } else {
+        Err(WireFault::NotRequest)
     }
 }
 
@@ -65,4 +120,10 @@ pub fn read_content(
 #[tactic(auto, using(crate::proofs::ContentsAgain::contents_again))]
 pub fn content_again()
     ensures { ContentsReadAgain content_text }
+{}
+
+/// The members of a credit as it is kept stand in the byte order of their names.
+#[tactic(auto, using(crate::proofs::ContentsAgain::credits_in_order))]
+pub fn credit_in_order()
+    ensures { CreditsAreInOrder credit_data }
 {}

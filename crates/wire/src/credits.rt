@@ -1,9 +1,9 @@
-ghost use Rattle.std.specs.Prelude.{◌≡◌, ◌≤◌, IfOk, IfSome, OnOk, string_bytes};
+ghost use Rattle.std.specs.Prelude.{◌≡◌, ◌≤◌, IfOk, IfSome, string_bytes};
 ghost use Rattle.serde_json.specs.View.{view};
 ghost use Rattle.json_fields.specs.Gives.{Gives, Says};
 ghost use Rattle.json_fields.specs.Fields.{number_at, optional_at};
 ghost use Rattle.json_fields.specs.Tokens.{Adds, tokens_of};
-ghost use Rattle.wire.specs.Credits.{reference_at, credit_at, credit_of, kept_credit_of, credit_data, credit_text, IsCredit};
+ghost use Rattle.wire.specs.Credits.{reference_at, credit_at, credit_of, credit_data, credit_text};
 
 use commands::{Avp, Credit};
 use identifiers::{AccountNumber, Reference};
@@ -27,7 +27,7 @@ fn reference(alloc: Global, parent: &Value) -> Result<Reference, WireFault>
 }
 
 fn moment(seconds: Option<u64>) -> Option<Moment>
-    requires { IfSome seconds (λ n. n ≤ 4102488000) }
+    requires { IfSome seconds (λ n. n ≤ 4_102_488_000) }
     ensures { result ≡ seconds }
 {
     match seconds {
@@ -38,7 +38,7 @@ fn moment(seconds: Option<u64>) -> Option<Moment>
 
 /// A number of the type u32, where it is there.
 fn scope(group: Option<u64>) -> Option<u32>
-    requires { IfSome group (λ n. n ≤ 4294967295) }
+    requires { IfSome group (λ n. n ≤ 4_294_967_295) }
     ensures { result ≡ group }
 {
     match group {
@@ -47,10 +47,10 @@ fn scope(group: Option<u64>) -> Option<u32>
     }
 }
 
-fn amount(parent: &Value, least: u64) -> Result<Money, WireFault>
-    ensures { Says (λ m. m) result (number_at Avp.Amount least 1000000000000000 (view parent.now)) }
+fn amount(parent: &Value) -> Result<Money, WireFault>
+    ensures { Says (λ m. m) result (number_at Avp.Amount 1 1_000_000_000_000_000 (view parent.now)) }
 {
-    let micros = number(parent, Avp::Amount, least, 1_000_000_000_000_000)?;
+    let micros = number(parent, Avp::Amount, 1, 1_000_000_000_000_000)?;
     match Money::new(micros) {
         Some(money) => Ok(money),
         None => Err(WireFault::Invalid(Avp::Amount)),
@@ -58,30 +58,25 @@ fn amount(parent: &Value, least: u64) -> Result<Money, WireFault>
 }
 
 fn moment_at(parent: &Value, name: Avp, low: u64, high: u64) -> Result<Option<Moment>, WireFault>
-    requires { high ≤ 4102488000 }
+    requires { high ≤ 4_102_488_000 }
     ensures { Says (λ m. m) result (optional_at name low high (view parent.now)) }
 {
     let seconds = optional_number(parent, name, low, high)?;
     Ok(moment(seconds))
 }
 
+/// The credit of this account that an object is, or the first fault in the order of its members.
 #[tactic(auto, unfolding(crate::specs::Credits::credit_at))]
-fn credit_in(
+pub(crate) fn credit_in(
     alloc: Global,
     account: AccountNumber,
     parent: &Value,
-    least: u64,
-    last_from: u64,
-    first_until: u64,
-    last_until: u64,
 ) -> Result<Credit, WireFault>
-    requires from { last_from ≤ 4102488000 }
-    requires until { last_until ≤ 4102488000 }
-    ensures { Gives (λ c. c) result (credit_at least last_from first_until last_until account (view parent.now)) }
+    ensures { Gives (λ c. c) result (credit_at account (view parent.now)) }
 {
-    let amount = amount(parent, least)?;
-    let from = moment_at(parent, Avp::From, 0, last_from)?;
-    let until = moment_at(parent, Avp::Until, first_until, last_until)?;
+    let amount = amount(parent)?;
+    let from = moment_at(parent, Avp::From, 0, 4_102_444_799)?;
+    let until = moment_at(parent, Avp::Until, 1, 4_102_444_800)?;
     let scope = scope(optional_number(parent, Avp::Scope, 0, 4_294_967_295)?);
     let reference = reference(alloc, parent)?;
     Ok(Credit {
@@ -104,25 +99,11 @@ pub fn read_credit(alloc: Global, account: AccountNumber, bytes: &[u8]) -> Resul
     ensures { Gives (λ c. c) result (credit_of account bytes.now) }
 {
     let parent = document(alloc, bytes)?;
-    credit_in(alloc, account, &parent, 1, 4_102_444_799, 1, 4_102_444_800)
-}
-
-/// The credit that a kept text is.
-#[tactic(auto, unfolding(crate::specs::Credits::kept_credit_of))]
-pub(crate) fn kept_credit(
-    alloc: Global,
-    account: AccountNumber,
-    bytes: &[u8],
-) -> Result<Credit, WireFault>
-    ensures { Gives (λ c. c) result (kept_credit_of account bytes.now) }
-{
-    let parent = document(alloc, bytes)?;
-    credit_in(alloc, account, &parent, 0, 4_102_488_000, 0, 4_102_488_000)
+    credit_in(alloc, account, &parent)
 }
 
 fn seconds_of(moment: Option<Moment>) -> Option<u64>
-    ensures value { result ≡ moment }
-    ensures within { IfSome result (λ m. m ≤ 4102488000) }
+    ensures { result ≡ moment }
 {
     match moment {
         None => None,
@@ -131,8 +112,7 @@ fn seconds_of(moment: Option<Moment>) -> Option<u64>
 }
 
 fn group_of(scope: Option<u32>) -> Option<u64>
-    ensures value { result ≡ scope }
-    ensures within { IfSome result (λ g. g ≤ 4294967295) }
+    ensures { result ≡ scope }
 {
     match scope {
         None => None,
@@ -142,8 +122,7 @@ fn group_of(scope: Option<u32>) -> Option<u64>
 
 #[tactic(auto, using(json_fields::proofs::Tokens::perhaps_front), unfolding(crate::specs::Credits::credit_data))]
 fn put_credit(out: &mut Writer, credit: &Credit) -> Result<(), AllocError>
-    ensures adds { Adds result out.old out.new (tokens_of (credit_data credit.now)) }
-    ensures rule { OnOk result (IsCredit credit.now) }
+    ensures { Adds result out.old out.new (tokens_of (credit_data credit.now)) }
 {
     out.begin_object()?;
     put_number(out, "Amount", credit.amount.micros())?;
@@ -158,8 +137,7 @@ fn put_credit(out: &mut Writer, credit: &Credit) -> Result<(), AllocError>
 /// The text of a credit as it is kept.
 #[tactic(auto, using(json_fields::proofs::Tokens::printed), unfolding(crate::specs::Credits::credit_text))]
 pub(crate) fn credit_written(alloc: Global, credit: &Credit) -> Result<String, AllocError>
-    ensures text { IfOk result (λ s. string_bytes s ≡ credit_text credit.now) }
-    ensures rule { IfOk result (λ s. IsCredit credit.now) }
+    ensures { IfOk result (λ s. string_bytes s ≡ credit_text credit.now) }
 {
     let mut out = Writer::new(Vec::new(alloc));
     put_credit(&mut out, credit)?;

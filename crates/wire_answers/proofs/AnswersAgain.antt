@@ -1,5 +1,5 @@
 -- What is written for an answer is read as that answer.
-use Rattle.std.proofs.Common.{◌≡◌, ℕ, suc, ◌≤◌, ◌<◌, ◌^◌, lit<, lit≤, List, [], ◌∷◌, ◌++◌, length, Bool, true, false, ◌&&◌, Option, Some, None, option_map, IfSome, Result, Ok, Err, refl, sym, ap, ◌∙◌, arith, append_assoc, append-nil, leb-true, le-leb, nat_le}
+use Rattle.std.proofs.Common.{subst, ◌≡◌, ℕ, suc, ◌≤◌, ◌<◌, ◌^◌, lit<, lit≤, List, [], ◌∷◌, ◌++◌, length, Bool, true, false, ◌&&◌, Option, Some, None, option_map, IfSome, Result, Ok, Err, refl, sym, ap, ◌∙◌, arith, append_assoc, append-nil, leb-true, le-leb, nat_le}
 use Rattle.std.specs.Prelude.{codes, ◌==◌, nat_eq}
 use Rattle.std.specs.List.{AllByRecursion, list_all, find}
 use Rattle.std.specs.Str.{IsUtf8}
@@ -45,7 +45,9 @@ use Rattle.commands.specs.declared.answer.Answer.TheVariants as answer
 use Rattle.json_fields.specs.declared.fault.WireFault.{WireFault}
 use Rattle.json_fields.specs.declared.fault.WireFault.TheVariants.{Invalid}
 use Rattle.first_fault.specs.Steps.{each}
-use Rattle.json_fields.specs.Gives.{◌>>=◌, or_fault, where_holds, read_each}
+use Rattle.json_fields.specs.Gives.{◌>>=◌, or_fault, where_holds, read_each, Gives}
+use Rattle.json_fields.proofs.Kept.{same_value}
+use Rattle.json_fields.proofs.Order.{in_order}
 use Rattle.json_fields.specs.Fields.{member_at, number_at, optional_at, text_at, object_at, array_of, document_at}
 use Rattle.json_fields.specs.Unit.{name_of_unit, lacks_others, kind_told, units_at}
 use Rattle.json_fields.specs.Spelling.{whole, perhaps, value_data, money_data}
@@ -56,7 +58,7 @@ use Rattle.wire_requests.specs.Reading.{session_at, kind_at}
 use Rattle.wire_requests.proofs.RequestsAgain.{and_three, session_utf8, visible_small, quantity_low, quantity_high, most_small, session_again, kind_again, kind_small}
 use Rattle.wire_answers.specs.Spelled.{granted_data, server_data, final_data, final_of, granted_of, validity_of, service_code, service_data, service_items, failure_members, outcome_members, outcome_code, request_answer_data, code_member, answer_data, answer_text}
 use Rattle.wire_answers.specs.Rules.{IsFinal, IsGrant, IsServiceOutcome, IsServiceAnswer, IsCost, IsOutcome, IsRequestAnswer, IsAnswer}
-use Rattle.wire_answers.specs.ReadingAnswers.{redirect_at, final_told, final_in, final_when, final_at, quantity_in, granted_when, granted_in, service_failure_of, success_when, service_told, service_answer_at, services_from, services_in, all_avps, avp_named, failed_at, failure_told, balance_of, cost_in, priced_when, checked_when, served_when, outcome_told, request_answer_at, all_refusals, refusal_at, swept_when, bucket_when, done_at, refused_when, answer_when, answer_of, AnswersReadAgain}
+use Rattle.wire_answers.specs.ReadingAnswers.{redirect_at, final_told, final_in, final_when, final_at, quantity_in, granted_when, granted_in, service_failure_of, success_when, service_told, service_answer_at, services_from, services_in, all_avps, avp_named, failed_at, failure_told, balance_of, cost_in, priced_when, checked_when, served_when, outcome_told, request_answer_at, all_refusals, refusal_at, swept_when, bucket_when, done_at, refused_when, answer_when, answer_of, AnswersReadAgain, ReadsWritten, AnswersAreInOrder}
 
 -- ---- a grant
 
@@ -540,3 +542,31 @@ answers_again (answer.Swept n) is =
 answers_again (answer.Refused r) is =
     let ms = member (codes "Refusal") (string (refusal_name r)) no_members in
     rw (document_again ms (flat ms (fit_member 0 _ (string (refusal_name r)) no_members refl (fit_text 0 (refusal_name r) (name (refusal_name r) (refusal_ascii r))) tt (fit_none 0))), refusal_again r) refl
+
+-- ---- what is read is what was written
+
+-- a text that was written says its answer
+says_written : (bytes : List ℕ) (a : Answer) → IsAnswer a → answer_text a ≡ bytes → answer_of bytes ≡ Ok a
+says_written bytes a is text = subst (λ (b : List ℕ). answer_of b ≡ Ok a) text (answers_again a is)
+
+pub reads_written : (bytes : List ℕ) (returned : Result Answer WireFault) → Gives (λ a. a) returned (answer_of bytes) → ReadsWritten bytes returned
+reads_written bytes returned given a is text =
+    subst (λ (r : Result Answer WireFault). Gives (λ x. x) returned r) (says_written bytes a is text) given
+
+-- bytes that say an answer and aren't its text were not written
+pub never_written : (bytes : List ℕ) (a : Answer) (returned : Result Answer WireFault) → answer_of bytes ≡ Ok a → (answer_text a ≡ bytes → ⊥) → ReadsWritten bytes returned
+never_written bytes a returned given other b is text =
+    absurd (other (subst (λ (x : Answer). answer_text x ≡ bytes) (same_value b a (sym (says_written bytes b is text) ∙ given)) text))
+
+-- ---- the order of members
+
+answer_fit : (a : Answer) → IsAnswer a → Fit 127 (answer_data a)
+unfolding answer_data request_answer_data
+answer_fit (answer.Request a) is = request_fit a is
+answer_fit answer.Done is = flat (code_member 2001) code_fit
+answer_fit (answer.Bucket n) is = flat _ (fit_member 0 _ (whole n) _ refl (fit_whole 0 n (omega (arith, is))) (refl, tt) code_fit)
+answer_fit (answer.Swept n) is = flat _ (fit_member 0 _ (whole n) _ refl (fit_whole 0 n is) (refl, tt) code_fit)
+answer_fit (answer.Refused r) is = flat _ (fit_member 0 _ (string (refusal_name r)) no_members refl (fit_text 0 (refusal_name r) (name (refusal_name r) (refusal_ascii r))) tt (fit_none 0))
+
+pub answers_in_order : AnswersAreInOrder answer_data
+answers_in_order a is = in_order (answer_data a) (answer_fit a is).tidy

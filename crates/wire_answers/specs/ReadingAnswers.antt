@@ -34,11 +34,13 @@ use Rattle.commands.specs.declared.answer.Answer.{Answer}
 use Rattle.commands.specs.declared.answer.Answer.TheVariants as answer
 use Rattle.json_fields.specs.declared.fault.WireFault.{WireFault}
 use Rattle.json_fields.specs.declared.fault.WireFault.TheVariants.{Invalid}
-use Rattle.json_fields.specs.Gives.{◌>>=◌, or_fault, where_holds, read_each}
+use Rattle.json_fields.specs.Gives.{◌>>=◌, or_fault, where_holds, read_each, Gives}
 use Rattle.json_fields.specs.Fields.{member_at, number_at, optional_at, text_at, object_at, array_of, document_at}
 use Rattle.json_fields.specs.Unit.{kind_told, units_at}
+use Rattle.json_fields.specs.Order.{AreInByteOrder}
 use Rattle.wire_requests.specs.Reading.{session_at, kind_at}
 use Rattle.wire_answers.specs.Rules.{IsAnswer}
+use Rattle.wire_answers.specs.Spelled.{answer_text}
 
 -- ---- grants
 
@@ -212,3 +214,11 @@ answer_of bytes = do
 -- what is written is read again
 abbrev pub AnswersReadAgain : (Answer → List ℕ) → Type 0
 AnswersReadAgain text = (a : Answer) → IsAnswer a → answer_of (text a) ≡ Ok a
+
+-- a text that was written is read as its answer, unless memory runs out
+abbrev pub ReadsWritten : List ℕ → Result Answer WireFault → Type 0
+ReadsWritten bytes returned = (a : Answer) → IsAnswer a → answer_text a ≡ bytes → Gives (λ x. x) returned (Ok a)
+
+-- what was written has its members in byte order
+abbrev pub AnswersAreInOrder : (Answer → Data) → Type 0
+AnswersAreInOrder spelled = (a : Answer) → IsAnswer a → AreInByteOrder (spelled a)

@@ -7,5 +7,5 @@ mod reading_services;
 mod services;
 mod writing;
 
-pub use crate::reading::{answer_again, read_answer};
+pub use crate::reading::{answer_again, answer_in_order, read_answer};
 pub use crate::writing::{write_answer, write_fault};

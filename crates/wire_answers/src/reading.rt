@@ -1,15 +1,16 @@
-ghost use Rattle.std.specs.Prelude.{◌≡◌, ◌≤◌};
+ghost use Rattle.std.specs.Prelude.{◌≡◌, ◌≤◌, IfOk};
 ghost use Rattle.serde_json.specs.View.{view};
 ghost use Rattle.serde_json.specs.Find.{get};
 ghost use Rattle.commands.specs.Names.{name_of};
 ghost use Rattle.json_fields.specs.Gives.{Gives, Says};
-ghost use Rattle.wire_answers.specs.Spelled.{answer_text};
-ghost use Rattle.wire_answers.specs.ReadingAnswers.{avp_named, failed_at, failure_told, balance_of, cost_in, priced_when, checked_when, served_when, outcome_told, request_answer_at, refusal_at, done_at, answer_when, refused_when, answer_of, AnswersReadAgain};
+ghost use Rattle.wire_answers.specs.Spelled.{answer_data, answer_text};
+ghost use Rattle.wire_answers.specs.ReadingAnswers.{avp_named, failed_at, failure_told, balance_of, cost_in, priced_when, checked_when, served_when, outcome_told, request_answer_at, refusal_at, done_at, answer_when, refused_when, answer_of, AnswersReadAgain, ReadsWritten, AnswersAreInOrder};
 
 use crate::names::{avp_named, refusal_named};
 use crate::reading_services::{service_failure, services_in};
+use crate::writing::write_answer;
 use commands::{Answer, Avp, Balance, Cost, Failure, Outcome, RequestAnswer};
-use json_fields::{WireFault, document, number, object, optional_number, text};
+use json_fields::{WireFault, document, is_text, number, object, optional_number, text};
 use serde_json::Value;
 use std::alloc::Global;
 use wire_requests::{request_kind, session_id};
@@ -166,21 +167,40 @@ fn answered(alloc: Global, parent: &Value) -> Result<Answer, WireFault>
     }
 }
 
-/// The answer that the bytes are, as `write_answer` writes it.
-///
-/// # Errors
-/// `NotRequest` where the bytes are no JSON object, `Missing` and `Invalid` with the first member at fault, `Memory`
-/// where memory ran out.
 #[tactic(auto, unfolding(crate::specs::ReadingAnswers::answer_of))]
-pub fn read_answer(alloc: Global, bytes: &[u8]) -> Result<Answer, WireFault>
+fn answer(alloc: Global, bytes: &[u8]) -> Result<Answer, WireFault>
     ensures { Gives (λ a. a) result (answer_of bytes.now) }
 {
     let parent = document(alloc, bytes)?;
     answered(alloc, &parent)
 }
 
+/// The answer whose text the bytes are, as `write_answer` writes it.
+///
+/// # Errors
+/// `NotRequest` where the bytes are no JSON object, or say an answer and aren't its text; `Missing` and `Invalid` with
+/// the first member at fault, `Memory` where memory ran out.
+pub fn read_answer(alloc: Global, bytes: &[u8]) -> Result<Answer, WireFault>
+    ensures text { IfOk result (λ a. answer_text a ≡ bytes.now) }
+    ensures written { ReadsWritten bytes.now result }
+{
+    let answer = answer(alloc, bytes)?;
+    let text = write_answer(alloc, &answer)?;
+    if is_text(&text, bytes) {
+        Ok(answer)
+    } else {
+        Err(WireFault::NotRequest)
+    }
+}
+
 /// An answer that is written is read again as the same answer.
 #[tactic(auto, using(crate::proofs::AnswersAgain::answers_again))]
 pub fn answer_again()
     ensures { AnswersReadAgain answer_text }
+{}
+
+/// The members of an answer, and of each object in it, stand in the byte order of their names.
+#[tactic(auto, using(crate::proofs::AnswersAgain::answers_in_order))]
+pub fn answer_in_order()
+    ensures { AnswersAreInOrder answer_data }
 {}

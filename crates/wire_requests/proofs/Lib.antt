@@ -3,3 +3,4 @@ pub mod Kept
 pub mod Micros
 pub mod Fronts
 pub mod RequestsAgain
+pub mod Said

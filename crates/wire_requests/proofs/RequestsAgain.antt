@@ -50,14 +50,15 @@ use Rattle.json_fields.specs.Spelling.{whole, perhaps, value_data, money_data}
 use Rattle.json_fields.proofs.Compact.{Above}
 use Rattle.json_fields.proofs.Found.{get_skip, get_here, number_found, text_found, object_found, units_found}
 use Rattle.json_fields.proofs.Fit.{Fit, FitItems, FitMembers, fit_whole, fit_text, fit_object, fit_array, fit_no_items, fit_item, fit_none, fit_member, fit_perhaps, fit_deeper, fit_money, above_perhaps, document_again, ascii_text}
+use Rattle.json_fields.proofs.Order.{members_in_order}
 use Rattle.wire_requests.specs.declared.phase.Phase.{Phase}
 use Rattle.wire_requests.specs.declared.phase.Phase.TheVariants.{Initial, Update, Termination}
 use Rattle.wire_requests.specs.Reports.{wanted_in, requested_of, required_at, usage_of, usage_at, tag_is_taken, part_at, kind_of_first, parts_from, used_of}
 use Rattle.wire_requests.specs.Phases.{asked_when, requested_at, reported_when, used_at, group_is_taken, service_at, are_objects, services_from, fewest, services_of, services_at}
 use Rattle.wire_requests.specs.Refunds.{exponent_at, micros_told, money_at, refund_at}
-use Rattle.wire_requests.specs.Reading.{session_at, kind_of, kind_at, account_at, only_item, event_of, event_at, action_at, ask_at, request_of}
+use Rattle.wire_requests.specs.Reading.{session_at, kind_of, kind_at, account_at, only_item, event_of, event_at, action_at, ask_at, request_in, request_of}
 use Rattle.wire_requests.specs.Spelled.{requested_data, tag_of, part_data, part_items, used_data, service_data, service_items, event_data, refund_data, ask_members, subscription_data, request_data, request_text}
-use Rattle.wire_requests.specs.Rules.{IsRequested, IsUsed, IsService, IsEvent, IsAsk, IsRequest, RequestsReadAgain}
+use Rattle.wire_requests.specs.Rules.{IsRequested, IsUsed, IsService, IsEvent, IsAsk, IsRequest, RequestsReadAgain, RequestsAreInOrder}
 use Rattle.wire_requests.proofs.Kept.{fits}
 
 no : {X : Type 0} → false ≡ true → X
@@ -525,16 +526,24 @@ request_fit r is =
 
 -- ---- the request
 
-pub requests_again : RequestsReadAgain request_text
-unfolding request_of request_text request_data
-requests_again r is =
+whole_again : (r : Request) → IsRequest r → request_in (object (request_members r)) ≡ Ok r
+unfolding request_in
+whole_again r is =
     let d = ask_data r.ask r.number r.session r.account in
-    let fit : Fit 127 (object (request_members r)) = fit_deeper 6 127 _ (lit≤ tt) (fit_object 5 (request_members r) (request_fit r is)) in
     rw (
-      document_again (request_members r) fit,
       session_again d r.session (session_found r.ask r.number r.session r.account) is.session,
       kind_again (kind_of_ask r.ask) d refl,
       number_found avp.RequestNumber 0 4294967295 d r.number refl (omega arith) is.number,
       account_again d r.account (subscription_found r.ask r.number r.session r.account) is.account,
       ask_again r.ask r.number r.session r.account is.ask,
     ) refl
+
+pub requests_again : RequestsReadAgain request_text
+unfolding request_of request_text request_data
+requests_again r is =
+    let fit : Fit 127 (object (request_members r)) = fit_deeper 6 127 _ (lit≤ tt) (fit_object 5 (request_members r) (request_fit r is)) in
+    rw (document_again (request_members r) fit) (whole_again r is)
+
+pub requests_in_order : RequestsAreInOrder request_data
+unfolding request_data
+requests_in_order r is = members_in_order (request_members r) (request_fit r is).tidy

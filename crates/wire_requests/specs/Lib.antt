@@ -5,3 +5,4 @@ pub mod Reading
 pub mod Spelled
 pub mod Rules
 pub mod Written
+pub mod Said

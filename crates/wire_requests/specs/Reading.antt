@@ -83,13 +83,18 @@ ask_at kind.Event d = do
 
 -- ---- the request
 
--- the request that the bytes are, or the first fault
-unfoldable pub request_of : List ℕ → Result Request WireFault
-request_of bytes = do
-  d ← document_at bytes
+-- the request that an object is, or the first fault
+unfoldable pub request_in : Data → Result Request WireFault
+request_in d = do
   session ← session_at d
   kind ← kind_at d
   number ← number_at avp.RequestNumber 0 4294967295 d
   account ← account_at d
   ask ← ask_at kind d
   Ok (record { session = session; number = number; account = account; ask = ask })
+
+-- the request that the bytes are, or the first fault
+unfoldable pub request_of : List ℕ → Result Request WireFault
+request_of bytes = do
+  d ← document_at bytes
+  request_in d

@@ -14,6 +14,8 @@ use Rattle.commands.specs.declared.request.Event.{Event}
 use Rattle.commands.specs.declared.request.Ask.{Ask}
 use Rattle.commands.specs.declared.request.Ask.TheVariants as ask
 use Rattle.commands.specs.declared.request.Request.{Request}
+use Rattle.serde_json.specs.Data.{Data}
+use Rattle.json_fields.specs.Order.{AreInByteOrder}
 use Rattle.wire_requests.specs.Reading.{request_of}
 
 abbrev pub IsRequested : Requested → Type 0
@@ -48,3 +50,7 @@ pub record IsRequest (r : Request) : Type 0 where
 -- what is written is read again
 abbrev pub RequestsReadAgain : (Request → List ℕ) → Type 0
 RequestsReadAgain text = (r : Request) → IsRequest r → request_of (text r) ≡ Ok r
+
+-- what is written has its members in byte order
+abbrev pub RequestsAreInOrder : (Request → Data) → Type 0
+RequestsAreInOrder spelled = (r : Request) → IsRequest r → AreInByteOrder (spelled r)

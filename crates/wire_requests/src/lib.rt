@@ -9,5 +9,7 @@ mod services;
 mod writing;
 mod written_services;
 
-pub use crate::reading::{account_number, read_request, request_kind, session_id};
-pub use crate::writing::{request_again, write_request};
+pub use crate::reading::{
+    account_number, read_request, request, request_is_said, request_kind, session_id,
+};
+pub use crate::writing::{request_again, request_in_order, write_request};

@@ -1,7 +1,8 @@
 ghost use Rattle.std.specs.Prelude.{◌≡◌, IfOk, IsTrue};
 ghost use Rattle.serde_json.specs.View.{view, items_view};
 ghost use Rattle.json_fields.specs.Gives.{Gives, Says, or_fault};
-ghost use Rattle.wire_requests.specs.Reading.{session_at, kind_of, kind_at, account_at, only_item, event_of, event_at, action_at, ask_at, request_of};
+ghost use Rattle.wire_requests.specs.Reading.{session_at, kind_of, kind_at, account_at, only_item, event_of, event_at, action_at, ask_at, request_in, request_of};
+ghost use Rattle.wire_requests.specs.Said.{ReadsWhatIsSaid};
 
 use crate::phase::Phase;
 use crate::refund::refund;
@@ -137,23 +138,22 @@ fn ask(alloc: Global, kind: RequestKind, parent: &Value) -> Result<Ask, WireFaul
     }
 }
 
-/// The request that the bytes are, or the first fault in the order of the fields: Session-Id, CC-Request-Type,
+/// The request that an object is, or the first fault in the order of the fields: Session-Id, CC-Request-Type,
 /// CC-Request-Number, Subscription-Id with its type and data, Requested-Action of an event, the money of a refund,
 /// and else the services, each with its Rating-Group, Requested-Service-Unit and Used-Service-Unit. Other members
 /// are ignored.
 ///
 /// # Errors
-/// `NotRequest`, `Missing` and `Invalid` as the fields say; `Memory` where memory ran out.
-#[tactic(auto, unfolding(crate::specs::Reading::request_of))]
-pub fn read_request(alloc: Global, bytes: &[u8]) -> Result<Request, WireFault>
-    ensures { Gives (λ r. r) result (request_of bytes.now) }
+/// `Missing` and `Invalid` as the fields say; `Memory` where memory ran out.
+#[tactic(auto, unfolding(crate::specs::Reading::request_in))]
+pub fn request(alloc: Global, parent: &Value) -> Result<Request, WireFault>
+    ensures { Gives (λ r. r) result (request_in (view parent.now)) }
 {
-    let parent = document(alloc, bytes)?;
-    let session = session_id(alloc, &parent)?;
-    let kind = request_kind(&parent)?;
-    let number = number(&parent, Avp::RequestNumber, 0, 4_294_967_295)? as u32;
-    let account = account_number(alloc, &parent)?;
-    let ask = ask(alloc, kind, &parent)?;
+    let session = session_id(alloc, parent)?;
+    let kind = request_kind(parent)?;
+    let number = number(parent, Avp::RequestNumber, 0, 4_294_967_295)? as u32;
+    let account = account_number(alloc, parent)?;
+    let ask = ask(alloc, kind, parent)?;
     Ok(Request {
         session,
         number,
@@ -161,3 +161,22 @@ pub fn read_request(alloc: Global, bytes: &[u8]) -> Result<Request, WireFault>
         ask,
     })
 }
+
+/// The request that the bytes are, or the first fault.
+///
+/// # Errors
+/// `NotRequest` where the bytes are no JSON object, `Missing` and `Invalid` as `request` says; `Memory` where memory
+/// ran out.
+#[tactic(auto, unfolding(crate::specs::Reading::request_of))]
+pub fn read_request(alloc: Global, bytes: &[u8]) -> Result<Request, WireFault>
+    ensures { Gives (λ r. r) result (request_of bytes.now) }
+{
+    let parent = document(alloc, bytes)?;
+    request(alloc, &parent)
+}
+
+/// What is read of a request is said by its members, whatever their order: its session, its type, its number and its
+/// account.
+pub fn request_is_said()
+    ensures { ReadsWhatIsSaid }
+{}

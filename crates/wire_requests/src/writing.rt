@@ -5,7 +5,7 @@ ghost use Rattle.json_fields.specs.Spelling.{whole};
 ghost use Rattle.json_fields.specs.Tokens.{Adds, tokens_of, member_tokens};
 ghost use Rattle.wire_requests.specs.Reading.{request_of};
 ghost use Rattle.wire_requests.specs.Spelled.{event_data, refund_data, subscription_data, request_data, request_text};
-ghost use Rattle.wire_requests.specs.Rules.{IsEvent, IsAsk, IsRequest, RequestsReadAgain};
+ghost use Rattle.wire_requests.specs.Rules.{IsEvent, IsAsk, IsRequest, RequestsReadAgain, RequestsAreInOrder};
 ghost use Rattle.wire_requests.specs.Written.{ask_tokens};
 ghost use Rattle.commands.specs.Refunds.{is_refund};
 ghost use Rattle.identifiers.specs.Texts.{is_account_number};
@@ -130,4 +130,10 @@ pub fn write_request(alloc: Global, request: &Request) -> Result<String, AllocEr
 #[tactic(auto, using(crate::proofs::RequestsAgain::requests_again))]
 pub fn request_again()
     ensures { RequestsReadAgain request_text }
+{}
+
+/// The members of a request as it is kept, and of each object in it, stand in the byte order of their names.
+#[tactic(auto, using(crate::proofs::RequestsAgain::requests_in_order))]
+pub fn request_in_order()
+    ensures { RequestsAreInOrder request_data }
 {}

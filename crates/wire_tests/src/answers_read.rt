@@ -99,7 +99,23 @@ const SHOWN: &str =
 {"Refusal":"O5"} -> Refused(ContentDiffers)
 {"Refusal":"O6"} -> Refused(OutOfRange)
 x -> no JSON object
-[] -> no JSON object"##;
+[] -> no JSON object
+{} -> Result-Code is missing
+{"Result-Code":4010} -> Result-Code is invalid
+{"More":1,"Result-Code":2001} -> no JSON object
+{"Result-Code": 2001} -> no JSON object
+{"Result-Code":2001,"Bucket":1} -> no JSON object
+{"Bucket":4294967296,"Result-Code":2001} -> Bucket is invalid
+{"Accounts":-1,"Result-Code":2001} -> Accounts is invalid
+{"Refusal":"O8"} -> Refusal is invalid
+{"Refusal":1} -> Refusal is invalid
+{"CC-Request-Type":4,"Result-Code":2001,"Session-Id":"r9"} -> CC-Request-Number is missing
+{"CC-Request-Number":0,"CC-Request-Type":4,"Result-Code":2002,"Session-Id":"r9"} -> Result-Code is invalid
+{"CC-Request-Number":1,"CC-Request-Type":2,"Failed-AVP":"More","Result-Code":5004,"Session-Id":"s11"} -> Failed-AVP is invalid
+{"CC-Request-Number":1,"CC-Request-Type":2,"Result-Code":5004,"Session-Id":"s11"} -> Failed-AVP is missing
+{"CC-Request-Number":0,"CC-Request-Type":4,"Cost-Information":{"Currency-Code":978,"Unit-Value":{"Exponent":-5,"Value-Digits":90000}},"Result-Code":2001,"Session-Id":"p1"} -> no JSON object
+{"CC-Request-Number":0,"CC-Request-Type":4,"Cost-Information":{"Currency-Code":978},"Result-Code":2001,"Session-Id":"p1"} -> Unit-Value is missing
+{"CC-Request-Number":0,"CC-Request-Type":4,"Check-Balance-Result":2,"Result-Code":2001,"Session-Id":"c10"} -> Check-Balance-Result is invalid"##;
 
 #[test]
 fn values(rt: HostRuntime) -> Result<(), Fail> {

@@ -83,16 +83,18 @@ fn widest(alloc: Global) -> Result<Content, Fail> {
     }))
 }
 
-/// Each value of the type is kept and read again, also one that is no body of an operator.
+/// A credit that no body can say is written, and not read: only what is within a body's ranges is ever kept.
 #[test]
 fn widest_credit(rt: HostRuntime) -> Result<(), Fail> {
     let alloc = rt.alloc();
     let content = widest(alloc)?;
-    let found = kept(alloc, &content)?;
+    let text = write_content(alloc, &content)?;
     assert_eq!(rt;
-        found.as_str(),
+        text.as_str(),
         r#"{"Amount":0,"From":4102488000,"Reference":"r1","Scope":7,"Until":0}"#
     );
+    let told = shown(alloc, text.as_bytes())?;
+    assert_eq!(rt; told.as_str(), "Amount is invalid");
     Ok(())
 }
 
@@ -112,7 +114,14 @@ const SHOWN: &str =
 {"CC-Request-Number":4,"CC-Request-Type":3,"Multiple-Services-Credit-Control":[],"Session-Id":"s1","Subscription-Id":{"Subscription-Id-Data":"49151","Subscription-Id-Type":0}} -> Request(Request { session: SessionId { text: "s1" }, number: 4, account: AccountNumber { text: "49151" }, ask: Termination(TerminationServices { list: [] }) })
 x -> no JSON object
 {"Amount":1} -> Reference is missing
-{"Session-Id":"s1"} -> CC-Request-Type is missing"##;
+{"Session-Id":"s1"} -> CC-Request-Type is missing
+{"CC-Request-Number":4,"CC-Request-Type":3,"Multiple-Services-Credit-Control":[],"Session-Id":"s1","Subscription-Id":{"Subscription-Id-Data":"49152","Subscription-Id-Type":0}} -> Subscription-Id-Data is invalid
+{"CC-Request-Number":4,"CC-Request-Type":3,"Session-Id":"s1","Subscription-Id":{"Subscription-Id-Data":"49151","Subscription-Id-Type":0}} -> no JSON object
+{"Reference":"r1","Amount":1} -> no JSON object
+{"Amount":1, "Reference":"r1"} -> no JSON object
+{"Amount":1,"More":1,"Reference":"r1"} -> no JSON object
+{"Amount":1,"From":4102444800,"Reference":"r1"} -> From is invalid
+{"Amount":1,"Reference":"r1","Until":0} -> Until is invalid"##;
 
 #[test]
 fn values(rt: HostRuntime) -> Result<(), Fail> {
