@@ -45,8 +45,8 @@ fn covered_in(run: Run, funds: u128) -> u64
     }
 }
 
-/// The greatest of the first blocks wanted whose dearer prices the funds cover, with their sum: a step for each run
-/// of one price between the bounds of both periods' tiers.
+/// The greatest of the first blocks wanted whose dearer prices the funds cover, with their sum: a
+/// step for each run of one price between the bounds of both periods' tiers.
 fn covered_blocks(
     before: &[Tier],
     after: &[Tier],
@@ -63,22 +63,22 @@ fn covered_blocks(
     ensures steps { steps.new ≤ steps.old + 16 }
 {
     // The tiers of each period that price the places still to come.
-    let mut tiers = before;
-    let mut dearer_tiers = after;
+    let mut rest_before = before;
+    let mut rest_after = after;
     let mut blocks = 0;
     let mut total = 0;
     while blocks < wanted {
         steps.tick();
         let reached = place as u128 + blocks as u128;
-        let run = dearer_run(tiers, dearer_tiers, reached, wanted - blocks);
+        let run = dearer_run(rest_before, rest_after, reached, wanted - blocks);
         let more = covered_in(run, funds - total);
         blocks += more;
         total += more as u128 * run.price as u128;
         if more < run.blocks {
             return (blocks, total);
         }
-        tiers = tiers_after(tiers, reached + run.blocks as u128);
-        dearer_tiers = tiers_after(dearer_tiers, reached + run.blocks as u128);
+        rest_before = tiers_after(rest_before, reached + run.blocks as u128);
+        rest_after = tiers_after(rest_after, reached + run.blocks as u128);
     }
     (blocks, total)
 }
@@ -95,8 +95,8 @@ fn units_to_end(used_before: Units, blocks: u64, block: u64) -> u64
     (first_start + u128::from(blocks) * size - used) as u64
 }
 
-/// As `greatest_grant`, and counts its steps: one for each run of blocks of one price between the bounds of both
-/// periods' tiers, at most 16.
+/// As `greatest_grant`, and counts its steps: one for each run of blocks of one price between the
+/// bounds of both periods' tiers, at most 16.
 pub fn greatest_grant_steps(
     tariff: &Tariff,
     periods: Periods,
@@ -108,15 +108,17 @@ pub fn greatest_grant_steps(
 ) -> Grant
     requires { steps.old ≤ 1_000_000_000 }
     ensures value { result ≡ grant_of tariff.now periods used_before.0 place wanted.0 funds.0 }
-    ensures greatest { IsGreatest (tiers_at tariff.now periods.before.0) (tiers_at tariff.now periods.after.0)
-        place (started used_before.0 wanted.0 tariff.now.block) funds.0 result.blocks.0 }
+    ensures greatest { IsGreatest (tiers_at tariff.now periods.before.0)
+        (tiers_at tariff.now periods.after.0) place
+        (started used_before.0 wanted.0 tariff.now.block) funds.0 result.blocks.0 }
     ensures starts { started used_before.0 result.units.0 tariff.now.block ≡ result.blocks.0 }
     ensures within { result.units.0 ≤ wanted.0 }
     ensures next { result.units.0 < wanted.0
         → started used_before.0 (result.units.0 + 1) tariff.now.block ≡ result.blocks.0 + 1 }
     ensures most { result.units.0 < wanted.0
-        → funds.0 < dearer (tiers_at tariff.now periods.before.0) (tiers_at tariff.now periods.after.0)
-        place (started used_before.0 (result.units.0 + 1) tariff.now.block) }
+        → funds.0 < dearer (tiers_at tariff.now periods.before.0)
+        (tiers_at tariff.now periods.after.0) place
+        (started used_before.0 (result.units.0 + 1) tariff.now.block) }
     ensures steps { steps.new ≤ steps.old + 16 }
 {
     let block = tariff.block();
@@ -141,10 +143,10 @@ pub fn greatest_grant_steps(
     }
 }
 
-/// The grant of the wanted units that the funds cover (unit reservation, TS 32.299): the greatest number of new
-/// blocks whose prices, each the dearer of the two periods', sum to at most the funds; all wanted units where
-/// all their blocks are covered, else the units up to the end of the last covered block, so that one unit more
-/// starts a block that the funds don't cover.
+/// The grant of the wanted units that the funds cover (unit reservation, TS 32.299): the greatest
+/// number of new blocks whose prices, each the dearer of the two periods', sum to at most the
+/// funds; all wanted units where all their blocks are covered, else the units up to the end of the
+/// last covered block, so that one unit more starts a block that the funds don't cover.
 pub fn greatest_grant(
     tariff: &Tariff,
     periods: Periods,
@@ -154,16 +156,18 @@ pub fn greatest_grant(
     funds: Amount,
 ) -> Grant
     ensures value { result ≡ grant_of tariff.now periods used_before.0 place wanted.0 funds.0 }
-    ensures greatest { IsGreatest (tiers_at tariff.now periods.before.0) (tiers_at tariff.now periods.after.0)
-        place (started used_before.0 wanted.0 tariff.now.block) funds.0 result.blocks.0 }
+    ensures greatest { IsGreatest (tiers_at tariff.now periods.before.0)
+        (tiers_at tariff.now periods.after.0) place
+        (started used_before.0 wanted.0 tariff.now.block) funds.0 result.blocks.0 }
     ensures starts { started used_before.0 result.units.0 tariff.now.block ≡ result.blocks.0 }
     ensures within { result.units.0 ≤ wanted.0 }
     // One unit more starts a block more, which the funds don't cover.
     ensures next { result.units.0 < wanted.0
         → started used_before.0 (result.units.0 + 1) tariff.now.block ≡ result.blocks.0 + 1 }
     ensures most { result.units.0 < wanted.0
-        → funds.0 < dearer (tiers_at tariff.now periods.before.0) (tiers_at tariff.now periods.after.0)
-        place (started used_before.0 (result.units.0 + 1) tariff.now.block) }
+        → funds.0 < dearer (tiers_at tariff.now periods.before.0)
+        (tiers_at tariff.now periods.after.0) place
+        (started used_before.0 (result.units.0 + 1) tariff.now.block) }
 {
     greatest_grant_steps(
         tariff,

@@ -10,7 +10,8 @@ use calendar::Period;
 use tariffs::{Tariff, Tier};
 use units::{Amount, Blocks, Steps};
 
-/// The rated amount of some blocks at the places after one on the counter, tier by tier: a step a tier.
+/// The rated amount of some blocks at the places after one on the counter, tier by tier: a step a
+/// tier.
 pub(crate) fn rated_amount(tiers: &[Tier], place: u128, blocks: u64, steps: &mut Steps) -> u128
     requires tiers { ArePriced tiers.now }
     requires few { length tiers.now ≤ 8 }
@@ -46,8 +47,9 @@ pub fn rate_steps(
     Amount(rated_amount(tariff.tiers(period), place as u128, blocks.0, steps))
 }
 
-/// The rated amount of some blocks in a period (TS 32.296, rating), in micro-units: each block at the price of its
-/// place on the account's counter, which stands at `place` before the first of them.
+/// The rated amount of some blocks in a period (TS 32.296, rating), in micro-units: each block at
+/// the price of its place on the account's counter, which stands at `place` before the first of
+/// them.
 pub fn rate(tariff: &Tariff, period: Period, place: u64, blocks: Blocks) -> Amount
     ensures { result.0 ≡ rated_amount (tiers_at tariff.now period.0) place blocks.0 }
 {

@@ -8,8 +8,8 @@ use calendar::Period;
 use tariffs::Tariff;
 use units::{Amount, Steps, Units, blocks_started};
 
-/// A part of a report: units that are priced in one period (Used-Service-Unit, RFC 8506 section 8.19). A part of 0
-/// units starts no block and costs nothing.
+/// A part of a report: units that are priced in one period (Used-Service-Unit, RFC 8506 section
+/// 8.19). A part of 0 units starts no block and costs nothing.
 #[derive(Clone, Copy, Debug, PartialEq, Eq)]
 pub struct Part {
     /// The period that prices the blocks which the part starts.
@@ -36,10 +36,11 @@ fn place_in_block(into_block: u64, units: Units, block: u64) -> u64
     (used % u128::from(block)) as u64
 }
 
-/// Rates the parts of a report in their order: each starts blocks after the session's use that the one before left
-/// (`used_before` at first), and is priced at the places after the one where the counter then stands (`place` at
-/// first). A report has at most four parts, one without a Tariff-Change-Usage and one for each of its values
-/// (RFC 8506 section 8.27); one that it doesn't have is a part of 0 units.
+/// Rates the parts of a report in their order: each starts blocks after the session's use that the
+/// one before left (`used_before` at first), and is priced at the places after the one where the
+/// counter then stands (`place` at first). A report has at most four parts, one without a
+/// Tariff-Change-Usage and one for each of its values (RFC 8506 section 8.27); one that it doesn't
+/// have is a part of 0 units.
 pub fn rate_report(tariff: &Tariff, used_before: Units, place: u64, parts: &[Part; 4]) -> Rated
     ensures { result ≡ rated_report tariff.now used_before.0 place parts.now }
 {
@@ -65,8 +66,9 @@ pub fn rate_report(tariff: &Tariff, used_before: Units, place: u64, parts: &[Par
     }
 }
 
-/// The law of cutting: units used in two parts of one period, with nothing between, start and cost what they do as
-/// one part; and two reports after each other start and cost what their parts do as one report.
+/// The law of cutting: units used in two parts of one period, with nothing between, start and cost
+/// what they do as one part; and two reports after each other start and cost what their parts do as
+/// one report.
 pub fn cutting()
     ensures parts { CutsAlike }
     ensures reports { FollowsOn }

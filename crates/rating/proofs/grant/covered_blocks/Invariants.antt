@@ -9,10 +9,10 @@ invariant-loop-blocks l = record {
   sum : l.total ≡ dearer l.before l.after l.place l.blocks;
   wanted : l.blocks ≤ l.wanted;
   covered : l.total ≤ l.funds;
-  front : PricesAfter l.before (l.place + l.blocks) l.tiers;
-  back : PricesAfter l.after (l.place + l.blocks) l.dearer_tiers;
-  steps : l.steps + bound_count l.tiers + bound_count l.dearer_tiers ≤ l.fn.steps + 15;
-  before_last : l.blocks < l.wanted → l.steps + bound_count l.tiers + bound_count l.dearer_tiers ≤ l.fn.steps + 14;
+  front : PricesAfter l.before (l.place + l.blocks) l.rest_before;
+  back : PricesAfter l.after (l.place + l.blocks) l.rest_after;
+  steps : l.steps + bound_count l.rest_before + bound_count l.rest_after ≤ l.fn.steps + 15;
+  before_last : l.blocks < l.wanted → l.steps + bound_count l.rest_before + bound_count l.rest_after ≤ l.fn.steps + 14;
 }
 
 abbrev pub decreases-loop-blocks : goal.decreases-loop-blocks
