@@ -4,7 +4,7 @@ use Rattle.reserving.specs.Ledger.{Ledger}
 use Rattle.reserving.specs.Pricing.{cycle_at}
 use Rattle.reserving.specs.Rows.{AccountRows, IsAccount, IsRowsOf}
 use Rattle.reserving.specs.Requests.{with_bar}
-use Rattle.reserving.proofs.KeptSessions.{IsAccount-with}
+use Rattle.reserving.proofs.KeptRows.{IsAccount-with}
 use Rattle.reserving.proofs.Touching.{SameMoney, same_more, buckets_at-same, group_at-same, reservation_at-same, counter_at-same, unknown-same}
 
 pub same_barred : (t : ℕ) (barred : Bool) (ledger : Ledger) → SameMoney (with_bar t barred ledger) ledger
@@ -33,4 +33,4 @@ IsRowsOf-barred ledger a t barred rows = record {
 
 -- what each account keeps doesn't speak of the bar
 pub IsAccount-barred : (a : AccountRows) (barred : Bool) → IsAccount a → IsAccount (record a { barred = barred })
-IsAccount-barred a barred is = IsAccount-with a barred a.sessions is.sessions is
+IsAccount-barred a barred is = IsAccount-with a barred a.sessions a.counters is.sessions is.counters is.counted is

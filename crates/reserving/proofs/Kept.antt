@@ -14,7 +14,7 @@ use Rattle.reserving.specs.Sessions.{is_session, session_in, is_of, held_by}
 use Rattle.reserving.specs.Keyed.{put}
 use Rattle.reserving.specs.Rows.{AccountRows, EachIn, AreApart, IsAccount}
 use Rattle.reserving.specs.Changes.{with_session, touched_account, touched_session, closed_account, closed_session, is_other, lapse_group, lapsed_in, lapsed_rows}
-use Rattle.reserving.proofs.KeptSessions.{IsAccount-with}
+use Rattle.reserving.proofs.KeptRows.{IsAccount-with_sessions}
 use Rattle.reserving.proofs.Lists.{no_some, EachIn-map, AreApart-map}
 use Rattle.reserving.proofs.Lapsing.{named_lapsed, lapsable_of, lapsed_rows-is, IsBelow-map, held_by-lapsed, held_by_number, released_reserved}
 use Rattle.reserving.proofs.Advancing.{held_by-split}
@@ -50,7 +50,7 @@ pub IsAccount-with_session : (a : AccountRows) (s : List ℕ) (n t : ℕ) (state
 IsAccount-with_session a s n t state new is =
     let row : Session = record { id = s; last_number = n; touched = t; state = state } in
     let apart : AreApart (λ x y. is_session x.id y) (put (is_session s) row a.sessions) = rw (put_new (is_session s) row a.sessions new) (AreApart-append a.sessions row (none_passes (is_session s) a.sessions new) is.sessions) in
-    IsAccount-with a a.barred (put (is_session s) row a.sessions) apart is
+    IsAccount-with_sessions a (put (is_session s) row a.sessions) apart is
 
 -- ---- a session's row is written again
 
@@ -65,7 +65,7 @@ touched_keys s n t x y = at (is_session s x) (is_session s y)
 
 pub IsAccount-touched : (a : AccountRows) (s : List ℕ) (n : ℕ) → IsAccount a → IsAccount (touched_account s n a)
 IsAccount-touched a s n is =
-    IsAccount-with a a.barred (map (touched_session s n a.as_of) a.sessions) (AreApart-map (λ x y. is_session x.id y) (touched_session s n a.as_of) a.sessions (touched_keys s n a.as_of) is.sessions) is
+    IsAccount-with_sessions a (map (touched_session s n a.as_of) a.sessions) (AreApart-map (λ x y. is_session x.id y) (touched_session s n a.as_of) a.sessions (touched_keys s n a.as_of) is.sessions) is
 
 -- ---- a session is closed
 

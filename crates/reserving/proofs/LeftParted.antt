@@ -24,6 +24,7 @@ use Rattle.reserving.proofs.Holds.{same_from, same_itself}
 use Rattle.reserving.proofs.Keys.{found_own, is_same-sym, first_true, second_true, both_true, same_number, number_same}
 use Rattle.reserving.proofs.Advancing.{groups_each, found_each}
 use Rattle.reserving.specs.Left.{LeftRows, placed, merged, joined, IsDead, is_dead, is_open_row, only, first_of, left_of, IsLeft, AreOfOtherCycles, IsPartOf, IsLoadedWith}
+use Rattle.reserving.proofs.LeftEnded.{closed_free}
 use Rattle.reserving.proofs.LeftJoined.{each_in_map, held_behind}
 use Rattle.reserving.proofs.LeftTests.{each_filter, each_passes, each_append, each_with, apart_filter, apart_append, none_each, find_filter}
 
@@ -170,21 +171,9 @@ module _ (ledger : Ledger) (t : ℕ) (w a : AccountRows) (is : IsAccount w) (own
   others : EachIn (λ r. session_in r.session a.sessions ≡ None) left.groups
   others = each_in_map _ _ left.groups (λ r e. part.sessions r.session ∙ only_none (session_in r.session w.sessions) e) gone
 
-  closed_free : (s : List ℕ) (g : ℕ) (o : Option Recording) → last_recording s ledger ≡ o → is_open_row (session_row s (state_at w.book.validity w.as_of ledger s) o) ≡ false → reservation_at w.book.validity w.as_of ledger s g ≡ None
-  closed_free s g None e k = at (is_live w.book.validity w.as_of ledger s) (open_grant s g ledger) ((rows.unknown s e).granted g)
-    where
-      at : (l : Bool) (p : Option Periods) → p ≡ None → (if l then reservation_of (holds_at w.book.validity w.as_of s g ledger) p else None) ≡ None
-      at true p n = ap (reservation_of (holds_at w.book.validity w.as_of s g ledger)) n
-      at false p n = refl
-  closed_free s g (Some x) e k = at (is_live w.book.validity w.as_of ledger s) k
-    where
-      at : (l : Bool) → is_open (if l then Open else (if is_some (last_touch s ledger) then Ended else NeverOpened)) ≡ false → (if l then reservation_of (holds_at w.book.validity w.as_of s g ledger) (open_grant s g ledger) else None) ≡ None
-      at true n = absurd (not_both (sym n))
-      at false n = refl
-
   free : EachIn (λ r. r.reservation ≡ None) left.groups
   free = each_with (λ r. r.reservation ≡ reservation_at w.book.validity w.as_of ledger r.session r.group) (λ r. is_open_row (session_in r.session w.sessions) ≡ false) (λ r. r.reservation ≡ None) left.groups
-      (λ r k e. k ∙ closed_free r.session r.group (last_recording r.session ledger) refl (ap is_open_row (sym (rows.sessions r.session)) ∙ e))
+      (λ r k e. k ∙ closed_free ledger w rows r.session r.group (last_recording r.session ledger) refl (ap is_open_row (sym (rows.sessions r.session)) ∙ e))
       (each_filter _ (λ (r : SessionGroup). not (is_open_row (session_in r.session w.sessions))) w.groups (groups_each w.book.validity w.as_of ledger w.groups w.groups rows.groups (found_each w.groups is.groups)))
       gone
 

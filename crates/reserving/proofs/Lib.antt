@@ -50,4 +50,6 @@ pub mod LeftGranted
 pub mod LeftDebited
 pub mod LeftSettlement
 pub mod Columns
-pub mod KeptSessions
+pub mod KeptRows
+pub mod LeftLoaded
+pub mod LeftEnded

@@ -8,12 +8,16 @@ use Rattle.reserving.specs.declared.session.Session.{Session}
 use Rattle.reserving.specs.Pricing.{cycle_at}
 use Rattle.reserving.specs.Sessions.{is_open, session_in}
 use Rattle.reserving.specs.Rows.{AccountRows}
-use Rattle.reserving.specs.Stored.{StoredRows}
+use Rattle.reserving.specs.Stored.{StoredRows, priced}
 use Rattle.reserving.specs.Left.{is_dead, is_open_row}
 
 -- a group's row: its session is open, or it holds a reservation
 abbrev pub is_live_group : List Session → SessionGroup → Bool
 is_live_group sessions r = is_open_row (session_in r.session sessions) || is_some r.reservation
+
+-- the rows, priced by a tariff book, with further counters
+abbrev pub with_counters : Book → List Counter → StoredRows → AccountRows
+with_counters book others w = record (priced book w) { counters = others ++ w.counters }
 
 -- the rows that may still change, with further counters
 abbrev pub live_part : Book → ℕ → List Counter → StoredRows → AccountRows

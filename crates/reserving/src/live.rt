@@ -3,24 +3,24 @@
 ghost use Rattle.std.specs.Prelude.{◌≡◌, ◌≤◌, ◌==◌, ◌&&◌, ◌++◌, not, filter, IfOk, is_some};
 ghost use Rattle.reserving.specs.Pricing.{cycle_at};
 ghost use Rattle.reserving.specs.Sessions.{is_open, session_in, is_counter};
-ghost use Rattle.reserving.specs.Rows.{EachIn, AreApart};
-ghost use Rattle.reserving.specs.Left.{is_open_row};
-ghost use Rattle.reserving.specs.Live.{is_live_group, live_part};
-ghost use Rattle.reserving.specs.Stored.{stored};
+ghost use Rattle.reserving.specs.Ledger.{Ledger};
+ghost use Rattle.reserving.specs.Rows.{EachIn, AreApart, IsRowsOf};
+ghost use Rattle.reserving.specs.Left.{is_open_row, left_of, IsWith};
+ghost use Rattle.reserving.specs.Live.{is_live_group, live_part, with_counters};
 
 use crate::account::Account;
 use crate::copy::{copy_of_groups, copy_of_purse, copy_of_sessions};
 use crate::session::{Counter, Session, SessionGroup, SessionState};
 use crate::stored::StoredAccount;
-use buckets::Bucket;
 use identifiers::SessionId;
 use std::alloc::{AllocError, Global};
 use tariffs::TariffBook;
 use units::Moment;
 
 impl StoredAccount {
-    /// A copy of the rows that may still change at the moment, as an account that the book prices. Further counters
-    /// stand beside the account's own.
+    /// A copy of the rows that may still change at the moment, as an account that the book prices: what is left is dead
+    /// buckets, sessions that aren't open with their groups, and counters of other cycles than those at the moment.
+    /// Further counters, which a store keeps apart, stand before the account's own.
     pub fn load_at<'b>(
         &self,
         book: &'b TariffBook,
@@ -29,7 +29,9 @@ impl StoredAccount {
     ) -> Result<Account<'b>, AllocError>
         requires apart { AreApart (λ x y. is_counter x.group x.cycle y) (others.now ++ self.now.counters) }
         requires counted { EachIn (λ c. c.blocks ≤ 4_000_000_000_000_000_000) others.now }
-        ensures { IfOk result (λ account. account ≡ live_part book.now moment others.now self.now) }
+        ensures rows { IfOk result (λ account. account ≡ live_part book.now moment others.now self.now) }
+        ensures left { IfOk result (λ account. (ledger : Ledger) → IsRowsOf ledger (with_counters book.now others.now self.now) →
+            IsWith ledger (left_of moment (with_counters book.now others.now self.now)) moment account) }
     {
         let _ranges = book.validity();
         let mut purse = copy_of_purse(&self.purse)?;
@@ -49,38 +51,7 @@ impl StoredAccount {
     }
 }
 
-impl StoredAccount {
-    /// A copy of its buckets.
-    pub fn copy_of_buckets(&self) -> Result<Vec<Bucket>, AllocError>
-        ensures { IfOk result (λ rows. rows.items ≡ self.now.buckets) }
-    {
-        self.purse.to_vec()
-    }
-
-    /// A copy of its sessions.
-    pub fn copy_of_sessions(&self) -> Result<Vec<Session>, AllocError>
-        ensures { IfOk result (λ rows. rows.items ≡ self.now.sessions) }
-    {
-        copy_of_sessions(&self.sessions)
-    }
-
-    /// A copy of its groups.
-    pub fn copy_of_groups(&self) -> Result<Vec<SessionGroup>, AllocError>
-        ensures { IfOk result (λ rows. rows.items ≡ self.now.groups) }
-    {
-        copy_of_groups(&self.groups)
-    }
-}
-
-impl<'b> Account<'b> {
-    /// A copy of its rows, to be kept.
-    pub fn to_stored(&self) -> Result<StoredAccount, AllocError>
-        ensures { IfOk result (λ rows. rows ≡ stored self.now) }
-    {
-        Ok(self.copy()?.into_stored())
-    }
-}
-
+/// Whether a session is open by the rows.
 fn is_open(sessions: &[Session], id: &SessionId) -> bool
     ensures { result ≡ is_open_row (session_in id.now sessions.now) }
 {
@@ -92,6 +63,7 @@ fn is_open(sessions: &[Session], id: &SessionId) -> bool
     false
 }
 
+/// A copy of the open sessions.
 fn open_sessions(sessions: &Vec<Session>) -> Result<Vec<Session>, AllocError>
     ensures { IfOk result (λ rows. rows.items ≡ filter (λ r. is_open r.state) sessions.now.items) }
 {
@@ -100,6 +72,7 @@ fn open_sessions(sessions: &Vec<Session>) -> Result<Vec<Session>, AllocError>
     Ok(rows)
 }
 
+/// A copy of the groups that may still change.
 fn live_groups(
     groups: &Vec<SessionGroup>,
     sessions: &[Session],
@@ -111,6 +84,7 @@ fn live_groups(
     Ok(rows)
 }
 
+/// The cycle of a group at a moment.
 fn cycle_of(book: &TariffBook, group: u32, moment: Moment) -> u32
     ensures { result ≡ cycle_at book.now group moment }
 {
@@ -120,6 +94,7 @@ fn cycle_of(book: &TariffBook, group: u32, moment: Moment) -> u32
     }
 }
 
+/// A copy of the counters of the cycles at a moment.
 fn live_counters(
     alloc: Global,
     book: &TariffBook,
