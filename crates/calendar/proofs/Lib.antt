@@ -3,5 +3,7 @@ pub mod WeekLemmas
 pub mod Shown
 pub mod MonthLemmas
 pub mod SwitchLemmas
+pub mod Turns
+pub mod Walks
 pub mod DayEnds
 pub mod Entries

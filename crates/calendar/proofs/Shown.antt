@@ -1,11 +1,11 @@
 -- What a datetime of jiff says of the seconds that a zone's clock has shown.
 use Rattle.std.proofs.Common.{◌≡◌, ℕ, ◌+◌, ◌*◌, ◌≤◌, arith, ℤ, pos, ◌+ℤ◌, ◌*ℤ◌, unsigned_abs, ◌≤ℤ◌, negsuc, refl}
-use Rattle.jiff.specs.Types.{DateTime}
+use Rattle.jiff.specs.Types.{Date, DateTime}
 use Rattle.jiff.specs.Words.{civil_nanos, nanos_of_seconds, epoch_day, IsWithin, weekday_of}
 use Rattle.jiff.proofs.SpanFacts.{signed_arith}
 use Rattle.jiff.proofs.Family.{civil_nanos-parts}
 use Rattle.jiff_core.proofs.CalendarLemmas.{weekday_number-parts}
-use Rattle.calendar.specs.Clock.{ZoneRule, clock, day, weekday, minute, offset}
+use Rattle.calendar.specs.Clock.{ZoneRule, clock, day, weekday, offset}
 
 -- the datetime shows the zone's civil time at t
 pub record Shows (zone : ZoneRule) (t : ℕ) (dt : DateTime) : Type 0 where
@@ -27,11 +27,9 @@ clock_parts zone t dt h =
 pub day_is : (zone : ZoneRule) (t : ℕ) (dt : DateTime) → Shows zone t dt → epoch_day dt.date +ℤ pos 1 ≡ pos (day zone t)
 day_is zone t dt h = omega (arith, signed_arith, clock_parts zone t dt h)
 
-pub minute_is : (zone : ZoneRule) (t : ℕ) (dt : DateTime) → Shows zone t dt → dt.time.hour * 60 + dt.time.minute ≡ minute zone t
-minute_is zone t dt h = omega (arith, signed_arith, clock_parts zone t dt h)
-
-pub weekday_is : (zone : ZoneRule) (t : ℕ) (dt : DateTime) → Shows zone t dt → weekday_of dt.date ≡ weekday zone t
-weekday_is zone t dt h = omega (arith, signed_arith, day_is zone t dt h, weekday_number-parts (epoch_day dt.date))
+-- the weekday of the date that the clock shows
+pub weekday_is : (zone : ZoneRule) (t : ℕ) (d : Date) → epoch_day d +ℤ pos 1 ≡ pos (day zone t) → weekday_of d ≡ weekday zone t
+weekday_is zone t d h = omega (arith, signed_arith, h, weekday_number-parts (epoch_day d))
 
 pub day_bound : (zone : ZoneRule) (t : ℕ) → IsWithin 50_400 (offset zone t) → t ≤ 4_102_488_000 → day zone t ≤ 50000
 day_bound zone t near h =

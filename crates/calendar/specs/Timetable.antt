@@ -1,22 +1,25 @@
 -- Tariff periods, switches, validity times, cycles and day ends in the zone and the week of a book.
 -- Source: RFC 8506 sections 5.1.1 (Tariff-Time-Change) and 8.33 (Validity-Time); cycles and days: profile.
-use Rattle.std.specs.Prelude.{◌≡◌, ◌≢◌, ℕ, zero, suc, pos, ◌+◌, ◌-◌, ◌*◌, ◌/◌, ◌%◌, ◌<◌, ◌≤◌, ◌==◌, ◌-ℤ◌, unsigned_abs, Bool, not, nat_lt, List, [], ◌∷◌, if◌then◌else◌, find, All, Option, Some, None, unwrap_or}
+use Rattle.std.specs.Prelude.{◌≡◌, ◌≢◌, ℕ, zero, suc, pos, ◌+◌, ◌-◌, ◌*◌, ◌/◌, ◌%◌, ◌<◌, ◌≤◌, ◌==◌, Bool, not, List, [], ◌∷◌, length, if◌then◌else◌, find, All, Option, Some, None, unwrap_or}
 use Rattle.std.specs.Option.{option_map}
 use Rattle.calendar.specs.declared.week.Entry.{Entry}
 use Rattle.calendar.specs.declared.week.Period.{Period}
 use Rattle.calendar.specs.declared.cycle.Cycle.{Cycle}
 use Rattle.calendar.specs.declared.cycle.Cycle.TheVariants as Each
-use Rattle.calendar.specs.Clock.{ZoneRule, offset, day, weekday, minute}
+use Rattle.calendar.specs.Clock.{ZoneRule, IsZone, day, weekday, minute}
 use Rattle.calendar.specs.Months.{month}
-use Rattle.calendar.specs.Week.{CoversWeek, period_in, week_covered}
+use Rattle.calendar.specs.Week.{CoversWeek, IsEntryFor, period_in, week_covered}
 
 -- the zone and the week of a book
 pub record Timetable : Type 0 where
   pub zone : ZoneRule
   pub entries : List Entry
 
--- each minute of the week stands in one entry, and no entry ends past its day
+-- each minute of the week stands in exactly one of at most 64 entries, no entry ends past its day, and the zone's
+-- clock is near UTC
 pub record IsTimetable (c : Timetable) : Type 0 where
+  pub zone : IsZone c.zone
+  pub few : length c.entries ≤ 64
   pub covered : CoversWeek c.entries
   pub ends : All (λ e. e.to ≤ 1440) c.entries
 
@@ -31,6 +34,10 @@ minute_start t = 60 * (t / 60)
 -- the tariff period at a moment: that of the civil weekday and minute of the beginning of its UTC minute
 abbrev pub period_at : Timetable → ℕ → Period
 period_at c t = period_in c.entries (weekday c.zone (minute_start t)) (minute c.zone (minute_start t))
+
+-- an entry of the week that holds the civil minute of the beginning of the moment's UTC minute
+abbrev pub IsEntryAt : Timetable → ℕ → Entry → Type 0
+IsEntryAt c t e = IsEntryFor c.entries (weekday c.zone (minute_start t)) (minute c.zone (minute_start t)) e
 
 -- a whole minute after t and before the end at which the period is another than that at t
 pub record IsChange (c : Timetable) (t end s : ℕ) : Type 0 where
@@ -72,10 +79,21 @@ cycle_of zone Each.None t = 0
 cycle_of zone Each.Day t = day zone t
 cycle_of zone Each.Month t = month zone t
 
--- 00:00 of the civil day after the day `days` days after that of t, in seconds since 1970
-abbrev pub midnight_after : ZoneRule → ℕ → ℕ → ℕ
-midnight_after zone t days = unsigned_abs (pos ((day zone t + days) * 86400) -ℤ offset zone t)
+-- n numbers, from one on
+unfoldable pub numbers_from : ℕ → ℕ → List ℕ
+numbers_from m zero = []
+numbers_from m (suc n) = m ∷ numbers_from (m + 1) n
 
--- the same as a moment of commands; None past the last one
-abbrev pub day_end : ZoneRule → ℕ → ℕ → Option ℕ
-day_end zone t days = if nat_lt (midnight_after zone t days) 4_102_444_800 then Some (midnight_after zone t days) else None
+-- the civil day at s is the day after the day `days` days after that of t
+abbrev pub is_day_after : ZoneRule → ℕ → ℕ → ℕ → Bool
+is_day_after zone t days s = day zone s == day zone t + days + 1
+
+-- where the day `days` days after that of t ends: the least moment of a command at which the clock shows the day after
+-- it; None where no moment of a command does
+unfoldable pub day_end : ZoneRule → ℕ → ℕ → Option ℕ
+day_end zone t days = find (is_day_after zone t days) (numbers_from 0 4_102_444_800)
+
+-- the same in other words: the least moment of all at which the clock shows that day
+pub record IsDayEnd (zone : ZoneRule) (t days s : ℕ) : Type 0 where
+  pub shows : day zone s ≡ day zone t + days + 1
+  pub least : (r : ℕ) → day zone r ≡ day zone t + days + 1 → s ≤ r

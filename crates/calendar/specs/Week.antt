@@ -1,6 +1,6 @@
 -- The week of a book: which period each minute belongs to.
 -- Source: profile.
-use Rattle.std.specs.Prelude.{◌≡◌, ℕ, zero, suc, ◌<◌, Bool, true, false, ◌&&◌, ◌==◌, nat_le, nat_lt, List, [], ◌∷◌, if◌then◌else◌, count_by, unwrap_or, slice_get}
+use Rattle.std.specs.Prelude.{◌≡◌, ℕ, zero, suc, ◌<◌, Bool, true, false, ◌&&◌, ◌==◌, IsTrue, Contains, nat_le, nat_lt, List, [], ◌∷◌, if◌then◌else◌, count_by, unwrap_or, slice_get}
 use Rattle.calendar.specs.declared.week.Entry.{Entry}
 use Rattle.calendar.specs.declared.week.Period.{Period}
 
@@ -11,6 +11,11 @@ covers weekday minute e = unwrap_or (slice_get e.days weekday) false && (nat_le 
 -- each minute of the week stands in exactly one entry
 abbrev pub CoversWeek : List Entry → Type 0
 CoversWeek entries = (weekday minute : ℕ) → weekday < 7 → minute < 1440 → count_by (covers weekday minute) entries ≡ 1
+
+-- an entry of the week that holds this minute of this weekday
+pub record IsEntryFor (entries : List Entry) (weekday minute : ℕ) (e : Entry) : Type 0 where
+  pub entry : Contains entries e
+  pub holds : IsTrue (covers weekday minute e)
 
 -- the period of the first entry that holds the minute; period 0 where none does
 abbrev pub period_in : List Entry → ℕ → ℕ → Period

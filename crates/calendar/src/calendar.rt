@@ -1,16 +1,17 @@
-ghost use Rattle.std.specs.Prelude.{◌≡◌, ◌≢◌, ◌↔◌, ◌≤◌, ◌<◌, ◌+◌, ◌*◌, ◌-◌, ℕ, IsSome, IfSome, IfNone, All, pos, ◌+ℤ◌, ◌*ℤ◌};
+ghost use Rattle.std.specs.Prelude.{◌≡◌, ◌≢◌, ◌↔◌, ◌≤◌, ◌<◌, ◌^◌, ◌+◌, ◌*◌, ◌-◌, ℕ, length, Some, IsSome, IfSome, IfNone, All, pos, ◌+ℤ◌, ◌*ℤ◌};
 ghost use Rattle.jiff.specs.Types.{Date};
 ghost use Rattle.jiff.specs.Words.{epoch_day};
 ghost use Rattle.calendar.specs.Clock.{day};
 ghost use Rattle.calendar.specs.Week.{CoversWeek};
-ghost use Rattle.calendar.specs.Timetable.{timetable_of, period_at, IsChange, switch_within, validity_from, cycle_of, day_end};
+ghost use Rattle.calendar.specs.Timetable.{timetable_of, IsTimetable, period_at, IsEntryAt, IsChange, switch_within, cut_after, validity_from, cycle_of, day_end, IsDayEnd};
 
 use crate::covered;
 use crate::cycle::Cycle;
 use crate::week::{Entry, Period};
+use crate::window::Window;
 use crate::zone::Zone;
 use std::marker::Model;
-use units::Moment;
+use units::{Moment, Steps};
 
 /// The week of a tariff book in its zone: the period of each of its 10,080 minutes.
 #[derive(Drop)]
@@ -30,13 +31,16 @@ impl Model for Calendar {
 }
 
 impl Calendar {
-    /// The calendar of a zone and the entries of a week, none of which ends after 24:00; None where some minute
-    /// of the week stands in no entry or in several.
+    /// The calendar of a zone and the entries of a week, at most 64, none of which ends after 24:00; None where some
+    /// minute of the week stands in no entry or in several.
     pub fn new(zone: Zone, entries: Vec<Entry>) -> Option<Calendar>
+        requires few { length entries.items ≤ 64 }
         requires ends { All (λ e. e.to ≤ 1440) entries.items }
         ensures covered { IsSome result ↔ CoversWeek entries.items }
         ensures value { result ≡ timetable_of zone entries.items }
+        ensures timetable { IfSome result IsTimetable }
     {
+        zone.keeps_near();
         if covered::week_covered(&entries) {
             Some(Calendar { zone, entries })
         } else {
@@ -47,21 +51,12 @@ impl Calendar {
     /// The tariff period at a moment: that of the civil weekday and minute of the beginning of its UTC minute
     /// (Tariff-Time-Change and rating by time, TS 32.296; the rule of the minute is profile).
     pub fn period_at(&self, moment: Moment) -> Period
-        ensures { result ≡ period_at self.now moment }
+        ensures value { result ≡ period_at self.now moment }
+        ensures entry { (e : Entry) → IsEntryAt self.now moment e → result ≡ e.period }
+        ensures calendar { IsTimetable self.now }
     {
-        self.period(moment.seconds())
-    }
-
-    fn period(&self, seconds: u64) -> Period
-        requires { seconds ≤ 4_102_488_000 }
-        ensures { result ≡ period_at self.now seconds }
-    {
-        let minute = 60 * (seconds / 60);
-        covered::period_in(
-            &self.entries,
-            self.zone.weekday_at(minute),
-            self.zone.minute_at(minute),
-        )
+        let minute = 60 * (moment.seconds() / 60);
+        covered::entry_at(&self.entries, self.zone.clock_at(minute)).period
     }
 
     /// The tariff switch (Tariff-Time-Change, RFC 8506 section 8.20): the least whole minute after the moment, and
@@ -75,35 +70,99 @@ impl Calendar {
         ensures least { IfSome result (λ s. (r : ℕ) → IsChange self.now moment (moment + seconds) r → s ≤ r) }
         ensures none { IfNone result ((r : ℕ) → IsChange self.now moment (moment + seconds) r → ⊥) }
     {
-        let here = self.period_at(moment);
-        let start = moment.seconds();
+        self.next_switch_steps(moment, seconds, &mut Steps::new())
+    }
+
+    /// `next_switch`, going from one entry's end to the next: a step an entry, at most 129.
+    pub fn next_switch_steps(
+        &self,
+        moment: Moment,
+        seconds: u32,
+        steps: &mut Steps,
+    ) -> Option<Moment>
+        requires seconds { seconds ≤ 43_200 }
+        requires in_range { moment + seconds ≤ 4_102_488_000 }
+        requires steps { steps.old ≤ 1_000_000_000 }
+        ensures value { result ≡ switch_within self.now moment seconds }
+        ensures found { IfSome result (IsChange self.now moment (moment + seconds)) }
+        ensures least { IfSome result (λ s. (r : ℕ) → IsChange self.now moment (moment + seconds) r → s ≤ r) }
+        ensures none { IfNone result ((r : ℕ) → IsChange self.now moment (moment + seconds) r → ⊥) }
+        ensures steps { steps.new ≤ steps.old + 129 }
+    {
+        match self.change_after(moment.seconds(), seconds, steps) {
+            Some(change) => Moment::new(change),
+            None => None,
+        }
+    }
+
+    /// The first whole minute after a moment, and less than so many seconds later, of another period.
+    fn change_after(&self, start: u64, seconds: u32, steps: &mut Steps) -> Option<u64>
+        requires start { start < 2 ^ 33 }
+        requires steps { steps.old ≤ 1_000_000_000 }
+        ensures value { result ≡ switch_within self.now start seconds }
+        ensures found { IfSome result (IsChange self.now start (start + seconds)) }
+        ensures least { IfSome result (λ s. (r : ℕ) → IsChange self.now start (start + seconds) r → s ≤ r) }
+        ensures none { IfNone result ((r : ℕ) → IsChange self.now start (start + seconds) r → ⊥) }
+        ensures steps { seconds ≤ 43_200 → steps.new ≤ steps.old + 129 }
+    {
         let end = start + u64::from(seconds);
-        let mut at = 60 * (start / 60) + 60;
+        let mut at = 60 * (start / 60);
+        let mut shown = self.zone.clock_at(at);
+        let here = covered::entry_at(&self.entries, shown).period;
         while at < end {
-            if self.period(at) != here {
-                return Moment::new(at);
+            steps.tick();
+            let entry = covered::entry_at(&self.entries, shown);
+            if entry.period != here {
+                return Some(at);
             }
-            at += 60;
+            let left = 60 * u64::from(entry.to) - shown % 86_400;
+            at += left;
+            shown += left;
         }
         None
     }
 
-    /// The granted Validity-Time (RFC 8506 section 8.33), in seconds: the book's validity, cut at the next later
-    /// change of period after the switch that lies within it. It is asked as `next_switch` is.
-    pub fn validity_from(&self, moment: Moment, validity: u32) -> u32
-        requires validity { validity ≤ 43_200 }
-        requires in_range { moment + validity ≤ 4_102_488_000 }
-        ensures { result ≡ validity_from self.now moment validity }
+    /// The tariff switch within a validity from a moment on, and the validity that is granted with it, as
+    /// `next_switch` and `validity_from` tell them, by one walk over the week.
+    pub fn window_from(&self, moment: Moment, validity: u32) -> Window
+        ensures switch { result.switch ≡ switch_within self.now moment validity }
+        ensures found { IfSome result.switch (IsChange self.now moment (moment + validity)) }
+        ensures validity { result.validity ≡ validity_from self.now moment validity }
     {
-        let Some(switch) = self.next_switch(moment, validity) else {
-            return validity;
-        };
         let start = moment.seconds();
+        match self.change_after(start, validity, &mut Steps::new()) {
+            Some(switch) => Window {
+                switch: Some(switch),
+                validity: self.validity_after(start, validity, switch),
+            },
+            None => Window {
+                switch: None,
+                validity,
+            },
+        }
+    }
+
+    /// A validity from a moment on, cut at the first change after its switch.
+    fn validity_after(&self, start: u64, validity: u32, switch: u64) -> u32
+        requires start { start ≤ 4_102_488_000 }
+        requires later { start < switch }
+        requires within { switch < start + validity }
+        ensures { result ≡ cut_after self.now start validity (Some switch) }
+    {
         let end = start + u64::from(validity);
-        match self.next_switch(switch, (end - switch.seconds()) as u32) {
-            Some(next) => (next.seconds() - start) as u32,
+        let left = (end - switch) as u32;
+        match self.change_after(switch, left, &mut Steps::new()) {
+            Some(next) => (next - start) as u32,
             None => validity,
         }
+    }
+
+    /// The granted Validity-Time (RFC 8506 section 8.33), in seconds: the book's validity, cut at the next later
+    /// change of period after the switch that lies within it.
+    pub fn validity_from(&self, moment: Moment, validity: u32) -> u32
+        ensures { result ≡ validity_from self.now moment validity }
+    {
+        self.window_from(moment, validity).validity
     }
 
     /// The number of a counter's cycle at a moment, in the book's zone: 0 for none; days since 1969-12-31; months
@@ -120,10 +179,12 @@ impl Calendar {
         }
     }
 
-    /// 00:00 of the civil day after the day so many days after that of the moment (a voucher has 1 to 3,650); None
-    /// past the last moment of commands.
+    /// Where the day so many days after that of the moment ends: the least moment of the civil day after it (a
+    /// voucher has 1 to 3,650 days); None past the last moment of commands.
     pub fn day_end(&self, moment: Moment, days: u32) -> Option<Moment>
-        ensures { result ≡ day_end self.now.zone moment days }
+        ensures value { result ≡ day_end self.now.zone moment days }
+        ensures end { IfSome result (IsDayEnd self.now.zone moment days) }
+        ensures none { IfNone result ((s : ℕ) → IsDayEnd self.now.zone moment days s → 4_102_444_800 ≤ s) }
     {
         self.zone.day_end(moment.seconds(), days)
     }

@@ -1,21 +1,24 @@
 //! What the entries of a week hold.
 
 ghost use Rattle.std.specs.Prelude.{◌≡◌, ◌<◌, ◌↔◌, IsTrue, count_by};
-ghost use Rattle.calendar.specs.Week.{covers, CoversWeek, period_in, minutes_covered, week_covered};
+ghost use Rattle.calendar.specs.Clock.{shown_weekday, shown_minute};
+ghost use Rattle.calendar.specs.Week.{covers, CoversWeek, IsEntryFor, minutes_covered, week_covered};
 
-use crate::week::{Entry, Period};
+use crate::week::Entry;
 
-/// The period of a minute of a weekday.
-pub(crate) fn period_in(entries: &[Entry], weekday: usize, minute: u16) -> Period
-    requires { weekday < 7 }
-    ensures { result ≡ period_in entries.now weekday minute }
+/// The entry that holds the minute that a clock shows, in seconds since 1969-12-31 00:00, a Wednesday.
+pub(crate) fn entry_at(entries: &[Entry], shown: u64) -> Entry
+    requires week { CoversWeek entries.now }
+    ensures { IsEntryFor entries.now (shown_weekday shown) (shown_minute shown) result }
 {
+    let weekday = ((shown / 86_400 + 2) % 7) as usize;
+    let minute = (shown % 86_400 / 60) as u16;
     for entry in entries {
         if entry.covers(weekday, minute) {
-            return entry.period;
+            return *entry;
         }
     }
-    Period(0)
+    unreachable!()
 }
 
 fn count(entries: &[Entry], weekday: usize, minute: u16) -> usize

@@ -1,9 +1,9 @@
-ghost use Rattle.std.specs.Prelude.{◌≡◌, ◌↔◌, ◌≤◌, ◌<◌, ◌+◌, ◌*◌, IsSome, IfSome, IfNone, ℤ, pos, ◌+ℤ◌, ◌*ℤ◌};
+ghost use Rattle.std.specs.Prelude.{◌≡◌, ◌↔◌, ◌≤◌, ◌<◌, ◌^◌, ◌+◌, ◌*◌, IsSome, IfSome, IfNone, ℕ, ℤ, pos, ◌+ℤ◌, ◌*ℤ◌};
 ghost use Rattle.jiff.specs.Words.{civil_nanos, nanos_of_seconds, epoch_day, IsWithin};
 ghost use Rattle.jiff.specs.Types.{Date};
-ghost use Rattle.calendar.specs.Clock.{minutes_ahead, offset, day, weekday, minute};
+ghost use Rattle.calendar.specs.Clock.{IsZone, minutes_ahead, offset, clock, day};
 ghost use Rattle.calendar.specs.Months.{month};
-ghost use Rattle.calendar.specs.Timetable.{day_end};
+ghost use Rattle.calendar.specs.Timetable.{day_end, IsDayEnd};
 
 use jiff::Timestamp;
 use jiff::civil::{Date, DateTime, Time};
@@ -60,21 +60,26 @@ impl Zone {
         }
     }
 
-    /// The weekday at a moment, from 0 for Monday.
-    pub(crate) fn weekday_at(&self, seconds: u64) -> usize
-        requires { seconds ≤ 4_102_488_000 }
-        ensures { result ≡ weekday self.now seconds }
+    /// What its clock shows at a moment, in seconds since 1969-12-31 00:00 on that clock.
+    pub(crate) fn clock_at(&self, seconds: u64) -> u64
+        requires { seconds < 2 ^ 33 }
+        ensures value { result ≡ clock self.now seconds }
+        ensures most { result < 2 ^ 34 }
     {
-        self.shown(seconds).date().weekday().to_monday_zero_offset() as usize
+        match Timestamp::from_second(seconds as i64) {
+            Ok(instant) => {
+                let ahead = self.time_zone.to_offset(instant).seconds();
+                (seconds as i64 + 86_400 + i64::from(ahead)) as u64
+            }
+            Err(_) => unreachable!(),
+        }
     }
 
-    /// The minute of the civil day at a moment.
-    pub(crate) fn minute_at(&self, seconds: u64) -> u16
-        requires { seconds ≤ 4_102_488_000 }
-        ensures { result ≡ minute self.now seconds }
+    /// At every moment its clock is at most 14 hours from UTC, by whole minutes.
+    pub(crate) fn keeps_near(&self)
+        ensures { IsZone self.now }
     {
-        let time = self.shown(seconds).time();
-        time.hour() as u16 * 60 + time.minute() as u16
+        let _fixed = self.time_zone;
     }
 
     /// The civil day at a moment, in days since 1969-12-31.
@@ -115,7 +120,9 @@ impl Zone {
     /// That 00:00 as a moment of commands.
     pub(crate) fn day_end(&self, seconds: u64, days: u32) -> Option<Moment>
         requires { seconds ≤ 4_102_488_000 }
-        ensures { result ≡ day_end self.now seconds days }
+        ensures value { result ≡ day_end self.now seconds days }
+        ensures end { IfSome result (IsDayEnd self.now seconds days) }
+        ensures none { IfNone result ((s : ℕ) → IsDayEnd self.now seconds days s → 4_102_444_800 ≤ s) }
     {
         let time_zone = self.time_zone;
         let Some(midnight) = self.midnight_after(seconds, days) else {

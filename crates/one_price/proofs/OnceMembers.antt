@@ -6,7 +6,8 @@ use Rattle.toml.specs.Data.{string, integer, array, table, Items, no_items, item
 use Rattle.units.specs.declared.blocks.UnitKind.TheVariants.{Time}
 use Rattle.calendar.specs.Week.{covers, week_covered, minutes_covered, days_covered}
 use Rattle.calendar.proofs.WeekLemmas.{all_minutes}
-use Rattle.book_fields.specs.Fields.{text_of, number_in, array_of, filled_array_of, each}
+use Rattle.book_fields.specs.Fields.{text_of, number_in, array_of, filled_array_of}
+use Rattle.first_fault.specs.Steps.{each}
 use Rattle.tariffs.specs.Names.{name_of, names_of, period_of}
 use Rattle.tariffs.specs.WeekFields.{minutes_of, zone_minutes, zone_of, day_of, days_of, minute_of, entry_of, entries_of}
 use Rattle.tariffs.specs.PriceFields.{bound_of, tier_of, tiers_of, price_of, prices_of}

@@ -35,6 +35,7 @@ once_tariff price block = record {
 -- the book: in euros (ISO 4217 number 978), UTC, with grants that are valid for an hour
 abbrev pub once_book : ℕ → ℕ → Book
 once_book price block = record {
+  zone_text = codes "+00:00";
   calendar = record { zone = minutes_ahead (pos 0); entries = whole_week ∷ [] };
   currency = 978;
   validity = 3_600;

@@ -47,6 +47,7 @@ octets = record { group = 20; unit = TotalOctets; block = 1048576; slice = 10485
 -- period 0 is "off", period 1 is "peak"
 abbrev book : Book
 book = record {
+  zone_text = 43 ∷ 48 ∷ 48 ∷ 58 ∷ 48 ∷ 48 ∷ [];
   calendar = record { zone = record { ahead = pos 0 }; entries = entry 1 week 480 1200 ∷ entry 0 week 0 480 ∷ entry 0 week 1200 1440 ∷ entry 0 weekend 0 1440 ∷ [] };
   currency = 978;
   validity = 3600;

@@ -2,3 +2,4 @@ pub mod TierFacts
 pub mod PriceFacts
 pub mod NameFacts
 pub mod WeekFacts
+pub mod GroupFacts

@@ -2,19 +2,20 @@
 use Rattle.std.specs.Prelude.{◌≡◌, ℕ, ◌<◌, ◌≤◌, List, length, Some, Result, Ok, All, IsUtf8, codes}
 use Rattle.toml.specs.Data.{Members}
 use Rattle.toml.specs.Parse.{parse_document}
-use Rattle.calendar.specs.Timetable.{Timetable, timetable_of}
+use Rattle.calendar.specs.Timetable.{Timetable, IsTimetable, timetable_of}
 use Rattle.book_fields.specs.declared.fault.BookFault.{BookFault}
 use Rattle.book_fields.specs.declared.fault.BookFault.TheVariants.{WeekNotCovered}
 use Rattle.book_fields.specs.Faults.{◌>>=◌, or_fault}
-use Rattle.book_fields.specs.Fields.{number_in}
-use Rattle.tariffs.specs.Names.{names_of}
+use Rattle.book_fields.specs.Fields.{text_of, number_in}
+use Rattle.tariffs.specs.Names.{ArePeriods, names_of}
 use Rattle.tariffs.specs.WeekFields.{zone_of, entries_of}
-use Rattle.tariffs.specs.Tariffs.{GroupTariff, IsTariff}
+use Rattle.tariffs.specs.Tariffs.{GroupTariff, IsTariff, AreOfOtherGroups}
 use Rattle.tariffs.specs.GroupFields.{groups_of}
 
--- a book: its week in its zone, the ISO 4217 number of its currency, the validity of a grant in seconds, the
--- names of its periods and the tariffs of its groups
+-- a book: the text of its zone as it is written, its week in that zone, the ISO 4217 number of its currency, the
+-- validity of a grant in seconds, the names of its periods and the tariffs of its groups
 pub record Book : Type 0 where
+  pub zone_text : List ℕ
   pub calendar : Timetable
   pub currency : ℕ
   pub validity : ℕ
@@ -23,15 +24,16 @@ pub record Book : Type 0 where
 
 -- the ranges of a book (profile)
 pub record IsBook (b : Book) : Type 0 where
+  pub week : IsTimetable b.calendar
   pub some_currency : 1 ≤ b.currency
   pub currency : b.currency ≤ 999
   pub some_validity : 60 ≤ b.validity
   pub validity : b.validity ≤ 43_200
-  pub some_periods : 1 ≤ length b.periods
-  pub few_periods : length b.periods ≤ 8
+  pub periods : ArePeriods b.periods
   pub entries : All (λ e. e.period.0 < length b.periods) b.calendar.entries
   pub some_tariffs : 1 ≤ length b.tariffs
   pub few_tariffs : length b.tariffs ≤ 64
+  pub distinct_groups : AreOfOtherGroups b.tariffs
   pub tariffs : All IsTariff b.tariffs
   pub prices : All (λ t. length t.prices ≡ length b.periods) b.tariffs
 
@@ -39,13 +41,14 @@ pub record IsBook (b : Book) : Type 0 where
 unfoldable pub book_of : Members → Result Book BookFault
 book_of t = do
   zone ← zone_of t
+  zone_text ← text_of (codes "zone") t
   currency ← number_in (codes "currency") 1 999 t
   validity ← number_in (codes "validity") 60 43_200 t
   periods ← names_of t
   entries ← entries_of periods t
   calendar ← or_fault WeekNotCovered (timetable_of zone entries)
   tariffs ← groups_of periods t
-  Ok (record { calendar = calendar; currency = currency; validity = validity; periods = periods; tariffs = tariffs })
+  Ok (record { zone_text = zone_text; calendar = calendar; currency = currency; validity = validity; periods = periods; tariffs = tariffs })
 
 -- the bytes are a TOML document with these members
 pub record IsDocument (bytes : List ℕ) (t : Members) : Type 0 where

@@ -1,5 +1,5 @@
 -- The tariff of a rating group as contracts see it.
-use Rattle.std.specs.Prelude.{◌≡◌, ℕ, ◌≤◌, ◌/◌, List, [], slice_index_or}
+use Rattle.std.specs.Prelude.{◌≡◌, ◌≢◌, ℕ, ◌≤◌, ◌/◌, List, [], AllPairs, slice_index_or}
 use Rattle.std.specs.List.{AllByRecursion}
 use Rattle.calendar.specs.declared.cycle.Cycle.{Cycle}
 use Rattle.units.specs.declared.blocks.UnitKind.{UnitKind}
@@ -36,3 +36,7 @@ pub record IsTariff (t : GroupTariff) : Type 0 where
 -- the tiers of a period; none for a period that the tariff doesn't have
 abbrev pub tiers_at : GroupTariff → ℕ → List Tier
 tiers_at t period = slice_index_or t.prices period []
+
+-- no group has a tariff twice
+abbrev pub AreOfOtherGroups : List GroupTariff → Type 0
+AreOfOtherGroups tariffs = AllPairs (λ t later. t.group ≢ later.group) tariffs

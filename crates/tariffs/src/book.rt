@@ -1,7 +1,11 @@
-ghost use Rattle.std.specs.Prelude.{◌≡◌, ◌≢◌, ◌==◌, ℕ, ◌+◌, ◌<◌, ◌≤◌, length, find, slice_get, option_copied, IfOk, IfErr, IfSome, IfNone, Ok, Err};
+ghost use Rattle.std.specs.Prelude.{◌≡◌, ◌≢◌, ◌==◌, ℕ, ◌+◌, ◌*◌, ◌<◌, ◌≤◌, pos, ◌+ℤ◌, ◌*ℤ◌, length, find, slice_get, option_copied, IfOk, IfErr, IfSome, IfNone, Ok, Err};
 ghost use Rattle.toml.specs.Data.{Members};
 ghost use Rattle.toml.specs.View.{table_view};
-ghost use Rattle.calendar.specs.Timetable.{period_at, IsChange, switch_within, validity_from, cycle_of, day_end};
+ghost use Rattle.calendar.specs.Timetable.{period_at, IsEntryAt, IsChange, switch_within, validity_from, cycle_of, day_end, IsDayEnd};
+ghost use Rattle.calendar.specs.Clock.{day};
+ghost use Rattle.calendar.specs.declared.week.Entry.{Entry};
+ghost use Rattle.jiff.specs.Types.{Date};
+ghost use Rattle.jiff.specs.Words.{epoch_day};
 ghost use Rattle.book_fields.specs.declared.fault.BookFault.TheVariants.{NotToml};
 ghost use Rattle.book_fields.specs.Faults.{Gives};
 ghost use Rattle.tariffs.specs.Names.{period_named};
@@ -12,15 +16,16 @@ use crate::names::PeriodNames;
 use crate::tariff::Tariff;
 use crate::{group_fields, week_fields};
 use book_fields::BookFault;
-use calendar::{Calendar, Cycle, Period};
+use calendar::{Calendar, Cycle, Period, Window};
 use std::alloc::Global;
 use std::marker::Model;
 use toml::Table;
-use units::Moment;
+use units::{Moment, Steps};
 
 /// The tariff book of an operator: what rating groups cost in which period of the week.
 #[derive(Drop)]
 pub struct TariffBook {
+    zone_text: String,
     calendar: Calendar,
     currency: u16,
     validity: u32,
@@ -29,11 +34,13 @@ pub struct TariffBook {
 }
 
 impl Model for TariffBook {
+    ghost use Rattle.std.specs.Prelude.{string_bytes};
     ghost use Rattle.tariffs.specs.Books.{Book, IsBook};
 
     ghost Value = { Book };
 
     ghost view = { λ b. record {
+      zone_text = string_bytes b.zone_text;
       calendar = b.calendar;
       currency = b.currency;
       validity = b.validity;
@@ -42,6 +49,7 @@ impl Model for TariffBook {
     } };
 
     ghost invariant = { λ b. IsBook (record {
+      zone_text = string_bytes b.zone_text;
       calendar = b.calendar;
       currency = b.currency;
       validity = b.validity;
@@ -55,6 +63,7 @@ fn book(alloc: Global, table: &Table) -> Result<TariffBook, BookFault>
     ensures { Gives (λ b. b) result (book_of (table_view table.now)) }
 {
     let zone = week_fields::zone(table)?;
+    let zone_text = week_fields::zone_text(alloc, table)?;
     let currency = book_fields::number(table, "currency", 1, 999)? as u16;
     let validity = book_fields::number(table, "validity", 60, 43_200)? as u32;
     let periods = PeriodNames::read(alloc, table)?;
@@ -64,6 +73,7 @@ fn book(alloc: Global, table: &Table) -> Result<TariffBook, BookFault>
     };
     let tariffs = group_fields::groups(alloc, &periods, table)?;
     Ok(TariffBook {
+        zone_text,
         calendar,
         currency,
         validity,
@@ -92,6 +102,13 @@ impl TariffBook {
                 }
             }
         }
+    }
+
+    /// The text of its zone as it is written in the document: two books are of one zone where these are the same.
+    pub fn zone_text(&self) -> &str
+        ensures { result.now ≡ self.now.zone_text }
+    {
+        self.zone_text.as_str()
     }
 
     /// The ISO 4217 number of the currency (Currency-Code, RFC 8506 section 8.11), 1 to 999.
@@ -137,6 +154,8 @@ impl TariffBook {
     pub fn period_named(&self, name: &str) -> Option<Period>
         ensures value { result ≡ period_named self.now.periods name.now }
         ensures in_range { IfSome result (λ p. p.0 < length self.now.periods) }
+        // Its name is this text again.
+        ensures back { IfSome result (λ p. slice_get self.now.periods p.0 ≡ Some name.now) }
     {
         self.periods.named(name)
     }
@@ -145,6 +164,7 @@ impl TariffBook {
     /// of the moment's UTC minute (rating by time, TS 32.296; the rule of the minute is profile).
     pub fn period_at(&self, moment: Moment) -> Period
         ensures value { result ≡ period_at self.now.calendar moment }
+        ensures entry { (e : Entry) → IsEntryAt self.now.calendar moment e → result ≡ e.period }
         ensures in_range { result.0 < length self.now.periods }
     {
         self.calendar.period_at(moment)
@@ -164,10 +184,38 @@ impl TariffBook {
         self.calendar.next_switch(moment, seconds)
     }
 
+    /// `next_switch`, going from one entry's end of the week to the next: a step an entry, at most 129.
+    pub fn next_switch_steps(
+        &self,
+        moment: Moment,
+        seconds: u32,
+        steps: &mut Steps,
+    ) -> Option<Moment>
+        requires seconds { seconds ≤ 43_200 }
+        requires in_range { moment + seconds ≤ 4_102_488_000 }
+        requires steps { steps.old ≤ 1_000_000_000 }
+        ensures value { result ≡ switch_within self.now.calendar moment seconds }
+        ensures found { IfSome result (IsChange self.now.calendar moment (moment + seconds)) }
+        ensures least { IfSome result (λ s. (r : ℕ) → IsChange self.now.calendar moment (moment + seconds) r → s ≤ r) }
+        ensures none { IfNone result ((r : ℕ) → IsChange self.now.calendar moment (moment + seconds) r → ⊥) }
+        ensures steps { steps.new ≤ steps.old + 129 }
+    {
+        self.calendar.next_switch_steps(moment, seconds, steps)
+    }
+
+    /// The tariff switch within so many seconds from a moment on (Tariff-Time-Change, RFC 8506 section 8.20), and
+    /// these seconds cut at the next later change of period after it (Validity-Time, section 8.33).
+    pub fn window_from(&self, moment: Moment, seconds: u32) -> Window
+        ensures switch { result.switch ≡ switch_within self.now.calendar moment seconds }
+        ensures found { IfSome result.switch (IsChange self.now.calendar moment (moment + seconds)) }
+        ensures validity { result.validity ≡ validity_from self.now.calendar moment seconds }
+    {
+        self.calendar.window_from(moment, seconds)
+    }
+
     /// The Validity-Time of a grant (RFC 8506 section 8.33), in seconds: the book's validity, cut at the next later
-    /// change of period after the switch that lies within it. It is asked for a moment of a command.
+    /// change of period after the switch that lies within it.
     pub fn validity_from(&self, moment: Moment) -> u32
-        requires { moment ≤ 4_102_444_800 }
         ensures value { result ≡ validity_from self.now.calendar moment self.now.validity }
     {
         self.calendar.validity_from(moment, self.validity)
@@ -176,15 +224,19 @@ impl TariffBook {
     /// The number of a counter's cycle at a moment, in the book's zone: 0 for none; days since 1969-12-31; months
     /// since January 1969 (profile).
     pub fn cycle_of(&self, cycle: Cycle, moment: Moment) -> u32
-        ensures { result ≡ cycle_of self.now.calendar.zone cycle moment }
+        ensures value { result ≡ cycle_of self.now.calendar.zone cycle moment }
+        ensures month { (d : Date) → epoch_day d +ℤ pos 1 ≡ pos (day self.now.calendar.zone moment) →
+            cycle ≡ Cycle.Month → pos (result + 1 + 12 * 1969) ≡ pos 12 *ℤ d.year +ℤ pos d.month }
     {
         self.calendar.cycle_of(cycle, moment)
     }
 
-    /// 00:00, in the book's zone, of the civil day after the day so many days after that of the moment; None past
-    /// the last moment of commands.
+    /// Where the civil day so many days after that of the moment ends, in the book's zone: the least moment of the
+    /// day after it; None past the last moment of commands.
     pub fn day_end(&self, moment: Moment, days: u32) -> Option<Moment>
-        ensures { result ≡ day_end self.now.calendar.zone moment days }
+        ensures value { result ≡ day_end self.now.calendar.zone moment days }
+        ensures end { IfSome result (IsDayEnd self.now.calendar.zone moment days) }
+        ensures none { IfNone result ((s : ℕ) → IsDayEnd self.now.calendar.zone moment days s → 4_102_444_800 ≤ s) }
     {
         self.calendar.day_end(moment, days)
     }

@@ -1,9 +1,9 @@
-ghost use Rattle.std.specs.Prelude.{◌≡◌, ◌<◌, ◌≤◌, ◌/◌, ◌==◌, [], length, All, IfOk};
+ghost use Rattle.std.specs.Prelude.{◌≡◌, ◌<◌, ◌≤◌, ◌/◌, ◌==◌, false, [], length, All, IfOk};
 ghost use Rattle.std.specs.List.{list_any};
 ghost use Rattle.toml.specs.View.{view, table_view, items_view};
 ghost use Rattle.book_fields.specs.Faults.{Gives};
 ghost use Rattle.book_fields.specs.Fields.{collected};
-ghost use Rattle.tariffs.specs.Tariffs.{IsTariff};
+ghost use Rattle.tariffs.specs.Tariffs.{IsTariff, AreOfOtherGroups};
 ghost use Rattle.tariffs.specs.GroupFields.{id_of, unit_named, unit_of, most_units, max_grant_of, cycle_named, cycle_of, redirect_of, final_action_of, group_of, groups_of};
 
 use crate::final_action::FinalAction;
@@ -30,7 +30,8 @@ fn has_group(before: &[Tariff], id: u32) -> bool
 
 #[tactic(auto, unfolding(crate::specs::GroupFields::id_of))]
 fn id(before: &[Tariff], table: &Table) -> Result<u32, BookFault>
-    ensures { Gives (λ n. n) result (id_of before.now (table_view table.now)) }
+    ensures value { Gives (λ n. n) result (id_of before.now (table_view table.now)) }
+    ensures new { IfOk result (λ n. list_any (λ other. other.group == n) before.now ≡ false) }
 {
     let id = book_fields::number(table, "id", 0, 4_294_967_295)? as u32;
     if has_group(before, id) {
@@ -147,6 +148,7 @@ fn group(
     value: &Value,
 ) -> Result<Tariff, BookFault>
     ensures value { Gives (λ t. t) result (group_of names.now before.now (view value.now)) }
+    ensures new { IfOk result (λ t. list_any (λ other. other.group == t.group) before.now ≡ false) }
     ensures tariff { IfOk result (λ t. IsTariff t) }
     ensures periods { IfOk result (λ t. length t.prices ≡ length names.now) }
 {
@@ -178,6 +180,7 @@ fn group_list(
 ) -> Result<Vec<Tariff>, BookFault>
     ensures value { Gives (λ v. v.items) result (collected (group_of names.now) [] (items_view values.now)) }
     ensures count { IfOk result (λ v. length v.items ≡ length values.now) }
+    ensures distinct { IfOk result (λ v. AreOfOtherGroups v.items) }
     ensures tariffs { IfOk result (λ v. All IsTariff v.items) }
     ensures periods { IfOk result (λ v. All (λ t. length t.prices ≡ length names.now) v.items) }
 {
@@ -199,6 +202,7 @@ pub(crate) fn groups(
     ensures value { Gives (λ v. v.items) result (groups_of names.now (table_view table.now)) }
     ensures some { IfOk result (λ v. 1 ≤ length v.items) }
     ensures few { IfOk result (λ v. length v.items ≤ 64) }
+    ensures distinct { IfOk result (λ v. AreOfOtherGroups v.items) }
     ensures tariffs { IfOk result (λ v. All IsTariff v.items) }
     ensures periods { IfOk result (λ v. All (λ t. length t.prices ≡ length names.now) v.items) }
 {

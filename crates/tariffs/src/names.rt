@@ -4,7 +4,7 @@ ghost use Rattle.std.specs.Char.{is_ascii_lowercase};
 ghost use Rattle.toml.specs.View.{view, table_view, items_view};
 ghost use Rattle.book_fields.specs.Faults.{Gives};
 ghost use Rattle.book_fields.specs.Fields.{collected};
-ghost use Rattle.tariffs.specs.Names.{texts, same_text, is_name, name_of, names_of, period_named, period_of, AreDistinct};
+ghost use Rattle.tariffs.specs.Names.{texts, same_text, is_name, name_of, names_of, period_named, period_of, ArePeriods, AreDistinct};
 
 use book_fields::BookFault;
 use calendar::Period;
@@ -34,8 +34,7 @@ impl PeriodNames {
     #[tactic(auto, unfolding(crate::specs::Names::names_of))]
     pub(crate) fn read(alloc: Global, table: &Table) -> Result<PeriodNames, BookFault>
         ensures value { Gives (λ p. p) result (names_of (table_view table.now)) }
-        ensures some { IfOk result (λ p. 1 ≤ length p) }
-        ensures few { IfOk result (λ p. length p ≤ 8) }
+        ensures periods { IfOk result (λ p. ArePeriods p) }
     {
         let values = book_fields::filled_array(table, "periods", 8)?;
         let names = names(alloc, values)?;
@@ -61,6 +60,7 @@ impl PeriodNames {
     pub(crate) fn named(&self, text: &str) -> Option<Period>
         ensures value { result ≡ period_named self.now text.now }
         ensures in_range { IfSome result (λ p. p.0 < length self.now) }
+        ensures back { IfSome result (λ p. slice_get self.now p.0 ≡ Some text.now) }
     {
         period_among(&self.names, text)
     }

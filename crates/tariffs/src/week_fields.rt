@@ -1,8 +1,8 @@
-ghost use Rattle.std.specs.Prelude.{◌≡◌, ◌<◌, ◌≤◌, [], IfOk, IfSome, All, false, replicate, length};
+ghost use Rattle.std.specs.Prelude.{◌≡◌, ◌<◌, ◌≤◌, [], IfOk, IfSome, All, false, replicate, length, string_bytes, codes};
 ghost use Rattle.jiff.specs.Words.{IsWithin};
 ghost use Rattle.toml.specs.View.{view, table_view, items_view};
 ghost use Rattle.book_fields.specs.Faults.{Gives};
-ghost use Rattle.book_fields.specs.Fields.{each, collected};
+ghost use Rattle.book_fields.specs.Fields.{text_of, each, collected};
 ghost use Rattle.tariffs.specs.WeekFields.{minutes_of, signed_minutes, zone_minutes, zone_of, day_of, with_day, days_of, minute_of, entry_of, entries_of};
 
 use crate::names::PeriodNames;
@@ -63,6 +63,14 @@ pub(crate) fn zone(table: &Table) -> Result<Zone, BookFault>
         },
         None => Err(BookFault::OutOfRange),
     }
+}
+
+/// Reads `zone` as it is written.
+pub(crate) fn zone_text(alloc: Global, table: &Table) -> Result<String, BookFault>
+    ensures { Gives (λ s. string_bytes s) result (text_of (codes "zone") (table_view table.now)) }
+{
+    let text = book_fields::text(table, "zone")?;
+    Ok(String::from_str(alloc, text)?)
 }
 
 #[tactic(auto, unfolding(crate::specs::WeekFields::day_of))]
@@ -151,6 +159,7 @@ fn week_entries(
     values: &[Value],
 ) -> Result<Vec<Entry>, BookFault>
     ensures value { Gives (λ v. v.items) result (collected (λ before. entry_of names.now) [] (items_view values.now)) }
+    ensures count { IfOk result (λ v. length v.items ≡ length values.now) }
     ensures ends { IfOk result (λ v. All (λ e. e.to ≤ 1440) v.items) }
     ensures in_range { IfOk result (λ v. All (λ e. e.period.0 < length names.now) v.items) }
 {
@@ -170,6 +179,7 @@ pub(crate) fn entries(
     table: &Table,
 ) -> Result<Vec<Entry>, BookFault>
     ensures value { Gives (λ v. v.items) result (entries_of names.now (table_view table.now)) }
+    ensures few { IfOk result (λ v. length v.items ≤ 64) }
     ensures ends { IfOk result (λ v. All (λ e. e.to ≤ 1440) v.items) }
     ensures in_range { IfOk result (λ v. All (λ e. e.period.0 < length names.now) v.items) }
 {

@@ -4,6 +4,7 @@ use Rattle.std.proofs.lemmas.Result.{err_from_is_err_and}
 use Rattle.book_fields.proofs.Entries.{collected_goes_on, collected_ends, collected_done}
 use Rattle.tariffs.specs.Tariffs.{IsTariff}
 use Rattle.tariffs.specs.GroupFields.{group_of}
+use Rattle.tariffs.proofs.GroupFacts.{other_groups_push}
 use Rattle.tariffs.proofs.group_fields.group_list.Goals as goal
 
 pub returns-in_err-tariff-clause-value : goal.returns-in_err-tariff-clause-value
@@ -17,6 +18,7 @@ loop-value-preserved c = record {
       rw c.in_ok-push.ensures.items
       (collected_goes_on (group_of c.args.names.now) c.loop-value.tariffs.items c.in_ok-tariff.tariff c.args.values.now c.loop-value.value-index c.value-item.result _ c.loop-value-test.true c.value-item.is (rw c.deref.ensures.value at c.in_ok-tariff.ensures.value) c.loop-value.invariant.reading);
   count = omega (arith, c.in_ok-push.ensures.len);
+  distinct = rw c.in_ok-push.ensures.items (other_groups_push c.loop-value.tariffs.items c.in_ok-tariff.tariff c.loop-value.invariant.distinct (rw c.deref.ensures.value at c.in_ok-tariff.ensures.new));
   tariffs = rw c.in_ok-push.ensures.items (All-push IsTariff c.loop-value.tariffs.items c.in_ok-tariff.tariff c.loop-value.invariant.tariffs c.in_ok-tariff.ensures.tariff);
   periods = rw c.in_ok-push.ensures.items (All-push (λ t. length t.prices ≡ length c.args.names.now) c.loop-value.tariffs.items c.in_ok-tariff.tariff c.loop-value.invariant.periods c.in_ok-tariff.ensures.periods);
 }

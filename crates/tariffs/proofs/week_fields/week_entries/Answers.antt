@@ -1,4 +1,4 @@
-use Rattle.std.proofs.Common.{◌≤◌, ◌<◌, length}
+use Rattle.std.proofs.Common.{◌≤◌, ◌<◌, length, arith}
 use Rattle.std.proofs.lemmas.List.Elements.{All-push}
 use Rattle.std.proofs.lemmas.Result.{err_from_is_err_and}
 use Rattle.book_fields.proofs.Entries.{collected_goes_on, collected_ends, collected_done}
@@ -15,6 +15,7 @@ loop-value-preserved c = record {
   reading =
       rw c.in_ok-push.ensures.items
       (collected_goes_on (λ before. entry_of c.args.names.now) c.loop-value.entries.items c.in_ok-entry.entry c.args.values.now c.loop-value.value-index c.value-item.result _ c.loop-value-test.true c.value-item.is c.in_ok-entry.ensures.value c.loop-value.invariant.reading);
+  count = omega (arith, c.in_ok-push.ensures.len);
   ends = rw c.in_ok-push.ensures.items (All-push (λ e. e.to ≤ 1440) c.loop-value.entries.items c.in_ok-entry.entry c.loop-value.invariant.ends c.in_ok-entry.ensures.ends);
   in_range = rw c.in_ok-push.ensures.items (All-push (λ e. e.period.0 < length c.args.names.now) c.loop-value.entries.items c.in_ok-entry.entry c.loop-value.invariant.in_range c.in_ok-entry.ensures.in_range);
 }

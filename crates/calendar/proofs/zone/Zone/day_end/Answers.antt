@@ -1,8 +1,10 @@
-use Rattle.std.proofs.Common.{arith, ◌∙◌}
+use Rattle.std.proofs.Common.{arith, refl, ◌∙◌}
+use Rattle.std.proofs.lemmas.Bool.{false≢true}
 use Rattle.jiff_core.proofs.SignedLemmas.{signed_casts}
-use Rattle.jiff.specs.Words.{plain_zone}
-use Rattle.calendar.specs.Timetable.{midnight_after}
-use Rattle.calendar.proofs.DayEnds.{picked_is, seconds_are, day_end_by}
+use Rattle.jiff.specs.Words.{plain_zone, picked_instant}
+use Rattle.calendar.specs.Clock.{IsZone}
+use Rattle.calendar.specs.Laws.{midnight_after}
+use Rattle.calendar.proofs.DayEnds.{zone_is, picked_is, seconds_are, answers, answers_none, far_end, no_instant}
 use Rattle.calendar.proofs.zone.Zone.day_end.Goals as goal
 
 pub overflow_cast-as_second : goal.overflow_cast-as_second
@@ -11,8 +13,34 @@ overflow_cast-as_second c =
     let seconds = c.as_second.ensures ∙ seconds_are c.in-Ok.instant.nanosecond (midnight_after c.args.self.now c.args.seconds c.args.days) instant in
     omega (arith, signed_casts, seconds, instant, c.in-Ok.instant.in_range)
 
-pub returns-in-Ok : goal.returns-in-Ok
-returns-in-Ok c =
+pub returns-in-Ok-clause-value : goal.returns-in-Ok-clause-value
+returns-in-Ok-clause-value c =
     let instant = picked_is (plain_zone c.self.inside.time_zone) c.args.self.now c.args.seconds c.args.days c.in-Some.midnight c.in-Ok.instant.nanosecond c.self.invariant c.self.view_is c.in-Some.ensures.some c.in-Ok.ensures.value in
     let seconds = c.as_second.ensures ∙ seconds_are c.in-Ok.instant.nanosecond (midnight_after c.args.self.now c.args.seconds c.args.days) instant in
-    day_end_by c.args.self.now c.args.seconds c.args.days c.of_command.result _ (omega (arith, signed_casts, seconds, instant, c.in-Ok.instant.in_range)) c.of_command.ensures.in_range c.of_command.ensures.value
+    let known : IsZone c.args.self.now = zone_is (plain_zone c.self.inside.time_zone) c.args.self.now c.self.invariant c.self.view_is in
+    (answers c.args.self.now c.args.seconds c.args.days _ c.of_command.result known (omega (arith, signed_casts, seconds, instant, c.in-Ok.instant.in_range)) c.of_command.ensures.in_range c.of_command.ensures.value).value
+
+pub returns-in-Ok-clause-end : goal.returns-in-Ok-clause-end
+returns-in-Ok-clause-end c =
+    let instant = picked_is (plain_zone c.self.inside.time_zone) c.args.self.now c.args.seconds c.args.days c.in-Some.midnight c.in-Ok.instant.nanosecond c.self.invariant c.self.view_is c.in-Some.ensures.some c.in-Ok.ensures.value in
+    let seconds = c.as_second.ensures ∙ seconds_are c.in-Ok.instant.nanosecond (midnight_after c.args.self.now c.args.seconds c.args.days) instant in
+    let known : IsZone c.args.self.now = zone_is (plain_zone c.self.inside.time_zone) c.args.self.now c.self.invariant c.self.view_is in
+    (answers c.args.self.now c.args.seconds c.args.days _ c.of_command.result known (omega (arith, signed_casts, seconds, instant, c.in-Ok.instant.in_range)) c.of_command.ensures.in_range c.of_command.ensures.value).end
+
+pub returns-in-Ok-clause-none : goal.returns-in-Ok-clause-none
+returns-in-Ok-clause-none c =
+    let instant = picked_is (plain_zone c.self.inside.time_zone) c.args.self.now c.args.seconds c.args.days c.in-Some.midnight c.in-Ok.instant.nanosecond c.self.invariant c.self.view_is c.in-Some.ensures.some c.in-Ok.ensures.value in
+    let seconds = c.as_second.ensures ∙ seconds_are c.in-Ok.instant.nanosecond (midnight_after c.args.self.now c.args.seconds c.args.days) instant in
+    let known : IsZone c.args.self.now = zone_is (plain_zone c.self.inside.time_zone) c.args.self.now c.self.invariant c.self.view_is in
+    (answers c.args.self.now c.args.seconds c.args.days _ c.of_command.result known (omega (arith, signed_casts, seconds, instant, c.in-Ok.instant.in_range)) c.of_command.ensures.in_range c.of_command.ensures.value).none
+
+pub returns-in_default-clause-value : goal.returns-in_default-clause-value
+returns-in_default-clause-value c =
+    let known : IsZone c.args.self.now = zone_is (plain_zone c.self.inside.time_zone) c.args.self.now c.self.invariant c.self.view_is in
+    (answers_none c.args.self.now c.args.seconds c.args.days known (far_end c.args.self.now c.args.seconds c.args.days known c.in_default.ensures.none)).value
+
+pub returns-in-Err-clause-value : goal.returns-in-Err-clause-value
+returns-in-Err-clause-value c =
+    let known : IsZone c.args.self.now = zone_is (plain_zone c.self.inside.time_zone) c.args.self.now c.self.invariant c.self.view_is in
+    let instant = picked_is (plain_zone c.self.inside.time_zone) c.args.self.now c.args.seconds c.args.days c.in-Some.midnight (picked_instant (plain_zone c.self.inside.time_zone) c.in-Some.midnight) c.self.invariant c.self.view_is c.in-Some.ensures.some refl in
+    (answers_none c.args.self.now c.args.seconds c.args.days known (no_instant _ _ instant (λ fits. false≢true (c.in-Err.ensures.succeeds.1 fits)))).value
