@@ -1,0 +1,7 @@
+use Rattle.std.proofs.Common.{refl}
+use Rattle.std.specs.Fmt.{digits}
+use Rattle.http_answers.proofs.text.unable_at_last.Goals as goal
+
+pub returns : goal.returns
+unfolding digits
+returns c = refl

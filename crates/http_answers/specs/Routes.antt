@@ -1,0 +1,61 @@
+-- The table of routes: what a path names, and its method.
+-- Source: profile.
+use Rattle.std.specs.Prelude.{ℕ, Bool, true, false, List, [], ◌∷◌, ◌==◌, Option, None, Result, Ok, Err, codes, option_map, if◌then◌else◌}
+use Rattle.std.specs.List.{list_any}
+use Rattle.matchit.specs.Rows.{RowsOf}
+use Rattle.matchit.specs.Seek.{first}
+use Rattle.matchit.specs.Route.{parse_route, Scan}
+use Rattle.matchit.specs.Router.{RouteOf, route_from}
+use Rattle.matchit.specs.Order.{placed}
+use Rattle.matchit.specs.declared.InsertError.{InsertError}
+use Rattle.http_heads.specs.declared.method.Method.{Method}
+use Rattle.http_heads.specs.declared.method.Method.TheVariants.{Get, Post, Put, Other}
+use Rattle.http_answers.specs.declared.routes.Route.{Route}
+use Rattle.http_answers.specs.declared.routes.Route.TheVariants.{Ccr, Account, Credits}
+
+abbrev pub Routes : Type 0
+Routes = RowsOf (RouteOf Route)
+
+-- the table with one row more, by what its text reads as
+abbrev pub added_read : Result Scan InsertError → Route → Routes → Routes
+added_read (Ok scan) value rows = placed (scan.pattern, route_from scan value) rows
+added_read (Err e) value rows = rows
+
+abbrev pub added : List ℕ → Route → Routes → Routes
+added text value rows = added_read (parse_route text) value rows
+
+-- the table; a part in braces is any that isn't empty
+unfoldable pub table : Routes
+table = added (codes "/accounts/{a}/credits") Credits
+    (added (codes "/accounts/{a}") Account
+    (added (codes "/ccr") Ccr []))
+
+abbrev pub is_post : Method → Bool
+is_post Get = false
+is_post Post = true
+is_post Put = false
+is_post Other = false
+
+abbrev pub is_put : Method → Bool
+is_put Get = false
+is_put Post = false
+is_put Put = true
+is_put Other = false
+
+-- the method of each row
+abbrev pub serves : Route → Method → Bool
+serves Ccr method = is_post method
+serves Account method = is_put method
+serves Credits method = is_post method
+
+-- the row of a path
+abbrev pub row_of : List ℕ → Option Route
+row_of path = option_map (λ r. r.value) (first table path)
+
+-- a target has a query: a question mark
+abbrev pub has_query : List ℕ → Bool
+has_query target = list_any (λ b. b == 63) target
+
+-- what a target names: the row of its path; none where it has a query
+abbrev pub route_of : List ℕ → Option Route
+route_of target = if has_query target then None else row_of target

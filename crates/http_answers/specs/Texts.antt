@@ -1,0 +1,50 @@
+-- The bytes of an answer (RFC 9112 sections 4 and 6).
+use Rattle.std.specs.Prelude.{◌≡◌, ◌⊎◌, ℕ, Bool, Option, take, List, [], ◌++◌, codes, length, if◌then◌else◌}
+use Rattle.std.specs.Fmt.{decimal}
+use Rattle.std.specs.Io.KnownBytes.{Appends}
+use Rattle.json_fields.specs.declared.fault.WireFault.{WireFault}
+use Rattle.json_fields.specs.declared.fault.WireFault.TheVariants.{Memory}
+use Rattle.wire_answers.specs.Spelled.{fault_text}
+use Rattle.http_heads.specs.declared.status.Status.{Status}
+use Rattle.http_heads.specs.declared.status.Status.TheVariants.{Ok, BadRequest, NotFound, MethodNotAllowed, LengthRequired, ContentTooLarge, FieldsTooLarge, NotImplemented, Unavailable}
+
+-- the code and the phrase
+abbrev pub status_line : Status → List ℕ
+status_line Ok = codes "200 OK"
+status_line BadRequest = codes "400 Bad Request"
+status_line NotFound = codes "404 Not Found"
+status_line MethodNotAllowed = codes "405 Method Not Allowed"
+status_line LengthRequired = codes "411 Length Required"
+status_line ContentTooLarge = codes "413 Payload Too Large"
+status_line FieldsTooLarge = codes "431 Request Header Fields Too Large"
+status_line NotImplemented = codes "501 Not Implemented"
+status_line Unavailable = codes "503 Service Unavailable"
+
+-- an answer after which the connection ends says so
+abbrev pub closing_line : Bool → List ℕ
+closing_line closes = if closes then codes "Connection: close\r\n" else []
+
+abbrev pub type_and_length : List ℕ
+type_and_length = codes "\r\nContent-Type: application/json\r\nContent-Length: "
+
+-- the bytes of an answer
+abbrev pub response : Status → Bool → List ℕ → List ℕ
+response status closes body =
+    codes "HTTP/1.1 " ++ (status_line status ++ (type_and_length ++ (decimal (length body) ++ (codes "\r\n" ++ (closing_line closes ++ (codes "\r\n" ++ body))))))
+
+-- the body of a refusal
+abbrev pub no_members : List ℕ
+no_members = codes "{}"
+
+-- the body where there is no memory, no store or no clock
+abbrev pub unable : List ℕ
+unable = codes "{\"Result-Code\":5012}"
+
+-- a request that isn't read is told its fault, or that there is no memory
+abbrev pub TellsFault : Bool → WireFault → (List ℕ → Type 0) → Type 0
+TellsFault closes fault Writes =
+    ((fault ≡ Memory → ⊥) × Writes (response BadRequest closes (fault_text fault))) ⊎ Writes (response Unavailable closes unable)
+
+-- a beginning of a text is written
+abbrev pub Begins : Option (List ℕ) → Option (List ℕ) → List ℕ → Type 0
+Begins old new text = (n : ℕ) × Appends old new (take n text)

@@ -1,0 +1,11 @@
+//! What a request of HTTP/1.1 asks by the table of routes, and the bytes of its answer.
+#![tactic(auto)]
+
+mod asking;
+mod routes;
+mod text;
+
+pub use crate::asking::{Asked, ask};
+pub use crate::routes::{Route, known_router};
+pub use crate::text::{NO_MEMBERS, tell, tell_fault, tell_unable};
+pub use matchit::Router;

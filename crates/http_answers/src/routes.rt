@@ -1,0 +1,117 @@
+ghost use Rattle.std.specs.Prelude.{◌≡◌, IfOk, OnOk};
+ghost use Rattle.http_answers.specs.Routes.{added, table, row_of, has_query, route_of, is_post, is_put, serves};
+
+use byte_streams::StreamFault;
+use http_heads::Method;
+use matchit::{InsertError, Router};
+use std::alloc::Global;
+
+/// What a path names.
+#[derive(Clone, Copy, Debug, PartialEq, Eq)]
+pub enum Route {
+    /// `/ccr`: a request for credit control.
+    Ccr,
+    /// `/accounts/{a}`: an account.
+    Account,
+    /// `/accounts/{a}/credits`: the credits of an account.
+    Credits,
+}
+
+/// Whether a method is POST.
+fn is_post(method: Method) -> bool
+    ensures { result ≡ is_post method }
+{
+    match method {
+        Method::Get => false,
+        Method::Post => true,
+        Method::Put => false,
+        Method::Other => false,
+    }
+}
+
+/// Whether a method is PUT.
+fn is_put(method: Method) -> bool
+    ensures { result ≡ is_put method }
+{
+    match method {
+        Method::Get => false,
+        Method::Post => false,
+        Method::Put => true,
+        Method::Other => false,
+    }
+}
+
+impl Route {
+    /// Whether the path has this method.
+    pub(crate) fn serves(self, method: Method) -> bool
+        ensures { result ≡ serves self method }
+    {
+        match self {
+            Route::Ccr => is_post(method),
+            Route::Account => is_put(method),
+            Route::Credits => is_post(method),
+        }
+    }
+}
+
+/// One more route.
+fn add(router: &mut Router<Route>, text: &str, value: Route) -> Result<(), InsertError>
+    ensures { OnOk result (router.new ≡ added text.now value router.old) }
+{
+    router.insert(text, value)
+}
+
+/// The table of routes.
+#[tactic(auto, unfolding(crate::specs::Routes::table))]
+fn api_router(alloc: Global) -> Result<Router<Route>, InsertError>
+    ensures { IfOk result (λ r. r ≡ table) }
+{
+    let mut router = Router::new(alloc);
+    add(&mut router, "/ccr", Route::Ccr)?;
+    add(&mut router, "/accounts/{a}", Route::Account)?;
+    add(&mut router, "/accounts/{a}/credits", Route::Credits)?;
+    Ok(router)
+}
+
+/// The table of routes, made once a connection.
+///
+/// # Errors
+/// A growth was refused.
+pub fn known_router(alloc: Global) -> Result<Router<Route>, StreamFault>
+    ensures { IfOk result (λ r. r ≡ table) }
+{
+    match api_router(alloc) {
+        Ok(router) => Ok(router),
+        Err(_) => Err(StreamFault::Memory),
+    }
+}
+
+/// The row of a path.
+fn row_of(router: &Router<Route>, path: &str) -> Option<Route>
+    requires { router.now ≡ table }
+    ensures { result ≡ row_of path.now }
+{
+    match router.at(path) {
+        Ok(found) => Some(*found.value),
+        Err(_) => None,
+    }
+}
+
+/// Whether a target has a query.
+fn has_query(target: &str) -> bool
+    ensures { result ≡ has_query target.now }
+{
+    target.as_bytes().iter().any(|b| *b == b'?')
+}
+
+/// What a target names: a path without a query that has a row in the table.
+pub(crate) fn route_of(router: &Router<Route>, target: &str) -> Option<Route>
+    requires { router.now ≡ table }
+    ensures { result ≡ route_of target.now }
+{
+    if has_query(target) {
+        None
+    } else {
+        row_of(router, target)
+    }
+}

@@ -1,0 +1,139 @@
+ghost use Rattle.std.specs.Prelude.{◌≡◌, ℕ, IfOk, OnOk, OnErr, IfSome, None, true, false, string_bytes};
+ghost use Rattle.json_fields.specs.declared.fault.WireFault.TheVariants.{Memory};
+ghost use Rattle.std.specs.Io.KnownBytes.{Appends};
+ghost use Rattle.http_heads.specs.declared.status.Status.TheVariants.{BadRequest, Unavailable};
+ghost use Rattle.wire_answers.specs.Spelled.{fault_text};
+ghost use Rattle.http_answers.specs.Texts.{status_line, closing_line, response, unable, Begins, TellsFault};
+
+use byte_streams::{StreamFault, write_whole};
+use http_heads::Status;
+use std::alloc::{AllocError, Global};
+use std::io::Write;
+use wire::{WireFault, write_fault};
+
+/// The body of a refusal.
+pub const NO_MEMBERS: &str = "{}";
+
+/// The answer where there is no memory, no store or no clock.
+const UNABLE: &[u8] =
+    b"HTTP/1.1 503 Service Unavailable\r\nContent-Type: application/json\r\nContent-Length: 20\r\n\r\n{\"Result-Code\":5012}";
+
+/// The same before the connection ends.
+const UNABLE_AT_LAST: &[u8] =
+    b"HTTP/1.1 503 Service Unavailable\r\nContent-Type: application/json\r\nContent-Length: 20\r\nConnection: close\r\n\r\n{\"Result-Code\":5012}";
+
+/// The code and the phrase of a status.
+fn status_line(status: Status) -> &'static str
+    ensures { result.now ≡ status_line status }
+{
+    match status {
+        Status::Ok => "200 OK",
+        Status::BadRequest => "400 Bad Request",
+        Status::NotFound => "404 Not Found",
+        Status::MethodNotAllowed => "405 Method Not Allowed",
+        Status::LengthRequired => "411 Length Required",
+        Status::ContentTooLarge => "413 Payload Too Large",
+        Status::FieldsTooLarge => "431 Request Header Fields Too Large",
+        Status::NotImplemented => "501 Not Implemented",
+        Status::Unavailable => "503 Service Unavailable",
+    }
+}
+
+/// The line that says that the connection ends.
+fn closing_line(closes: bool) -> &'static str
+    ensures { result.now ≡ closing_line closes }
+{
+    if closes { "Connection: close\r\n" } else { "" }
+}
+
+/// The bytes of an answer.
+fn response(alloc: Global, status: Status, closes: bool, body: &str) -> Result<String, AllocError>
+    ensures { IfOk result (λ s. string_bytes s ≡ response status closes body.now) }
+{
+    let line = status_line(status);
+    let closing = closing_line(closes);
+    let length = body.len();
+    format!(in alloc;
+        "HTTP/1.1 {line}\r\nContent-Type: application/json\r\nContent-Length: {length}\r\n{closing}\r\n{body}"
+    )
+}
+
+/// The bytes of an answer where there is no memory, no store or no clock.
+fn unable() -> &'static [u8]
+    ensures { result.now ≡ response Unavailable false unable }
+{
+    UNABLE
+}
+
+/// The same before the connection ends.
+fn unable_at_last() -> &'static [u8]
+    ensures { result.now ≡ response Unavailable true unable }
+{
+    UNABLE_AT_LAST
+}
+
+/// Writes an answer, its head and its body in one.
+///
+/// # Errors
+/// `Memory` where the growth of its text was refused, `Write` where the writer failed. Then a beginning of it is written.
+pub fn tell<W: Write>(
+    alloc: Global,
+    writer: &mut W,
+    status: Status,
+    closes: bool,
+    body: &str,
+) -> Result<(), StreamFault>
+    ensures ok { OnOk result (Appends (W.contents writer.old) (W.contents writer.new) (response status closes body.now)) }
+    ensures err { OnErr result (Begins (W.contents writer.old) (W.contents writer.new) (response status closes body.now)) }
+{
+    let text = response(alloc, status, closes, body)?;
+    write_whole(writer, text.as_bytes())
+}
+
+/// Writes that there is no memory, no store or no clock; this takes no memory.
+///
+/// # Errors
+/// `Write` where the writer failed. Then a beginning of it is written.
+pub fn tell_unable<W: Write>(writer: &mut W, closes: bool) -> Result<(), StreamFault>
+    ensures ok { OnOk result (Appends (W.contents writer.old) (W.contents writer.new) (response Unavailable closes unable)) }
+    ensures err { OnErr result (Begins (W.contents writer.old) (W.contents writer.new) (response Unavailable closes unable)) }
+{
+    if closes {
+        write_whole(writer, unable_at_last())
+    } else {
+        write_whole(writer, unable())
+    }
+}
+
+/// The answer to a request that isn't read; None where memory ran out.
+fn fault_response(alloc: Global, fault: WireFault, closes: bool) -> Option<String>
+    ensures text { IfSome result (λ s. string_bytes s ≡ response BadRequest closes (fault_text fault)) }
+    ensures memory { fault ≡ Memory → result ≡ None }
+{
+    match fault {
+        WireFault::Memory => None,
+        _ => {
+            let body = write_fault(alloc, fault).ok()?;
+            response(alloc, Status::BadRequest, closes, body.as_str()).ok()
+        }
+    }
+}
+
+/// Writes the answer to a request that isn't read.
+///
+/// # Errors
+/// `Write` where the writer failed. Then a beginning of it is written.
+pub fn tell_fault<W: Write>(
+    alloc: Global,
+    writer: &mut W,
+    fault: WireFault,
+    closes: bool,
+) -> Result<(), StreamFault>
+    ensures ok { OnOk result (TellsFault closes fault (Appends (W.contents writer.old) (W.contents writer.new))) }
+    ensures err { OnErr result (TellsFault closes fault (Begins (W.contents writer.old) (W.contents writer.new))) }
+{
+    match fault_response(alloc, fault, closes) {
+        Some(text) => write_whole(writer, text.as_bytes()),
+        None => tell_unable(writer, closes),
+    }
+}
