@@ -43,7 +43,9 @@ fn initial(
 ) -> Result<Ruling, AllocError>
     requires apart { groups_differ services.now ≡ true }
     requires later { account.old.as_of ≤ moment }
-    ensures follows { IfOk result (λ r. Follows account.old account.new r.outcome r.accepted r.charges.items (initial_decision account.old.book moment request.now.session request.now.number services.now)) }
+    ensures follows { IfOk result (λ r.
+        Follows account.old account.new r.outcome r.accepted r.charges.items
+        (initial_decision account.old.book moment request.now.session request.now.number services.now)) }
     ensures stands { IfOk result (StandsAt moment account.old account.new) }
     ensures tariff { account.new.book ≡ account.old.book }
 {
@@ -96,7 +98,9 @@ fn update(
 ) -> Result<Ruling, AllocError>
     requires apart { groups_differ services.now ≡ true }
     requires later { account.old.as_of ≤ moment }
-    ensures follows { IfOk result (λ r. Follows account.old account.new r.outcome r.accepted r.charges.items (update_decision account.old.book moment request.now.session request.now.number services.now)) }
+    ensures follows { IfOk result (λ r.
+        Follows account.old account.new r.outcome r.accepted r.charges.items
+        (update_decision account.old.book moment request.now.session request.now.number services.now)) }
     ensures stands { IfOk result (StandsAt moment account.old account.new) }
     ensures tariff { account.new.book ≡ account.old.book }
 {
@@ -116,7 +120,9 @@ fn terminate(
     moment: Moment,
 ) -> Result<Ruling, AllocError>
     requires later { account.old.as_of ≤ moment }
-    ensures follows { IfOk result (λ r. Follows account.old account.new r.outcome r.accepted r.charges.items (termination_decision account.old.book moment request.now.session request.now.number services.now)) }
+    ensures follows { IfOk result (λ r.
+        Follows account.old account.new r.outcome r.accepted r.charges.items
+        (termination_decision account.old.book moment request.now.session request.now.number services.now)) }
     ensures stands { IfOk result (StandsAt moment account.old account.new) }
     ensures tariff { account.new.book ≡ account.old.book }
 {
@@ -137,7 +143,9 @@ fn decide_event(
     moment: Moment,
 ) -> Result<Ruling, AllocError>
     requires later { account.old.as_of ≤ moment }
-    ensures follows { IfOk result (λ r. Follows account.old account.new r.outcome r.accepted r.charges.items (event_decision account.old.book moment request.now.session request.now.number event.now)) }
+    ensures follows { IfOk result (λ r.
+        Follows account.old account.new r.outcome r.accepted r.charges.items
+        (event_decision account.old.book moment request.now.session request.now.number event.now)) }
     ensures stands { IfOk result (StandsAt moment account.old account.new) }
     ensures tariff { account.new.book ≡ account.old.book }
 {
@@ -161,7 +169,9 @@ fn decide_ask(
     moment: Moment,
 ) -> Result<Ruling, AllocError>
     requires later { account.old.as_of ≤ moment }
-    ensures follows { IfOk result (λ r. Follows account.old account.new r.outcome r.accepted r.charges.items (decided account.old.book moment request.now.session request.now.number request.now.ask)) }
+    ensures follows { IfOk result (λ r.
+        Follows account.old account.new r.outcome r.accepted r.charges.items
+        (decided account.old.book moment request.now.session request.now.number request.now.ask)) }
     ensures stands { IfOk result (StandsAt moment account.old account.new) }
     ensures tariff { account.new.book ≡ account.old.book }
 {

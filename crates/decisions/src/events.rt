@@ -95,7 +95,9 @@ fn charge_unless_denied(
     requires later { account.old.as_of ≤ moment }
     requires new { session_in request.now.session account.old.sessions ≡ None }
     requires units { event_fault account.old.book event.now ≡ None }
-    ensures follows { IfOk result (λ r. Follows account.old account.new r.outcome r.accepted r.charges.items (charged_unless_barred account.old.book moment request.now.session request.now.number event.now)) }
+    ensures follows { IfOk result (λ r.
+        Follows account.old account.new r.outcome r.accepted r.charges.items
+        (charged_unless_barred account.old.book moment request.now.session request.now.number event.now)) }
     ensures stands { IfOk result (StandsAt moment account.old account.new) }
     ensures tariff { account.new.book ≡ account.old.book }
 {
@@ -119,7 +121,9 @@ pub(crate) fn debit(
     moment: Moment,
 ) -> Result<Ruling, AllocError>
     requires later { account.old.as_of ≤ moment }
-    ensures follows { IfOk result (λ r. Follows account.old account.new r.outcome r.accepted r.charges.items (debit_decision account.old.book moment request.now.session request.now.number event.now)) }
+    ensures follows { IfOk result (λ r.
+        Follows account.old account.new r.outcome r.accepted r.charges.items
+        (debit_decision account.old.book moment request.now.session request.now.number event.now)) }
     ensures stands { IfOk result (StandsAt moment account.old account.new) }
     ensures tariff { account.new.book ≡ account.old.book }
 {
@@ -139,7 +143,9 @@ fn pay_back(
 ) -> Result<Ruling, AllocError>
     requires later { account.old.as_of ≤ moment }
     requires new { session_in request.now.session account.old.sessions ≡ None }
-    ensures follows { IfOk result (λ r. Follows account.old account.new r.outcome r.accepted r.charges.items (refunded moment request.now.session request.now.number refund)) }
+    ensures follows { IfOk result (λ r.
+        Follows account.old account.new r.outcome r.accepted r.charges.items
+        (refunded moment request.now.session request.now.number refund)) }
     ensures stands { IfOk result (StandsAt moment account.old account.new) }
     ensures tariff { account.new.book ≡ account.old.book }
 {
@@ -163,7 +169,9 @@ pub(crate) fn refund(
     moment: Moment,
 ) -> Result<Ruling, AllocError>
     requires later { account.old.as_of ≤ moment }
-    ensures follows { IfOk result (λ r. Follows account.old account.new r.outcome r.accepted r.charges.items (refund_decision account.old.book moment request.now.session request.now.number refund)) }
+    ensures follows { IfOk result (λ r.
+        Follows account.old account.new r.outcome r.accepted r.charges.items
+        (refund_decision account.old.book moment request.now.session request.now.number refund)) }
     ensures stands { IfOk result (StandsAt moment account.old account.new) }
     ensures tariff { account.new.book ≡ account.old.book }
 {

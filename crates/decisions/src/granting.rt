@@ -192,7 +192,9 @@ fn open(
     requires later { account.old.as_of ≤ moment }
     requires new { session_in request.now.session account.old.sessions ≡ None }
     requires free { AreFree account.old.book request.now.session services.now account.old.groups }
-    ensures follows { IfOk result (λ r. Follows account.old account.new r.outcome r.accepted r.charges.items (opened account.old.book moment request.now.session request.now.number services.now)) }
+    ensures follows { IfOk result (λ r.
+        Follows account.old account.new r.outcome r.accepted r.charges.items
+        (opened account.old.book moment request.now.session request.now.number services.now)) }
     ensures stands { IfOk result (StandsAt moment account.old account.new) }
     ensures tariff { account.new.book ≡ account.old.book }
 {
@@ -220,7 +222,9 @@ pub(crate) fn open_unless_barred(
     requires later { account.old.as_of ≤ moment }
     requires new { session_in request.now.session account.old.sessions ≡ None }
     requires free { AreFree account.old.book request.now.session services.now account.old.groups }
-    ensures follows { IfOk result (λ r. Follows account.old account.new r.outcome r.accepted r.charges.items (opened_unless_barred account.old.book moment request.now.session request.now.number services.now)) }
+    ensures follows { IfOk result (λ r.
+        Follows account.old account.new r.outcome r.accepted r.charges.items
+        (opened_unless_barred account.old.book moment request.now.session request.now.number services.now)) }
     ensures stands { IfOk result (StandsAt moment account.old account.new) }
     ensures tariff { account.new.book ≡ account.old.book }
 {

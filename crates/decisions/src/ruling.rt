@@ -65,7 +65,9 @@ pub(crate) fn deny(
 ) -> Result<Ruling, AllocError>
     requires later { account.old.as_of ≤ moment }
     requires new { session_in request.now.session account.old.sessions ≡ None }
-    ensures follows { IfOk result (λ r. Follows account.old account.new r.outcome r.accepted r.charges.items (denied moment request.now.session request.now.number why)) }
+    ensures follows { IfOk result (λ r.
+        Follows account.old account.new r.outcome r.accepted r.charges.items
+        (denied moment request.now.session request.now.number why)) }
     ensures stands { IfOk result (StandsAt moment account.old account.new) }
     ensures tariff { account.new.book ≡ account.old.book }
 {
