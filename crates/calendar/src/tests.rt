@@ -2,7 +2,7 @@
 //! with a fixed offset: the date's ordinal, its year and month, its weekday and hour, and the timestamp of a midnight;
 //! switches and validity times are those of a search over each second.
 
-ghost use Rattle.std.specs.Prelude.{◌≤◌, All, IfOk};
+ghost use Rattle.std.specs.Prelude.{◌≤◌, All, IfOk, length};
 
 use crate::{Calendar, Cycle, Entry, Period, Zone};
 use std::alloc::{AllocError, Global};
@@ -18,7 +18,8 @@ const ALL_DAYS: [bool; 7] = [true; 7];
 
 /// Period 1 on workdays from 08:00 to 20:00, and period 0 else.
 fn office_hours(alloc: Global) -> Result<Vec<Entry>, AllocError>
-    ensures { IfOk result (λ v. All (λ e. e.to ≤ 1440) v.items) }
+    ensures ends { IfOk result (λ v. All (λ e. e.to ≤ 1440) v.items) }
+    ensures few { IfOk result (λ v. length v.items ≤ 64) }
 {
     [
         Entry {
@@ -143,7 +144,8 @@ fn fourteen_hours_ahead(rt: HostRuntime) -> Result<(), Fail> {
 
 /// Period 1 each day from 08:00 to 08:30, and period 0 else.
 fn half_hour(alloc: Global) -> Result<Vec<Entry>, AllocError>
-    ensures { IfOk result (λ v. All (λ e. e.to ≤ 1440) v.items) }
+    ensures ends { IfOk result (λ v. All (λ e. e.to ≤ 1440) v.items) }
+    ensures few { IfOk result (λ v. length v.items ≤ 64) }
 {
     [
         Entry {
