@@ -19,3 +19,13 @@ IsLineOf [] (Some line) left = ⊥
 IsLineOf [] None left = left ≡ Some []
 IsLineOf (b ∷ bs) (Some line) left = (line.items ≡ line_of (b ∷ bs)) × (left ≡ Some (after_line (b ∷ bs)))
 IsLineOf (b ∷ bs) None left = ⊥
+
+-- a byte before the first of some lines
+abbrev pub prepend : ℕ → List (List ℕ) → List (List ℕ)
+prepend b [] = (b ∷ []) ∷ []
+prepend b (l ∷ ls) = (b ∷ l) ∷ ls
+
+-- the lines of a stream
+abbrev pub lines_of : List ℕ → List (List ℕ)
+lines_of [] = []
+lines_of (b ∷ bs) = if b == 10 then [] ∷ lines_of bs else prepend b (lines_of bs)

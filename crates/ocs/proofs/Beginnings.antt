@@ -69,3 +69,8 @@ so_far-failed all left line after w0 w1 w2 h e k =
 
 pub so_far-ended : (all left : List ℕ) (w0 w1 : Option (List ℕ)) → IsWrittenSoFar all left w0 w1 → left ≡ [] → Appends w0 w1 all
 so_far-ended all left w0 w1 h e = subst (Appends w0 w1) (sym (h.text ∙ ap (λ l. h.told ++ l) e ∙ append-nil h.told)) h.written
+
+-- what isn't an error is what holds where all went well
+pub where_ok : {A E : Type 0} (r : Result A E) (P : Type 0) → ((e : E) → r ≡ Err e → ⊥) → OnOk r P → P
+where_ok (Ok x) P other h = h
+where_ok (Err e) P other h = absurd (other e refl)

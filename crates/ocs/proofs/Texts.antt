@@ -1,5 +1,5 @@
 -- The texts of lines: with a line more, and with the answers to a beginning of the commands.
-use Rattle.std.proofs.Common.{◌≡◌, ℕ, zero, suc, ◌+◌, ◌<◌, ◌≤◌, Bool, true, false, get_or, add-one, drop-cons, List, [], ◌∷◌, ◌++◌, refl, sym, ap, arith, subst, ◌∙◌, Option, Some, None, append_assoc, take, drop, take-append-drop}
+use Rattle.std.proofs.Common.{◌≡◌, ℕ, zero, suc, ◌+◌, ◌<◌, ◌≤◌, Bool, true, false, get_or, add-one, drop-cons, List, [], ◌∷◌, ◌++◌, map, refl, sym, ap, arith, subst, ◌∙◌, Option, Some, None, append_assoc, take, drop, take-append-drop}
 use Rattle.std.specs.Prelude.{if◌then◌else◌, is_some, not, option_map, length}
 use Rattle.std.proofs.lemmas.List.{drop_all}
 use Rattle.std.specs.List.{slice_get}
@@ -10,7 +10,9 @@ use Rattle.commands.specs.declared.answer.Answer.{Answer}
 use Rattle.json_fields.specs.declared.fault.WireFault.{WireFault}
 use Rattle.wire_answers.specs.Spelled.{answer_text, fault_text}
 use Rattle.ocs.specs.Served.{texts_of}
-use Rattle.ocs.specs.Input.{line_text}
+use Rattle.ocs.specs.declared.input.Line.{Line}
+use Rattle.ocs.specs.Input.{told_fault}
+use Rattle.ocs.specs.Output.{line_text}
 
 some_same : (x y : List ℕ) → Some x ≡ Some y → x ≡ y
 some_same x y h = ap (λ o. text_in o) h
@@ -84,33 +86,36 @@ texts_taken faults k n all =
 -- ---- line after line
 
 -- a line of all, with the next answer
-pub texts_first : (faults : List (Option WireFault)) (answers : List Answer) (i n : ℕ) (o : Option (Bor Answer)) (text : List ℕ) → i < length faults → IsItemAt answers n o →
-    Some text ≡ line_text (get_or faults i None) (option_map (λ a. a.now) o) → texts_of (drop i faults) (drop n answers) ≡ (text ++ 10 ∷ []) ++ texts_of (drop (i + 1) faults) (drop (if is_some (get_or faults i None) then n else n + 1) answers)
-texts_first faults answers i n o text lt item told =
-    let here : drop i faults ≡ get_or faults i None ∷ drop (i + 1) faults = rw (add-one, drop-cons faults i None lt) refl in
-    ap (λ l. texts_of l (drop n answers)) here
-    ∙ next_text (get_or faults i None) (drop (i + 1) faults) answers n text (told ∙ ap (line_text (get_or faults i None)) (answer_at answers n o item))
+pub texts_first : (lines : List Line) (answers : List Answer) (d : Line) (i n : ℕ) (o : Option (Bor Answer)) (text : List ℕ) → i < length lines → IsItemAt answers n o →
+    Some text ≡ line_text (told_fault (get_or lines i d)) (option_map (λ a. a.now) o) →
+    texts_of (map told_fault (drop i lines)) (drop n answers) ≡ (text ++ 10 ∷ []) ++ texts_of (map told_fault (drop (i + 1) lines)) (drop (if is_some (told_fault (get_or lines i d)) then n else n + 1) answers)
+texts_first lines answers d i n o text lt item told =
+    let fault = told_fault (get_or lines i d) in
+    let here : drop i lines ≡ get_or lines i d ∷ drop (i + 1) lines = rw (add-one, drop-cons lines i d lt) refl in
+    ap (λ l. texts_of (map told_fault l) (drop n answers)) here
+    ∙ next_text fault (map told_fault (drop (i + 1) lines)) answers n text (told ∙ ap (line_text fault) (answer_at answers n o item))
 
 -- and the place of the answer after it
-pub texts_next : (faults : List (Option WireFault)) (answers : List Answer) (i n next : ℕ) (o : Option (Bor Answer)) (none : Bool) (text : List ℕ) → i < length faults → IsItemAt answers n o →
-    Some text ≡ line_text (get_or faults i None) (option_map (λ a. a.now) o) → is_some (get_or faults i None) ≡ not none → next ≡ (if none then n + 1 else n) →
-    texts_of (drop i faults) (drop n answers) ≡ (text ++ 10 ∷ []) ++ texts_of (drop (i + 1) faults) (drop next answers)
-texts_next faults answers i n next o none text lt item told is moved =
-    texts_first faults answers i n o text lt item told
-    ∙ ap (λ m. (text ++ 10 ∷ []) ++ texts_of (drop (i + 1) faults) (drop m answers)) (ap (λ t. if t then n else n + 1) is ∙ turned none ∙ sym moved)
+pub texts_next : (lines : List Line) (answers : List Answer) (d : Line) (i n next : ℕ) (o : Option (Bor Answer)) (request : Bool) (text : List ℕ) → i < length lines → IsItemAt answers n o →
+    Some text ≡ line_text (told_fault (get_or lines i d)) (option_map (λ a. a.now) o) → is_some (told_fault (get_or lines i d)) ≡ not request → next ≡ (if request then n + 1 else n) →
+    texts_of (map told_fault (drop i lines)) (drop n answers) ≡ (text ++ 10 ∷ []) ++ texts_of (map told_fault (drop (i + 1) lines)) (drop next answers)
+texts_next lines answers d i n next o request text lt item told is moved =
+    texts_first lines answers d i n o text lt item told
+    ∙ ap (λ m. (text ++ 10 ∷ []) ++ texts_of (map told_fault (drop (i + 1) lines)) (drop m answers)) (ap (λ t. if t then n else n + 1) is ∙ turned request ∙ sym moved)
   where
     turned : (b : Bool) → (if not b then n else n + 1) ≡ (if b then n + 1 else n)
     turned true = refl
     turned false = refl
 
 -- a request without an answer
-pub texts_none : (faults : List (Option WireFault)) (answers : List Answer) (i n : ℕ) (o : Option (Bor Answer)) → i < length faults → IsItemAt answers n o →
-    None ≡ line_text (get_or faults i None) (option_map (λ a. a.now) o) → texts_of (drop i faults) (drop n answers) ≡ []
-texts_none faults answers i n o lt item told =
-    let here : drop i faults ≡ get_or faults i None ∷ drop (i + 1) faults = rw (add-one, drop-cons faults i None lt) refl in
-    let same : None ≡ line_text (get_or faults i None) (slice_get answers n) = told ∙ ap (line_text (get_or faults i None)) (answer_at answers n o item) in
-    ap (λ l. texts_of l (drop n answers)) here ∙ no_text (get_or faults i None) (drop (i + 1) faults) answers n same
+pub texts_none : (lines : List Line) (answers : List Answer) (d : Line) (i n : ℕ) (o : Option (Bor Answer)) → i < length lines → IsItemAt answers n o →
+    None ≡ line_text (told_fault (get_or lines i d)) (option_map (λ a. a.now) o) → texts_of (map told_fault (drop i lines)) (drop n answers) ≡ []
+texts_none lines answers d i n o lt item told =
+    let fault = told_fault (get_or lines i d) in
+    let here : drop i lines ≡ get_or lines i d ∷ drop (i + 1) lines = rw (add-one, drop-cons lines i d lt) refl in
+    let same : None ≡ line_text fault (slice_get answers n) = told ∙ ap (line_text fault) (answer_at answers n o item) in
+    ap (λ l. texts_of (map told_fault l) (drop n answers)) here ∙ no_text fault (map told_fault (drop (i + 1) lines)) answers n same
 
 -- no line is left
-pub texts_ended : (faults : List (Option WireFault)) (answers : List Answer) (i : ℕ) → length faults ≤ i → texts_of (drop i faults) answers ≡ []
-texts_ended faults answers i le = ap (λ l. texts_of l answers) (drop_all i faults le)
+pub texts_ended : (lines : List Line) (answers : List Answer) (i : ℕ) → length lines ≤ i → texts_of (map told_fault (drop i lines)) answers ≡ []
+texts_ended lines answers i le = ap (λ l. texts_of (map told_fault l) answers) (drop_all i lines le)

@@ -1,21 +1,28 @@
--- The lines of a stream as they are kept: the commands that they hand in, and the fault of each.
+-- The lines of a stream as they are kept: what each is told, and the requests among them.
 -- Source: profile.
-use Rattle.std.specs.Prelude.{◌≡◌, ℕ, List, map, Option, Some, None, Result}
-use Rattle.commands.specs.declared.answer.Answer.{Answer}
+use Rattle.std.specs.Prelude.{◌≡◌, List, map, Option, Some, None, Result}
 use Rattle.json_fields.specs.declared.fault.WireFault.{WireFault}
-use Rattle.wire_answers.specs.Spelled.{answer_text, fault_text}
+use Rattle.json_fields.specs.declared.fault.WireFault.TheVariants as wire
+use Rattle.charging.specs.declared.running.DatedCommand.{DatedCommand}
 use Rattle.ocs.specs.declared.input.Input.{Input}
-use Rattle.ocs.specs.declared.reading.DatedRequest.{DatedRequest}
-use Rattle.ocs.specs.Served.{requests_of, with_opening, fault_of}
+use Rattle.ocs.specs.declared.input.Line.{Line}
+use Rattle.ocs.specs.declared.input.Line.TheVariants.{Request, Fault}
+use Rattle.ocs.specs.declared.input.LineFault.{LineFault}
+use Rattle.ocs.specs.declared.input.LineFault.TheVariants.{NotRequest, Missing, Invalid}
+use Rattle.ocs.specs.Served.{requests_of, fault_of}
 
--- the input is that of these lines
-pub record IsInput (amount : Option ℕ) (lines : List (Result DatedRequest WireFault)) (input : Input) : Type 0 where
-  pub opening : input.opening ≡ amount
-  pub commands : input.commands.items ≡ with_opening amount (requests_of lines)
-  pub faults : input.faults.items ≡ map fault_of lines
+-- a line's fault among those of reading
+abbrev pub wire_fault : LineFault → WireFault
+wire_fault NotRequest = wire.NotRequest
+wire_fault (Missing avp) = wire.Missing avp
+wire_fault (Invalid avp) = wire.Invalid avp
 
--- a line is told its fault, or else the answer, where there is one
-abbrev pub line_text : Option WireFault → Option Answer → Option (List ℕ)
-line_text (Some fault) answer = Some (fault_text fault)
-line_text None (Some answer) = Some (answer_text answer)
-line_text None None = None
+-- the fault that a line is told
+abbrev pub told_fault : Line → Option WireFault
+told_fault Request = None
+told_fault (Fault fault) = Some (wire_fault fault)
+
+-- the input is that of lines that were read so
+pub record IsInput (read : List (Result DatedCommand WireFault)) (input : Input) : Type 0 where
+  pub requests : input.requests.items ≡ requests_of read
+  pub lines : map told_fault input.lines.items ≡ map fault_of read

@@ -3,4 +3,5 @@ pub mod Faults
 pub mod Written
 pub mod Served
 pub mod Input
+pub mod Output
 pub mod Told

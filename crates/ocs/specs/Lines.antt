@@ -1,14 +1,15 @@
 -- Lines of input: each has the moment of a command, one space, and a request for credit control as JSON.
 -- Source: profile.
-use Rattle.std.specs.Prelude.{ℕ, Bool, [], ◌∷◌, ◌==◌, ◌&&◌, List, length, Option, None, Result, Ok, nat_lt, if◌then◌else◌}
+use Rattle.std.specs.Prelude.{ℕ, Bool, ◌==◌, ◌&&◌, List, length, Option, None, Result, Ok, nat_lt, if◌then◌else◌}
 use Rattle.std.specs.List.{before_first, after_first, position_or_len}
 use Rattle.std.specs.Str.{is_utf8}
+use Rattle.commands.specs.declared.command.Command.TheVariants.{Ccr}
 use Rattle.json_fields.specs.declared.fault.WireFault.{WireFault}
 use Rattle.json_fields.specs.declared.fault.WireFault.TheVariants.{NotRequest}
 use Rattle.json_fields.specs.Gives.{◌>>=◌, or_fault}
 use Rattle.operator.specs.Lines.{moment_of}
 use Rattle.wire_requests.specs.Reading.{request_of}
-use Rattle.ocs.specs.declared.reading.DatedRequest.{DatedRequest}
+use Rattle.charging.specs.declared.running.DatedCommand.{DatedCommand}
 
 -- a space is found in a text
 abbrev pub is_parted : List ℕ → Bool
@@ -24,19 +25,8 @@ line_rest line = after_first (λ b. b == 32) line
 
 -- the request of a line, or the first fault: it isn't a moment of 1 to 10 digits, a space and a body; then the
 -- body's
-abbrev pub line_request : List ℕ → Result DatedRequest WireFault
+abbrev pub line_request : List ℕ → Result DatedCommand WireFault
 line_request line =
     or_fault NotRequest (line_moment line) >>= λ t.
     request_of (line_rest line) >>= λ r.
-    Ok (record { moment = t; request = r })
-
--- ---- a stream
-
-abbrev pub prepend : ℕ → List (List ℕ) → List (List ℕ)
-prepend b [] = (b ∷ []) ∷ []
-prepend b (l ∷ ls) = (b ∷ l) ∷ ls
-
--- the lines of a stream: each ends with a line feed, the last perhaps without
-abbrev pub lines_of : List ℕ → List (List ℕ)
-lines_of [] = []
-lines_of (b ∷ bs) = if b == 10 then [] ∷ lines_of bs else prepend b (lines_of bs)
+    Ok (record { moment = t; command = Ccr r })

@@ -1,59 +1,68 @@
 -- What the lines of a stream come to: the commands that they hand in, and the text that each line is told.
 -- Source: profile.
-use Rattle.std.specs.Prelude.{ℕ, List, [], ◌∷◌, ◌++◌, codes, map, take, drop, Option, Some, None, Result, Ok, Err}
+use Rattle.std.specs.Prelude.{ℕ, List, [], ◌∷◌, ◌++◌, codes, length, map, take, drop, Option, Some, None, IfNone, Result, Ok, Err, ◌≡◌}
 use Rattle.std.specs.Io.KnownBytes.{Appends}
+use Rattle.byte_streams.specs.Lines.{lines_of}
 use Rattle.commands.specs.declared.answer.Answer.{Answer}
+use Rattle.commands.specs.declared.command.Command.{Command}
 use Rattle.commands.specs.declared.command.Command.TheVariants.{Ccr, OpenAccount, Credit}
 use Rattle.json_fields.specs.declared.fault.WireFault.{WireFault}
 use Rattle.wire_answers.specs.Spelled.{answer_text, fault_text}
 use Rattle.tariffs.specs.Books.{Book}
 use Rattle.keepers.specs.Tables.{Tables}
-use Rattle.keepers.specs.Accepted.{Accepted}
+use Rattle.keepers.specs.Accepted.{Accepted, IsInTime}
 use Rattle.charging.specs.declared.running.DatedCommand.{DatedCommand}
 use Rattle.charging.specs.Served.{AreTables}
 use Rattle.charging.specs.Runs.{answers_to, after_commands}
-use Rattle.ocs.specs.declared.reading.DatedRequest.{DatedRequest}
-use Rattle.ocs.specs.Lines.{lines_of, line_request}
+use Rattle.ocs.specs.Lines.{line_request}
 use Rattle.ocs.specs.Written.{WritesBeginning}
 
 -- ---- commands
 
-abbrev pub command_of : DatedRequest → DatedCommand
-command_of d = record { moment = d.moment; command = Ccr d.request }
-
--- an account is opened with one bucket, from the beginning and without end, where an amount for it is handed in
-abbrev pub opening_for : Option ℕ → List ℕ → List DatedCommand
-opening_for None account = []
-opening_for (Some amount) account =
-    record { moment = 0; command = OpenAccount account }
-    ∷ record { moment = 0; command = Credit (record { account = account; amount = amount; from = None; until = None; scope = None; reference = codes "once" }) }
-    ∷ []
-
--- the account of the first request is opened before it
-abbrev pub with_opening : Option ℕ → List DatedRequest → List DatedCommand
-with_opening opening [] = []
-with_opening opening (d ∷ ds) = opening_for opening d.request.account ++ map command_of (d ∷ ds)
-
--- so many answers aren't those of requests
-abbrev pub opening_count : Option ℕ → ℕ
-opening_count None = 0
-opening_count (Some amount) = 2
-
 -- the lines that are read as requests
-abbrev pub requests_of : List (Result DatedRequest WireFault) → List DatedRequest
+abbrev pub requests_of : List (Result DatedCommand WireFault) → List DatedCommand
 requests_of [] = []
 requests_of (Ok d ∷ lines) = d ∷ requests_of lines
 requests_of (Err fault ∷ lines) = requests_of lines
 
--- the commands of a stream
+-- the requests of a stream
+abbrev pub requests_in : List ℕ → List DatedCommand
+requests_in stream = requests_of (map line_request (lines_of stream))
+
+-- an account is opened with one bucket, from the beginning and without end
+abbrev pub opened_with : ℕ → List ℕ → List DatedCommand
+opened_with amount account =
+    record { moment = 0; command = OpenAccount account }
+    ∷ record { moment = 0; command = Credit (record { account = account; amount = amount; from = None; until = None; scope = None; reference = codes "once" }) }
+    ∷ []
+
+-- the account that a request names
+abbrev pub opened_before : ℕ → Command → List DatedCommand
+opened_before amount (Ccr r) = opened_with amount r.account
+opened_before amount command = []
+
+-- what opens the account of the first request, where an amount for it is handed in
+abbrev pub opening_for : Option ℕ → List DatedCommand → List DatedCommand
+opening_for None requests = []
+opening_for (Some amount) [] = []
+opening_for (Some amount) (d ∷ ds) = opened_before amount d.command
+
+abbrev pub opening_in : Option ℕ → List ℕ → List DatedCommand
+opening_in amount stream = opening_for amount (requests_in stream)
+
+-- the commands of a stream: its requests, behind what opens the first one's account
 abbrev pub commands_of : Option ℕ → List ℕ → List DatedCommand
-commands_of opening stream = with_opening opening (requests_of (map line_request (lines_of stream)))
+commands_of amount stream = opening_in amount stream ++ requests_in stream
 
 -- ---- texts
 
-abbrev pub fault_of : Result DatedRequest WireFault → Option WireFault
+abbrev pub fault_of : Result DatedCommand WireFault → Option WireFault
 fault_of (Ok d) = None
 fault_of (Err fault) = Some fault
+
+-- the fault of each line of a stream
+abbrev pub faults_in : List ℕ → List (Option WireFault)
+faults_in stream = map fault_of (map line_request (lines_of stream))
 
 -- each line is told its fault, or the next answer, with a line feed after it, up to a request that has no answer
 abbrev pub texts_of : List (Option WireFault) → List Answer → List ℕ
@@ -62,10 +71,17 @@ texts_of (Some fault ∷ lines) answers = fault_text fault ++ 10 ∷ texts_of li
 texts_of (None ∷ lines) [] = []
 texts_of (None ∷ lines) (a ∷ answers) = answer_text a ++ 10 ∷ texts_of lines answers
 
--- the text of a stream, after a list of accepted commands: the opening's answers aren't written
+-- the text of a stream with these answers to its commands: those of the opening aren't written
+abbrev pub told_text : Option ℕ → List ℕ → List Answer → List ℕ
+told_text amount stream answers = texts_of (faults_in stream) (drop (length (opening_in amount stream)) answers)
+
+-- the text of a stream, after a list of accepted commands
 abbrev pub text_of : Book → List Accepted → Option ℕ → List ℕ → List ℕ
-text_of b list opening stream =
-    texts_of (map fault_of (map line_request (lines_of stream))) (drop (opening_count opening) (answers_to b list (commands_of opening stream)))
+text_of b list amount stream = told_text amount stream (answers_to b list (commands_of amount stream))
+
+-- as far as so many commands are answered
+abbrev pub text_to : ℕ → Book → List Accepted → Option ℕ → List ℕ → List ℕ
+text_to count b list amount stream = told_text amount stream (answers_to b list (take count (commands_of amount stream)))
 
 -- the text of a stream, before any command: the first request's account is opened with this amount
 abbrev pub once_text : Book → ℕ → List ℕ → List ℕ
@@ -73,15 +89,39 @@ once_text b credit stream = text_of b [] (Some credit) stream
 
 -- ---- a run
 
+-- this is so of every list of accepted commands whose tables these are
+abbrev pub ForEachList : Book → Tables → (List Accepted → Type 0) → Type 0
+ForEachList b tables says = (list : List Accepted) → IsInTime list → AreTables b list tables → says list
+
+-- some commands came to the list, in time, and these are its tables then
+pub record IsContinued (b : Book) (content : Tables) (list : List Accepted) : Type 0 where
+  pub commands : List DatedCommand
+  pub tables : AreTables b (after_commands b list commands) content
+  pub time : IsInTime (after_commands b list commands)
+
 -- all is written, and the tables are those of all commands
-pub record IsAnswered (b : Book) (list : List Accepted) (opening : Option ℕ) (stream : List ℕ) (old new : Option (List ℕ)) (content : Tables) : Type 0 where
+pub record IsAnswered (b : Book) (opening : Option ℕ) (stream : List ℕ) (old new : Option (List ℕ)) (content : Tables) (list : List Accepted) : Type 0 where
   pub written : Appends old new (text_of b list opening stream)
   pub tables : AreTables b (after_commands b list (commands_of opening stream)) content
 
--- a beginning of the text is written, and the tables are those of a beginning of the commands; what is answered is in
--- them
-pub record IsBegun (b : Book) (list : List Accepted) (opening : Option ℕ) (stream : List ℕ) (old new : Option (List ℕ)) (content : Tables) : Type 0 where
-  pub written : WritesBeginning old new (text_of b list opening stream)
+-- the tables are those of a beginning of the commands, and the text is written as far as these are answered
+pub record IsStopped (b : Book) (opening : Option ℕ) (stream : List ℕ) (old new : Option (List ℕ)) (content : Tables) (list : List Accepted) : Type 0 where
   pub count : ℕ
   pub tables : AreTables b (after_commands b list (take count (commands_of opening stream))) content
-  pub told : WritesBeginning old new (texts_of (map fault_of (map line_request (lines_of stream))) (drop (opening_count opening) (answers_to b list (take count (commands_of opening stream)))))
+  pub written : Appends old new (text_to count b list opening stream)
+
+-- or a beginning of that text
+pub record IsBegun (b : Book) (opening : Option ℕ) (stream : List ℕ) (old new : Option (List ℕ)) (content : Tables) (list : List Accepted) : Type 0 where
+  pub count : ℕ
+  pub tables : AreTables b (after_commands b list (take count (commands_of opening stream))) content
+  pub written : WritesBeginning old new (text_to count b list opening stream)
+
+-- ---- what opens an account, and then requests
+
+-- so many of the commands are run, all where there is no fault; the answers are those to the requests among them
+pub record IsRunOpened {F : Type 0} (b : Book) (opening requests : List DatedCommand) (content : Tables) (given : List Answer) (fault : Option F) (list : List Accepted) : Type 0 where
+  pub count : ℕ
+  pub tables : AreTables b (after_commands b list (take count (opening ++ requests))) content
+  pub time : IsInTime (after_commands b list (take count (opening ++ requests)))
+  pub answers : given ≡ drop (length opening) (answers_to b list (take count (opening ++ requests)))
+  pub whole : IfNone fault (take count (opening ++ requests) ≡ opening ++ requests)

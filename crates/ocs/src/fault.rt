@@ -3,42 +3,27 @@ use keepers::StoreFault;
 use std::alloc::AllocError;
 use thiserror::Error;
 
-/// Why lines weren't answered to their end.
+/// Why lines weren't answered to their end: how far it came, and what failed there.
 #[derive(Clone, Copy, Debug, Drop, Error, PartialEq, Eq)]
 pub enum LinesFault {
-    /// A growth was refused.
-    #[error("memory fault")]
-    Memory,
-    /// The lines weren't read, or an answer wasn't written.
-    #[error("file fault")]
-    File,
-    /// The keeper didn't do what it was asked.
+    /// The lines weren't read: nothing is accepted, and nothing is written.
+    #[error("the lines were not read: {0}")]
+    Read(StreamFault),
+    /// The keeper didn't do what it was asked: the answers before that are written.
     #[error("store fault {}", .0.number())]
     Store(StoreFault),
+    /// The answers weren't written to their end.
+    #[error("the answers were not written: {0}")]
+    Write(StreamFault),
 }
 
 impl From<AllocError> for LinesFault {
     ghost use Rattle.std.specs.Prelude.{◌≡◌};
-    ghost use Rattle.ocs.specs.declared.fault.LinesFault.TheVariants.{Memory};
+    ghost use Rattle.ocs.specs.Faults.{before_reading};
 
-    ghost from_gives = { λ _ e. e ≡ Memory };
+    ghost from_gives = { λ _ e. e ≡ before_reading };
 
     fn from(_error: AllocError) -> LinesFault {
-        LinesFault::Memory
-    }
-}
-
-impl From<StreamFault> for LinesFault {
-    ghost use Rattle.std.specs.Prelude.{◌≡◌};
-    ghost use Rattle.ocs.specs.Faults.{stream_fault};
-
-    ghost from_gives = { λ fault e. e ≡ stream_fault fault };
-
-    fn from(fault: StreamFault) -> LinesFault {
-        match fault {
-            StreamFault::Memory => LinesFault::Memory,
-            StreamFault::Read => LinesFault::File,
-            StreamFault::Write => LinesFault::File,
-        }
+        LinesFault::Read(StreamFault::Memory)
     }
 }

@@ -1,44 +1,68 @@
-ghost use Rattle.std.specs.Prelude.{◌≡◌, ◌≢◌, ℕ, Option, ◌++◌, ◌∷◌, [], codes, map, List, Result, Ok, Some, OnOk, IfOk, IfSome};
+ghost use Rattle.std.specs.Prelude.{◌≡◌, ◌≢◌, ◌++◌, ◌∷◌, [], map, List, Result, Some, None, OnOk, OnErr, IfOk, IfSome};
+ghost use Rattle.byte_streams.specs.Lines.{lines_of};
+ghost use Rattle.charging.specs.declared.running.DatedCommand.{DatedCommand};
 ghost use Rattle.json_fields.specs.declared.fault.WireFault.{WireFault};
 ghost use Rattle.json_fields.specs.declared.fault.WireFault.TheVariants.{Memory};
-ghost use Rattle.ocs.specs.declared.reading.DatedRequest.{DatedRequest};
-ghost use Rattle.ocs.specs.Lines.{lines_of, line_request};
-ghost use Rattle.ocs.specs.Served.{opening_for};
-ghost use Rattle.ocs.specs.Input.{IsInput};
+ghost use Rattle.ocs.specs.Lines.{line_request};
+ghost use Rattle.ocs.specs.Input.{IsInput, told_fault, wire_fault};
 
-use crate::reading::{DatedRequest, read_line};
+use crate::reading::read_line;
 use byte_streams::{StreamFault, next_line};
 use charging::DatedCommand;
-use commands::{Command, Credit};
-use identifiers::{AccountNumber, Reference};
+use commands::Avp;
 use std::alloc::{AllocError, Global};
 use std::io::Read;
-use units::{Moment, Money};
 use wire::WireFault;
 
-/// What the lines of a stream hand in.
+/// Why a line isn't a request.
+#[derive(Clone, Copy, Debug)]
+pub(crate) enum LineFault {
+    /// It has no moment, or its body isn't a JSON object.
+    NotRequest,
+    /// A member that has to be there isn't.
+    Missing(Avp),
+    /// A member has the wrong kind or value.
+    Invalid(Avp),
+}
+
+/// What a line is told.
+#[derive(Clone, Copy, Debug)]
+pub(crate) enum Line {
+    /// The answer to its request.
+    Request,
+    /// Its fault.
+    Fault(LineFault),
+}
+
+impl Line {
+    ghost use Rattle.std.specs.Prelude.{◌≡◌, is_some, not};
+    ghost use Rattle.ocs.specs.Input.{told_fault};
+
+    /// Whether it is told an answer.
+    pub(crate) fn is_request(self) -> bool
+        ensures { is_some (told_fault self) ≡ not result }
+    {
+        matches!(self, Line::Request)
+    }
+}
+
+/// The lines of a stream.
 #[derive(Drop)]
 pub(crate) struct Input {
-    /// What the first request's account is opened with.
-    pub(crate) opening: Option<Money>,
-    /// The requests as commands, behind what opens the first one's account.
-    pub(crate) commands: Vec<DatedCommand>,
-    /// The fault of each line; None where it was read as a request.
-    pub(crate) faults: Vec<Option<WireFault>>,
+    /// What each line is told.
+    pub(crate) lines: Vec<Line>,
+    /// The requests among them, in their order.
+    pub(crate) requests: Vec<DatedCommand>,
 }
 
 /// Reads all lines of a stream.
-pub(crate) fn read_input<R: Read>(
-    alloc: Global,
-    opening: Option<Money>,
-    reader: &mut R,
-) -> Result<Input, StreamFault>
-    ensures { IfOk result (λ input. IfSome (R.remaining reader.old) (λ stream. IsInput opening (map line_request (lines_of stream)) input)) }
+pub(crate) fn read_input<R: Read>(alloc: Global, reader: &mut R) -> Result<Input, StreamFault>
+    ensures { IfOk result (λ input. IfSome (R.remaining reader.old)
+        (λ stream. IsInput (map line_request (lines_of stream)) input)) }
 {
     let mut input = Input {
-        opening,
-        commands: Vec::new(alloc),
-        faults: Vec::new(alloc),
+        lines: Vec::new(alloc),
+        requests: Vec::new(alloc),
     };
     for _line in 0..u64::MAX {
         let Some(line) = next_line(alloc, reader)? else {
@@ -50,79 +74,60 @@ pub(crate) fn read_input<R: Read>(
 }
 
 impl Input {
-    fn add_line(&mut self, alloc: Global, line: &[u8]) -> Result<(), StreamFault>
-        ensures { OnOk result ((opening : Option ℕ) (lines : List (Result DatedRequest WireFault)) → IsInput opening lines self.old →
-            IsInput opening (lines ++ line_request line.now ∷ []) self.new) }
+    fn add_line(&mut self, alloc: Global, line: &[u8]) -> Result<(), AllocError>
+        ensures { OnOk result ((read : List (Result DatedCommand WireFault)) → IsInput read self.old →
+            IsInput (read ++ line_request line.now ∷ []) self.new) }
     {
         match read_line(alloc, line) {
-            Ok(dated) => self.add_request(alloc, dated),
-            Err(fault) => add_fault(&mut self.faults, fault),
+            Ok(request) => self.add_request(request),
+            Err(fault) => self.add_fault(fault),
         }
     }
 
-    /// Adds a request; before the first one its account is opened.
-    fn add_request(&mut self, alloc: Global, dated: DatedRequest) -> Result<(), StreamFault>
-        ensures { OnOk result ((opening : Option ℕ) (lines : List (Result DatedRequest WireFault)) → IsInput opening lines self.old →
-            IsInput opening (lines ++ Ok dated ∷ []) self.new) }
+    fn add_request(&mut self, request: DatedCommand) -> Result<(), AllocError>
+        ensures requests { OnOk result (self.new.requests.items ≡ self.old.requests.items ++ request ∷ []) }
+        ensures lines { OnOk result (map told_fault self.new.lines.items ≡ map told_fault self.old.lines.items ++ None ∷ []) }
     {
-        let DatedRequest { moment, request } = dated;
-        open_account(alloc, &mut self.commands, self.opening, &request.account)?;
-        let command = Command::Ccr(request);
-        self.commands.push(DatedCommand { moment, command })?;
-        self.faults.push(None)?;
+        self.requests.push(request)?;
+        self.lines.push(Line::Request)?;
+        Ok(())
+    }
+
+    fn add_fault(&mut self, fault: WireFault) -> Result<(), AllocError>
+        ensures requests { OnOk result (self.new.requests ≡ self.old.requests) }
+        ensures lines { OnOk result (map told_fault self.new.lines.items ≡ map told_fault self.old.lines.items ++ Some fault ∷ []) }
+        ensures own { OnOk result (fault ≢ Memory) }
+    {
+        let fault = line_fault(fault)?;
+        self.lines.push(Line::Fault(fault))?;
         Ok(())
     }
 }
 
-/// Adds the fault of a line. Want of memory is no line's fault.
-fn add_fault(faults: &mut Vec<Option<WireFault>>, fault: WireFault) -> Result<(), StreamFault>
-    ensures own { OnOk result (fault ≢ Memory) }
-    ensures added { OnOk result (faults.new.items ≡ faults.old.items ++ Some fault ∷ []) }
+/// The fault of a line; want of memory is none.
+fn line_fault(fault: WireFault) -> Result<LineFault, AllocError>
+    ensures own { IfOk result (λ own. wire_fault own ≡ fault) }
+    ensures memory { OnErr result (fault ≡ Memory) }
 {
     match fault {
-        WireFault::Memory => return Err(StreamFault::Memory),
-        _ => faults.push(Some(fault))?,
+        WireFault::NotRequest => Ok(LineFault::NotRequest),
+        WireFault::Missing(avp) => Ok(LineFault::Missing(avp)),
+        WireFault::Invalid(avp) => Ok(LineFault::Invalid(avp)),
+        WireFault::Memory => Err(AllocError),
     }
-    Ok(())
 }
 
-/// Adds what opens an account with this amount, where there is one, to no commands.
-fn open_account(
-    alloc: Global,
-    commands: &mut Vec<DatedCommand>,
-    opening: Option<Money>,
-    account: &AccountNumber,
-) -> Result<(), StreamFault>
-    ensures first { OnOk result (commands.old.items ≡ [] → commands.new.items ≡ opening_for opening account.now) }
-    ensures later { OnOk result (commands.old.items ≢ [] → commands.new.items ≡ commands.old.items) }
-{
-    let Some(amount) = opening else {
-        return Ok(());
-    };
-    if !commands.is_empty() {
-        return Ok(());
-    }
-    let moment = Moment::first();
-    let command = Command::OpenAccount(account.clone()?);
-    commands.push(DatedCommand { moment, command })?;
-    let command = Command::Credit(Credit {
-        account: account.clone()?,
-        amount,
-        from: None,
-        until: None,
-        scope: None,
-        reference: opening_reference(alloc)?,
-    });
-    commands.push(DatedCommand { moment, command })?;
-    Ok(())
-}
+impl From<LineFault> for WireFault {
+    ghost use Rattle.std.specs.Prelude.{◌≡◌};
+    ghost use Rattle.ocs.specs.Input.{wire_fault};
 
-/// The reference of the credit that an account is opened with.
-fn opening_reference(alloc: Global) -> Result<Reference, AllocError>
-    ensures { IfOk result (λ r. r ≡ codes "once") }
-{
-    let Some(reference) = Reference::new(alloc, "once")? else {
-        unreachable!()
-    };
-    Ok(reference)
+    ghost from_gives = { λ fault e. e ≡ wire_fault fault };
+
+    fn from(fault: LineFault) -> WireFault {
+        match fault {
+            LineFault::NotRequest => WireFault::NotRequest,
+            LineFault::Missing(avp) => WireFault::Missing(avp),
+            LineFault::Invalid(avp) => WireFault::Invalid(avp),
+        }
+    }
 }

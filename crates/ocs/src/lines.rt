@@ -1,23 +1,21 @@
-ghost use Rattle.std.specs.Prelude.{◌≡◌, ◌≤◌, ◌+◌, List, Err, min, OnOk, OnErr, IfSome};
-ghost use Rattle.keepers.specs.Accepted.{Accepted, IsInTime};
+ghost use Rattle.std.specs.Prelude.{◌≡◌, ◌≤◌, ◌+◌, ◌++◌, Err, Some, min, OnOk, OnErr, IfSome};
+ghost use Rattle.byte_streams.specs.declared.StreamFault.{StreamFault};
 ghost use Rattle.keepers.specs.Faults.{max_failures};
+ghost use Rattle.keepers.specs.declared.fault.StoreFault.{StoreFault};
 ghost use Rattle.keepers.specs.declared.fault.StoreFault.TheVariants.{Store as StoreFailed};
-ghost use Rattle.charging.specs.Served.{AreTables};
-ghost use Rattle.ocs.specs.declared.fault.LinesFault.TheVariants.{Store};
-ghost use Rattle.ocs.specs.Served.{IsAnswered, IsBegun};
+ghost use Rattle.ocs.specs.declared.fault.LinesFault.TheVariants.{Read, Store};
+ghost use Rattle.ocs.specs.Served.{ForEachList, IsContinued, IsAnswered, IsStopped, IsBegun, IsRunOpened};
 
 use crate::fault::LinesFault;
 use crate::input::{Input, read_input};
+use crate::opening::open_first;
 use crate::output::write_output;
-use charging::{Run, run};
+use charging::{DatedCommand, Run, run};
 use keepers::Keeper;
 use std::alloc::Global;
 use std::io::{Read, Write};
 use tariffs::TariffBook;
 use units::Money;
-
-/// How many answers are those to the commands that open an account.
-const OPENING_ANSWERS: usize = 2;
 
 /// Answers lines `MOMENT JSON` of requests for credit control, a line each. All lines are read first; then the
 /// requests are run, and what each line is told is written: a request's answer, or the fault of a line that isn't read
@@ -26,8 +24,9 @@ const OPENING_ANSWERS: usize = 2;
 /// and 6).
 ///
 /// # Errors
-/// Want of memory, a fault of the reader or the writer, or the keeper's fault. Then a beginning of the answers is
-/// written, and a beginning of the requests is accepted: none where the lines weren't read.
+/// `Read` where memory ran out before the requests were run, or the reader failed: then nothing has changed. `Store`
+/// where the keeper failed: a beginning of the requests is accepted, and the answers before that are written. `Write`
+/// where memory ran out for an answer's text, or the writer failed: then a beginning of the answers is written.
 pub fn lines<K: Keeper, R: Read, W: Write>(
     alloc: Global,
     keeper: &mut K,
@@ -37,32 +36,57 @@ pub fn lines<K: Keeper, R: Read, W: Write>(
     writer: &mut W,
 ) -> Result<(), LinesFault>
     ensures answered { K.clean keeper.new → OnOk result (IfSome (R.remaining reader.old) (λ stream.
-        (list : List Accepted) → IsInTime list → AreTables book.now list (K.content keeper.old) →
-        IsAnswered book.now list opening stream (W.contents writer.old) (W.contents writer.new) (K.content keeper.new))) }
+        ForEachList book.now (K.content keeper.old)
+        (IsAnswered book.now opening stream (W.contents writer.old) (W.contents writer.new) (K.content keeper.new)))) }
     ensures begun { K.clean keeper.new → OnErr result (IfSome (R.remaining reader.old) (λ stream.
-        (list : List Accepted) → IsInTime list → AreTables book.now list (K.content keeper.old) →
-        IsBegun book.now list opening stream (W.contents writer.old) (W.contents writer.new) (K.content keeper.new))) }
+        ForEachList book.now (K.content keeper.old)
+        (IsBegun book.now opening stream (W.contents writer.old) (W.contents writer.new) (K.content keeper.new)))) }
+    ensures stopped { (fault : StoreFault) → result ≡ Err (Store fault) →
+        K.clean keeper.new → IfSome (R.remaining reader.old) (λ stream. ForEachList book.now (K.content keeper.old)
+        (IsStopped book.now opening stream (W.contents writer.old) (W.contents writer.new) (K.content keeper.new))) }
+    ensures unread { (fault : StreamFault) → result ≡ Err (Read fault) → keeper.new ≡ keeper.old }
+    ensures unwritten { (fault : StreamFault) → result ≡ Err (Read fault) → writer.new ≡ writer.old }
+    ensures continued { K.clean keeper.new →
+        ForEachList book.now (K.content keeper.old) (IsContinued book.now (K.content keeper.new)) }
     ensures cleanness { K.clean keeper.new → K.clean keeper.old }
     ensures failures { K.failed keeper.old ≤ K.failed keeper.new }
     ensures cause { result ≡ Err (Store StoreFailed) → min (K.failed keeper.old + 1) max_failures ≤ K.failed keeper.new }
 {
-    let first = if opening.is_some() {
-        OPENING_ANSWERS
-    } else {
-        0
+    let Input { lines, requests } = match read_input(alloc, reader) {
+        Ok(input) => input,
+        Err(fault) => return Err(LinesFault::Read(fault)),
     };
-    let input = read_input(alloc, opening, reader)?;
-    let Input {
-        opening: _,
-        commands,
-        faults,
-    } = input;
-    let Run { answers, fault } = run(alloc, keeper, book, commands);
-    let written = write_output(alloc, writer, &faults, &answers, first);
+    let opening = open_first(alloc, opening, &requests)?;
+    let Run { answers, fault } = run_opened(alloc, keeper, book, opening, requests);
+    if let Err(fault) = write_output(alloc, writer, &lines, &answers) {
+        return Err(LinesFault::Write(fault));
+    }
     match fault {
         Some(fault) => Err(LinesFault::Store(fault)),
-        None => Ok(written?),
+        None => Ok(()),
     }
+}
+
+/// Runs what opens an account, and then requests; the answers are those to the requests.
+fn run_opened<K: Keeper>(
+    alloc: Global,
+    keeper: &mut K,
+    book: &TariffBook,
+    opening: Vec<DatedCommand>,
+    requests: Vec<DatedCommand>,
+) -> Run
+    ensures runs { K.clean keeper.new → ForEachList book.now (K.content keeper.old)
+        (IsRunOpened book.now opening.items requests.items (K.content keeper.new) result.answers.items result.fault) }
+    ensures cleanness { K.clean keeper.new → K.clean keeper.old }
+    ensures failures { K.failed keeper.old ≤ K.failed keeper.new }
+    ensures cause { result.fault ≡ Some StoreFailed → min (K.failed keeper.old + 1) max_failures ≤ K.failed keeper.new }
+{
+    let Run { answers: _, fault } = run(alloc, keeper, book, opening);
+    if fault.is_some() {
+        let answers = Vec::new(alloc);
+        return Run { answers, fault };
+    }
+    run(alloc, keeper, book, requests)
 }
 
 #[cfg(test)]

@@ -1,34 +1,36 @@
-ghost use Rattle.std.specs.Prelude.{◌≡◌, ◌++◌, ◌∷◌, [], drop, option_map, string_bytes, OnOk, OnErr, IfOk};
+ghost use Rattle.std.specs.Prelude.{◌≡◌, ◌++◌, ◌∷◌, [], map, option_map, string_bytes, OnOk, OnErr, IfOk};
 ghost use Rattle.std.specs.Io.KnownBytes.{Appends};
 ghost use Rattle.ocs.specs.Served.{texts_of};
-ghost use Rattle.ocs.specs.Input.{line_text};
+ghost use Rattle.ocs.specs.Input.{told_fault};
+ghost use Rattle.ocs.specs.Output.{line_text};
 ghost use Rattle.ocs.specs.Written.{WritesBeginning};
 
+use crate::input::Line;
 use byte_streams::{StreamFault, write_whole};
 use commands::Answer;
 use std::alloc::{AllocError, Global};
 use std::io::Write;
-use wire::{WireFault, write_answer, write_fault};
+use wire::{write_answer, write_fault};
 
-/// Writes what each line is told, in its place: its fault, or the next answer, from this one on. It ends at the first
-/// request that has no answer.
+/// Writes what each line is told: its fault, or the next answer. It ends at the first request that has no answer.
 pub(crate) fn write_output<W: Write>(
     alloc: Global,
     writer: &mut W,
-    faults: &[Option<WireFault>],
+    lines: &[Line],
     answers: &[Answer],
-    first: usize,
 ) -> Result<(), StreamFault>
-    ensures written { OnOk result (Appends (W.contents writer.old) (W.contents writer.new) (texts_of faults.now (drop first answers.now))) }
-    ensures err { OnErr result (WritesBeginning (W.contents writer.old) (W.contents writer.new) (texts_of faults.now (drop first answers.now))) }
+    ensures written { OnOk result (Appends (W.contents writer.old) (W.contents writer.new)
+        (texts_of (map told_fault lines.now) answers.now)) }
+    ensures err { OnErr result (WritesBeginning (W.contents writer.old) (W.contents writer.new)
+        (texts_of (map told_fault lines.now) answers.now)) }
 {
-    let mut next = first;
-    for fault in faults {
-        let Some(text) = line_text(alloc, *fault, answers.get(next))? else {
+    let mut next = 0;
+    for line in lines {
+        let Some(text) = line_text(alloc, *line, answers.get(next))? else {
             return Ok(());
         };
         write_line(writer, text)?;
-        if fault.is_none() {
+        if line.is_request() {
             next += 1;
         }
     }
@@ -38,15 +40,15 @@ pub(crate) fn write_output<W: Write>(
 /// What a line is told: its fault, or the answer, where there is one.
 fn line_text(
     alloc: Global,
-    fault: Option<WireFault>,
+    line: Line,
     answer: Option<&Answer>,
 ) -> Result<Option<String>, AllocError>
-    ensures { IfOk result (λ text. option_map string_bytes text ≡ line_text fault (option_map (λ a. a.now) answer.entry)) }
+    ensures { IfOk result (λ text. option_map string_bytes text ≡ line_text (told_fault line) (option_map (λ a. a.now) answer.entry)) }
 {
-    match (fault, answer) {
-        (Some(fault), _) => Ok(Some(write_fault(alloc, fault)?)),
-        (None, Some(answer)) => Ok(Some(write_answer(alloc, answer)?)),
-        (None, None) => Ok(None),
+    match (line, answer) {
+        (Line::Fault(fault), _) => Ok(Some(write_fault(alloc, fault.into())?)),
+        (Line::Request, Some(answer)) => Ok(Some(write_answer(alloc, answer)?)),
+        (Line::Request, None) => Ok(None),
     }
 }
 

@@ -2,18 +2,11 @@ ghost use Rattle.std.specs.Prelude.{◌≡◌, option_map, IfSome};
 ghost use Rattle.json_fields.specs.Gives.{Gives};
 ghost use Rattle.ocs.specs.Lines.{line_moment, line_rest, line_request};
 
-use commands::Request;
+use charging::DatedCommand;
+use commands::Command;
 use operator::{DatedLine, dated_line};
 use std::alloc::Global;
-use units::Moment;
 use wire::{WireFault, read_request};
-
-/// A request, and the moment that it is handed in with.
-#[derive(Drop)]
-pub(crate) struct DatedRequest {
-    pub(crate) moment: Moment,
-    pub(crate) request: Request,
-}
 
 /// The moment and the body of a line; None where it isn't UTF-8, or isn't a moment, a space and a body.
 fn parted(line: &[u8]) -> Option<DatedLine<'_>>
@@ -26,16 +19,16 @@ fn parted(line: &[u8]) -> Option<DatedLine<'_>>
     dated_line(text)
 }
 
-/// The request of a line, or the first fault.
-pub(crate) fn read_line(alloc: Global, line: &[u8]) -> Result<DatedRequest, WireFault>
+/// The request of a line as a command, or the first fault.
+pub(crate) fn read_line(alloc: Global, line: &[u8]) -> Result<DatedCommand, WireFault>
     ensures { Gives (λ d. d) result (line_request line.now) }
 {
-    let Some(dated) = parted(line) else {
+    let Some(DatedLine { moment, body }) = parted(line) else {
         return Err(WireFault::NotRequest);
     };
-    let request = read_request(alloc, dated.body.as_bytes())?;
-    Ok(DatedRequest {
-        moment: dated.moment,
-        request,
+    let request = read_request(alloc, body.as_bytes())?;
+    Ok(DatedCommand {
+        moment,
+        command: Command::Ccr(request),
     })
 }

@@ -4,7 +4,7 @@ use std::test::Fail;
 
 const LINES: &[u8] = b"not a line\n";
 
-/// Other words write nothing.
+/// Other words write nothing but the usage.
 #[test]
 fn other_words(rt: HostRuntime) -> Result<(), Fail> {
     let alloc = rt.alloc();
@@ -14,7 +14,10 @@ fn other_words(rt: HostRuntime) -> Result<(), Fail> {
     let status = run_words(&rt, &["ocs", "twice"], &mut input, &mut output, &mut errors);
     assert_eq!(rt; status, 2);
     assert_eq!(rt; output.len(), 0);
-    assert_eq!(rt; errors.len(), 0);
+    assert_eq!(rt;
+        errors.as_slice(),
+        b"usage: ocs once --credit A --price P --block B\n".as_slice()
+    );
     Ok(())
 }
 

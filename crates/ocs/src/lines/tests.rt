@@ -1,96 +1,85 @@
 use super::*;
+use byte_streams::StreamFault;
 use identifiers::AccountNumber;
 use keepers::{Failing, MemoryKeeper, StoreFault};
 use one_price::once_book;
+use std::io::{self, ErrorKind};
 use std::test::Fail;
 use units::Moment;
 
-const ASKED: &[u8] =
-    b"1767607200 {\"Session-Id\":\"s3\",\"CC-Request-Type\":1,\"CC-Request-Number\":0,\"Subscription-Id\":{\"Subscription-Id-Type\":0,\"Subscription-Id-Data\":\"49151\"},\"Multiple-Services-Credit-Control\":[{\"Rating-Group\":10,\"Requested-Service-Unit\":{\"CC-Time\":600}}]}\n1767607500 {\"Session-Id\":\"s3\",\"CC-Request-Type\":3,\"CC-Request-Number\":1,\"Subscription-Id\":{\"Subscription-Id-Type\":0,\"Subscription-Id-Data\":\"49151\"},\"Multiple-Services-Credit-Control\":[{\"Rating-Group\":10,\"Used-Service-Unit\":[{\"CC-Time\":300}]}]}\n";
+// A scenario has the lines that are handed in (`> `), each with its answer below it (`< `). An indented line goes on
+// with the one above.
 
-const GRANTED: &[u8] =
-    b"{\"CC-Request-Number\":0,\"CC-Request-Type\":1,\"Multiple-Services-Credit-Control\":[{\"Final-Unit-Indication\":{\"Final-Unit-Action\":0},\"Granted-Service-Unit\":{\"CC-Time\":120},\"Rating-Group\":10,\"Result-Code\":2001,\"Validity-Time\":3600}],\"Result-Code\":2001,\"Session-Id\":\"s3\"}\n{\"CC-Request-Number\":1,\"CC-Request-Type\":3,\"Multiple-Services-Credit-Control\":[{\"Rating-Group\":10,\"Result-Code\":2001}],\"Result-Code\":2001,\"Session-Id\":\"s3\"}\n";
+/// The text of a scenario's lines and that of the answers that are wanted.
+struct Scenario {
+    lines: String,
+    answers: String,
+}
 
-const ENDED_AGAIN: &[u8] =
-    b"1767607200 {\"Session-Id\":\"s3\",\"CC-Request-Type\":1,\"CC-Request-Number\":0,\"Subscription-Id\":{\"Subscription-Id-Type\":0,\"Subscription-Id-Data\":\"49151\"},\"Multiple-Services-Credit-Control\":[{\"Rating-Group\":10,\"Requested-Service-Unit\":{\"CC-Time\":600}}]}\n1767607500 {\"Session-Id\":\"s3\",\"CC-Request-Type\":3,\"CC-Request-Number\":0,\"Subscription-Id\":{\"Subscription-Id-Type\":0,\"Subscription-Id-Data\":\"49151\"}}\n";
+fn read_scenario(alloc: Global, text: &str) -> Result<Scenario, Fail> {
+    let mut lines = String::new(alloc);
+    let mut answers = String::new(alloc);
+    let mut is_answer = false;
+    for line in text.lines() {
+        if let Some(start) = line.strip_prefix("> ") {
+            is_answer = false;
+            end_line(&mut lines)?;
+            lines.push_str(start)?;
+        } else if let Some(start) = line.strip_prefix("< ") {
+            is_answer = true;
+            end_line(&mut answers)?;
+            answers.push_str(start)?;
+        } else if is_answer {
+            answers.push_str(line.trim_start())?;
+        } else {
+            lines.push_str(line.trim_start())?;
+        }
+    }
+    end_line(&mut lines)?;
+    end_line(&mut answers)?;
+    Ok(Scenario { lines, answers })
+}
 
-const DENIED: &[u8] =
-    b"{\"CC-Request-Number\":0,\"CC-Request-Type\":1,\"Result-Code\":4012,\"Session-Id\":\"s3\"}\n{\"CC-Request-Number\":0,\"CC-Request-Type\":3,\"Failed-AVP\":\"CC-Request-Number\",\"Result-Code\":5004,\"Session-Id\":\"s3\"}\n";
+/// Ends the line that a text ends with, if there is one.
+fn end_line(text: &mut String) -> Result<(), Fail> {
+    if !text.is_empty() {
+        text.push('\n')?;
+    }
+    Ok(())
+}
 
-const UNKNOWN: &[u8] =
-    b"{\"CC-Request-Number\":0,\"CC-Request-Type\":1,\"Result-Code\":4012,\"Session-Id\":\"s3\"}\n{\"CC-Request-Number\":1,\"CC-Request-Type\":3,\"Result-Code\":5002,\"Session-Id\":\"s3\"}\n";
+/// What a scenario comes to: the answers that are written, those that are wanted, and the keeper.
+#[derive(Drop)]
+struct Played {
+    keeper: MemoryKeeper,
+    written: Vec<u8>,
+    wanted: String,
+}
 
-const REPEATED: &[u8] =
-    b"1767607200 {\"Session-Id\":\"s11\",\"CC-Request-Type\":1,\"CC-Request-Number\":0,\"Subscription-Id\":{\"Subscription-Id-Type\":0,\"Subscription-Id-Data\":\"49151\"},\"Multiple-Services-Credit-Control\":[{\"Rating-Group\":10,\"Requested-Service-Unit\":{\"CC-Time\":600}}]}\n1767607500 {\"Session-Id\":\"s11\",\"CC-Request-Type\":2,\"CC-Request-Number\":1,\"Subscription-Id\":{\"Subscription-Id-Type\":0,\"Subscription-Id-Data\":\"49151\"},\"Multiple-Services-Credit-Control\":[{\"Rating-Group\":10,\"Requested-Service-Unit\":{\"CC-Time\":60},\"Used-Service-Unit\":[{\"CC-Time\":60}]}]}\n1767607560 {\"Session-Id\":\"s11\",\"CC-Request-Type\":2,\"CC-Request-Number\":1,\"Subscription-Id\":{\"Subscription-Id-Type\":0,\"Subscription-Id-Data\":\"49151\"},\"Multiple-Services-Credit-Control\":[{\"Rating-Group\":10,\"Requested-Service-Unit\":{\"CC-Time\":60},\"Used-Service-Unit\":[{\"CC-Time\":60}]}]}\n1767607560 {\"Session-Id\":\"s11\",\"CC-Request-Type\":2,\"CC-Request-Number\":1,\"Subscription-Id\":{\"Subscription-Id-Type\":0,\"Subscription-Id-Data\":\"49151\"},\"Multiple-Services-Credit-Control\":[{\"Rating-Group\":10,\"Requested-Service-Unit\":{\"CC-Time\":60},\"Used-Service-Unit\":[{\"CC-Time\":61}]}]}\n";
-
-const ANSWERED_ALIKE: &[u8] =
-    b"{\"CC-Request-Number\":0,\"CC-Request-Type\":1,\"Multiple-Services-Credit-Control\":[{\"Granted-Service-Unit\":{\"CC-Time\":600},\"Rating-Group\":10,\"Result-Code\":2001,\"Validity-Time\":3600}],\"Result-Code\":2001,\"Session-Id\":\"s11\"}\n{\"CC-Request-Number\":1,\"CC-Request-Type\":2,\"Multiple-Services-Credit-Control\":[{\"Granted-Service-Unit\":{\"CC-Time\":60},\"Rating-Group\":10,\"Result-Code\":2001,\"Validity-Time\":3600}],\"Result-Code\":2001,\"Session-Id\":\"s11\"}\n{\"CC-Request-Number\":1,\"CC-Request-Type\":2,\"Multiple-Services-Credit-Control\":[{\"Granted-Service-Unit\":{\"CC-Time\":60},\"Rating-Group\":10,\"Result-Code\":2001,\"Validity-Time\":3600}],\"Result-Code\":2001,\"Session-Id\":\"s11\"}\n{\"CC-Request-Number\":1,\"CC-Request-Type\":2,\"Failed-AVP\":\"CC-Request-Number\",\"Result-Code\":5004,\"Session-Id\":\"s11\"}\n";
-
-const IN_TIME: &[u8] =
-    b"1767607200 {\"Session-Id\":\"s13\",\"CC-Request-Type\":1,\"CC-Request-Number\":0,\"Subscription-Id\":{\"Subscription-Id-Type\":0,\"Subscription-Id-Data\":\"49151\"},\"Multiple-Services-Credit-Control\":[{\"Rating-Group\":10,\"Requested-Service-Unit\":{\"CC-Time\":600}}]}\n1767614399 {\"Session-Id\":\"s13\",\"CC-Request-Type\":2,\"CC-Request-Number\":1,\"Subscription-Id\":{\"Subscription-Id-Type\":0,\"Subscription-Id-Data\":\"49151\"},\"Multiple-Services-Credit-Control\":[{\"Rating-Group\":10,\"Requested-Service-Unit\":{\"CC-Time\":600}}]}\n";
-
-const LIVE: &[u8] =
-    b"{\"CC-Request-Number\":0,\"CC-Request-Type\":1,\"Multiple-Services-Credit-Control\":[{\"Granted-Service-Unit\":{\"CC-Time\":600},\"Rating-Group\":10,\"Result-Code\":2001,\"Validity-Time\":3600}],\"Result-Code\":2001,\"Session-Id\":\"s13\"}\n{\"CC-Request-Number\":1,\"CC-Request-Type\":2,\"Multiple-Services-Credit-Control\":[{\"Granted-Service-Unit\":{\"CC-Time\":600},\"Rating-Group\":10,\"Result-Code\":2001,\"Validity-Time\":3600}],\"Result-Code\":2001,\"Session-Id\":\"s13\"}\n";
-
-const TOO_LATE: &[u8] =
-    b"1767607200 {\"Session-Id\":\"s13\",\"CC-Request-Type\":1,\"CC-Request-Number\":0,\"Subscription-Id\":{\"Subscription-Id-Type\":0,\"Subscription-Id-Data\":\"49151\"},\"Multiple-Services-Credit-Control\":[{\"Rating-Group\":10,\"Requested-Service-Unit\":{\"CC-Time\":600}}]}\n1767614400 {\"Session-Id\":\"s13\",\"CC-Request-Type\":2,\"CC-Request-Number\":1,\"Subscription-Id\":{\"Subscription-Id-Type\":0,\"Subscription-Id-Data\":\"49151\"},\"Multiple-Services-Credit-Control\":[{\"Rating-Group\":10,\"Requested-Service-Unit\":{\"CC-Time\":600}}]}\n";
-
-const OVER: &[u8] =
-    b"{\"CC-Request-Number\":0,\"CC-Request-Type\":1,\"Multiple-Services-Credit-Control\":[{\"Granted-Service-Unit\":{\"CC-Time\":600},\"Rating-Group\":10,\"Result-Code\":2001,\"Validity-Time\":3600}],\"Result-Code\":2001,\"Session-Id\":\"s13\"}\n{\"CC-Request-Number\":1,\"CC-Request-Type\":2,\"Result-Code\":5002,\"Session-Id\":\"s13\"}\n";
-
-const UNREAD: &[u8] = b"0 {}\n1 {\"Session-Id\":\"s\",\"CC-Request-Type\":4}\n{}\n";
-
-const REFUSED: &[u8] =
-    b"{\"Failed-AVP\":\"Session-Id\",\"Result-Code\":5005}\n{\"Failed-AVP\":\"CC-Request-Number\",\"Result-Code\":5005}\n{\"Result-Code\":5012}\n";
-
-const FAULTY: &[u8] = b"0 {}\n1 {\"Session-Id\":\"s\",\"CC-Request-Type\":5}\n2 []\n{}\n";
-
-const FAULTS: &[u8] =
-    b"{\"Failed-AVP\":\"Session-Id\",\"Result-Code\":5005}\n{\"Failed-AVP\":\"CC-Request-Type\",\"Result-Code\":5004}\n{\"Result-Code\":5012}\n{\"Result-Code\":5012}\n";
-
-const REFUNDS: &[u8] =
-    b"1767607200 {\"Session-Id\":\"r9\",\"CC-Request-Type\":4,\"CC-Request-Number\":0,\"Subscription-Id\":{\"Subscription-Id-Type\":0,\"Subscription-Id-Data\":\"49151\"},\"Requested-Action\":1,\"Requested-Service-Unit\":{\"CC-Money\":{\"Unit-Value\":{\"Value-Digits\":1,\"Exponent\":-6},\"Currency-Code\":978}}}\n1767607200 {\"Session-Id\":\"r9b\",\"CC-Request-Type\":4,\"CC-Request-Number\":0,\"Subscription-Id\":{\"Subscription-Id-Type\":0,\"Subscription-Id-Data\":\"49151\"},\"Requested-Action\":1,\"Requested-Service-Unit\":{\"CC-Money\":{\"Unit-Value\":{\"Value-Digits\":0,\"Exponent\":-6},\"Currency-Code\":978}}}\n";
-
-const REFUNDED: &[u8] =
-    b"{\"CC-Request-Number\":0,\"CC-Request-Type\":4,\"Result-Code\":2001,\"Session-Id\":\"r9\"}\n{\"Failed-AVP\":\"Value-Digits\",\"Result-Code\":5004}\n";
-
-const ENQUIRIES: &[u8] =
-    b"1767607200 {\"Session-Id\":\"c10\",\"CC-Request-Type\":4,\"CC-Request-Number\":0,\"Subscription-Id\":{\"Subscription-Id-Type\":0,\"Subscription-Id-Data\":\"49151\"},\"Requested-Action\":2,\"Multiple-Services-Credit-Control\":[{\"Rating-Group\":10,\"Requested-Service-Unit\":{\"CC-Time\":60}}]}\n1767607200 {\"Session-Id\":\"c10\",\"CC-Request-Type\":4,\"CC-Request-Number\":0,\"Subscription-Id\":{\"Subscription-Id-Type\":0,\"Subscription-Id-Data\":\"49151\"},\"Requested-Action\":2,\"Multiple-Services-Credit-Control\":[{\"Rating-Group\":10,\"Requested-Service-Unit\":{\"CC-Time\":61}}]}\n1767607200 {\"Session-Id\":\"p1\",\"CC-Request-Type\":4,\"CC-Request-Number\":0,\"Subscription-Id\":{\"Subscription-Id-Type\":0,\"Subscription-Id-Data\":\"49151\"},\"Requested-Action\":3,\"Multiple-Services-Credit-Control\":[{\"Rating-Group\":10,\"Requested-Service-Unit\":{\"CC-Time\":60}}]}\n";
-
-const TOLD: &[u8] =
-    b"{\"CC-Request-Number\":0,\"CC-Request-Type\":4,\"Check-Balance-Result\":0,\"Result-Code\":2001,\"Session-Id\":\"c10\"}\n{\"CC-Request-Number\":0,\"CC-Request-Type\":4,\"Check-Balance-Result\":1,\"Result-Code\":2001,\"Session-Id\":\"c10\"}\n{\"CC-Request-Number\":0,\"CC-Request-Type\":4,\"Cost-Information\":{\"Currency-Code\":978,\"Unit-Value\":{\"Exponent\":-6,\"Value-Digits\":100000}},\"Result-Code\":2001,\"Session-Id\":\"p1\"}\n";
-
-const DEBITS: &[u8] =
-    b"1767607200 {\"Session-Id\":\"d8\",\"CC-Request-Type\":4,\"CC-Request-Number\":0,\"Subscription-Id\":{\"Subscription-Id-Type\":0,\"Subscription-Id-Data\":\"49151\"},\"Requested-Action\":0,\"Multiple-Services-Credit-Control\":[{\"Rating-Group\":10,\"Requested-Service-Unit\":{\"CC-Time\":60}}]}\n1767607200 {\"Session-Id\":\"d8b\",\"CC-Request-Type\":4,\"CC-Request-Number\":0,\"Subscription-Id\":{\"Subscription-Id-Type\":0,\"Subscription-Id-Data\":\"49151\"},\"Requested-Action\":0,\"Multiple-Services-Credit-Control\":[{\"Rating-Group\":10,\"Requested-Service-Unit\":{\"CC-Time\":60}}]}\n";
-
-const DEBITED: &[u8] =
-    b"{\"CC-Request-Number\":0,\"CC-Request-Type\":4,\"Multiple-Services-Credit-Control\":[{\"Granted-Service-Unit\":{\"CC-Time\":60},\"Rating-Group\":10,\"Result-Code\":2001}],\"Result-Code\":2001,\"Session-Id\":\"d8\"}\n{\"CC-Request-Number\":0,\"CC-Request-Type\":4,\"Result-Code\":4012,\"Session-Id\":\"d8b\"}\n";
-
-const MIXED: &[u8] =
-    b"0 {}\n1767607200 {\"Session-Id\":\"d8\",\"CC-Request-Type\":4,\"CC-Request-Number\":0,\"Subscription-Id\":{\"Subscription-Id-Type\":0,\"Subscription-Id-Data\":\"49151\"},\"Requested-Action\":0,\"Multiple-Services-Credit-Control\":[{\"Rating-Group\":10,\"Requested-Service-Unit\":{\"CC-Time\":60}}]}\n[]\n";
-
-/// The calls of a keeper by which an account is opened and credited, and one debit is charged.
-const CALLS_OF_ONE_DEBIT: u64 = 11;
-
-const BEFORE_THE_FAULT: &[u8] =
-    b"{\"CC-Request-Number\":0,\"CC-Request-Type\":4,\"Multiple-Services-Credit-Control\":[{\"Granted-Service-Unit\":{\"CC-Time\":60},\"Rating-Group\":10,\"Result-Code\":2001}],\"Result-Code\":2001,\"Session-Id\":\"d8\"}\n";
-
-const WITHOUT_AN_ACCOUNT: &[u8] =
-    b"{\"Failed-AVP\":\"Session-Id\",\"Result-Code\":5005}\n{\"CC-Request-Number\":0,\"CC-Request-Type\":4,\"Result-Code\":5030,\"Session-Id\":\"d8\"}\n{\"Result-Code\":5012}\n";
-
-/// Answers the lines of an input, at 100,000 micro-units a minute; gives back the keeper.
-fn answer(
-    alloc: Global,
-    credit: u64,
-    input: &[u8],
-    output: &mut Vec<u8>,
-) -> Result<MemoryKeeper, Fail> {
+/// Answers a scenario's lines, at 100,000 micro-units a minute.
+fn play(alloc: Global, credit: u64, text: &str) -> Result<Played, Fail> {
     let book = once_book(alloc, 100_000, 60)?;
     let credit = Money::new(credit).ok_or("an amount")?;
-    let mut input = input;
+    let Scenario {
+        lines: asked,
+        answers: wanted,
+    } = read_scenario(alloc, text)?;
+    let mut input = asked.as_bytes();
     let mut keeper = MemoryKeeper::new(alloc);
-    lines(alloc, &mut keeper, &book, Some(credit), &mut input, output)?;
-    Ok(keeper)
+    let mut written = Vec::new(alloc);
+    lines(
+        alloc,
+        &mut keeper,
+        &book,
+        Some(credit),
+        &mut input,
+        &mut written,
+    )?;
+    Ok(Played {
+        keeper,
+        written,
+        wanted,
+    })
 }
 
 /// The last bucket of account 49151, with its number: credited, available, reserved, charged, expired. All are 0 where
@@ -116,148 +105,349 @@ fn last_bucket(alloc: Global, keeper: &mut MemoryKeeper) -> Result<[u64; 6], Fai
     Ok(seen)
 }
 
-/// A grant of two blocks of five used: two are collected.
+/// A grant of two blocks, of which five are used.
+const SESSION: &str = r#"> 1767607200 {"Session-Id":"s3","CC-Request-Type":1,"CC-Request-Number":0,
+  "Subscription-Id":{"Subscription-Id-Type":0,"Subscription-Id-Data":"49151"},
+  "Multiple-Services-Credit-Control":[{"Rating-Group":10,
+  "Requested-Service-Unit":{"CC-Time":600}}]}
+< {"CC-Request-Number":0,"CC-Request-Type":1,
+  "Multiple-Services-Credit-Control":[{"Final-Unit-Indication":{"Final-Unit-Action":0},
+  "Granted-Service-Unit":{"CC-Time":120},"Rating-Group":10,"Result-Code":2001,
+  "Validity-Time":3600}],"Result-Code":2001,"Session-Id":"s3"}
+> 1767607500 {"Session-Id":"s3","CC-Request-Type":3,"CC-Request-Number":1,
+  "Subscription-Id":{"Subscription-Id-Type":0,"Subscription-Id-Data":"49151"},
+  "Multiple-Services-Credit-Control":[{"Rating-Group":10,
+  "Used-Service-Unit":[{"CC-Time":300}]}]}
+< {"CC-Request-Number":1,"CC-Request-Type":3,
+  "Multiple-Services-Credit-Control":[{"Rating-Group":10,"Result-Code":2001}],
+  "Result-Code":2001,"Session-Id":"s3"}
+"#;
+
+/// Of five blocks that are used two are collected: they are all there is.
 #[test]
 fn a_session_from_line_to_line(rt: HostRuntime) -> Result<(), Fail> {
     let alloc = rt.alloc();
-    let mut output = Vec::new(alloc);
-    let mut keeper = answer(alloc, 250_000, ASKED, &mut output)?;
-    assert_eq!(rt; output.as_slice(), GRANTED);
-    let seen = last_bucket(alloc, &mut keeper)?;
+    let mut played = play(alloc, 250_000, SESSION)?;
+    assert_eq!(rt; played.written.as_slice(), played.wanted.as_bytes());
+    let seen = last_bucket(alloc, &mut played.keeper)?;
     assert_eq!(rt; seen, [1, 250_000, 0, 0, 250_000, 0]);
     Ok(())
 }
+
+/// An update, a repeat of it, and another content under its number.
+const REPEATS: &str = r#"> 1767607200 {"Session-Id":"s11","CC-Request-Type":1,"CC-Request-Number":0,
+  "Subscription-Id":{"Subscription-Id-Type":0,"Subscription-Id-Data":"49151"},
+  "Multiple-Services-Credit-Control":[{"Rating-Group":10,
+  "Requested-Service-Unit":{"CC-Time":600}}]}
+< {"CC-Request-Number":0,"CC-Request-Type":1,
+  "Multiple-Services-Credit-Control":[{"Granted-Service-Unit":{"CC-Time":600},"Rating-Group":10,
+  "Result-Code":2001,"Validity-Time":3600}],"Result-Code":2001,"Session-Id":"s11"}
+> 1767607500 {"Session-Id":"s11","CC-Request-Type":2,"CC-Request-Number":1,
+  "Subscription-Id":{"Subscription-Id-Type":0,"Subscription-Id-Data":"49151"},
+  "Multiple-Services-Credit-Control":[{"Rating-Group":10,
+  "Requested-Service-Unit":{"CC-Time":60},"Used-Service-Unit":[{"CC-Time":60}]}]}
+< {"CC-Request-Number":1,"CC-Request-Type":2,
+  "Multiple-Services-Credit-Control":[{"Granted-Service-Unit":{"CC-Time":60},"Rating-Group":10,
+  "Result-Code":2001,"Validity-Time":3600}],"Result-Code":2001,"Session-Id":"s11"}
+> 1767607560 {"Session-Id":"s11","CC-Request-Type":2,"CC-Request-Number":1,
+  "Subscription-Id":{"Subscription-Id-Type":0,"Subscription-Id-Data":"49151"},
+  "Multiple-Services-Credit-Control":[{"Rating-Group":10,
+  "Requested-Service-Unit":{"CC-Time":60},"Used-Service-Unit":[{"CC-Time":60}]}]}
+< {"CC-Request-Number":1,"CC-Request-Type":2,
+  "Multiple-Services-Credit-Control":[{"Granted-Service-Unit":{"CC-Time":60},"Rating-Group":10,
+  "Result-Code":2001,"Validity-Time":3600}],"Result-Code":2001,"Session-Id":"s11"}
+> 1767607560 {"Session-Id":"s11","CC-Request-Type":2,"CC-Request-Number":1,
+  "Subscription-Id":{"Subscription-Id-Type":0,"Subscription-Id-Data":"49151"},
+  "Multiple-Services-Credit-Control":[{"Rating-Group":10,
+  "Requested-Service-Unit":{"CC-Time":60},"Used-Service-Unit":[{"CC-Time":61}]}]}
+< {"CC-Request-Number":1,"CC-Request-Type":2,"Failed-AVP":"CC-Request-Number",
+  "Result-Code":5004,"Session-Id":"s11"}
+"#;
 
 /// A repeat has the first answer; another content under its number is refused.
 #[test]
 fn a_repeat_has_the_first_answer(rt: HostRuntime) -> Result<(), Fail> {
     let alloc = rt.alloc();
-    let mut output = Vec::new(alloc);
-    let mut keeper = answer(alloc, 1_000_000, REPEATED, &mut output)?;
-    assert_eq!(rt; output.as_slice(), ANSWERED_ALIKE);
-    let seen = last_bucket(alloc, &mut keeper)?;
+    let mut played = play(alloc, 1_000_000, REPEATS)?;
+    assert_eq!(rt; played.written.as_slice(), played.wanted.as_bytes());
+    let seen = last_bucket(alloc, &mut played.keeper)?;
     assert_eq!(rt; seen, [1, 1_000_000, 800_000, 100_000, 100_000, 0]);
     Ok(())
 }
+
+/// An update in the last second of a session.
+const IN_TIME: &str = r#"> 1767607200 {"Session-Id":"s13","CC-Request-Type":1,"CC-Request-Number":0,
+  "Subscription-Id":{"Subscription-Id-Type":0,"Subscription-Id-Data":"49151"},
+  "Multiple-Services-Credit-Control":[{"Rating-Group":10,
+  "Requested-Service-Unit":{"CC-Time":600}}]}
+< {"CC-Request-Number":0,"CC-Request-Type":1,
+  "Multiple-Services-Credit-Control":[{"Granted-Service-Unit":{"CC-Time":600},"Rating-Group":10,
+  "Result-Code":2001,"Validity-Time":3600}],"Result-Code":2001,"Session-Id":"s13"}
+> 1767614399 {"Session-Id":"s13","CC-Request-Type":2,"CC-Request-Number":1,
+  "Subscription-Id":{"Subscription-Id-Type":0,"Subscription-Id-Data":"49151"},
+  "Multiple-Services-Credit-Control":[{"Rating-Group":10,
+  "Requested-Service-Unit":{"CC-Time":600}}]}
+< {"CC-Request-Number":1,"CC-Request-Type":2,
+  "Multiple-Services-Credit-Control":[{"Granted-Service-Unit":{"CC-Time":600},"Rating-Group":10,
+  "Result-Code":2001,"Validity-Time":3600}],"Result-Code":2001,"Session-Id":"s13"}
+"#;
 
 /// A session is open until two validity times after its last accepted request.
 #[test]
 fn a_session_in_time(rt: HostRuntime) -> Result<(), Fail> {
     let alloc = rt.alloc();
-    let mut output = Vec::new(alloc);
-    let _keeper = answer(alloc, 1_000_000, IN_TIME, &mut output)?;
-    assert_eq!(rt; output.as_slice(), LIVE);
+    let played = play(alloc, 1_000_000, IN_TIME)?;
+    assert_eq!(rt; played.written.as_slice(), played.wanted.as_bytes());
     Ok(())
 }
+
+/// An update in the second after it.
+const TOO_LATE: &str =
+    r#"> 1767607200 {"Session-Id":"s13","CC-Request-Type":1,"CC-Request-Number":0,
+  "Subscription-Id":{"Subscription-Id-Type":0,"Subscription-Id-Data":"49151"},
+  "Multiple-Services-Credit-Control":[{"Rating-Group":10,
+  "Requested-Service-Unit":{"CC-Time":600}}]}
+< {"CC-Request-Number":0,"CC-Request-Type":1,
+  "Multiple-Services-Credit-Control":[{"Granted-Service-Unit":{"CC-Time":600},"Rating-Group":10,
+  "Result-Code":2001,"Validity-Time":3600}],"Result-Code":2001,"Session-Id":"s13"}
+> 1767614400 {"Session-Id":"s13","CC-Request-Type":2,"CC-Request-Number":1,
+  "Subscription-Id":{"Subscription-Id-Type":0,"Subscription-Id-Data":"49151"},
+  "Multiple-Services-Credit-Control":[{"Rating-Group":10,
+  "Requested-Service-Unit":{"CC-Time":600}}]}
+< {"CC-Request-Number":1,"CC-Request-Type":2,"Result-Code":5002,"Session-Id":"s13"}
+"#;
 
 /// Then it is unknown, and a sweep gives back what it held.
 #[test]
 fn a_session_that_ended_by_itself(rt: HostRuntime) -> Result<(), Fail> {
     let alloc = rt.alloc();
-    let book = once_book(alloc, 100_000, 60)?;
-    let mut output = Vec::new(alloc);
-    let mut keeper = answer(alloc, 1_000_000, TOO_LATE, &mut output)?;
-    assert_eq!(rt; output.as_slice(), OVER);
-    let seen = last_bucket(alloc, &mut keeper)?;
+    let mut played = play(alloc, 1_000_000, TOO_LATE)?;
+    assert_eq!(rt; played.written.as_slice(), played.wanted.as_bytes());
+    let seen = last_bucket(alloc, &mut played.keeper)?;
     assert_eq!(rt; seen, [1, 1_000_000, 0, 1_000_000, 0, 0]);
+    let book = once_book(alloc, 100_000, 60)?;
     let moment = Moment::of_command(1_767_614_400).ok_or("a moment")?;
-    let count = keeper.sweep(&book, moment)?;
+    let count = played.keeper.sweep(&book, moment)?;
     assert_eq!(rt; count, 1);
-    let seen = last_bucket(alloc, &mut keeper)?;
+    let seen = last_bucket(alloc, &mut played.keeper)?;
     assert_eq!(rt; seen, [1, 1_000_000, 1_000_000, 0, 0, 0]);
     Ok(())
 }
+
+/// Lines that lack a member, and one without a moment.
+const UNREAD: &str = r#"> 0 {}
+< {"Failed-AVP":"Session-Id","Result-Code":5005}
+> 1 {"Session-Id":"s","CC-Request-Type":4}
+< {"Failed-AVP":"CC-Request-Number","Result-Code":5005}
+> {}
+< {"Result-Code":5012}
+"#;
 
 /// An event is read by the table of fields; a line without a moment isn't read. None of them opens an account.
 #[test]
 fn lines_that_are_no_requests(rt: HostRuntime) -> Result<(), Fail> {
     let alloc = rt.alloc();
-    let mut output = Vec::new(alloc);
-    let mut keeper = answer(alloc, 1, UNREAD, &mut output)?;
-    assert_eq!(rt; output.as_slice(), REFUSED);
-    let seen = last_bucket(alloc, &mut keeper)?;
+    let mut played = play(alloc, 1, UNREAD)?;
+    assert_eq!(rt; played.written.as_slice(), played.wanted.as_bytes());
+    let seen = last_bucket(alloc, &mut played.keeper)?;
     assert_eq!(rt; seen, [0; 6]);
     Ok(())
 }
+
+/// A line of each fault.
+const FAULTY: &str = r#"> 0 {}
+< {"Failed-AVP":"Session-Id","Result-Code":5005}
+> 1 {"Session-Id":"s","CC-Request-Type":5}
+< {"Failed-AVP":"CC-Request-Type","Result-Code":5004}
+> 2 []
+< {"Result-Code":5012}
+> {}
+< {"Result-Code":5012}
+"#;
 
 /// Each fault is told in its line's place.
 #[test]
 fn faulty_lines(rt: HostRuntime) -> Result<(), Fail> {
     let alloc = rt.alloc();
-    let mut output = Vec::new(alloc);
-    let _keeper = answer(alloc, 1, FAULTY, &mut output)?;
-    assert_eq!(rt; output.as_slice(), FAULTS);
+    let played = play(alloc, 1, FAULTY)?;
+    assert_eq!(rt; played.written.as_slice(), played.wanted.as_bytes());
     Ok(())
 }
+
+/// An initial request that isn't granted, and a termination under its number.
+const DENIED_TWICE: &str =
+    r#"> 1767607200 {"Session-Id":"s3","CC-Request-Type":1,"CC-Request-Number":0,
+  "Subscription-Id":{"Subscription-Id-Type":0,"Subscription-Id-Data":"49151"},
+  "Multiple-Services-Credit-Control":[{"Rating-Group":10,
+  "Requested-Service-Unit":{"CC-Time":600}}]}
+< {"CC-Request-Number":0,"CC-Request-Type":1,"Result-Code":4012,"Session-Id":"s3"}
+> 1767607500 {"Session-Id":"s3","CC-Request-Type":3,"CC-Request-Number":0,
+  "Subscription-Id":{"Subscription-Id-Type":0,"Subscription-Id-Data":"49151"}}
+< {"CC-Request-Number":0,"CC-Request-Type":3,"Failed-AVP":"CC-Request-Number",
+  "Result-Code":5004,"Session-Id":"s3"}
+"#;
 
 /// An amount below a block's price grants nothing: the denied request's number is kept.
 #[test]
 fn a_denied_request_keeps_its_number(rt: HostRuntime) -> Result<(), Fail> {
     let alloc = rt.alloc();
-    let mut output = Vec::new(alloc);
-    let _keeper = answer(alloc, 40_000, ENDED_AGAIN, &mut output)?;
-    assert_eq!(rt; output.as_slice(), DENIED);
+    let played = play(alloc, 40_000, DENIED_TWICE)?;
+    assert_eq!(rt; played.written.as_slice(), played.wanted.as_bytes());
     Ok(())
 }
+
+/// An initial request that isn't granted, and a termination under the next number.
+const DENIED_AND_ENDED: &str =
+    r#"> 1767607200 {"Session-Id":"s3","CC-Request-Type":1,"CC-Request-Number":0,
+  "Subscription-Id":{"Subscription-Id-Type":0,"Subscription-Id-Data":"49151"},
+  "Multiple-Services-Credit-Control":[{"Rating-Group":10,
+  "Requested-Service-Unit":{"CC-Time":600}}]}
+< {"CC-Request-Number":0,"CC-Request-Type":1,"Result-Code":4012,"Session-Id":"s3"}
+> 1767607500 {"Session-Id":"s3","CC-Request-Type":3,"CC-Request-Number":1,
+  "Subscription-Id":{"Subscription-Id-Type":0,"Subscription-Id-Data":"49151"},
+  "Multiple-Services-Credit-Control":[{"Rating-Group":10,
+  "Used-Service-Unit":[{"CC-Time":300}]}]}
+< {"CC-Request-Number":1,"CC-Request-Type":3,"Result-Code":5002,"Session-Id":"s3"}
+"#;
 
 /// And it opens no session.
 #[test]
 fn a_denied_request_opens_no_session(rt: HostRuntime) -> Result<(), Fail> {
     let alloc = rt.alloc();
-    let mut output = Vec::new(alloc);
-    let _keeper = answer(alloc, 40_000, ASKED, &mut output)?;
-    assert_eq!(rt; output.as_slice(), UNKNOWN);
+    let played = play(alloc, 40_000, DENIED_AND_ENDED)?;
+    assert_eq!(rt; played.written.as_slice(), played.wanted.as_bytes());
     Ok(())
 }
+
+/// A refund of one micro-unit, and one of nothing.
+const REFUNDS: &str = r#"> 1767607200 {"Session-Id":"r9","CC-Request-Type":4,"CC-Request-Number":0,
+  "Subscription-Id":{"Subscription-Id-Type":0,"Subscription-Id-Data":"49151"},
+  "Requested-Action":1,"Requested-Service-Unit":{"CC-Money":{"Unit-Value":{"Value-Digits":1,
+  "Exponent":-6},"Currency-Code":978}}}
+< {"CC-Request-Number":0,"CC-Request-Type":4,"Result-Code":2001,"Session-Id":"r9"}
+> 1767607200 {"Session-Id":"r9b","CC-Request-Type":4,"CC-Request-Number":0,
+  "Subscription-Id":{"Subscription-Id-Type":0,"Subscription-Id-Data":"49151"},
+  "Requested-Action":1,"Requested-Service-Unit":{"CC-Money":{"Unit-Value":{"Value-Digits":0,
+  "Exponent":-6},"Currency-Code":978}}}
+< {"Failed-AVP":"Value-Digits","Result-Code":5004}
+"#;
 
 /// A refund makes a new bucket; one of nothing isn't read.
 #[test]
 fn refunds(rt: HostRuntime) -> Result<(), Fail> {
     let alloc = rt.alloc();
-    let mut output = Vec::new(alloc);
-    let mut keeper = answer(alloc, 1_000_000, REFUNDS, &mut output)?;
-    assert_eq!(rt; output.as_slice(), REFUNDED);
-    let seen = last_bucket(alloc, &mut keeper)?;
+    let mut played = play(alloc, 1_000_000, REFUNDS)?;
+    assert_eq!(rt; played.written.as_slice(), played.wanted.as_bytes());
+    let seen = last_bucket(alloc, &mut played.keeper)?;
     assert_eq!(rt; seen, [2, 1, 1, 0, 0, 0]);
     Ok(())
 }
+
+/// Two checks of a balance and a price enquiry.
+const ENQUIRIES: &str =
+    r#"> 1767607200 {"Session-Id":"c10","CC-Request-Type":4,"CC-Request-Number":0,
+  "Subscription-Id":{"Subscription-Id-Type":0,"Subscription-Id-Data":"49151"},
+  "Requested-Action":2,"Multiple-Services-Credit-Control":[{"Rating-Group":10,
+  "Requested-Service-Unit":{"CC-Time":60}}]}
+< {"CC-Request-Number":0,"CC-Request-Type":4,"Check-Balance-Result":0,"Result-Code":2001,
+  "Session-Id":"c10"}
+> 1767607200 {"Session-Id":"c10","CC-Request-Type":4,"CC-Request-Number":0,
+  "Subscription-Id":{"Subscription-Id-Type":0,"Subscription-Id-Data":"49151"},
+  "Requested-Action":2,"Multiple-Services-Credit-Control":[{"Rating-Group":10,
+  "Requested-Service-Unit":{"CC-Time":61}}]}
+< {"CC-Request-Number":0,"CC-Request-Type":4,"Check-Balance-Result":1,"Result-Code":2001,
+  "Session-Id":"c10"}
+> 1767607200 {"Session-Id":"p1","CC-Request-Type":4,"CC-Request-Number":0,
+  "Subscription-Id":{"Subscription-Id-Type":0,"Subscription-Id-Data":"49151"},
+  "Requested-Action":3,"Multiple-Services-Credit-Control":[{"Rating-Group":10,
+  "Requested-Service-Unit":{"CC-Time":60}}]}
+< {"CC-Request-Number":0,"CC-Request-Type":4,"Cost-Information":{"Currency-Code":978,
+  "Unit-Value":{"Exponent":-6,"Value-Digits":100000}},"Result-Code":2001,"Session-Id":"p1"}
+"#;
 
 /// A check and an enquiry are answered anew each time, and change nothing.
 #[test]
 fn checks_and_enquiries(rt: HostRuntime) -> Result<(), Fail> {
     let alloc = rt.alloc();
-    let mut output = Vec::new(alloc);
-    let mut keeper = answer(alloc, 100_000, ENQUIRIES, &mut output)?;
-    assert_eq!(rt; output.as_slice(), TOLD);
-    let seen = last_bucket(alloc, &mut keeper)?;
+    let mut played = play(alloc, 100_000, ENQUIRIES)?;
+    assert_eq!(rt; played.written.as_slice(), played.wanted.as_bytes());
+    let seen = last_bucket(alloc, &mut played.keeper)?;
     assert_eq!(rt; seen, [1, 100_000, 100_000, 0, 0, 0]);
     Ok(())
 }
+
+/// Two debits, of which one is covered.
+const DEBITS: &str = r#"> 1767607200 {"Session-Id":"d8","CC-Request-Type":4,"CC-Request-Number":0,
+  "Subscription-Id":{"Subscription-Id-Type":0,"Subscription-Id-Data":"49151"},
+  "Requested-Action":0,"Multiple-Services-Credit-Control":[{"Rating-Group":10,
+  "Requested-Service-Unit":{"CC-Time":60}}]}
+< {"CC-Request-Number":0,"CC-Request-Type":4,
+  "Multiple-Services-Credit-Control":[{"Granted-Service-Unit":{"CC-Time":60},"Rating-Group":10,
+  "Result-Code":2001}],"Result-Code":2001,"Session-Id":"d8"}
+> 1767607200 {"Session-Id":"d8b","CC-Request-Type":4,"CC-Request-Number":0,
+  "Subscription-Id":{"Subscription-Id-Type":0,"Subscription-Id-Data":"49151"},
+  "Requested-Action":0,"Multiple-Services-Credit-Control":[{"Rating-Group":10,
+  "Requested-Service-Unit":{"CC-Time":60}}]}
+< {"CC-Request-Number":0,"CC-Request-Type":4,"Result-Code":4012,"Session-Id":"d8b"}
+"#;
 
 /// A debit takes the price at once; one that isn't covered takes nothing.
 #[test]
 fn debits(rt: HostRuntime) -> Result<(), Fail> {
     let alloc = rt.alloc();
-    let mut output = Vec::new(alloc);
-    let mut keeper = answer(alloc, 100_000, DEBITS, &mut output)?;
-    assert_eq!(rt; output.as_slice(), DEBITED);
-    let seen = last_bucket(alloc, &mut keeper)?;
+    let mut played = play(alloc, 100_000, DEBITS)?;
+    assert_eq!(rt; played.written.as_slice(), played.wanted.as_bytes());
+    let seen = last_bucket(alloc, &mut played.keeper)?;
     assert_eq!(rt; seen, [1, 100_000, 0, 0, 100_000, 0]);
     Ok(())
 }
+
+/// A debit between two lines that aren't requests, with no account.
+const WITHOUT_AN_ACCOUNT: &str = r#"> 0 {}
+< {"Failed-AVP":"Session-Id","Result-Code":5005}
+> 1767607200 {"Session-Id":"d8","CC-Request-Type":4,"CC-Request-Number":0,
+  "Subscription-Id":{"Subscription-Id-Type":0,"Subscription-Id-Data":"49151"},
+  "Requested-Action":0,"Multiple-Services-Credit-Control":[{"Rating-Group":10,
+  "Requested-Service-Unit":{"CC-Time":60}}]}
+< {"CC-Request-Number":0,"CC-Request-Type":4,"Result-Code":5030,"Session-Id":"d8"}
+> []
+< {"Result-Code":5012}
+"#;
 
 /// Without an opening amount no account is opened.
 #[test]
 fn no_opening(rt: HostRuntime) -> Result<(), Fail> {
     let alloc = rt.alloc();
     let book = once_book(alloc, 100_000, 60)?;
-    let mut input = MIXED;
-    let mut output = Vec::new(alloc);
+    let Scenario {
+        lines: asked,
+        answers: wanted,
+    } = read_scenario(alloc, WITHOUT_AN_ACCOUNT)?;
+    let mut input = asked.as_bytes();
+    let mut written = Vec::new(alloc);
     let mut keeper = MemoryKeeper::new(alloc);
-    lines(alloc, &mut keeper, &book, None, &mut input, &mut output)?;
-    assert_eq!(rt; output.as_slice(), WITHOUT_AN_ACCOUNT);
+    lines(alloc, &mut keeper, &book, None, &mut input, &mut written)?;
+    assert_eq!(rt; written.as_slice(), wanted.as_bytes());
     Ok(())
 }
+
+/// The calls of a keeper by which an account is opened and credited, and one debit is charged.
+const CALLS_OF_ONE_DEBIT: u64 = 11;
+
+/// The same where the store fails after the first one.
+const ONE_DEBIT: &str =
+    r#"> 1767607200 {"Session-Id":"d8","CC-Request-Type":4,"CC-Request-Number":0,
+  "Subscription-Id":{"Subscription-Id-Type":0,"Subscription-Id-Data":"49151"},
+  "Requested-Action":0,"Multiple-Services-Credit-Control":[{"Rating-Group":10,
+  "Requested-Service-Unit":{"CC-Time":60}}]}
+< {"CC-Request-Number":0,"CC-Request-Type":4,
+  "Multiple-Services-Credit-Control":[{"Granted-Service-Unit":{"CC-Time":60},"Rating-Group":10,
+  "Result-Code":2001}],"Result-Code":2001,"Session-Id":"d8"}
+> 1767607200 {"Session-Id":"d8b","CC-Request-Type":4,"CC-Request-Number":0,
+  "Subscription-Id":{"Subscription-Id-Type":0,"Subscription-Id-Data":"49151"},
+  "Requested-Action":0,"Multiple-Services-Credit-Control":[{"Rating-Group":10,
+  "Requested-Service-Unit":{"CC-Time":60}}]}
+"#;
 
 /// At a store fault the answers before it are written.
 #[test]
@@ -265,8 +455,12 @@ fn a_store_fault(rt: HostRuntime) -> Result<(), Fail> {
     let alloc = rt.alloc();
     let book = once_book(alloc, 100_000, 60)?;
     let credit = Money::new(100_000).ok_or("an amount")?;
-    let mut input = DEBITS;
-    let mut output = Vec::new(alloc);
+    let Scenario {
+        lines: asked,
+        answers: wanted,
+    } = read_scenario(alloc, ONE_DEBIT)?;
+    let mut input = asked.as_bytes();
+    let mut written = Vec::new(alloc);
     let mut keeper = Failing::new(MemoryKeeper::new(alloc), CALLS_OF_ONE_DEBIT);
     let ended = lines(
         alloc,
@@ -274,9 +468,107 @@ fn a_store_fault(rt: HostRuntime) -> Result<(), Fail> {
         &book,
         Some(credit),
         &mut input,
-        &mut output,
+        &mut written,
     );
     assert_eq!(rt; ended, Err(LinesFault::Store(StoreFault::Store)));
-    assert_eq!(rt; output.as_slice(), BEFORE_THE_FAULT);
+    assert_eq!(rt; written.as_slice(), wanted.as_bytes());
+    Ok(())
+}
+
+// ---- readers and writers that fail
+
+/// A reader that fails at the call after this many.
+#[derive(Drop)]
+struct FailingReader<'a> {
+    bytes: &'a [u8],
+    left: usize,
+}
+
+impl<'a> Read for FailingReader<'a> {
+    fn read(&mut self, buffer: &mut [u8]) -> io::Result<usize> {
+        if self.left == 0 {
+            return Err(io::Error::from(ErrorKind::BrokenPipe));
+        }
+        self.left -= 1;
+        self.bytes.read(buffer)
+    }
+}
+
+/// A writer that takes up to 8 bytes a call, and fails at the call after this many.
+#[derive(Drop)]
+struct FailingWriter {
+    taken: Vec<u8>,
+    left: usize,
+}
+
+impl Write for FailingWriter {
+    fn write(&mut self, bytes: &[u8]) -> io::Result<usize> {
+        if self.left == 0 {
+            return Err(io::Error::from(ErrorKind::BrokenPipe));
+        }
+        self.left -= 1;
+        let count = bytes.len().min(8);
+        self.taken.write(&bytes[..count])
+    }
+
+    fn flush(&mut self) -> io::Result<()> {
+        Ok(())
+    }
+}
+
+/// Answers lines that open no account.
+fn answer<R: Read, W: Write>(
+    alloc: Global,
+    reader: &mut R,
+    writer: &mut W,
+) -> Result<Result<(), LinesFault>, Fail> {
+    let book = once_book(alloc, 100_000, 60)?;
+    let mut keeper = MemoryKeeper::new(alloc);
+    Ok(lines(alloc, &mut keeper, &book, None, reader, writer))
+}
+
+/// A reader that fails at any of its calls, one a byte and one for the end, is told as such; nothing is written.
+#[test]
+fn a_reader_that_fails(rt: HostRuntime) -> Result<(), Fail> {
+    let alloc = rt.alloc();
+    let bytes = b"0 {}\n{}\n".as_slice();
+    for left in 0..bytes.len() + 1 {
+        let mut reader = FailingReader { bytes, left };
+        let mut written = Vec::new(alloc);
+        let ended = answer(alloc, &mut reader, &mut written)?;
+        assert_eq!(rt; ended, Err(LinesFault::Read(StreamFault::Read)));
+        assert_eq!(rt; written.len(), 0);
+    }
+    let left = bytes.len() + 1;
+    let mut reader = FailingReader { bytes, left };
+    let mut written = Vec::new(alloc);
+    let ended = answer(alloc, &mut reader, &mut written)?;
+    assert_eq!(rt; ended, Ok(()));
+    assert_eq!(rt; written.len(), 68);
+    Ok(())
+}
+
+/// A writer that fails at any of its calls is told as such; a beginning of the answers is written. The answers are 47
+/// and 21 bytes: 6 and 3 calls.
+#[test]
+fn a_writer_that_fails(rt: HostRuntime) -> Result<(), Fail> {
+    let alloc = rt.alloc();
+    let wanted =
+        b"{\"Failed-AVP\":\"Session-Id\",\"Result-Code\":5005}\n{\"Result-Code\":5012}\n".as_slice();
+    for left in 0..9 {
+        let mut reader = b"0 {}\n{}\n".as_slice();
+        let taken = Vec::new(alloc);
+        let mut writer = FailingWriter { taken, left };
+        let ended = answer(alloc, &mut reader, &mut writer)?;
+        assert_eq!(rt; ended, Err(LinesFault::Write(StreamFault::Write)));
+        assert!(rt; wanted.starts_with(&writer.taken));
+        assert!(rt; writer.taken.len() < wanted.len());
+    }
+    let mut reader = b"0 {}\n{}\n".as_slice();
+    let taken = Vec::new(alloc);
+    let mut writer = FailingWriter { taken, left: 9 };
+    let ended = answer(alloc, &mut reader, &mut writer)?;
+    assert_eq!(rt; ended, Ok(()));
+    assert_eq!(rt; writer.taken.as_slice(), wanted);
     Ok(())
 }

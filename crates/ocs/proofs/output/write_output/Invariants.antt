@@ -1,9 +1,10 @@
-use Rattle.std.proofs.Common.{drop}
+use Rattle.std.proofs.Common.{map, drop}
+use Rattle.ocs.specs.Input.{told_fault}
 use Rattle.ocs.specs.Served.{texts_of}
 use Rattle.ocs.proofs.Beginnings.{IsWrittenSoFar}
 use Rattle.ocs.proofs.output.write_output.Given as goal
 
 -- what is written so far, with the texts of the lines that are left, is the whole text
-abbrev pub invariant-loop-fault : goal.invariant-loop-fault
-invariant-loop-fault g l =
-    IsWrittenSoFar (texts_of l.faults (drop l.first l.answers)) (texts_of (drop l.fault-index l.faults) (drop l.next l.answers)) (g.W.Write.contents l.fn.writer) (g.W.Write.contents l.writer)
+abbrev pub invariant-loop-line : goal.invariant-loop-line
+invariant-loop-line g l =
+    IsWrittenSoFar (texts_of (map told_fault l.lines) l.answers) (texts_of (map told_fault (drop l.line-index l.lines)) (drop l.next l.answers)) (g.W.Write.contents l.fn.writer) (g.W.Write.contents l.writer)
