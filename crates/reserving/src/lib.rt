@@ -24,6 +24,7 @@ pub use crate::account::Account;
 pub use crate::charge::ChargeRow;
 pub use crate::fault::AccountFault;
 pub use crate::laws::going_on;
+pub use crate::pricing::window_of_book;
 pub use crate::reserve::Granted;
 pub use crate::session::{Counter, Reservation, Session, SessionGroup, SessionState};
 pub use crate::settle::Settled;

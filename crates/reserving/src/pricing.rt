@@ -1,11 +1,12 @@
 //! What the tariff book says of a grant's validity and of a report's parts.
 
-ghost use Rattle.std.specs.Prelude.{◌≡◌, ◌+◌, ◌≤◌, ◌<◌, ◌^◌, Some, None, IfSome, option_map, if◌then◌else◌};
+ghost use Rattle.std.specs.Prelude.{◌≡◌, ◌+◌, ◌≤◌, ◌<◌, ◌^◌, Some, None, IfSome, IfNone, option_map, if◌then◌else◌};
 ghost use Rattle.units.specs.declared.blocks.TariffChangeUsage.TheVariants.{UnitBeforeTariffChange, UnitAfterTariffChange, UnitIndeterminate};
-ghost use Rattle.calendar.specs.Timetable.{cut_after};
+ghost use Rattle.calendar.specs.Timetable.{period_at};
 ghost use Rattle.rating.specs.Rated.{part_of, rated_report};
 ghost use Rattle.reserving.specs.Pricing.{reach, switch_at, validity_at, periods_at, is_change, units_of, four_parts, wanted_units};
 ghost use Rattle.reserving.specs.Settlement.{reported};
+ghost use Rattle.reserving.specs.Windows.{AreWindowsOfBooks};
 
 use calendar::Period;
 use rating::{Part, Periods, Rated, rate_report};
@@ -32,32 +33,47 @@ pub(crate) fn window_at(book: &TariffBook, moment: Moment) -> Window
     ensures switch { result.switch ≡ switch_at book.now moment }
     ensures validity { result.validity ≡ validity_at book.now moment }
 {
-    let seconds = reach(book, moment);
     let before = book.period_at(moment);
-    match book.next_switch(moment, seconds) {
-        Some(switch) => Window {
-            periods: Periods {
-                before,
-                after: book.period_at(switch),
-            },
-            switch: Some(switch),
-            validity: validity_after(book, moment, seconds, switch),
-        },
-        None => Window {
-            periods: Periods {
-                before,
-                after: before,
-            },
-            switch: None,
-            validity: seconds,
-        },
+    let window = book.window_from(moment, reach(book, moment));
+    let switch = switch_moment(window.switch);
+    let after = period_after(book, before, switch);
+    Window {
+        periods: Periods { before, after },
+        switch,
+        validity: window.validity,
+    }
+}
+
+/// At a moment of a command the switch and the validity of a grant are the book's: no end of all moments cuts them.
+pub fn window_of_book()
+    ensures { AreWindowsOfBooks }
+{}
+
+/// A switch as a moment.
+fn switch_moment(switch: Option<u64>) -> Option<Moment>
+    requires { IfSome switch (λ s. s ≤ 4_102_488_000) }
+    ensures { result ≡ switch }
+{
+    match switch {
+        Some(seconds) => Moment::new(seconds),
+        None => None,
+    }
+}
+
+/// The period at a switch; without one, that before.
+fn period_after(book: &TariffBook, before: Period, switch: Option<Moment>) -> Period
+    ensures some { IfSome switch (λ s. result ≡ period_at book.now.calendar s) }
+    ensures none { IfNone switch (result ≡ before) }
+{
+    match switch {
+        Some(switch) => book.period_at(switch),
+        None => before,
     }
 }
 
 /// The seconds of the book's validity after a moment, as far as there are moments.
 fn reach(book: &TariffBook, moment: Moment) -> u32
     ensures value { result ≡ reach book.now moment }
-    ensures most { result ≤ 43_200 }
     ensures within { moment + result ≤ 4_102_488_000 }
 {
     let left = LAST_MOMENT - moment.seconds();
@@ -66,22 +82,6 @@ fn reach(book: &TariffBook, moment: Moment) -> u32
         validity
     } else {
         left as u32
-    }
-}
-
-/// The validity of so many seconds, cut at the next change of period after the switch.
-fn validity_after(book: &TariffBook, moment: Moment, seconds: u32, switch: Moment) -> u32
-    requires seconds { seconds ≤ 43_200 }
-    requires in_range { moment + seconds ≤ 4_102_488_000 }
-    requires later { moment < switch }
-    requires within { switch < moment + seconds }
-    ensures { result ≡ cut_after book.now.calendar moment seconds (Some switch) }
-{
-    let end = moment.seconds() + u64::from(seconds);
-    let left = (end - switch.seconds()) as u32;
-    match book.next_switch(switch, left) {
-        Some(next) => (next.seconds() - moment.seconds()) as u32,
-        None => seconds,
     }
 }
 
