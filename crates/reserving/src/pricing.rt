@@ -34,13 +34,25 @@ pub(crate) fn window_at(book: &TariffBook, moment: Moment) -> Window
     ensures validity { result.validity ≡ validity_at book.now moment }
 {
     let before = book.period_at(moment);
-    let window = book.window_from(moment, reach(book, moment));
-    let switch = switch_moment(window.switch);
-    let after = period_after(book, before, switch);
-    Window {
-        periods: Periods { before, after },
-        switch,
-        validity: window.validity,
+    let found = book.window_from(moment, reach(book, moment));
+    let validity = found.validity;
+    match switch_moment(found.switch) {
+        Some(switch) => Window {
+            periods: Periods {
+                before,
+                after: book.period_at(switch),
+            },
+            switch: Some(switch),
+            validity,
+        },
+        None => Window {
+            periods: Periods {
+                before,
+                after: before,
+            },
+            switch: None,
+            validity,
+        },
     }
 }
 
@@ -57,17 +69,6 @@ fn switch_moment(switch: Option<u64>) -> Option<Moment>
     match switch {
         Some(seconds) => Moment::new(seconds),
         None => None,
-    }
-}
-
-/// The period at a switch; without one, that before.
-fn period_after(book: &TariffBook, before: Period, switch: Option<Moment>) -> Period
-    ensures some { IfSome switch (λ s. result ≡ period_at book.now.calendar s) }
-    ensures none { IfNone switch (result ≡ before) }
-{
-    match switch {
-        Some(switch) => book.period_at(switch),
-        None => before,
     }
 }
 
