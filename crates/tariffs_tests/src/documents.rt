@@ -1,59 +1,7 @@
 //! The documents of the tests.
 
-/// Two periods by weekday and hour, and three groups: seconds, octets with a free beginning, events.
-pub(crate) const BOOK: &str = r#"zone = "+00:00"
-currency = 978
-validity = 3600
-periods = ["off", "peak"]
-[[week]]
-period = "peak"
-days = [1, 2, 3, 4, 5]
-from = "08:00"
-to = "20:00"
-[[week]]
-period = "off"
-days = [1, 2, 3, 4, 5]
-from = "00:00"
-to = "08:00"
-[[week]]
-period = "off"
-days = [1, 2, 3, 4, 5]
-from = "20:00"
-to = "24:00"
-[[week]]
-period = "off"
-days = [6, 7]
-from = "00:00"
-to = "24:00"
-[[group]]
-id = 10
-unit = "time"
-block = 60
-slice = 600
-max_grant = 3600
-cycle = "none"
-final = "terminate"
-price = [{period = "off", tiers = [{price = 50000}]}, {period = "peak", tiers = [{price = 100000}]}]
-[[group]]
-id = 20
-unit = "octets"
-block = 1048576
-slice = 10485760
-max_grant = 1048576000
-cycle = "month"
-final = "redirect"
-redirect = "http://topup.example/"
-price = [{period = "off", tiers = [{upto = 100, price = 0}, {price = 10000}]}, {period = "peak", tiers = [{upto = 100, price = 0}, {price = 10000}]}]
-[[group]]
-id = 30
-unit = "events"
-block = 1
-slice = 1
-max_grant = 100
-cycle = "none"
-final = "terminate"
-price = [{period = "off", tiers = [{price = 90000}]}, {period = "peak", tiers = [{price = 90000}]}]
-"#;
+use std::alloc::Global;
+use std::test::Fail;
 
 /// A small book, each of whose members can be changed by a replacement of its text.
 pub(crate) const SMALL: &str = r#"zone = "+00:00"
@@ -63,3 +11,79 @@ periods = ["off", "peak"]
 week = [{period = "off", days = [1, 2, 3, 4, 5, 6, 7], from = "00:00", to = "08:30"}, {period = "peak", days = [7, 6, 5, 4, 3, 2, 1], from = "08:30", to = "24:00"}]
 group = [{id = 10, unit = "time", block = 60, slice = 600, max_grant = 3600, cycle = "none", final = "terminate", price = [{period = "off", tiers = [{upto = 100, price = 1}, {upto = 200, price = 2}, {price = 3}]}, {period = "peak", tiers = [{price = 4}]}]}]
 "#;
+
+/// A minute of the day as `hh:mm`.
+fn clock_text(alloc: Global, minute: u32) -> Result<String, Fail> {
+    let hour = minute / 60;
+    let rest = minute % 60;
+    Ok(format!(in alloc; "{}{}:{}{}", hour / 10, hour % 10, rest / 10, rest % 10)?)
+}
+
+/// An entry of the week, from a minute of its days to another.
+pub(crate) fn entry(
+    alloc: Global,
+    period: &str,
+    days: &str,
+    from: u32,
+    to: u32,
+) -> Result<String, Fail> {
+    let from = clock_text(alloc, from)?;
+    let to = clock_text(alloc, to)?;
+    let head = format!(in alloc; "[[week]]\nperiod = \"{period}\"\ndays = [{days}]\n")?;
+    Ok(format!(in alloc; "{head}from = \"{from}\"\nto = \"{to}\"\n")?)
+}
+
+/// So many entries of equal length in some days, numbered on; of each four the second and third are of one period.
+fn slices(alloc: Global, days: &str, first: u32, count: u32) -> Result<String, Fail> {
+    let mut text = String::new(alloc);
+    let length = 1440_u32.checked_div(count).ok_or("a count")?;
+    for i in 0..count {
+        let number = first.checked_add(i).ok_or("a number")?;
+        let from = length.checked_mul(i).ok_or("a minute")?;
+        let to = from.checked_add(length).ok_or("a minute")?;
+        let period = match number % 4 {
+            0 => "a",
+            1 | 2 => "b",
+            _ => "c",
+        };
+        let entry = entry(alloc, period, days, from, to)?;
+        text.push_str(entry.as_str())?;
+    }
+    Ok(text)
+}
+
+/// A book with one entry for the whole week.
+pub(crate) fn whole_week(alloc: Global, zone: &str) -> Result<String, Fail> {
+    let week = slices(alloc, "1, 2, 3, 4, 5, 6, 7", 0, 1)?;
+    book_of(alloc, zone, week.as_str())
+}
+
+/// A book whose weekdays and weekends have so many entries of equal length.
+pub(crate) fn sliced(
+    alloc: Global,
+    zone: &str,
+    weekdays: u32,
+    weekend: u32,
+) -> Result<String, Fail> {
+    let workdays = slices(alloc, "1, 2, 3, 4, 5", 0, weekdays)?;
+    let others = slices(alloc, "6, 7", weekdays, weekend)?;
+    let week = format!(in alloc; "{workdays}{others}")?;
+    book_of(alloc, zone, week.as_str())
+}
+
+/// The book of a week's entries, with one group.
+fn book_of(alloc: Global, zone: &str, week: &str) -> Result<String, Fail> {
+    let head = format!(in alloc; "zone = \"{zone}\"\ncurrency = 978\nvalidity = 43200\n")?;
+    Ok(format!(in alloc; "{head}periods = [\"a\", \"b\", \"c\"]\n{week}{GROUP_OF_THREE}")?)
+}
+
+const GROUP_OF_THREE: &str = "[[group]]
+id = 1
+unit = \"events\"
+block = 1
+slice = 1
+max_grant = 1
+cycle = \"none\"
+final = \"terminate\"
+price = [{period = \"a\", tiers = [{price = 1}]}, {period = \"b\", tiers = [{price = 2}]}, {period = \"c\", tiers = [{price = 3}]}]
+";

@@ -4,14 +4,15 @@
 //! changed, joined by `&`. In the texts `|` stands for the end of a line. Expected faults are reckoned from the
 //! rules of the format.
 
-use crate::documents::{BOOK, SMALL};
+use crate::documents::SMALL;
 use std::alloc::Global;
 use std::process::Abort;
 use std::test::Fail;
 use tariffs::TariffBook;
+use worked_book::BOOK;
 
 /// The fault's number with which a text is read; 0 where it is read as a book.
-fn outcome(alloc: Global, bytes: &[u8]) -> u8 {
+pub(crate) fn outcome(alloc: Global, bytes: &[u8]) -> u8 {
     match TariffBook::read(alloc, bytes) {
         Ok(_) => 0,
         Err(fault) => fault.number(),
@@ -235,7 +236,9 @@ const PRICES: &str = r##"2: "terminate", price -> "terminate", prices
 3: price = [{period = "off", tiers -> price = [{period = 5, tiers
 5: price = [{period = "off", tiers -> price = [{period = "night", tiers
 4: price = [{period = "off", tiers -> price = [{period = "peak", tiers
-2: 3}]}, {period = "peak", tiers = [{price = 4}]} -> 3}]}"##;
+2: 3}]}, {period = "peak", tiers = [{price = 4}]} -> 3}]}
+4: {period = "peak", tiers = [{price = 4}]} -> {period = "off"}
+2: {period = "peak", tiers = [{price = 4}]} -> {period = "peak"}"##;
 
 #[test]
 fn prices_cases(rt: HostRuntime) -> Result<(), Fail> {
@@ -284,6 +287,25 @@ const THREE_GROUPS: &str =
 #[test]
 fn three_groups_cases(rt: HostRuntime) -> Result<(), Fail> {
     try_all(&rt, rt.alloc(), BOOK, THREE_GROUPS)
+}
+
+/// Keys that the format doesn't name, kinds that it has no key of, and what TOML refuses: a doubled key, a whole number
+/// of more than 64 bits.
+const OTHER_KEYS: &str = r##"0: {period = "off", days -> {more = 1, period = "off", days
+0: group = [{id = 10 -> group = [{more = "x", id = 10
+0: {period = "peak", tiers -> {more = [], period = "peak", tiers
+0: {price = 4} -> {price = 4, more = {}}
+1: currency = 978 -> currency = 978|currency = 978
+1: {id = 10 -> {id = 10, id = 10
+1: 978 -> 9223372036854775808
+4: 978 -> 9223372036854775807
+3: "+00:00" -> 2026-01-05
+3: 978 -> 2026-01-05T08:00:00Z
+3: from = "00:00" -> from = 00:00:00"##;
+
+#[test]
+fn other_keys_cases(rt: HostRuntime) -> Result<(), Fail> {
+    try_all(&rt, rt.alloc(), SMALL, OTHER_KEYS)
 }
 
 const ORDER: &str = r##"4: +00:00 -> +14:30 & currency -> xcurrency

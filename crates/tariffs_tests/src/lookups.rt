@@ -2,12 +2,12 @@
 //! Python's `datetime` with a fixed offset: the weekday and hour, the date's ordinal, its year and month, the
 //! timestamp of a midnight, and a search over each minute of the next hour.
 
-use crate::documents::BOOK;
 use calendar::{Cycle, Period};
 use std::alloc::Global;
 use std::test::Fail;
 use tariffs::{Tariff, TariffBook};
 use units::Moment;
+use worked_book::BOOK;
 
 /// What a tariff says of itself, but for its prices.
 fn described(alloc: Global, tariff: &Tariff) -> Result<String, Fail> {
