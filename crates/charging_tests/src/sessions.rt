@@ -121,3 +121,27 @@ charges: 1 at 1767607500 of s17 30 1 90000 90000 0; 2 at 1767607500 of s17 10 1 
 fn two_groups_of_a_session(rt: HostRuntime) -> Result<(), Fail> {
     try_all(&rt, rt.alloc(), GROUPS)
 }
+
+/// A report of more than 10^9 blocks is refused; one of 10^9 blocks is rated whole, collected as far as there is money.
+const LARGE: &str = r##"1767571200 open 49151
+= {"Result-Code":2001}
+1767571200 credit 49151 {"Amount":90000,"Reference":"c1"}
+= {"Bucket":1,"Result-Code":2001}
+1767607200 {"Session-Id":"s16","CC-Request-Type":1,"CC-Request-Number":0,"Subscription-Id":{"Subscription-Id-Type":0,"Subscription-Id-Data":"49151"},"Multiple-Services-Credit-Control":[{"Rating-Group":30,"Requested-Service-Unit":{"CC-Service-Specific-Units":1}}]}
+= {"CC-Request-Number":0,"CC-Request-Type":1,"Multiple-Services-Credit-Control":[{"Granted-Service-Unit":{"CC-Service-Specific-Units":1},"Rating-Group":30,"Result-Code":2001,"Validity-Time":3600}],"Result-Code":2001,"Session-Id":"s16"}
+buckets: (90000; 0, 90000, 0, 0)
+
+1767607260 {"Session-Id":"s16","CC-Request-Type":2,"CC-Request-Number":1,"Subscription-Id":{"Subscription-Id-Type":0,"Subscription-Id-Data":"49151"},"Multiple-Services-Credit-Control":[{"Rating-Group":30,"Used-Service-Unit":[{"CC-Service-Specific-Units":1000000001}]}]}
+= {"CC-Request-Number":1,"CC-Request-Type":2,"Failed-AVP":"Used-Service-Unit","Result-Code":5004,"Session-Id":"s16"}
+unchanged
+
+1767607320 {"Session-Id":"s16","CC-Request-Type":2,"CC-Request-Number":1,"Subscription-Id":{"Subscription-Id-Type":0,"Subscription-Id-Data":"49151"},"Multiple-Services-Credit-Control":[{"Rating-Group":30,"Used-Service-Unit":[{"CC-Service-Specific-Units":1000000000}]}]}
+= {"CC-Request-Number":1,"CC-Request-Type":2,"Multiple-Services-Credit-Control":[{"Rating-Group":30,"Result-Code":2001}],"Result-Code":2001,"Session-Id":"s16"}
+buckets: (90000; 0, 0, 90000, 0)
+counters: 30 0 1000000000;
+charges: 1 at 1767607320 of s16 30 1000000000 90000000000000 90000 89999999910000;"##;
+
+#[test]
+fn a_report_of_a_thousand_million_blocks(rt: HostRuntime) -> Result<(), Fail> {
+    try_all(&rt, rt.alloc(), LARGE)
+}
