@@ -1,8 +1,7 @@
 -- A line, byte by byte.
-use Rattle.std.proofs.Common.{◌≡◌, ℕ, List, [], ◌∷◌, ◌++◌, false, refl, sym, ap, ◌∙◌, arith, append_assoc, Option, Some, None, IfSome}
+use Rattle.std.proofs.Common.{◌≡◌, ℕ, List, [], ◌∷◌, ◌++◌, false, refl, sym, ap, ◌∙◌, append_assoc, Option, Some, None, IfSome}
 use Rattle.std.specs.Prelude.{◌==◌, if◌then◌else◌}
 use Rattle.std.specs.Io.KnownBytes.{Consumes}
-use Rattle.std.proofs.lemmas.Bool.Decides.{nat_tests}
 use Rattle.byte_streams.specs.Lines.{line_of, after_line}
 
 -- the taken bytes begin the stream's first line, and this is the rest of the stream
@@ -14,18 +13,15 @@ pub record Begins (taken rest stream : List ℕ) : Type 0 where
 pub begins_none : (stream : List ℕ) → Begins [] stream stream
 begins_none stream = record { whole = refl; line = λ xs. refl; after = λ xs. refl }
 
-other_byte : (b : ℕ) → (b ≡ 10 → ⊥) → (b == 10) ≡ false
-other_byte b h = grind (arith, nat_tests)
-
-begins_more : (taken rest stream : List ℕ) (b : ℕ) → (b ≡ 10 → ⊥) → Begins taken (b ∷ rest) stream → Begins (taken ++ b ∷ []) rest stream
+begins_more : (taken rest stream : List ℕ) (b : ℕ) → (b == 10) ≡ false → Begins taken (b ∷ rest) stream → Begins (taken ++ b ∷ []) rest stream
 begins_more taken rest stream b h k = record {
   whole = k.whole ∙ sym (append_assoc taken (b ∷ []) rest);
-  line = λ xs. ap line_of (append_assoc taken (b ∷ []) xs) ∙ k.line (b ∷ xs) ∙ ap (λ t. taken ++ (if t then [] else b ∷ line_of xs)) (other_byte b h) ∙ sym (append_assoc taken (b ∷ []) (line_of xs));
-  after = λ xs. ap after_line (append_assoc taken (b ∷ []) xs) ∙ k.after (b ∷ xs) ∙ ap (λ t. if t then xs else after_line xs) (other_byte b h);
+  line = λ xs. ap line_of (append_assoc taken (b ∷ []) xs) ∙ k.line (b ∷ xs) ∙ ap (λ t. taken ++ (if t then [] else b ∷ line_of xs)) h ∙ sym (append_assoc taken (b ∷ []) (line_of xs));
+  after = λ xs. ap after_line (append_assoc taken (b ∷ []) xs) ∙ k.after (b ∷ xs) ∙ ap (λ t. if t then xs else after_line xs) h;
 }
 
 -- one byte more is taken
-pub goes_on : (old mid new : Option (List ℕ)) (taken more : List ℕ) (b : ℕ) → (b ≡ 10 → ⊥) → more ≡ taken ++ b ∷ [] → Consumes mid new (b ∷ []) →
+pub goes_on : (old mid new : Option (List ℕ)) (taken more : List ℕ) (b : ℕ) → (b == 10) ≡ false → more ≡ taken ++ b ∷ [] → Consumes mid new (b ∷ []) →
     IfSome old (λ stream. (rest : List ℕ) × (mid ≡ Some rest) × Begins taken rest stream) → IfSome old (λ stream. (rest : List ℕ) × (new ≡ Some rest) × Begins more rest stream)
 goes_on None mid new taken more b h e q known = tt
 goes_on (Some stream) None new taken more b h e q known = absurd (let no : None ≡ Some known.0 = known.1 in cc)

@@ -2,7 +2,7 @@
 //! that is interrupted is tried again, up to 100 times.
 #![tactic(auto)]
 
-ghost use Rattle.std.specs.Prelude.{◌≡◌, ◌≤◌, ◌<◌, ℕ, List, length, take, OnOk, OnErr, IfOk, IfNone, IfSome, option_to_list};
+ghost use Rattle.std.specs.Prelude.{◌≡◌, ◌==◌, ◌≤◌, ◌<◌, ℕ, List, length, take, OnOk, OnErr, IfOk, IfNone, IfSome, option_to_list};
 ghost use Rattle.std.specs.Io.KnownBytes.{Appends, Consumes, IsAtEnd, Keeps};
 ghost use Rattle.byte_streams.specs.Lines.{IsLineOf};
 ghost use Rattle.byte_streams.specs.Parts.{IsPartOf};
@@ -64,6 +64,30 @@ pub fn next_byte<R: Read>(reader: &mut R) -> Result<Option<u8>, StreamFault>
     Err(StreamFault::Read)
 }
 
+/// The greatest piece that is taken off a stream at once.
+const MAX_PIECE: usize = 1024;
+
+/// Takes some bytes off a stream, at most those that there is place for, and answers how many; 0 at the end.
+fn read_some<R: Read>(reader: &mut R, place: &mut [u8]) -> Result<usize, StreamFault>
+    requires { 0 < length place.old }
+    ensures within { IfOk result (λ n. n ≤ length place.old) }
+    ensures length { length place.new ≡ length place.old }
+    ensures taken { IfOk result (λ n. Consumes (R.remaining reader.old) (R.remaining reader.new) (take n place.new)) }
+    ensures end { IfOk result (λ n. n ≡ 0 → IsAtEnd (R.remaining reader.new)) }
+{
+    for _attempt in 0..MAX_ATTEMPTS {
+        match reader.read(place) {
+            Ok(taken) => return Ok(taken),
+            Err(error) => {
+                if error.kind() != ErrorKind::Interrupted {
+                    return Err(StreamFault::Read);
+                }
+            }
+        }
+    }
+    Err(StreamFault::Read)
+}
+
 /// The next so many bytes, or none where the stream has fewer.
 ///
 /// # Errors
@@ -77,15 +101,28 @@ pub fn next_bytes<R: Read>(
         (λ stream. IsPartOf count stream part (R.remaining reader.new))) }
 {
     let mut part = Vec::new(alloc);
-    for _taken in 0..count {
-        let Some(byte) = next_byte(reader)? else {
+    let mut piece = [0u8; MAX_PIECE];
+    for _turn in 0..count {
+        let left = count - part.len();
+        if left == 0 {
+            break;
+        }
+        let taken = read_some(reader, &mut piece[..left.min(MAX_PIECE)])?;
+        if taken == 0 {
             return Ok(None);
-        };
-        let Ok(()) = part.push(byte) else {
+        }
+        let Ok(()) = part.extend_from_slice(&piece[..taken]) else {
             return Err(StreamFault::Memory);
         };
     }
     Ok(Some(part))
+}
+
+/// Whether a byte ends a line: it is a line feed.
+fn ends_line(byte: u8) -> bool
+    ensures { result ≡ (byte == 10) }
+{
+    byte == b'\n'
 }
 
 /// The next line: the bytes before the next line feed, which is taken too, or before the end of the stream. None
@@ -99,7 +136,7 @@ pub fn next_line<R: Read>(alloc: Global, reader: &mut R) -> Result<Option<Vec<u8
         let Some(byte) = next_byte(reader)? else {
             return Ok(if line.is_empty() { None } else { Some(line) });
         };
-        if byte == b'\n' {
+        if ends_line(byte) {
             return Ok(Some(line));
         }
         let Ok(()) = line.push(byte) else {

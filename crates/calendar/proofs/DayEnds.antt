@@ -1,8 +1,8 @@
 -- The end of a civil day, from jiff's numbers.
-use Rattle.std.proofs.Common.{◌≡◌, ℕ, zero, suc, ◌+◌, ◌*◌, ◌<◌, ◌≤◌, ◌==◌, arith, ℤ, pos, ◌+ℤ◌, ◌-ℤ◌, ◌*ℤ◌, Bool, Option, Some, None, true, false, nat_lt, refl, ◌∙◌, ap, sym, inl, inr}
+use Rattle.std.proofs.Common.{◌≡◌, ℕ, zero, suc, ◌+◌, ◌*◌, ◌<◌, ◌≤◌, arith, ℤ, pos, ◌-ℤ◌, ◌*ℤ◌, Bool, Option, Some, None, true, false, nat_lt, refl, ◌∙◌, ap, sym, inl, inr}
 use Rattle.std.proofs.lemmas.Bool.Decides.{nat_tests}
 use Rattle.std.specs.Prelude.{int_div, IsSome, IfSome, IfNone, ◌↔◌, find}
-use Rattle.std.proofs.lemmas.Bool.{cases_lt, cases_Bool, false≢true}
+use Rattle.std.proofs.lemmas.Bool.{cases_lt, false≢true}
 use Rattle.jiff.specs.Types.{TimeZone, DateTime}
 use Rattle.jiff.specs.Words.{nanos_of_seconds, civil_nanos, offset_at, picked_instant, IsWithin}
 use Rattle.jiff.specs.Words.{IsTimestampNanos}

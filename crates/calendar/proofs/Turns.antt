@@ -1,5 +1,5 @@
 -- From one entry's end to the next.
-use Rattle.std.proofs.Common.{◌≡◌, ◌≢◌, ℕ, zero, suc, ◌+◌, ◌-◌, ◌*◌, ◌/◌, ◌%◌, ◌<◌, ◌≤◌, Bool, true, false, cond, ◌&&◌, nat_le, nat_lt, List, [], ◌∷◌, length, get_or, refl, ap, sym, ◌∙◌, arith, inl, inr, ◌⊎◌, ℤ, pos, negsuc, ◌+ℤ◌, unsigned_abs}
+use Rattle.std.proofs.Common.{◌≡◌, ◌≢◌, ℕ, zero, suc, ◌+◌, ◌-◌, ◌*◌, ◌/◌, ◌%◌, ◌<◌, ◌≤◌, Bool, true, false, cond, ◌&&◌, nat_le, nat_lt, List, [], ◌∷◌, length, get_or, refl, ap, sym, ◌∙◌, arith, inl, inr, ℤ, pos, negsuc, ◌+ℤ◌, unsigned_abs}
 use Rattle.std.specs.Prelude.{count_by, unwrap_or, slice_get}
 use Rattle.std.proofs.lemmas.Bool.{cases_Bool, cases_lt, and_parts}
 use Rattle.std.proofs.lemmas.Bool.Decides.{nat_tests}
@@ -127,7 +127,7 @@ end_of c at e = at + (60 * e.to - clock c.zone at % 86400)
 entry_period : (c : Timetable) (w m : ℕ) (e : Entry) → IsTimetable c → w < 7 → m < 1440 → IsEntryFor c.entries w m e → period_in c.entries w m ≡ e.period
 entry_period c w m e book day' within h =
     let (i, inside, is) = h.entry in
-    one_entry w m i c.entries e (book.covered w m day' within) inside (ap (covers w m) is ∙ h.holds) ∙ ap (λ (x : Entry). x.period) is
+    one_entry w m i c.entries e (book.week.covered w m day' within) inside (ap (covers w m) is ∙ h.holds) ∙ ap (λ (x : Entry). x.period) is
 
 pub period_here : (c : Timetable) (t : ℕ) (e : Entry) → IsTimetable c → IsEntryAt c t e → period_at c t ≡ e.period
 period_here c t e book h = entry_period c _ _ e book (omega arith) (omega arith) h
@@ -135,7 +135,7 @@ period_here c t e book h = entry_period c _ _ e book (omega arith) (omega arith)
 entry_ends : (c : Timetable) (w m : ℕ) (e : Entry) → IsTimetable c → IsEntryFor c.entries w m e → e.to ≤ 1440
 entry_ends c w m e book h =
     let (i, inside, is) = h.entry in
-    let to : (get_or c.entries i e).to ≤ 1440 = All-get_or (λ (x : Entry). x.to ≤ 1440) c.entries i e inside book.ends in
+    let to : (get_or c.entries i e).to ≤ 1440 = All-get_or (λ (x : Entry). x.to ≤ 1440) c.entries i e inside book.week.ends in
     rw is at to
 
 -- the period of the entry stays until the entry's end
@@ -228,6 +228,6 @@ next_is c t at e turn =
             rw (same, last) (omega (arith, falls)))
         | inr midnight ↦ (
             let next : day c.zone (end_of c at e) ≡ day c.zone at + 1 = omega (arith, on, to, ends) in
-            omega (arith, next, falls, later_few c.entries (weekday c.zone (end_of c at e)) (minute c.zone (end_of c at e)) turn.book.few))
+            omega (arith, next, falls, later_few c.entries (weekday c.zone (end_of c at e)) (minute c.zone (end_of c at e)) turn.book.week.few))
       ];
     }

@@ -1,10 +1,13 @@
 -- The recursions over the minutes of a week.
 use Rattle.std.proofs.Common.{◌≡◌, ◌≢◌, ℕ, zero, suc, ◌+◌, ◌-◌, ◌<◌, ◌≤◌, Bool, true, false, ◌&&◌, ◌==◌, List, refl, sym, ◌∙◌, arith, add-one, add-zero, inl, inr}
-use Rattle.std.specs.Prelude.{count_by}
-use Rattle.std.proofs.lemmas.Bool.{cases_lt, and_parts, false≢true}
+use Rattle.std.specs.Prelude.{◌↔◌, IsTrue, count_by, length, nat_le}
+use Rattle.std.specs.List.{list_all}
+use Rattle.std.proofs.lemmas.Bool.{cases_lt, and_parts, leb-true, le-leb}
 use Rattle.std.proofs.lemmas.Bool.Decides.{nat_tests}
+use Rattle.std.proofs.lemmas.List.Elements.{All-weaker}
+use Rattle.std.proofs.lemmas.List.Sums.{AllPass-from_list_all, list_all-from_AllPass}
 use Rattle.calendar.specs.declared.week.Entry.{Entry}
-use Rattle.calendar.specs.Week.{covers, CoversWeek, minutes_covered, days_covered}
+use Rattle.calendar.specs.Week.{covers, CoversWeek, IsWeek, minutes_covered, days_covered, week_covered, is_week}
 
 pub no_minutes : (es : List Entry) (w : ℕ) → minutes_covered es w 0 ≡ true
 unfolding minutes_covered
@@ -92,5 +95,26 @@ all_minutes es w (suc n) day within h =
     let test : (count_by (covers w n) es == 1) ≡ true = rw once refl in
     and_true _ _ (all_minutes es w n day (omega arith) h) test
 
-pub not_covered : (es : List Entry) (w : ℕ) (b : Bool) → w < 7 → b ≡ minutes_covered es w 1440 → b ≡ false → CoversWeek es → ⊥
-not_covered es w b day is no' h = false≢true (sym no' ∙ is ∙ all_minutes es w 1440 day (omega arith) h)
+pub all_days : (es : List Entry) (n : ℕ) → n ≤ 7 → CoversWeek es → days_covered es n ≡ true
+unfolding days_covered
+all_days es zero within h = refl
+all_days es (suc n) within h = and_true _ _ (all_days es n (omega arith) h) (all_minutes es n 1440 (omega arith) (omega arith) h)
+
+-- the test of a week answers as it is one
+pub is_week_for : (es : List Entry) (b : Bool) → b ≡ is_week es → IsTrue b ↔ IsWeek es
+is_week_for es b is = (λ yes'. holds (sym is ∙ yes'), λ week. is ∙ test week)
+  where
+    holds : is_week es ≡ true → IsWeek es
+    holds h =
+        let (sizes, covered) = and_parts (nat_le (length es) 64 && list_all (λ e. nat_le e.to 1440) es) (week_covered es) h in
+        let (few, within) = and_parts (nat_le (length es) 64) (list_all (λ e. nat_le e.to 1440) es) sizes in
+        record {
+          few = leb-true (length es) 64 few;
+          ends = All-weaker (λ (e : Entry). nat_le e.to 1440 ≡ true) (λ e. e.to ≤ 1440) (λ e. leb-true e.to 1440) es (AllPass-from_list_all (λ e. nat_le e.to 1440) es within);
+          covered = covers_week es covered;
+        }
+
+    test : IsWeek es → is_week es ≡ true
+    test week =
+        let within = All-weaker (λ (e : Entry). e.to ≤ 1440) (λ e. nat_le e.to 1440 ≡ true) (λ e. le-leb e.to 1440) es week.ends in
+        and_true _ _ (and_true _ _ (le-leb (length es) 64 week.few) (list_all-from_AllPass (λ e. nat_le e.to 1440) es within)) (all_days es 7 (omega arith) week.covered)

@@ -1,6 +1,6 @@
 -- What the definitions of periods, weekdays and day ends say in other words.
 -- Source: profile; the Gregorian calendar.
-use Rattle.std.specs.Prelude.{◌≡◌, ℕ, ◌+◌, ◌*◌, ◌<◌, pos, ◌+ℤ◌, ◌-ℤ◌, unsigned_abs, nat_lt, Option, Some, None, if◌then◌else◌}
+use Rattle.std.specs.Prelude.{◌≡◌, ℕ, ◌+◌, ◌*◌, pos, ◌+ℤ◌, ◌-ℤ◌, unsigned_abs, nat_lt, Option, Some, None, if◌then◌else◌}
 use Rattle.jiff.specs.Types.{Date}
 use Rattle.jiff.specs.Words.{epoch_day, weekday_of}
 use Rattle.calendar.specs.declared.week.Entry.{Entry}

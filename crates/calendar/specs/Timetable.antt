@@ -1,6 +1,6 @@
 -- Tariff periods, switches, validity times, cycles and day ends in the zone and the week of a book.
 -- Source: RFC 8506 sections 5.1.1 (Tariff-Time-Change) and 8.33 (Validity-Time); cycles and days: profile.
-use Rattle.std.specs.Prelude.{◌≡◌, ◌≢◌, ℕ, zero, suc, pos, ◌+◌, ◌-◌, ◌*◌, ◌/◌, ◌%◌, ◌<◌, ◌≤◌, ◌==◌, Bool, not, List, [], ◌∷◌, length, if◌then◌else◌, find, All, Option, Some, None, unwrap_or}
+use Rattle.std.specs.Prelude.{◌≡◌, ◌≢◌, ℕ, zero, suc, ◌+◌, ◌-◌, ◌*◌, ◌/◌, ◌%◌, ◌<◌, ◌≤◌, ◌==◌, Bool, not, List, [], ◌∷◌, if◌then◌else◌, find, Option, Some, None, unwrap_or}
 use Rattle.std.specs.Option.{option_map}
 use Rattle.calendar.specs.declared.week.Entry.{Entry}
 use Rattle.calendar.specs.declared.week.Period.{Period}
@@ -8,24 +8,21 @@ use Rattle.calendar.specs.declared.cycle.Cycle.{Cycle}
 use Rattle.calendar.specs.declared.cycle.Cycle.TheVariants as Each
 use Rattle.calendar.specs.Clock.{ZoneRule, IsZone, day, weekday, minute}
 use Rattle.calendar.specs.Months.{month}
-use Rattle.calendar.specs.Week.{CoversWeek, IsEntryFor, period_in, week_covered}
+use Rattle.calendar.specs.Week.{IsWeek, IsEntryFor, period_in, is_week}
 
 -- the zone and the week of a book
 pub record Timetable : Type 0 where
   pub zone : ZoneRule
   pub entries : List Entry
 
--- each minute of the week stands in exactly one of at most 64 entries, no entry ends past its day, and the zone's
--- clock is near UTC
+-- the zone's clock is near UTC, and the entries are those of a week
 pub record IsTimetable (c : Timetable) : Type 0 where
   pub zone : IsZone c.zone
-  pub few : length c.entries ≤ 64
-  pub covered : CoversWeek c.entries
-  pub ends : All (λ e. e.to ≤ 1440) c.entries
+  pub week : IsWeek c.entries
 
--- the timetable of a zone and the entries of a week; None where the week isn't covered once
+-- the timetable of a zone and the entries of a week; None where they aren't those of a week
 abbrev pub timetable_of : ZoneRule → List Entry → Option Timetable
-timetable_of zone entries = if week_covered entries then Some (record { zone = zone; entries = entries }) else None
+timetable_of zone entries = if is_week entries then Some (record { zone = zone; entries = entries }) else None
 
 -- the beginning of the moment's UTC minute
 abbrev pub minute_start : ℕ → ℕ

@@ -1,6 +1,7 @@
 -- The week of a book: which period each minute belongs to.
 -- Source: profile.
-use Rattle.std.specs.Prelude.{◌≡◌, ℕ, zero, suc, ◌<◌, Bool, true, false, ◌&&◌, ◌==◌, IsTrue, Contains, nat_le, nat_lt, List, [], ◌∷◌, if◌then◌else◌, count_by, unwrap_or, slice_get}
+use Rattle.std.specs.Prelude.{◌≡◌, ℕ, zero, suc, ◌<◌, ◌≤◌, Bool, true, false, ◌&&◌, ◌==◌, IsTrue, Contains, All, nat_le, nat_lt, List, [], ◌∷◌, length, if◌then◌else◌, count_by, unwrap_or, slice_get}
+use Rattle.std.specs.List.{list_all}
 use Rattle.calendar.specs.declared.week.Entry.{Entry}
 use Rattle.calendar.specs.declared.week.Period.{Period}
 
@@ -11,6 +12,12 @@ covers weekday minute e = unwrap_or (slice_get e.days weekday) false && (nat_le 
 -- each minute of the week stands in exactly one entry
 abbrev pub CoversWeek : List Entry → Type 0
 CoversWeek entries = (weekday minute : ℕ) → weekday < 7 → minute < 1440 → count_by (covers weekday minute) entries ≡ 1
+
+-- the entries of a week: at most 64, none ends past its day, and each minute of the week stands in exactly one
+pub record IsWeek (entries : List Entry) : Type 0 where
+  pub few : length entries ≤ 64
+  pub ends : All (λ e. e.to ≤ 1440) entries
+  pub covered : CoversWeek entries
 
 -- an entry of the week that holds this minute of this weekday
 pub record IsEntryFor (entries : List Entry) (weekday minute : ℕ) (e : Entry) : Type 0 where
@@ -35,3 +42,7 @@ days_covered entries (suc weekday) = days_covered entries weekday && minutes_cov
 -- whether each minute of the week stands in exactly one entry
 abbrev pub week_covered : List Entry → Bool
 week_covered entries = days_covered entries 7
+
+-- the test of IsWeek
+abbrev pub is_week : List Entry → Bool
+is_week entries = nat_le (length entries) 64 && list_all (λ e. nat_le e.to 1440) entries && week_covered entries

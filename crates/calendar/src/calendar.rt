@@ -1,8 +1,8 @@
-ghost use Rattle.std.specs.Prelude.{◌≡◌, ◌≢◌, ◌↔◌, ◌≤◌, ◌<◌, ◌^◌, ◌+◌, ◌*◌, ◌-◌, ℕ, length, Some, IsSome, IfSome, IfNone, All, pos, ◌+ℤ◌, ◌*ℤ◌};
+ghost use Rattle.std.specs.Prelude.{◌≡◌, ◌≢◌, ◌↔◌, ◌≤◌, ◌<◌, ◌^◌, ◌+◌, ◌*◌, ◌-◌, ℕ, Some, IsSome, IfSome, IfNone, pos, ◌+ℤ◌, ◌*ℤ◌};
 ghost use Rattle.jiff.specs.Types.{Date};
 ghost use Rattle.jiff.specs.Words.{epoch_day};
 ghost use Rattle.calendar.specs.Clock.{day};
-ghost use Rattle.calendar.specs.Week.{CoversWeek};
+ghost use Rattle.calendar.specs.Week.{IsWeek};
 ghost use Rattle.calendar.specs.Timetable.{timetable_of, IsTimetable, period_at, IsEntryAt, IsChange, switch_within, cut_after, validity_from, cycle_of, day_end, IsDayEnd};
 
 use crate::covered;
@@ -31,17 +31,15 @@ impl Model for Calendar {
 }
 
 impl Calendar {
-    /// The calendar of a zone and the entries of a week, at most 64, none of which ends after 24:00; None where some
-    /// minute of the week stands in no entry or in several.
+    /// The calendar of a zone and the entries of a week; None where there are more than 64, where one ends after
+    /// 24:00, or where some minute of the week stands in no entry or in several.
     pub fn new(zone: Zone, entries: Vec<Entry>) -> Option<Calendar>
-        requires few { length entries.items ≤ 64 }
-        requires ends { All (λ e. e.to ≤ 1440) entries.items }
-        ensures covered { IsSome result ↔ CoversWeek entries.items }
+        ensures week { IsSome result ↔ IsWeek entries.items }
         ensures value { result ≡ timetable_of zone entries.items }
         ensures timetable { IfSome result IsTimetable }
     {
         zone.keeps_near();
-        if covered::week_covered(&entries) {
+        if covered::is_week(&entries) {
             Some(Calendar { zone, entries })
         } else {
             None

@@ -1,8 +1,9 @@
 //! What the entries of a week hold.
 
-ghost use Rattle.std.specs.Prelude.{◌≡◌, ◌<◌, ◌↔◌, IsTrue, count_by};
+ghost use Rattle.std.specs.Prelude.{◌≡◌, ◌<◌, count_by, nat_le};
+ghost use Rattle.std.specs.List.{list_all};
 ghost use Rattle.calendar.specs.Clock.{shown_weekday, shown_minute};
-ghost use Rattle.calendar.specs.Week.{covers, CoversWeek, IsEntryFor, minutes_covered, week_covered};
+ghost use Rattle.calendar.specs.Week.{covers, CoversWeek, IsEntryFor, minutes_covered, week_covered, is_week};
 
 use crate::week::Entry;
 
@@ -44,9 +45,8 @@ fn minutes_covered(entries: &[Entry], weekday: usize) -> bool
 }
 
 /// Whether each minute of the week stands in exactly one entry.
-pub(crate) fn week_covered(entries: &[Entry]) -> bool
-    ensures value { result ≡ week_covered entries.now }
-    ensures covers { IsTrue result ↔ CoversWeek entries.now }
+fn week_covered(entries: &[Entry]) -> bool
+    ensures { result ≡ week_covered entries.now }
 {
     for weekday in 0..7 {
         if !minutes_covered(entries, weekday) {
@@ -54,4 +54,17 @@ pub(crate) fn week_covered(entries: &[Entry]) -> bool
         }
     }
     true
+}
+
+fn end_in_days(entries: &[Entry]) -> bool
+    ensures { result ≡ list_all (λ e. nat_le e.to 1440) entries.now }
+{
+    entries.iter().all(|entry| entry.to <= 1440)
+}
+
+/// Whether they are the entries of a week.
+pub(crate) fn is_week(entries: &[Entry]) -> bool
+    ensures { result ≡ is_week entries.now }
+{
+    entries.len() <= 64 && end_in_days(entries) && week_covered(entries)
 }

@@ -2,8 +2,6 @@
 //! with a fixed offset: the date's ordinal, its year and month, its weekday and hour, and the timestamp of a midnight;
 //! switches and validity times are those of a search over each second.
 
-ghost use Rattle.std.specs.Prelude.{◌≤◌, All, IfOk, length};
-
 use crate::{Calendar, Cycle, Entry, Period, Zone};
 use std::alloc::{AllocError, Global};
 use std::process::Abort;
@@ -17,10 +15,7 @@ const WEEKEND: [bool; 7] = [false, false, false, false, false, true, true];
 const ALL_DAYS: [bool; 7] = [true; 7];
 
 /// Period 1 on workdays from 08:00 to 20:00, and period 0 else.
-fn office_hours(alloc: Global) -> Result<Vec<Entry>, AllocError>
-    ensures ends { IfOk result (λ v. All (λ e. e.to ≤ 1440) v.items) }
-    ensures few { IfOk result (λ v. length v.items ≤ 64) }
-{
+fn office_hours(alloc: Global) -> Result<Vec<Entry>, AllocError> {
     [
         Entry {
             period: Period(1),
@@ -143,10 +138,7 @@ fn fourteen_hours_ahead(rt: HostRuntime) -> Result<(), Fail> {
 }
 
 /// Period 1 each day from 08:00 to 08:30, and period 0 else.
-fn half_hour(alloc: Global) -> Result<Vec<Entry>, AllocError>
-    ensures ends { IfOk result (λ v. All (λ e. e.to ≤ 1440) v.items) }
-    ensures few { IfOk result (λ v. length v.items ≤ 64) }
-{
+fn half_hour(alloc: Global) -> Result<Vec<Entry>, AllocError> {
     [
         Entry {
             period: Period(0),
@@ -204,5 +196,37 @@ fn weeks_and_zones(rt: HostRuntime) -> Result<(), Fail> {
     let mut gap = office_hours(rt.alloc())?;
     gap.pop();
     assert!(rt; Calendar::new(zone, gap).is_none());
+    Ok(())
+}
+
+/// Each minute of the week stands in one entry, and each day's minutes in so many, of equal length but for the last.
+fn minutes(alloc: Global, count: u16, to: u16) -> Result<Vec<Entry>, AllocError> {
+    let mut entries = Vec::new(alloc);
+    for minute in 0..count {
+        let last = minute + 1 == count;
+        entries.push(Entry {
+            period: Period(0),
+            days: ALL_DAYS,
+            from: minute,
+            to: if last { to } else { minute + 1 },
+        })?;
+    }
+    Ok(entries)
+}
+
+/// At most 64 entries, each within its day.
+#[test]
+fn limits(rt: HostRuntime) -> Result<(), Fail> {
+    for (count, to, is_week) in [
+        (1, 1440, true),
+        (1, 1439, false),
+        (1, 1441, false),
+        (64, 1440, true),
+        (65, 1440, false),
+    ] {
+        let zone = Zone::fixed(0).ok_or("zone")?;
+        let calendar = Calendar::new(zone, minutes(rt.alloc(), count, to)?);
+        assert_eq!(rt; calendar.is_some(), is_week, "{count} {to}");
+    }
     Ok(())
 }

@@ -1,34 +1,40 @@
 -- What the tables of a run tell of an account, and of a command that comes again.
-use Rattle.std.proofs.Common.{◌≡◌, ℕ, true, List, ◌∷◌, subst, ◌∙◌, Option, Some, take, length}
+use Rattle.std.proofs.Common.{◌≡◌, ℕ, true, List, ◌∷◌, sym, subst, ◌∙◌, Option, Some, take, length}
 use Rattle.std.specs.Prelude.{Result, Ok, Err, IfOk}
 use Rattle.commands.specs.declared.answer.Answer.{Answer}
 use Rattle.commands.specs.declared.command.Command.{Command}
 use Rattle.tariffs.specs.Books.{Book, IsBook}
-use Rattle.reserving.specs.Stored.{StoredRows}
+use Rattle.reserving.proofs.Lists.{some_of}
 use Rattle.keepers.specs.declared.fault.StoreFault.{StoreFault}
-use Rattle.keepers.specs.Tables.{Tables}
-use Rattle.keepers.specs.Accepted.{Accepted, as_of, IsInTime, IsRow}
+use Rattle.keepers.specs.Tables.{Head, Tables, head_of}
+use Rattle.keepers.specs.Change.{AreRowsAt}
+use Rattle.keepers.proofs.Told.{buckets_told}
+use Rattle.charging.specs.Accepted.{Accepted, as_of, IsInTime}
 use Rattle.charging.specs.declared.running.DatedCommand.{DatedCommand}
 use Rattle.charging.specs.Served.{AreTables, history, moment_of, IsServed, Serves}
 use Rattle.charging.specs.Runs.{after_commands, IsRun, Runs}
 use Rattle.charging.specs.Headline.{AreAccounted}
 use Rattle.charging.specs.Repeats.{IsAnsweredAgain}
-use Rattle.charging.proofs.Paying.{IsPaying, keeps_paying}
-use Rattle.charging.proofs.Guaranteed.{IsGuaranteed, keeps_guaranteed}
+use Rattle.charging.proofs.AcceptedTables.{row_some}
+use Rattle.charging.proofs.Paying.{IsPaying, paying_none, keeps_paying}
+use Rattle.charging.proofs.Guaranteed.{IsGuaranteed, guaranteed_none, keeps_guaranteed}
 use Rattle.charging.proofs.KeptHistories.{kept_history}
 use Rattle.charging.proofs.Repeated.{answers-once}
 
 pub accounted : (b : Book) (commands : List DatedCommand) (old new : Tables) (given : List Answer) → IsBook b → Runs b commands old new given → AreAccounted b commands old new given
-accounted b commands old new given ranges runs list time tables a rows found =
+accounted b commands old new given ranges runs list time tables a head found =
     let after : List Accepted = after_commands b list (take (length given) commands) in
     let run : IsRun b list commands new given = runs list time tables in
-    let row : IsRow b (as_of a after) (history b a after) (Some rows) = subst (IsRow b (as_of a after) (history b a after)) found (run.tables.accounts a) in
+    let row = row_some b (as_of a after) (history b a after) (new.rows a) head found (run.tables.accounts a) in
+    let same : head ≡ head_of row.1.listed = some_of head (head_of row.1.listed) (sym found ∙ row.1.are.head) in
+    let moment : as_of a after ≡ head.as_of = sym row.1.moment ∙ (λ i. (sym same i).as_of) in
+    let told = buckets_told b (history b a after).ledger head.as_of (new.rows a) (subst (λ m. AreRowsAt b (history b a after).ledger m (new.rows a)) moment row.1) in
     record {
-      buckets = row.1.rows.buckets;
-      balanced = row.1.kept.sound.balanced;
+      buckets = told.0;
+      balanced = told.1;
       charges = run.tables.charges a;
-      paid = (kept_history b (IsPaying b) (keeps_paying b) a after).paid;
-      quotas = (kept_history b (IsGuaranteed b) (keeps_guaranteed b ranges) a after).quotas;
+      paid = (kept_history b (IsPaying b) (keeps_paying b) (paying_none b) a after).paid;
+      quotas = (kept_history b (IsGuaranteed b) (keeps_guaranteed b ranges) (guaranteed_none b) a after).quotas;
     }
 
 pub answered_again : (b : Book) (c : Command) (t : ℕ) (old new : Tables) (given : Answer) → ((list : List Accepted) → IsInTime list → AreTables b list old → IsServed b list c (moment_of list t) old new given) →

@@ -26,7 +26,8 @@ use Rattle.reserving.proofs.Lists.{some_of}
 use Rattle.reserving.proofs.Keys.{is_key, own_key, key_session, key_group}
 use Rattle.reserving.proofs.SettledFacts.{held-hold_facts, credits-hold_facts}
 use Rattle.charging.specs.Quotas.{OpenGrant, grant_told, grant_open}
-use Rattle.charging.proofs.BucketSums.{sum_by-most, sum_by-moved, sum_by-share, held_sum-parts}
+use Rattle.buckets.proofs.Paid.{sum_by-share}
+use Rattle.charging.proofs.BucketSums.{sum_by-most, sum_by-moved, held_sum-parts}
 use Rattle.charging.proofs.Steps.{is_quiet, with_grant, granted}
 use Rattle.charging.proofs.Credited.{AreCredited, in_order, distinct}
 use Rattle.charging.proofs.GrantPrices.{grant_price, HasBlocks, grant_covers, grant_within}

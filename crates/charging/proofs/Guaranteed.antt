@@ -14,14 +14,15 @@ use Rattle.reserving.specs.Ledger.Fact.{Touch, Close, Recorded, Barred}
 use Rattle.reserving.specs.Pricing.{tariff_of, cycle_at, one_period, rated_with}
 use Rattle.reserving.specs.Balance.{credits, buckets_at}
 use Rattle.reserving.specs.Sessions.{holds_at}
-use Rattle.reserving.specs.Settlement.{reported, report_price, charge_facts, settled_by}
+use Rattle.reserving.specs.Settlement.{reported, report_price, charge_facts, settled_by, missing}
 use Rattle.reserving.specs.Reservation.{hold_facts, grant_for}
+use Rattle.reserving.specs.Debiting.{debited}
 use Rattle.charging.specs.SessionReports.{Report}
 use Rattle.charging.specs.Quotas.{OpenGrant, grant_open, IsWithinGrant, AreQuotasPaid}
 use Rattle.charging.proofs.BucketSums.{sum_by-moved, held_sum-parts}
 use Rattle.charging.proofs.Steps.{is_quiet, with_grant, granted, Keeps}
 use Rattle.charging.proofs.Credited.{AreCredited, distinct}
-use Rattle.charging.proofs.Paying.{IsPaying, keeps_paying, before_charges-charges}
+use Rattle.charging.proofs.Paying.{IsPaying, paying_none, keeps_paying, before_charges-charges, paid_parts}
 use Rattle.charging.proofs.GrantPrices.{grant_price, report_within}
 use Rattle.charging.proofs.GrantsLeft.{held_together}
 use Rattle.charging.proofs.GrantsHeld.{has_blocks, IsCovered, AreCovered, covered_none, covered_quiet, covered_credit, covered_settle, covered_debit, covered_grant}
@@ -74,25 +75,14 @@ within_grant b is t s g used_parts reports ledger h x e le place_is =
 
 settled_quotas : (b : Book) → IsBook b → (t : ℕ) (s : List ℕ) (g : ℕ) (used_parts : List UsedPart) (reports : List Report) (ledger : Ledger) → IsGuaranteed b reports ledger → AreQuotasPaid b (settled_by b t s g used_parts ledger)
 settled_quotas b is t s g [] reports ledger h = (tt, h.quotas)
-settled_quotas b is t s g (p ∷ ps) reports ledger h = (
-  tt,
-  (
-    subst (IsWithinGrant b t s g (reported (p ∷ ps)) (uncollected holds g t rated rows)) (sym (before_charges-charges t hs ledger h.paying.begins)) (within_grant b is t s g (p ∷ ps) reports ledger h),
-    AreQuotasPaid-charges b t hs ledger h.quotas,
-  ),
-)
-  where
-    rows : List Row
-    rows = buckets_at b.validity t ledger
-
-    holds : List Hold
-    holds = holds_at b.validity t s g ledger
-
-    rated : ℕ
-    rated = (report_price b t s g (p ∷ ps) ledger).amount.0
-
-    hs : List Hold
-    hs = parts (paid holds g t rated rows) rows
+settled_quotas b is t s g (p ∷ ps) reports ledger h =
+    let hs : List Hold = paid_parts b t s g (p ∷ ps) ledger in (
+      tt,
+      (
+        subst (IsWithinGrant b t s g (reported (p ∷ ps)) (missing b t s g (p ∷ ps) ledger)) (sym (before_charges-charges t hs ledger h.paying.begins)) (within_grant b is t s g (p ∷ ps) reports ledger h),
+        AreQuotasPaid-charges b t hs ledger h.quotas,
+      ),
+    )
 
 granted_quotas : (b : Book) (t : ℕ) (s : List ℕ) (g : ℕ) (asked : Option ℕ) (ledger : Ledger) → AreQuotasPaid b ledger → AreQuotasPaid b (granted b t s g asked ledger)
 granted_quotas b t s g asked ledger h =
@@ -101,9 +91,11 @@ granted_quotas b t s g asked ledger h =
 
 -- ---- each step
 
+pub guaranteed_none : (b : Book) → IsGuaranteed b [] []
+guaranteed_none b = record { paying = paying_none b; covered = covered_none b; quotas = tt }
+
 pub keeps_guaranteed : (b : Book) → IsBook b → Keeps b (IsGuaranteed b)
 keeps_guaranteed b is = record {
-  none = record { paying = paying.none; covered = covered_none b; quotas = tt };
   quiet = λ t f reports ledger q n h. record {
     paying = paying.quiet t f reports ledger q n h.paying;
     covered = covered_quiet b t f ledger q h.covered;
@@ -129,10 +121,10 @@ keeps_guaranteed b is = record {
     covered = covered_grant b is t s g asked ledger h.paying.credits recorded h.covered;
     quotas = granted_quotas b t s g asked ledger h.quotas;
   };
-  debit = λ t s g units reports ledger new covered h. record {
-    paying = paying.debit t s g units reports ledger new covered h.paying;
-    covered = covered_debit b t s g units ledger new h.covered;
-    quotas = (λ x e le place. refl, AreQuotasPaid-charges b t _ ledger h.quotas);
+  event = λ t s g units n reports ledger new covered h. record {
+    paying = paying.event t s g units n reports ledger new covered h.paying;
+    covered = covered_quiet b t (Recorded s n) (debited b t s g units ledger) refl (covered_debit b t s g units ledger new h.covered);
+    quotas = (tt, (λ x e le place. refl, AreQuotasPaid-charges b t _ ledger h.quotas));
   };
 }
   where

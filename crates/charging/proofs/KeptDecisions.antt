@@ -149,7 +149,7 @@ module _ (b : Book) (P : List Report → Ledger → Type 0) (k : Keeps b P) (rep
       let units : ℕ = event_units tariff e.requested in
       either_decision (is_covered b t e.group units ledger) (charged b tariff t s n e.group units ledger) _
       (λ covered. either_decision (debit_passes b t s e.group units ledger) _ _ (λ p. h)
-      (λ p. kept_recorded t s n (debited b t s e.group units ledger) (k.debit t s e.group units reports ledger new covered h)))
+      (λ p. k.event t s e.group units n reports ledger new covered h))
       (λ p. kept_recorded t s n ledger h)
 
   -- an event that isn't refused has a new name

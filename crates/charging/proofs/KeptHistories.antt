@@ -16,8 +16,8 @@ use Rattle.decisions.specs.Decided.{Decision}
 use Rattle.decisions.specs.Decisions.{decision, answer_of, is_read}
 use Rattle.keepers.specs.declared.key.KeptAnswer.{KeptAnswer}
 use Rattle.keepers.specs.Keys.{key_of}
-use Rattle.keepers.specs.Histories.{History, kept_under}
-use Rattle.keepers.specs.Accepted.{Accepted, Outcome, account_of, names}
+use Rattle.charging.specs.Histories.{History, kept_under}
+use Rattle.charging.specs.Accepted.{Accepted, Outcome, concerned_by, names}
 use Rattle.charging.specs.Outcomes.{told, keeping, unless_kept, decided_by, request_outcome, from_of, until_of, is_out_of_range, new_credit, credit_outcome, opened_outcome, unopened_outcome, outcome}
 use Rattle.charging.specs.Served.{history}
 use Rattle.charging.specs.SessionReports.{Report, with_ask, with_reports, reports_of}
@@ -87,8 +87,8 @@ module _ (b : Book) (P : List Report → Ledger → Type 0) (k : Keeps b P) wher
   either_history true more reports x y p q = p
   either_history false more reports x y p q = q
 
-  pub kept_history : (a : List ℕ) (list : List Accepted) → P (reports_of b a list) (history b a list).ledger
-  kept_history a [] = k.none
-  kept_history a (d ∷ before) =
-      let older : P (reports_of b a before) (history b a before).ledger = kept_history a before in
-      either_history (names a (account_of d.command)) _ (reports_of b a before) _ (history b a before) (kept_outcome (history b a before) d.command d.moment (reports_of b a before) older) older
+  pub kept_history : P [] [] → (a : List ℕ) (list : List Accepted) → P (reports_of b a list) (history b a list).ledger
+  kept_history none a [] = none
+  kept_history none a (d ∷ before) =
+      let older : P (reports_of b a before) (history b a before).ledger = kept_history none a before in
+      either_history (names a (concerned_by d.command)) _ (reports_of b a before) _ (history b a before) (kept_outcome (history b a before) d.command d.moment (reports_of b a before) older) older

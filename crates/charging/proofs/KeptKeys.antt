@@ -2,7 +2,7 @@
 use Rattle.std.proofs.Common.{◌≡◌, ℕ, Bool, true, false, true≢false, List, refl, sym, ap, ◌∙◌, Option, Some, None}
 use Rattle.std.specs.Prelude.{if◌then◌else◌, IsTrue, ◌↔◌}
 use Rattle.std.specs.Bool.{Decides}
-use Rattle.commands.specs.Exact.{request_exact, credit_exact}
+use Rattle.commands.proofs.Exact.{request_exact, credit_exact}
 use Rattle.commands.specs.declared.answer.Answer.{Answer}
 use Rattle.commands.specs.declared.answer.Answer.TheVariants as answer
 use Rattle.commands.specs.declared.answer.Failure.{Failure}
@@ -28,8 +28,8 @@ use Rattle.decisions.specs.Decisions.{decision, decided, answer_of, is_read}
 use Rattle.reserving.specs.Pricing.{tariff_of}
 use Rattle.keepers.specs.declared.key.KeptAnswer.{KeptAnswer}
 use Rattle.keepers.specs.Keys.{key_of}
-use Rattle.keepers.specs.Histories.{History, kept_under}
-use Rattle.keepers.specs.Accepted.{Outcome}
+use Rattle.charging.specs.Histories.{History, kept_under}
+use Rattle.charging.specs.Accepted.{Outcome}
 use Rattle.charging.specs.Outcomes.{told, keeping, same_content, repeated, unless_kept, failed, decided_by, request_outcome, new_credit, credit_outcome}
 
 -- ---- equal contents

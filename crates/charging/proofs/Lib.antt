@@ -1,7 +1,9 @@
+pub mod AcceptedTables
+pub mod Grows
+pub mod Recorded
 pub mod Apart
 pub mod Repeated
 pub mod Serving
-pub mod Loading
 pub mod NeverOpened
 pub mod KeptKeys
 pub mod Requested

@@ -1,5 +1,5 @@
 -- An account that was never opened has an empty ledger, and nothing is kept of it.
-use Rattle.std.proofs.Common.{◌≡◌, ℕ, Bool, true, false, true≢false, List, [], ◌∷◌, refl, sym, ap, subst, ◌∙◌, Option, Some, None}
+use Rattle.std.proofs.Common.{◌≡◌, ℕ, Bool, true, false, true≢false, List, [], ◌∷◌, refl, sym, ap, ◌∙◌, Option, Some, None}
 use Rattle.std.specs.Prelude.{if◌then◌else◌}
 use Rattle.std.specs.List.{find}
 use Rattle.commands.specs.declared.command.Command.{Command}
@@ -16,18 +16,16 @@ use Rattle.commands.specs.declared.request.Request.{Request}
 use Rattle.tariffs.specs.Books.{Book}
 use Rattle.reserving.specs.Ledger.{next_bucket}
 use Rattle.reserving.specs.Requests.{credited}
-use Rattle.reserving.specs.Stored.{StoredRows}
 use Rattle.reserving.proofs.Lists.{no_some}
 use Rattle.decisions.specs.Decided.{Decision}
 use Rattle.decisions.specs.Decisions.{decision, answer_of, is_read}
 use Rattle.keepers.specs.declared.key.Key.{Key}
 use Rattle.keepers.specs.declared.key.KeptAnswer.{KeptAnswer}
 use Rattle.keepers.specs.Keys.{key_of}
-use Rattle.keepers.specs.Tables.{Tables}
-use Rattle.keepers.specs.Histories.{History, is_kept_under, kept_under}
-use Rattle.keepers.specs.Accepted.{Accepted, Outcome, account_of, names, as_of, IsRow}
+use Rattle.charging.specs.Histories.{History, is_kept_under, kept_under}
+use Rattle.charging.specs.Accepted.{Accepted, Outcome, concerned_by, names}
 use Rattle.charging.specs.Outcomes.{outcome, opened_outcome, unopened_outcome, told, keeping, unless_kept, failed, decided_by, request_outcome, from_of, until_of, is_out_of_range, new_credit}
-use Rattle.charging.specs.Served.{history, AreTables}
+use Rattle.charging.specs.Served.{history}
 
 -- ---- an account that is there stays
 
@@ -86,7 +84,7 @@ outcome_empty b h c t empty = at h.opened refl
 
 unopened-empty : (b : Book) (a : List ℕ) (list : List Accepted) → (history b a list).opened ≡ false → IsEmpty (history b a list)
 unopened-empty b a [] e = (refl, refl)
-unopened-empty b a (d ∷ before) e = at (names a (account_of d.command)) (unopened-empty b a before) e
+unopened-empty b a (d ∷ before) e = at (names a (concerned_by d.command)) (unopened-empty b a before) e
   where
     at : (v : Bool) → ((history b a before).opened ≡ false → IsEmpty (history b a before)) → (if v then (outcome b (history b a before) d.command d.moment).after else history b a before).opened ≡ false →
         IsEmpty (if v then (outcome b (history b a before) d.command d.moment).after else history b a before)
@@ -103,7 +101,3 @@ kept-opened b a list k kept is = at (history b a list).opened refl
     at : (v : Bool) → (history b a list).opened ≡ v → (history b a list).opened ≡ true
     at true e = e
     at false e = absurd (no_some kept (sym (ap (find (is_kept_under k)) (unopened-empty b a list e).1) ∙ is))
-
--- an account that isn't in the tables wasn't opened
-pub closed : (b : Book) (a : List ℕ) (list : List Accepted) (tables : Tables) → AreTables b list tables → tables.accounts a ≡ None → (history b a list).opened ≡ false
-closed b a list tables is none = subst (λ (o : Option StoredRows). IsRow b (as_of a list) (history b a list) o) none (is.accounts a)

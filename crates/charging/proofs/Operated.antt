@@ -1,79 +1,147 @@
 -- What operators' commands come to.
 use Rattle.std.proofs.Common.{◌≡◌, ℕ, ◌+◌, ◌≤◌, Bool, true, false, true≢false, List, [], ◌∷◌, ◌++◌, refl, sym, ap, subst, ◌∙◌, Option, Some, None}
 use Rattle.std.proofs.lemmas.List.{append-nil}
-use Rattle.std.specs.Prelude.{max, is_some, IfSome, if◌then◌else◌}
+use Rattle.std.specs.Prelude.{max, is_some, option_map, IfSome, if◌then◌else◌}
 use Rattle.commands.specs.declared.answer.Answer.{Answer}
 use Rattle.commands.specs.declared.answer.Answer.TheVariants as answer
 use Rattle.commands.specs.declared.answer.Refusal.TheVariants.{AccountExists, AccountUnknown, ContentDiffers, OutOfRange}
 use Rattle.commands.specs.declared.command.Command.TheVariants as command
 use Rattle.commands.specs.declared.command.Content.TheVariants as content
 use Rattle.commands.specs.declared.command.Credit.{Credit}
-use Rattle.tariffs.specs.Books.{Book, IsBook}
+use Rattle.tariffs.specs.Books.{Book}
+use Rattle.reserving.specs.declared.session.SessionGroup.{SessionGroup}
 use Rattle.reserving.specs.Ledger.{Ledger, next_bucket}
+use Rattle.reserving.specs.Ledger.Fact.{Credit as Bucket, Barred}
 use Rattle.reserving.specs.Charges.{charge_rows}
 use Rattle.reserving.specs.Requests.{credited, with_bar}
 use Rattle.reserving.specs.Rows.{AccountRows, IsAccount, IsRowsOf}
+use Rattle.reserving.specs.Stored.{StoredRows, stored, priced}
+use Rattle.reserving.specs.Left.{LeftRows, IsWith, left_of, first_of}
+use Rattle.reserving.proofs.Lists.{no_some}
+use Rattle.reserving.proofs.StoredRows.{IsStored-stored}
 use Rattle.keepers.specs.declared.key.Key.{Key}
 use Rattle.keepers.specs.declared.key.KeptAnswer.{KeptAnswer}
 use Rattle.keepers.specs.declared.loaded.Change.{Change}
 use Rattle.keepers.specs.declared.loaded.Loaded.{Loaded}
 use Rattle.keepers.specs.Keys.{key_of}
-use Rattle.keepers.specs.Tables.{Tables}
-use Rattle.keepers.specs.Change.{changed, swept}
-use Rattle.keepers.specs.Histories.{History}
-use Rattle.keepers.specs.Accepted.{Accepted, account_of, is_opening, last_moment, IsInTime}
-use Rattle.keepers.proofs.AcceptedTables.{tables_swept}
+use Rattle.keepers.specs.Tables.{Head, Rows, Tables, group_row, held_of, no_rows}
+use Rattle.keepers.specs.Change.{AreRowsAt, IsMadeFrom, held_over, over, changed, IsSwept}
+use Rattle.charging.specs.Histories.{History}
+use Rattle.charging.specs.Accepted.{Accepted, one, concerned_by, is_opening, last_moment, IsInTime}
 use Rattle.charging.specs.Outcomes.{outcome, told, done, keeping, repeated, with_ledger, from_of, until_of, is_out_of_range, new_credit, opened_outcome, unopened_outcome}
 use Rattle.charging.specs.Served.{history, AreTables, IsServed}
-use Rattle.charging.specs.Stepping.{IsLoaded, Credits, bar_command}
-use Rattle.charging.proofs.Loading.{IsOpened, is_opened}
-use Rattle.charging.proofs.NeverOpened.{unopened-ledger, closed}
+use Rattle.charging.specs.Stepping.{IsTaken, Credits, bar_command}
+use Rattle.charging.proofs.AcceptedTables.{tables_swept}
+use Rattle.charging.proofs.NeverOpened.{unopened-ledger}
 use Rattle.charging.proofs.KeptKeys.{credit-repeated, credit-fresh}
-use Rattle.charging.proofs.Serving.{held, keeps-none, keeps-some, counted, served-told, served-done, outcome-unopened, outcome-opened, outcome-kept}
+use Rattle.charging.proofs.Grows.{one_more}
+use Rattle.charging.proofs.Serving.{IsOpened, is_opened, keeps-none, keeps-some, served-told, served-done, served-loaded, is-there, not-opened, outcome-unopened, outcome-opened, outcome-kept}
 
 -- ---- a sweep
 
-pub sweep-served : (b : Book) (list : List Accepted) (t n : ℕ) (old new : Tables) → IsBook b → IsInTime list → AreTables b list old → last_moment list ≤ t → n ≡ old.count → new ≡ swept b t old →
+pub sweep-served : (b : Book) (list : List Accepted) (t n : ℕ) (old new : Tables) → IsInTime list → AreTables b list old → last_moment list ≤ t → n ≡ old.count → IsSwept b t old new →
     IsServed b list command.Sweep t old new (answer.Swept n)
-sweep-served b list t n old new ranges time tables le count grown = record {
+sweep-served b list t n old new time tables le count swept = record {
   answer = ap answer.Swept (count ∙ tables.count);
-  tables = subst (λ (x : Tables). AreTables b (record { moment = t; command = command.Sweep } ∷ list) x) (sym grown)
-      (tables_swept (outcome b) b (record { moment = t; command = command.Sweep }) list old ranges time le refl refl tables);
+  tables = tables_swept (outcome b) b (record { moment = t; command = command.Sweep }) list old new time le refl refl swept tables;
   time = (le, time);
   same = λ e. absurd (true≢false e);
 }
 
 -- ---- an account is opened
 
-pub open-again : (b : Book) (list : List Accepted) (n : List ℕ) (t : ℕ) (old new : Tables) (found : Loaded) → IsInTime list → last_moment list ≤ t → AreTables b list old → IsLoaded b n old found → new ≡ old →
-    IsServed b list (command.OpenAccount n) t old new (answer.Refused AccountExists)
-open-again b list n t old new found time le tables loads same =
-    let account : IsOpened b list t n old found = is_opened b list t n old found time le tables loads in
-    served-told b list (command.OpenAccount n) t n refl time le (told (answer.Refused AccountExists) (history b n list)) (answer.Refused AccountExists) old new
-    (outcome-opened b list (command.OpenAccount n) t n refl old account.stored_rows tables account.there) refl refl same tables
+no_head : (o : Option Head) → is_some o ≡ false → o ≡ None
+no_head None e = refl
+no_head (Some head) e = absurd (true≢false e)
 
-pub open-done : (b : Book) (list : List Accepted) (n : List ℕ) (t : ℕ) (change : Change) (old new : Tables) → IsInTime list → last_moment list ≤ t → AreTables b list old → old.accounts n ≡ None → n ≡ change.account.number → change.moment ≡ t →
-    change.kept ≡ None → change.charges.items ≡ [] → IsAccount change.account.account → change.account.account.book ≡ b → change.account.account.as_of ≡ t → IsRowsOf [] change.account.account → new ≡ changed change old →
-    IsServed b list (command.OpenAccount n) t old new answer.Done
-open-done b list n t change old new time le tables none number moment kept charges is book as_of rows grown =
+pub not-there : (old : Tables) (n : List ℕ) → is_some (old.rows n).head ≡ false → (old.rows n).head ≡ None
+not-there old n e = no_head (old.rows n).head e
+
+pub open-again : (b : Book) (list : List Accepted) (n : List ℕ) (t : ℕ) (old new : Tables) → IsInTime list → last_moment list ≤ t → AreTables b list old → is_some (old.rows n).head ≡ true → new ≡ old →
+    IsServed b list (command.OpenAccount n) t old new (answer.Refused AccountExists)
+open-again b list n t old new time le tables there same =
+    served-told b list (command.OpenAccount n) t n refl time le (told (answer.Refused AccountExists) (history b n list)) (answer.Refused AccountExists) old new
+    (outcome-opened b list (command.OpenAccount n) t n refl (is-there b list n old tables there)) refl refl same tables
+
+-- of an account that isn't there no row is
+made_of_nothing : (before after : StoredRows) (r : Rows) → r ≡ no_rows → before.buckets ≡ [] → before.counters ≡ [] → before.sessions ≡ [] → before.groups ≡ [] → IsMadeFrom before after r
+made_of_nothing before after r none bs cs ss gs = record {
+  buckets = λ n x e. absurd (no_some x ((λ i. Rattle.reserving.specs.Left.bucket_in n (sym bs i)) ∙ e));
+  counters = λ g c x e. absurd (no_some x ((λ i. Rattle.reserving.specs.Sessions.counter_in g c (sym cs i)) ∙ e));
+  sessions = λ s x e. absurd (no_some x ((λ i. Rattle.reserving.specs.Sessions.session_in s (sym ss i)) ∙ e));
+  groups = λ s g x e. absurd (no_some x ((λ i. Rattle.reserving.specs.Sessions.group_in s g (sym gs i)) ∙ e));
+  holds = λ s g n x e. absurd (no_some x ((λ i. Rattle.reserving.specs.Sessions.group_in s g (sym gs i)) ∙ e));
+  dead = λ n x e k. absurd (no_some x ((λ i. (sym none i).buckets n) ∙ e));
+  ended = λ s x e k. absurd (no_some x ((λ i. (sym none i).sessions s) ∙ e));
+  free = λ s g x e k. absurd (no_some x ((λ i. (sym none i).groups s g) ∙ e));
+}
+
+first_alone : {A : Type 0} (o : Option A) → first_of o None ≡ o
+first_alone None = refl
+first_alone (Some x) = refl
+
+held_alone : (n : ℕ) (o : Option SessionGroup) → held_over n o 0 ≡ held_of n o
+held_alone n None = refl
+held_alone n (Some x) = refl
+
+-- the rows of a new account are its own
+new_rows : (b : Book) (t : ℕ) (x : AccountRows) → IsAccount x → x.book ≡ b → x.as_of ≡ t → IsRowsOf [] x → AreRowsAt b [] t (over (stored x) no_rows)
+new_rows b t x is book as_of rows = record {
+  listed = stored x;
+  are = record {
+    head = refl;
+    buckets = λ n. first_alone _;
+    counters = λ g c. first_alone _;
+    sessions = λ s. first_alone _;
+    groups = λ s g. first_alone (option_map group_row (Rattle.reserving.specs.Sessions.group_in s g x.groups));
+    holds = λ s g n. held_alone n (Rattle.reserving.specs.Sessions.group_in s g x.groups);
+  };
+  kept = IsStored-stored x is;
+  moment = as_of;
+  rows = subst (λ (y : Book). IsRowsOf [] (priced y (stored x))) book rows;
+}
+
+-- a new account, and the change that tells it
+pub record IsNew (b : Book) (n : List ℕ) (t : ℕ) (x fresh : AccountRows) (change : Change) : Type 0 where
+  pub account : IsAccount x
+  pub priced_by : x.book ≡ b
+  pub at_moment : x.as_of ≡ t
+  pub rows : IsRowsOf [] x
+  pub named : change.number ≡ n
+  pub moment : change.moment ≡ x.as_of
+  pub after : change.after ≡ stored x
+  pub kept : change.kept ≡ None
+  pub charges : change.charges.items ≡ []
+  -- nothing was loaded
+  pub buckets : fresh.buckets ≡ []
+  pub counters : fresh.counters ≡ []
+  pub sessions : fresh.sessions ≡ []
+  pub groups : fresh.groups ≡ []
+
+pub open-done : (b : Book) (list : List Accepted) (n : List ℕ) (t : ℕ) (x fresh : AccountRows) (change : Change) (old new : Tables) → IsInTime list → last_moment list ≤ t → AreTables b list old → (old.rows n).head ≡ None →
+    IsNew b n t x fresh change → (IsMadeFrom (stored fresh) (stored x) (old.rows n) → new ≡ changed change old) → IsServed b list (command.OpenAccount n) t old new answer.Done
+open-done b list n t x fresh change old new time le tables none is grown =
     let h : History = history b n list in
-    let empty : h.ledger ≡ [] = unopened-ledger b n list (closed b n list old tables none) in
+    let closed : (h.opened ≡ false) × (old.rows n ≡ no_rows) = not-opened b list (command.OpenAccount n) t n refl old tables none in
+    let empty : h.ledger ≡ [] = unopened-ledger b n list closed.0 in
     served-done b list (command.OpenAccount n) t n refl time le (unopened_outcome h (command.OpenAccount n)) answer.Done change old new
     (outcome-unopened b list (command.OpenAccount n) t n refl old tables none)
-    refl refl number
+    refl refl (sym is.named)
     (record {
-      moment = moment;
+      moment = is.moment ∙ is.at_moment;
       opened = refl;
-      row = held b t (record { opened = true; ledger = h.ledger; kept = h.kept }) change.account.account is book as_of (subst (λ (x : Ledger). IsRowsOf x change.account.account) (sym empty) rows);
-      kept = keeps-none kept h.kept;
-      charges = sym (ap (λ xs. charge_rows h.ledger ++ xs) charges ∙ append-nil (charge_rows h.ledger));
-      count = ap (λ o. if is_some o then old.count else old.count + 1) (ap old.accounts (sym number) ∙ none);
+      row = subst (λ (l : Ledger). AreRowsAt b l t (over change.after (old.rows change.number))) (sym empty)
+          (subst (λ (w : StoredRows). AreRowsAt b [] t (over w (old.rows change.number))) (sym is.after)
+          (subst (λ (r : Rows). AreRowsAt b [] t (over (stored x) r)) (sym closed.1 ∙ ap old.rows (sym is.named)) (new_rows b t x is.account is.priced_by is.at_moment is.rows)));
+      kept = keeps-none is.kept h.kept;
+      charges = sym (ap (λ xs. charge_rows h.ledger ++ xs) is.charges ∙ append-nil (charge_rows h.ledger));
+      count = ap (λ o. if is_some o then old.count else old.count + 1) (ap (λ (m : List ℕ). (old.rows m).head) is.named ∙ none);
     })
-    grown tables
+    (grown (made_of_nothing (stored fresh) (stored x) (old.rows n) closed.1 is.buckets is.counters is.sessions is.groups)) tables
 
 -- ---- an account is barred
 
-bar-named : (n : List ℕ) (barred : Bool) → account_of (bar_command n barred) ≡ Some n
+bar-named : (n : List ℕ) (barred : Bool) → concerned_by (bar_command n barred) ≡ one n
 bar-named n true = refl
 bar-named n false = refl
 
@@ -89,38 +157,49 @@ bar-opens : (n : List ℕ) (barred : Bool) → is_opening (bar_command n barred)
 bar-opens n true = refl
 bar-opens n false = refl
 
-pub bar-unknown : (b : Book) (list : List Accepted) (n : List ℕ) (barred : Bool) (t : ℕ) (old new : Tables) → IsInTime list → last_moment list ≤ t → AreTables b list old → old.accounts n ≡ None → new ≡ old →
+pub bar-unknown : (b : Book) (list : List Accepted) (n : List ℕ) (barred : Bool) (t : ℕ) (old new : Tables) → IsInTime list → last_moment list ≤ t → AreTables b list old → (old.rows n).head ≡ None → new ≡ old →
     IsServed b list (bar_command n barred) t old new (answer.Refused AccountUnknown)
 bar-unknown b list n barred t old new time le tables none same =
     served-told b list (bar_command n barred) t n (bar-named n barred) time le (told (answer.Refused AccountUnknown) (history b n list)) (answer.Refused AccountUnknown) old new
     (outcome-unopened b list (bar_command n barred) t n (bar-named n barred) old tables none ∙ bar-unopened (history b n list) n barred) refl refl same tables
 
-pub bar-done : (b : Book) (list : List Accepted) (n : List ℕ) (barred : Bool) (t m : ℕ) (found : Loaded) (change : Change) (old new : Tables) → IsInTime list → last_moment list ≤ t → AreTables b list old → IsLoaded b n old found →
-    m ≡ max t found.account.as_of → found.number ≡ change.account.number → change.moment ≡ change.account.account.as_of → change.kept ≡ None → change.charges.items ≡ [] → IsAccount change.account.account → change.account.account.book ≡ found.account.book →
-    change.account.account.as_of ≡ m → ((ledger : Ledger) → IsRowsOf ledger found.account → IsRowsOf (with_bar m barred ledger) change.account.account) → new ≡ changed change old →
-    IsServed b list (bar_command n barred) t old new answer.Done
-bar-done b list n barred t m found change old new time le tables loads moment number moments kept charges is book as_of rows grown =
+-- the change tells the account as it stands after a command without charges
+pub record Tells (change : Change) (found : Loaded) (x : AccountRows) (kept : Option KeptAnswer) : Type 0 where
+  pub number : change.number ≡ found.number
+  pub moment : change.moment ≡ x.as_of
+  pub after : change.after ≡ stored x
+  pub charges : change.charges.items ≡ []
+  pub kept_is : change.kept ≡ kept
+
+pub bar-done : (b : Book) (list : List Accepted) (n : List ℕ) (barred : Bool) (t m : ℕ) (found : Loaded) (x : AccountRows) (change : Change) (old new : Tables) → IsInTime list → last_moment list ≤ t → AreTables b list old → IsTaken b t n old found →
+    m ≡ max t found.account.as_of → x.book ≡ found.account.book → x.as_of ≡ m → ((ledger : Ledger) (left : LeftRows) → IsWith ledger left m found.account → IsWith (with_bar m barred ledger) left m x) → Tells change found x None →
+    (IsMadeFrom found.before (stored x) (old.rows found.number) → new ≡ changed change old) → IsServed b list (bar_command n barred) t old new answer.Done
+bar-done b list n barred t m found x change old new time le tables loads moment book as_of rows tells grown =
     let h : History = history b n list in
-    let account : IsOpened b list t n old found = is_opened b list t n old found time le tables loads in
+    let account : IsOpened b list t n old found.account = is_opened b list t n old found.account time le tables loads.load.1 loads.account in
     let now : m ≡ t = moment ∙ account.moment in
-    served-done b list (bar_command n barred) t n (bar-named n barred) time le (done answer.Done (with_ledger (with_bar t barred h.ledger) h)) answer.Done change old new
-    (outcome-opened b list (bar_command n barred) t n (bar-named n barred) old account.stored_rows tables account.there ∙ bar-opened b h n barred t)
-    refl refl (account.number ∙ number)
+    let left : LeftRows = left_of t (priced b account.are.listed) in
+    served-loaded b list (bar_command n barred) t n (bar-named n barred) time le old new tables found loads
+    (done answer.Done (with_ledger (with_bar t barred h.ledger) h)) answer.Done x change (bar-opens n barred)
+    (outcome-opened b list (bar_command n barred) t n (bar-named n barred) account.opened ∙ bar-opened b h n barred t)
+    refl refl
     (record {
-      moment = moments ∙ as_of ∙ now;
+      book = book;
+      at_moment = as_of ∙ now;
+      grows = one_more (record { at = t; fact = Barred barred }) h.ledger;
+      rows = subst (λ (u : ℕ). IsWith (with_bar u barred h.ledger) left u x) now (rows h.ledger left (subst (λ (u : ℕ). IsWith h.ledger left u found.account) (sym now) account.with_left));
       opened = account.opened;
-      row = held b t (with_ledger (with_bar t barred h.ledger) h) change.account.account is (book ∙ account.book) (as_of ∙ now)
-          (subst (λ (x : ℕ). IsRowsOf (with_bar x barred h.ledger) change.account.account) now (rows h.ledger account.rows));
-      kept = keeps-none kept h.kept;
-      charges = ap (λ xs. charge_rows h.ledger ++ xs) (sym charges);
-      count = counted old change.account.number account.stored_rows (ap old.accounts (sym number ∙ sym account.number) ∙ account.there)
-          ∙ sym (ap (λ v. if v then old.count + 1 else old.count) (bar-opens n barred));
+      kept = keeps-none tells.kept_is h.kept;
+      charges = ap (λ xs. charge_rows h.ledger ++ xs) (sym tells.charges);
+      number = tells.number;
+      moment = tells.moment;
+      after = tells.after;
     })
-    grown tables
+    grown
 
 -- ---- a credit
 
-pub credit-unknown : (b : Book) (list : List Accepted) (c : Credit) (t : ℕ) (old new : Tables) → IsInTime list → last_moment list ≤ t → AreTables b list old → old.accounts c.account ≡ None → new ≡ old →
+pub credit-unknown : (b : Book) (list : List Accepted) (c : Credit) (t : ℕ) (old new : Tables) → IsInTime list → last_moment list ≤ t → AreTables b list old → (old.rows c.account).head ≡ None → new ≡ old →
     IsServed b list (command.Credit c) t old new (answer.Refused AccountUnknown)
 credit-unknown b list c t old new time le tables none same =
     served-told b list (command.Credit c) t c.account refl time le (told (answer.Refused AccountUnknown) (history b c.account list)) (answer.Refused AccountUnknown) old new
@@ -135,48 +214,55 @@ credit-again b list c t old new kept given time le tables is answers same =
     (outcome-kept b list (command.Credit c) t c.account refl old k kept tables is ∙ credit-repeated c t h kept (sym (tables.answers c.account k) ∙ is))
     refl answers same tables
 
-module _ (b : Book) (list : List Accepted) (c : Credit) (t : ℕ) (old : Tables) (found : Loaded) (time : IsInTime list) (le : last_moment list ≤ t) (tables : AreTables b list old) (loads : IsLoaded b c.account old found) where
+module _ (b : Book) (list : List Accepted) (c : Credit) (t : ℕ) (old new : Tables) (found : Loaded) (time : IsInTime list) (le : last_moment list ≤ t) (tables : AreTables b list old) (loads : IsTaken b t c.account old found)
+    (m : ℕ) (fresh : old.answers c.account (key_of (content.Credit c)) ≡ None) (moment : m ≡ max t found.account.as_of)
+    (o : Option ℕ) (x : AccountRows) (credits : (ledger : Ledger) (left : LeftRows) → IsWith ledger left m found.account → Credits o c m ledger left x) where
   abbrev h : History
   h = history b c.account list
 
-  account : IsOpened b list t c.account old found
-  account = is_opened b list t c.account old found time le tables loads
+  abbrev account : IsOpened b list t c.account old found.account
+  account = is_opened b list t c.account old found.account time le tables loads.load.1 loads.account
 
-  opened-is : outcome b h (command.Credit c) t ≡ opened_outcome b h (command.Credit c) t
-  opened-is = outcome-opened b list (command.Credit c) t c.account refl old account.stored_rows tables account.there
+  now : m ≡ t
+  now = moment ∙ account.moment
 
-  module _ (m : ℕ) (fresh : old.answers c.account (key_of (content.Credit c)) ≡ None) (moment : m ≡ max t found.account.as_of) where
-    now : m ≡ t
-    now = moment ∙ account.moment
+  abbrev left : LeftRows
+  left = left_of t (priced b account.are.listed)
 
-    fresh-is : outcome b h (command.Credit c) t ≡ new_credit c t h
-    fresh-is = opened-is ∙ credit-fresh c t h (sym (tables.answers c.account (key_of (content.Credit c))) ∙ fresh)
+  credit : Credits o c m h.ledger left x
+  credit = credits h.ledger left (subst (λ (u : ℕ). IsWith h.ledger left u found.account) (sym now) account.with_left)
 
-    pub credit-told : (o : Option ℕ) (new : Tables) (after : AccountRows) → o ≡ None → ((ledger : Ledger) → IsRowsOf ledger found.account → Credits o c m ledger after) → new ≡ old → IsServed b list (command.Credit c) t old new (answer.Refused OutOfRange)
-    credit-told o new after none wrong same =
-        let refused : is_out_of_range c t h.ledger ≡ true = ap (λ x. is_out_of_range c x h.ledger) (sym now) ∙ subst (λ (x : Option ℕ). Credits x c m h.ledger after) none (wrong h.ledger account.rows) in
-        served-told b list (command.Credit c) t c.account refl time le (told (answer.Refused OutOfRange) h) (answer.Refused OutOfRange) old new
-        (fresh-is ∙ ap (λ v. if v then told (answer.Refused OutOfRange) h else keeping (content.Credit c) (answer.Bucket (next_bucket h.ledger)) (credited t (from_of c t) (until_of c) c.scope c.amount h.ledger) h) refused)
-        refl refl same tables
+  fresh-is : outcome b h (command.Credit c) t ≡ new_credit c t h
+  fresh-is = outcome-opened b list (command.Credit c) t c.account refl account.opened ∙ credit-fresh c t h (sym (tables.answers c.account (key_of (content.Credit c))) ∙ fresh)
 
-    pub credit-done : (o : Option ℕ) (number : ℕ) (change : Change) (new : Tables) → o ≡ Some number → ((ledger : Ledger) → IsRowsOf ledger found.account → Credits o c m ledger change.account.account) → found.number ≡ change.account.number →
-        change.moment ≡ change.account.account.as_of → change.kept ≡ Some (record { content = content.Credit c; answer = answer.Bucket number }) → change.charges.items ≡ [] → IsAccount change.account.account →
-        change.account.account.book ≡ found.account.book → IfSome o (λ n. change.account.account.as_of ≡ m) → new ≡ changed change old → IsServed b list (command.Credit c) t old new (answer.Bucket number)
-    credit-done o number change new some credits names moments kept charges is book stands grown =
-        let credit = subst (λ (x : Option ℕ). Credits x c m h.ledger change.account.account) some (credits h.ledger account.rows) in
-        let as_of : change.account.account.as_of ≡ m = subst (λ (x : Option ℕ). IfSome x (λ n. change.account.account.as_of ≡ m)) some stands in
-        let after : Ledger = credited t (from_of c t) (until_of c) c.scope c.amount h.ledger in
-        let allowed : is_out_of_range c t h.ledger ≡ false = ap (λ x. is_out_of_range c x h.ledger) (sym now) ∙ credit.0 in
-        served-done b list (command.Credit c) t c.account refl time le (keeping (content.Credit c) (answer.Bucket (next_bucket h.ledger)) after h) (answer.Bucket number) change old new
-        (fresh-is ∙ ap (λ v. if v then told (answer.Refused OutOfRange) h else keeping (content.Credit c) (answer.Bucket (next_bucket h.ledger)) after h) allowed)
-        refl (ap answer.Bucket credit.1) (account.number ∙ names)
-        (record {
-          moment = moments ∙ as_of ∙ now;
-          opened = account.opened;
-          row = held b t (keeping (content.Credit c) (answer.Bucket (next_bucket h.ledger)) after h).after change.account.account is (book ∙ account.book) (as_of ∙ now)
-              (subst (λ (x : ℕ). IsRowsOf (credited x (from_of c x) (until_of c) c.scope c.amount h.ledger) change.account.account) now credit.2);
-          kept = (λ i. record { content = content.Credit c; answer = answer.Bucket (sym credit.1 i) } ∷ h.kept) ∙ keeps-some (sym kept) h.kept;
-          charges = ap (λ xs. charge_rows h.ledger ++ xs) (sym charges);
-          count = counted old change.account.number account.stored_rows (ap old.accounts (sym names ∙ sym account.number) ∙ account.there);
-        })
-        grown tables
+  pub credit-told : o ≡ None → new ≡ old → IsServed b list (command.Credit c) t old new (answer.Refused OutOfRange)
+  credit-told none same =
+      let refused : is_out_of_range c t h.ledger ≡ true = ap (λ u. is_out_of_range c u h.ledger) (sym now) ∙ subst (λ (q : Option ℕ). Credits q c m h.ledger left x) none credit in
+      served-told b list (command.Credit c) t c.account refl time le (told (answer.Refused OutOfRange) h) (answer.Refused OutOfRange) old new
+      (fresh-is ∙ ap (λ v. if v then told (answer.Refused OutOfRange) h else keeping (content.Credit c) (answer.Bucket (next_bucket h.ledger)) (credited t (from_of c t) (until_of c) c.scope c.amount h.ledger) h) refused)
+      refl refl same tables
+
+  pub credit-done : (number : ℕ) (change : Change) → o ≡ Some number → x.book ≡ found.account.book → IfSome o (λ n. x.as_of ≡ m) → Tells change found x (Some (record { content = content.Credit c; answer = answer.Bucket number })) →
+      (IsMadeFrom found.before (stored x) (old.rows found.number) → new ≡ changed change old) → IsServed b list (command.Credit c) t old new (answer.Bucket number)
+  credit-done number change some book stands tells grown =
+      let done = subst (λ (q : Option ℕ). Credits q c m h.ledger left x) some credit in
+      let as_of : x.as_of ≡ m = subst (λ (q : Option ℕ). IfSome q (λ n. x.as_of ≡ m)) some stands in
+      let after : Ledger = credited t (from_of c t) (until_of c) c.scope c.amount h.ledger in
+      let allowed : is_out_of_range c t h.ledger ≡ false = ap (λ u. is_out_of_range c u h.ledger) (sym now) ∙ done.0 in
+      served-loaded b list (command.Credit c) t c.account refl time le old new tables found loads
+      (keeping (content.Credit c) (answer.Bucket (next_bucket h.ledger)) after h) (answer.Bucket number) x change refl
+      (fresh-is ∙ ap (λ v. if v then told (answer.Refused OutOfRange) h else keeping (content.Credit c) (answer.Bucket (next_bucket h.ledger)) after h) allowed)
+      refl (ap answer.Bucket done.1)
+      (record {
+        book = book;
+        at_moment = as_of ∙ now;
+        grows = one_more (record { at = t; fact = Bucket (next_bucket h.ledger) (from_of c t) (until_of c) c.scope c.amount }) h.ledger;
+        rows = subst (λ (u : ℕ). IsWith (credited u (from_of c u) (until_of c) c.scope c.amount h.ledger) left u x) now done.2;
+        opened = account.opened;
+        kept = (λ i. record { content = content.Credit c; answer = answer.Bucket (sym done.1 i) } ∷ h.kept) ∙ keeps-some (sym tells.kept_is) h.kept;
+        charges = ap (λ xs. charge_rows h.ledger ++ xs) (sym tells.charges);
+        number = tells.number;
+        moment = tells.moment;
+        after = tells.after;
+      })
+      grown

@@ -21,7 +21,7 @@ use Rattle.reserving.specs.Debiting.{event_price, is_covered, debited}
 use Rattle.reserving.proofs.Lists.{no_some}
 use Rattle.charging.specs.SessionReports.{Report, with_report}
 use Rattle.charging.specs.Paid.{before_charges, collected, is_touched, IsReport, IsEvent, without_last, ArePaid}
-use Rattle.charging.proofs.BucketSums.{amounts, amounts-parts, sum_by-paid}
+use Rattle.buckets.proofs.Paid.{amounts, amounts-parts, sum_by-paid}
 use Rattle.charging.proofs.Steps.{is_quiet, is_touch, with_grant, Keeps}
 use Rattle.charging.proofs.Credited.{AreCredited, no_credits, more_credits, SameCredits, same_credits, quiet_credits, charge_credits, hold_credits, in_order}
 
@@ -106,6 +106,11 @@ paying_touch b t s n reports ledger h = record {
 paying_credit : (b : Book) (t from until : ℕ) (scope : Option ℕ) (amount : ℕ) (reports : List Report) (ledger : Ledger) → IsPaying b reports ledger → IsPaying b reports (credited t from until scope amount ledger)
 paying_credit b t from until scope amount reports ledger h = record { credits = more_credits t from until scope amount ledger h.credits; begins = refl; nothing = refl; recorded = h.recorded; paid = (tt, h.paid) }
 
+-- what buckets pay of a report
+abbrev pub paid_parts : Book → ℕ → List ℕ → ℕ → List UsedPart → Ledger → List Hold
+paid_parts b t s g used_parts ledger =
+    parts (paid (holds_at b.validity t s g ledger) g t (report_price b t s g used_parts ledger).amount.0 (buckets_at b.validity t ledger)) (buckets_at b.validity t ledger)
+
 -- what a report's charges collect and what isn't collected are its price
 settled_is_paid : (b : Book) (t : ℕ) (s : List ℕ) (g : ℕ) (p : UsedPart) (ps : List UsedPart) (reports : List Report) (ledger : Ledger) → is_touched s ledger ≡ true → IsPaying b reports ledger →
     ArePaid b (with_report t s g (p ∷ ps) reports) (settled_by b t s g (p ∷ ps) ledger)
@@ -131,7 +136,7 @@ settled_is_paid b t s g p ps reports ledger touches h = (
     rated = (report_price b t s g (p ∷ ps) ledger).amount.0
 
     hs : List Hold
-    hs = parts (paid holds g t rated rows) rows
+    hs = paid_parts b t s g (p ∷ ps) ledger
 
     own : Report
     own = record { at = t; session = s; group = g; parts = p ∷ ps }
@@ -241,13 +246,15 @@ paying_debit b t s g units reports ledger new covered h = record {
     event : IsEvent b t g units (event_price b t g units ledger).blocks rated 0 ledger
     event = record { blocks_are = refl; rated_is = refl; covered = covered; whole = refl }
 
+pub paying_none : (b : Book) → IsPaying b [] []
+paying_none b = record { credits = no_credits; begins = refl; nothing = refl; recorded = λ s e. refl; paid = refl }
+
 pub keeps_paying : (b : Book) → Keeps b (IsPaying b)
 keeps_paying b = record {
-  none = record { credits = no_credits; begins = refl; nothing = refl; recorded = λ s e. refl; paid = refl };
   quiet = paying_quiet b;
   touch = paying_touch b;
   credit = paying_credit b;
   settle = paying_settle b;
   grant = λ t s g asked reports ledger recorded h. paying_reserved b t s g _ _ reports ledger h;
-  debit = paying_debit b;
+  event = λ t s g units n reports ledger new covered h. paying_quiet b t (Recorded s n) reports _ refl refl (paying_debit b t s g units reports ledger new covered h);
 }

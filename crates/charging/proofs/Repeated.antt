@@ -4,7 +4,7 @@ use Rattle.std.proofs.lemmas.Option.{none-some}
 use Rattle.std.specs.Prelude.{if◌then◌else◌}
 use Rattle.std.specs.List.{find}
 use Rattle.std.specs.Cmp.Lexicographic.{bytes_decides}
-use Rattle.commands.specs.Exact.{request_exact, credit_exact}
+use Rattle.commands.proofs.Exact.{request_exact, credit_exact}
 use Rattle.commands.specs.declared.answer.Answer.{Answer}
 use Rattle.commands.specs.declared.answer.Answer.TheVariants as answer
 use Rattle.commands.specs.declared.answer.Failure.TheVariants.{UserUnknown, InvalidAvpValue}
@@ -23,8 +23,8 @@ use Rattle.decisions.specs.Decided.{Decision}
 use Rattle.decisions.specs.Decisions.{decision, answer_of, is_read}
 use Rattle.keepers.specs.declared.key.KeptAnswer.{KeptAnswer}
 use Rattle.keepers.specs.Keys.{key_of, key_decides}
-use Rattle.keepers.specs.Histories.{History, is_kept_under, kept_under}
-use Rattle.keepers.specs.Accepted.{Accepted, Outcome, account_of, names}
+use Rattle.charging.specs.Histories.{History, is_kept_under, kept_under}
+use Rattle.charging.specs.Accepted.{Accepted, Outcome, one, concerned_by, names}
 use Rattle.charging.specs.declared.running.DatedCommand.{DatedCommand}
 use Rattle.charging.specs.Outcomes.{told, keeping, repeated, unless_kept, failed, decided_by, request_outcome, from_of, until_of, is_out_of_range, new_credit, credit_outcome, opened_outcome, unopened_outcome, outcome}
 use Rattle.charging.specs.Served.{history, moment_of, accepts, answer_to}
@@ -110,7 +110,7 @@ keeps_after b kept h c t keeps = subst (λ o. Keeps kept (if o then opened_outco
 -- an accepted command, of the account or of others
 keeps_accepted : (b : Book) (kept : KeptAnswer) (a : List ℕ) (list : List Accepted) (d : Accepted) (taken : Bool) → Keeps kept (history b a list) → Keeps kept (history b a (if taken then d ∷ list else list))
 keeps_accepted b kept a list d false keeps = keeps
-keeps_accepted b kept a list d true keeps = at (names a (account_of d.command))
+keeps_accepted b kept a list d true keeps = at (names a (concerned_by d.command))
   where
     at : (named : Bool) → Keeps kept (if named then (outcome b (history b a list) d.command d.moment).after else history b a list)
     at true = keeps_after b kept (history b a list) d.command d.moment keeps
@@ -171,13 +171,13 @@ repeat_credit b c given t h keeps =
 -- ---- once
 
 -- the history of an account after a command that names it
-own_after : (b : Book) (a : List ℕ) (list : List Accepted) (d : Accepted) → account_of d.command ≡ Some a → history b a (d ∷ list) ≡ (outcome b (history b a list) d.command d.moment).after
+own_after : (b : Book) (a : List ℕ) (list : List Accepted) (d : Accepted) → concerned_by d.command ≡ one a → history b a (d ∷ list) ≡ (outcome b (history b a list) d.command d.moment).after
 own_after b a list d named =
     ap (λ who. if names a who then (outcome b (history b a list) d.command d.moment).after else history b a list) named
     ∙ ap (λ own. if own then (outcome b (history b a list) d.command d.moment).after else history b a list) ((bytes_decides a a).1 refl)
 
 -- so the history after the commands between keeps the command that was accepted
-kept_between : (b : Book) (kept : KeptAnswer) (a : List ℕ) (list : List Accepted) (c : Command) (t : ℕ) (between : List DatedCommand) → account_of c ≡ Some a → Keeps kept (outcome b (history b a list) c t).after →
+kept_between : (b : Book) (kept : KeptAnswer) (a : List ℕ) (list : List Accepted) (c : Command) (t : ℕ) (between : List DatedCommand) → concerned_by c ≡ one a → Keeps kept (outcome b (history b a list) c t).after →
     Keeps kept (history b a (after_commands b (record { moment = t; command = c } ∷ list) between))
 kept_between b kept a list c t between named keeps =
     let first : Accepted = record { moment = t; command = c } in

@@ -1,37 +1,37 @@
 -- What a command comes to that names an account: its answer, the list after it, and the tables.
-use Rattle.std.proofs.Common.{◌≡◌, ℕ, ◌+◌, Bool, true, false, true≢false, List, ◌∷◌, ◌++◌, ◌≤◌, refl, sym, ap, subst, ◌∙◌, Option, Some, None}
-use Rattle.std.specs.Prelude.{if◌then◌else◌, is_some}
+use Rattle.std.proofs.Common.{◌≡◌, ℕ, ◌+◌, Bool, true, false, true≢false, List, [], ◌∷◌, ◌++◌, ◌≤◌, refl, sym, ap, subst, ◌∙◌, arith, Option, Some, None}
+use Rattle.std.proofs.Math.Nat.{max-eq_left}
+use Rattle.std.specs.Prelude.{if◌then◌else◌, is_some, max, Result, Ok, Err, OnOk}
 use Rattle.std.specs.Cmp.Lexicographic.{bytes_decides}
-use Rattle.commands.specs.Alike.{same_name}
+use Rattle.identifiers.specs.Texts.{same_name}
 use Rattle.commands.specs.declared.answer.Answer.{Answer}
 use Rattle.commands.specs.declared.command.Command.{Command}
 use Rattle.tariffs.specs.Books.{Book}
+use Rattle.reserving.specs.Ledger.{Ledger}
 use Rattle.reserving.specs.Charges.{charge_rows}
-use Rattle.reserving.specs.Rows.{AccountRows, IsAccount, IsRowsOf}
+use Rattle.reserving.specs.Rows.{AccountRows, IsAccount}
 use Rattle.reserving.specs.Stored.{StoredRows, stored, priced}
-use Rattle.reserving.proofs.StoredRows.{IsStored-stored}
+use Rattle.reserving.specs.Left.{LeftRows, left_of, IsWith}
+use Rattle.reserving.proofs.Lists.{some_of}
 use Rattle.keepers.specs.declared.key.Key.{Key}
 use Rattle.keepers.specs.declared.key.KeptAnswer.{KeptAnswer}
 use Rattle.keepers.specs.declared.loaded.Change.{Change}
-use Rattle.keepers.specs.Tables.{Tables}
-use Rattle.keepers.specs.Change.{kept_after, changed}
-use Rattle.keepers.specs.Histories.{History, kept_under}
-use Rattle.keepers.specs.Accepted.{Accepted, Outcome, account_of, names, is_opening, as_of, last_moment, IsInTime, IsHeld, IsRow}
-use Rattle.keepers.proofs.AcceptedTables.{Adds, tables_changed}
+use Rattle.keepers.specs.declared.loaded.Loaded.{Loaded}
+use Rattle.keepers.specs.Tables.{Head, Rows, Tables, no_rows, head_of}
+use Rattle.keepers.specs.Change.{IsLoad, IsLoadedFrom, AreRowsAt, IsMadeFrom, kept_after, over, changed}
+use Rattle.keepers.specs.Steps.{Extends}
+use Rattle.keepers.proofs.Taking.{taken}
+use Rattle.keepers.proofs.Leaving.{left_behind}
+use Rattle.charging.specs.Histories.{History, kept_under}
+use Rattle.charging.specs.Accepted.{Accepted, Outcome, one, concerned_by, names, is_opening, as_of, last_moment, IsInTime}
+use Rattle.charging.proofs.AcceptedTables.{Adds, tables_changed, row_none, row_some, as_of-last}
 use Rattle.charging.specs.Outcomes.{outcome, opened_outcome, unopened_outcome}
 use Rattle.charging.proofs.NeverOpened.{kept-opened}
 use Rattle.charging.specs.Served.{history, AreTables, answer_on, answer_to, accepts_on, accepts, with_command, IsServed}
+use Rattle.charging.specs.Stepping.{IsTaken}
 
 name_itself : (a : List ℕ) → same_name a a ≡ true
 name_itself a = (bytes_decides a a).1 refl
-
--- an account's rows are those of a book's ledger, and keep what each account keeps
-pub held : (b : Book) (t : ℕ) (h : History) (a : AccountRows) → IsAccount a → a.book ≡ b → a.as_of ≡ t → IsRowsOf h.ledger a → IsHeld b t h (stored a)
-held b t h a is book moment rows = record {
-  moment = moment;
-  rows = subst (λ (x : Book). IsRowsOf h.ledger (priced x (stored a))) book rows;
-  kept = IsStored-stored a is;
-}
 
 -- what an account keeps once a command was accepted
 abbrev pub keeps : Option KeptAnswer → List KeptAnswer → List KeptAnswer
@@ -42,24 +42,11 @@ keeps-under : (kept : Option KeptAnswer) (k : Key) (before after : History) → 
 keeps-under None k before after e = ap (λ (xs : List KeptAnswer). kept_under k (record { opened = after.opened; ledger = after.ledger; kept = xs })) e
 keeps-under (Some kept) k before after e = ap (λ (xs : List KeptAnswer). kept_under k (record { opened = after.opened; ledger = after.ledger; kept = xs })) e
 
--- a change is what an accepted command makes of the history of the account that it names
-pub record IsChange (b : Book) (t : ℕ) (c : Command) (before after : History) (change : Change) (tables : Tables) : Type 0 where
-  pub moment : change.moment ≡ t
-  pub opened : after.opened ≡ true
-  pub row : IsHeld b t after (stored change.account.account)
-  pub kept : after.kept ≡ keeps change.kept before.kept
-  pub charges : charge_rows after.ledger ≡ charge_rows before.ledger ++ change.charges.items
-  pub count : (if is_some (tables.accounts change.account.number) then tables.count else tables.count + 1) ≡ (if is_opening c then tables.count + 1 else tables.count)
-
 pub keeps-some : {o : Option KeptAnswer} {kept : KeptAnswer} → Some kept ≡ o → (xs : List KeptAnswer) → kept ∷ xs ≡ keeps o xs
 keeps-some e xs = ap (λ o. keeps o xs) e
 
 pub keeps-none : {o : Option KeptAnswer} → o ≡ None → (xs : List KeptAnswer) → xs ≡ keeps o xs
 keeps-none e xs = sym (ap (λ o. keeps o xs) e)
-
--- an account that is there isn't counted again
-pub counted : (tables : Tables) (a : List ℕ) (rows : StoredRows) → tables.accounts a ≡ Some rows → (if is_some (tables.accounts a) then tables.count else tables.count + 1) ≡ tables.count
-counted tables a rows there = ap (λ o. if is_some o then tables.count else tables.count + 1) there
 
 -- the list stays in time
 pub in-time : (b : Book) (list : List Accepted) (c : Command) (t : ℕ) → IsInTime list → last_moment list ≤ t → IsInTime (with_command b list c t)
@@ -69,7 +56,63 @@ in-time b list c t time le = at (accepts b list c t)
     at true = (le, time)
     at false = time
 
-module _ (b : Book) (list : List Accepted) (c : Command) (t : ℕ) (a : List ℕ) (named : account_of c ≡ Some a) where
+-- ---- what a keeper loaded
+
+-- what a call found is so of the tables before the calls before it
+pub none_loaded : (b : Book) (t : ℕ) (a : List ℕ) (mid old : Tables) (o : Option Loaded) → mid ≡ old → IsLoad b t a (mid.rows a) o → o ≡ None → (old.rows a).head ≡ None
+none_loaded b t a mid old o same found none = subst (λ (x : Tables). (x.rows a).head ≡ None) same (subst (λ (q : Option Loaded). IsLoad b t a (mid.rows a) q) none found)
+
+pub some_loaded : (b : Book) (t : ℕ) (a : List ℕ) (mid old : Tables) (o : Option Loaded) (l : Loaded) → mid ≡ old → IsLoad b t a (mid.rows a) o → o ≡ Some l → IsLoad b t a (old.rows a) (Some l)
+some_loaded b t a mid old o l same found there = subst (λ (x : Tables). IsLoad b t a (x.rows a) (Some l)) same (subst (λ (q : Option Loaded). IsLoad b t a (mid.rows a) q) there found)
+
+-- an account that was loaded is there: the rows of its history are those that were loaded with those that were left
+pub record IsOpened (b : Book) (list : List Accepted) (t : ℕ) (a : List ℕ) (old : Tables) (x : AccountRows) : Type 0 where
+  pub opened : (history b a list).opened ≡ true
+  pub of_book : x.book ≡ b
+  pub head : is_some (old.rows a).head ≡ true
+  pub are : AreRowsAt b (history b a list).ledger (as_of a list) (old.rows a)
+  pub with_left : IsWith (history b a list).ledger (left_of t (priced b are.listed)) t x
+  -- and the moment isn't before its own
+  pub moment : max t x.as_of ≡ t
+
+pub is_opened : (b : Book) (list : List Accepted) (t : ℕ) (a : List ℕ) (old : Tables) (x : AccountRows) →
+    IsInTime list → last_moment list ≤ t → AreTables b list old → IsLoadedFrom b t (old.rows a) x → IsAccount x → IsOpened b list t a old x
+is_opened b list t a old x time le tables loads is =
+    let row : ((history b a list).opened ≡ true) × AreRowsAt b (history b a list).ledger (as_of a list) (old.rows a) =
+    row_some b (as_of a list) (history b a list) (old.rows a) (head_of (stored x)) loads.head (tables.accounts a) in
+    let same : head_of (stored x) ≡ head_of row.1.listed = some_of (head_of (stored x)) (head_of row.1.listed) (sym loads.head ∙ row.1.are.head) in
+    let early : as_of a list ≤ last_moment list = as_of-last a list time in
+    let now : x.as_of ≡ as_of a list = (λ i. (same i).as_of) ∙ row.1.moment in
+    let before : x.as_of ≤ t = subst (λ (m : ℕ). m ≤ t) (sym now) (omega arith) in
+    record {
+      opened = row.0;
+      of_book = loads.priced_by;
+      head = ap is_some loads.head;
+      are = row.1;
+      with_left = taken b (history b a list).ledger (as_of a list) t (old.rows a) x row.1 is loads;
+      moment = max-eq_left before;
+    }
+
+-- ---- what a command comes to
+
+-- a change is what an accepted command makes of the history of the account that it names
+pub record IsChange (b : Book) (t : ℕ) (c : Command) (before after : History) (change : Change) (tables : Tables) : Type 0 where
+  pub moment : change.moment ≡ t
+  pub opened : after.opened ≡ true
+  pub row : AreRowsAt b after.ledger t (over change.after (tables.rows change.number))
+  pub kept : after.kept ≡ keeps change.kept before.kept
+  pub charges : charge_rows after.ledger ≡ charge_rows before.ledger ++ change.charges.items
+  pub count : (if is_some (tables.rows change.number).head then tables.count else tables.count + 1) ≡ (if is_opening c then tables.count + 1 else tables.count)
+
+-- an account whose head is there was opened
+pub is-there : (b : Book) (list : List Accepted) (a : List ℕ) (old : Tables) → AreTables b list old → is_some (old.rows a).head ≡ true → (history b a list).opened ≡ true
+is-there b list a old tables e = at (old.rows a).head refl e
+  where
+    at : (o : Option Head) → (old.rows a).head ≡ o → is_some o ≡ true → (history b a list).opened ≡ true
+    at None is k = absurd (true≢false (sym k))
+    at (Some head) is k = (row_some b (as_of a list) (history b a list) (old.rows a) head is (tables.accounts a)).0
+
+module _ (b : Book) (list : List Accepted) (c : Command) (t : ℕ) (a : List ℕ) (named : concerned_by c ≡ one a) where
   answer_named : answer_to b list c t ≡ (outcome b (history b a list) c t).answer
   answer_named = ap (λ o. answer_on o b list c t) named
 
@@ -97,16 +140,16 @@ module _ (b : Book) (list : List Accepted) (c : Command) (t : ℕ) (a : List ℕ
   }
 
   -- it is accepted
-  adds : (o : Outcome) (change : Change) (old : Tables) → outcome b (history b a list) c t ≡ o → a ≡ change.account.number → IsChange b t c (history b a list) o.after change old →
+  adds : (o : Outcome) (change : Change) (old : Tables) → outcome b (history b a list) c t ≡ o → a ≡ change.number → IsChange b t c (history b a list) o.after change old →
       Adds (outcome b) b (record { moment = t; command = c }) list change old
   adds o change old is number x =
       let after : history b a (record { moment = t; command = c } ∷ list) ≡ o.after = history_named ∙ (λ i. (is i).after) in
       record {
-        named = named ∙ ap Some number;
+        named = named ∙ ap one number;
         moment = x.moment;
         opened = subst (λ (n : List ℕ). (history b n (record { moment = t; command = c } ∷ list)).opened ≡ true) number ((λ i. (after i).opened) ∙ x.opened);
-        row = subst (λ (n : List ℕ). IsHeld b t (history b n (record { moment = t; command = c } ∷ list)) (stored change.account.account)) number
-            (subst (λ (h : History). IsHeld b t h (stored change.account.account)) (sym after) x.row);
+        row = subst (λ (n : List ℕ). AreRowsAt b (history b n (record { moment = t; command = c } ∷ list)).ledger t (over change.after (old.rows change.number))) number
+            (subst (λ (h : History). AreRowsAt b h.ledger t (over change.after (old.rows change.number))) (sym after) x.row);
         kept = λ k. subst (λ (n : List ℕ). kept_under k (history b n (record { moment = t; command = c } ∷ list)) ≡ kept_after change.kept k (kept_under k (history b n list))) number
             (ap (kept_under k) after ∙ keeps-under change.kept k (history b a list) o.after x.kept);
         charges = subst (λ (n : List ℕ). charge_rows (history b n (record { moment = t; command = c } ∷ list)).ledger ≡ charge_rows (history b n list).ledger ++ change.charges.items) number
@@ -114,7 +157,7 @@ module _ (b : Book) (list : List Accepted) (c : Command) (t : ℕ) (a : List ℕ
         count = x.count;
       }
 
-  pub served-done : IsInTime list → last_moment list ≤ t → (o : Outcome) (given : Answer) (change : Change) (old new : Tables) → outcome b (history b a list) c t ≡ o → o.accepted ≡ true → given ≡ o.answer → a ≡ change.account.number →
+  pub served-done : IsInTime list → last_moment list ≤ t → (o : Outcome) (given : Answer) (change : Change) (old new : Tables) → outcome b (history b a list) c t ≡ o → o.accepted ≡ true → given ≡ o.answer → a ≡ change.number →
       IsChange b t c (history b a list) o.after change old → new ≡ changed change old → AreTables b list old → IsServed b list c t old new given
   served-done time le o given change old new is done answers number x grown tables = record {
     answer = answers ∙ sym (answer_named ∙ (λ i. (is i).answer));
@@ -125,18 +168,66 @@ module _ (b : Book) (list : List Accepted) (c : Command) (t : ℕ) (a : List ℕ
   }
 
   -- the account isn't there
-  pub outcome-unopened : (old : Tables) → AreTables b list old → old.accounts a ≡ None → outcome b (history b a list) c t ≡ unopened_outcome (history b a list) c
-  outcome-unopened old tables none =
-      let closed : (history b a list).opened ≡ false = subst (λ (o : Option StoredRows). IsRow b (as_of a list) (history b a list) o) none (tables.accounts a) in
-      ap (λ v. if v then opened_outcome b (history b a list) c t else unopened_outcome (history b a list) c) closed
+  pub not-opened : (old : Tables) → AreTables b list old → (old.rows a).head ≡ None → ((history b a list).opened ≡ false) × (old.rows a ≡ no_rows)
+  not-opened old tables none = row_none b (as_of a list) (history b a list) (old.rows a) none (tables.accounts a)
+
+  pub outcome-unopened : (old : Tables) → AreTables b list old → (old.rows a).head ≡ None → outcome b (history b a list) c t ≡ unopened_outcome (history b a list) c
+  outcome-unopened old tables none = ap (λ v. if v then opened_outcome b (history b a list) c t else unopened_outcome (history b a list) c) (not-opened old tables none).0
 
   -- it is
-  pub outcome-opened : (old : Tables) (rows : StoredRows) → AreTables b list old → old.accounts a ≡ Some rows → outcome b (history b a list) c t ≡ opened_outcome b (history b a list) c t
-  outcome-opened old rows tables there =
-      let row : ((history b a list).opened ≡ true) × IsHeld b (as_of a list) (history b a list) rows = subst (λ (o : Option StoredRows). IsRow b (as_of a list) (history b a list) o) there (tables.accounts a) in
-      ap (λ v. if v then opened_outcome b (history b a list) c t else unopened_outcome (history b a list) c) row.0
+  pub outcome-opened : (history b a list).opened ≡ true → outcome b (history b a list) c t ≡ opened_outcome b (history b a list) c t
+  outcome-opened opened = ap (λ v. if v then opened_outcome b (history b a list) c t else unopened_outcome (history b a list) c) opened
 
   -- something is kept of it: it is there
   pub outcome-kept : (old : Tables) (k : Key) (kept : KeptAnswer) → AreTables b list old → old.answers a k ≡ Some kept → outcome b (history b a list) c t ≡ opened_outcome b (history b a list) c t
-  outcome-kept old k kept tables is =
-      ap (λ v. if v then opened_outcome b (history b a list) c t else unopened_outcome (history b a list) c) (kept-opened b a list k kept (sym (tables.answers a k) ∙ is))
+  outcome-kept old k kept tables is = outcome-opened (kept-opened b a list k kept (sym (tables.answers a k) ∙ is))
+
+  -- ---- on an account that was loaded
+
+  module _ (time : IsInTime list) (le : last_moment list ≤ t) (old new : Tables) (tables : AreTables b list old) (found : Loaded) (loads : IsTaken b t a old found) where
+    abbrev account : IsOpened b list t a old found.account
+    account = is_opened b list t a old found.account time le tables loads.load.1 loads.account
+
+    -- the call left the account with the rows that weren't loaded the ledger's after the command, and the change tells it
+    pub record IsCalled (o : Outcome) (x : AccountRows) (change : Change) : Type 0 where
+      pub book : x.book ≡ found.account.book
+      pub at_moment : x.as_of ≡ t
+      pub grows : Extends (history b a list).ledger o.after.ledger
+      pub rows : IsWith o.after.ledger (left_of t (priced b account.are.listed)) t x
+      pub opened : o.after.opened ≡ true
+      pub kept : o.after.kept ≡ keeps change.kept (history b a list).kept
+      pub charges : charge_rows o.after.ledger ≡ charge_rows (history b a list).ledger ++ change.charges.items
+      pub number : change.number ≡ found.number
+      pub moment : change.moment ≡ x.as_of
+      pub after : change.after ≡ stored x
+
+    left : (o : Outcome) (x : AccountRows) (change : Change) → IsCalled o x change → IsMadeFrom (stored found.account) (stored x) (old.rows a) × AreRowsAt b o.after.ledger x.as_of (over (stored x) (old.rows a))
+    left o x change is = left_behind b (history b a list).ledger o.after.ledger (as_of a list) t (old.rows a) found.account x account.are loads.account loads.load.1 (is.book ∙ account.of_book) is.grows is.rows
+
+    made : (o : Outcome) (x : AccountRows) (change : Change) → IsCalled o x change → IsMadeFrom found.before (stored x) (old.rows found.number)
+    made o x change is =
+        subst (λ (n : List ℕ). IsMadeFrom found.before (stored x) (old.rows n)) (sym loads.load.0)
+        (subst (λ (w : StoredRows). IsMadeFrom w (stored x) (old.rows a)) (sym loads.load.2) (left o x change is).0)
+
+    pub served-loaded : (o : Outcome) (given : Answer) (x : AccountRows) (change : Change) → is_opening c ≡ false → outcome b (history b a list) c t ≡ o → o.accepted ≡ true → given ≡ o.answer → IsCalled o x change →
+        (IsMadeFrom found.before (stored x) (old.rows found.number) → new ≡ changed change old) → IsServed b list c t old new given
+    served-loaded o given x change opens is done answers called grown =
+        let where_is : a ≡ change.number = sym loads.load.0 ∙ sym called.number in
+        served-done time le o given change old new is done answers where_is
+        (record {
+          moment = called.moment ∙ called.at_moment;
+          opened = called.opened;
+          row = subst (λ (n : List ℕ). AreRowsAt b o.after.ledger t (over change.after (old.rows n))) where_is
+              (subst (λ (w : StoredRows). AreRowsAt b o.after.ledger t (over w (old.rows a))) (sym called.after)
+              (subst (λ (u : ℕ). AreRowsAt b o.after.ledger u (over (stored x) (old.rows a))) called.at_moment (left o x change called).1));
+          kept = called.kept;
+          charges = called.charges;
+          count = ap (λ v. if v then old.count else old.count + 1) (ap (λ (n : List ℕ). is_some (old.rows n).head) (sym where_is) ∙ account.head)
+              ∙ sym (ap (λ v. if v then old.count + 1 else old.count) opens);
+        })
+        (grown (made o x change called)) tables
+
+-- what a call says where it answers
+pub on_ok : {X E P Q : Type 0} (r : Result X E) → OnOk r P → (P → Q) → OnOk r Q
+on_ok (Ok x) p f = f p
+on_ok (Err e) p f = tt

@@ -6,7 +6,7 @@ use Rattle.rating.specs.declared.grant.Grant.{Grant as RatedGrant}
 use Rattle.reserving.specs.Ledger.{Fact, Ledger, last_recording, used, counter}
 use Rattle.reserving.specs.Ledger.Fact.{Grant, Touch, Close, Recorded, Barred}
 use Rattle.reserving.specs.Pricing.{cycle_at, periods_at}
-use Rattle.reserving.specs.Requests.{touched, credited}
+use Rattle.reserving.specs.Requests.{recorded, touched, credited}
 use Rattle.reserving.specs.Settlement.{settled_by}
 use Rattle.reserving.specs.Reservation.{reserved, grant_for}
 use Rattle.reserving.specs.Debiting.{debited, is_covered}
@@ -35,7 +35,6 @@ is_touch _ = false
 
 -- a property of an account's reports and ledger is kept by each step that its commands take
 pub record Keeps (b : Book) (P : List Report → Ledger → Type 0) : Type 0 where
-  pub none : P [] []
   pub quiet : (t : ℕ) (f : Fact) (reports : List Report) (ledger : Ledger) → is_quiet f ≡ true → is_touch f ≡ false → P reports ledger → P reports (record { at = t; fact = f } ∷ ledger)
   pub touch : (t : ℕ) (s : List ℕ) (n : ℕ) (reports : List Report) (ledger : Ledger) → P reports ledger → P reports (touched t s n ledger)
   pub credit : (t from until : ℕ) (scope : Option ℕ) (amount : ℕ) (reports : List Report) (ledger : Ledger) → P reports ledger → P reports (credited t from until scope amount ledger)
@@ -44,6 +43,6 @@ pub record Keeps (b : Book) (P : List Report → Ledger → Type 0) : Type 0 whe
       P (with_report t s g parts reports) (settled_by b t s g parts ledger)
   -- of a session that is recorded
   pub grant : (t : ℕ) (s : List ℕ) (g : ℕ) (asked : Option ℕ) (reports : List Report) (ledger : Ledger) → (last_recording s ledger ≡ None → ⊥) → P reports ledger → P reports (granted b t s g asked ledger)
-  -- of an event whose name isn't recorded yet
-  pub debit : (t : ℕ) (s : List ℕ) (g units : ℕ) (reports : List Report) (ledger : Ledger) → last_recording s ledger ≡ None → is_covered b t g units ledger ≡ true → P reports ledger →
-      P reports (debited b t s g units ledger)
+  -- of an event whose name isn't recorded yet, with its record
+  pub event : (t : ℕ) (s : List ℕ) (g units n : ℕ) (reports : List Report) (ledger : Ledger) → last_recording s ledger ≡ None → is_covered b t g units ledger ≡ true → P reports ledger →
+      P reports (recorded t s n (debited b t s g units ledger))

@@ -9,9 +9,9 @@ use Rattle.reserving.specs.declared.charge.ChargeRow.{ChargeRow}
 use Rattle.reserving.specs.Ledger.{Ledger}
 use Rattle.reserving.specs.Balance.{buckets_at}
 use Rattle.reserving.specs.Charges.{charge_rows}
-use Rattle.reserving.specs.Stored.{StoredRows}
-use Rattle.keepers.specs.Tables.{Tables}
-use Rattle.keepers.specs.Accepted.{Accepted, IsInTime}
+use Rattle.reserving.specs.Left.{bucket_in}
+use Rattle.keepers.specs.Tables.{Head, Rows, Tables, charge_in}
+use Rattle.charging.specs.Accepted.{Accepted, IsInTime}
 use Rattle.charging.specs.declared.running.DatedCommand.{DatedCommand}
 use Rattle.charging.specs.Served.{AreTables, history}
 use Rattle.charging.specs.Runs.{after_commands}
@@ -19,13 +19,13 @@ use Rattle.charging.specs.SessionReports.{Report, reports_of}
 use Rattle.charging.specs.Paid.{ArePaid}
 use Rattle.charging.specs.Quotas.{AreQuotasPaid}
 
-pub record IsAccounted (b : Book) (reports : List Report) (ledger : Ledger) (rows : StoredRows) (told : List ChargeRow) : Type 0 where
+pub record IsAccounted (b : Book) (reports : List Report) (ledger : Ledger) (t : ℕ) (rows : Rows) (told : ℕ → Option ChargeRow) : Type 0 where
   -- each bucket is what the ledger sums to, as of the account's last command
-  pub buckets : rows.buckets ≡ buckets_at b.validity rows.as_of ledger
+  pub buckets : (n : ℕ) → rows.buckets n ≡ bucket_in n (buckets_at b.validity t ledger)
   -- what was credited is available, reserved, charged or expired
-  pub balanced : Each IsBalanced rows.buckets
-  -- the charges are the ledger's uses, in order
-  pub charges : told ≡ charge_rows ledger
+  pub balanced : Each IsBalanced (buckets_at b.validity t ledger)
+  -- the charges are the ledger's uses, by their numbers
+  pub charges : (n : ℕ) → told n ≡ charge_in n (charge_rows ledger)
   -- of each use what is collected and what isn't are the price of the blocks that its report or debit started, and
   -- something isn't only where its reservation and every eligible bucket are empty
   pub paid : ArePaid b reports ledger
@@ -35,6 +35,6 @@ pub record IsAccounted (b : Book) (reports : List Report) (ledger : Ledger) (row
 -- so each account after a run, for every list of accepted commands whose tables the keeper held before it
 abbrev pub AreAccounted : Book → List DatedCommand → Tables → Tables → List Answer → Type 0
 AreAccounted b commands old new given =
-    (list : List Accepted) → IsInTime list → AreTables b list old → (a : List ℕ) (rows : StoredRows) → new.accounts a ≡ Some rows →
+    (list : List Accepted) → IsInTime list → AreTables b list old → (a : List ℕ) (head : Head) → (new.rows a).head ≡ Some head →
     IsAccounted b (reports_of b a (after_commands b list (take (length given) commands)))
-    (history b a (after_commands b list (take (length given) commands))).ledger rows (new.charges a)
+    (history b a (after_commands b list (take (length given) commands))).ledger head.as_of (new.rows a) (new.charges a)

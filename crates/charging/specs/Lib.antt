@@ -1,3 +1,5 @@
+pub mod Histories
+pub mod Accepted
 pub mod Outcomes
 pub mod Served
 pub mod Stepping

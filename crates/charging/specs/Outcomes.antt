@@ -22,8 +22,8 @@ use Rattle.decisions.specs.Decided.{Decision}
 use Rattle.decisions.specs.Decisions.{decision, answer_of, is_read}
 use Rattle.keepers.specs.declared.key.KeptAnswer.{KeptAnswer}
 use Rattle.keepers.specs.Keys.{key_of}
-use Rattle.keepers.specs.Histories.{History, kept_under}
-use Rattle.keepers.specs.Accepted.{Outcome}
+use Rattle.charging.specs.Histories.{History, kept_under}
+use Rattle.charging.specs.Accepted.{Outcome}
 
 -- an answer that changes nothing
 abbrev pub told : Answer → History → Outcome

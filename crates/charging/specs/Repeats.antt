@@ -7,7 +7,7 @@ use Rattle.tariffs.specs.Books.{Book}
 use Rattle.decisions.specs.Decisions.{is_read}
 use Rattle.commands.specs.declared.answer.Answer.{Answer}
 use Rattle.keepers.specs.Tables.{Tables}
-use Rattle.keepers.specs.Accepted.{Accepted, IsInTime}
+use Rattle.charging.specs.Accepted.{Accepted, IsInTime}
 use Rattle.charging.specs.declared.running.DatedCommand.{DatedCommand}
 use Rattle.charging.specs.Served.{AreTables, answer_to, accepts}
 use Rattle.charging.specs.Runs.{after_commands}

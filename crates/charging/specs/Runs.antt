@@ -5,7 +5,7 @@ use Rattle.commands.specs.declared.answer.Answer.{Answer}
 use Rattle.charging.specs.declared.running.DatedCommand.{DatedCommand}
 use Rattle.tariffs.specs.Books.{Book}
 use Rattle.keepers.specs.Tables.{Tables}
-use Rattle.keepers.specs.Accepted.{Accepted, IsInTime}
+use Rattle.charging.specs.Accepted.{Accepted, IsInTime}
 use Rattle.charging.specs.Served.{AreTables, moment_of, answer_to, with_command}
 
 -- the list after a command that is handed in with a moment

@@ -1,15 +1,15 @@
 -- What a command is answered after a list of accepted commands, and the list after it.
 -- Source: profile.
-use Rattle.std.specs.Prelude.{◌≡◌, ℕ, Bool, true, false, List, ◌∷◌, Option, Some, None, Result, if◌then◌else◌, max, MatchResult}
+use Rattle.std.specs.Prelude.{◌≡◌, ℕ, Bool, true, false, List, ◌∷◌, Result, if◌then◌else◌, max, MatchResult}
 use Rattle.commands.specs.declared.answer.Answer.{Answer}
 use Rattle.commands.specs.declared.answer.Answer.TheVariants.{Swept}
 use Rattle.commands.specs.declared.command.Command.{Command}
 use Rattle.tariffs.specs.Books.{Book}
 use Rattle.keepers.specs.declared.fault.StoreFault.{StoreFault}
 use Rattle.keepers.specs.Tables.{Tables}
-use Rattle.keepers.specs.Histories.{History}
-use Rattle.keepers.specs.Accepted.{Accepted, account_of, last_moment, account_count, IsInTime}
-use Rattle.keepers.specs.Accepted as accepted
+use Rattle.charging.specs.Histories.{History}
+use Rattle.charging.specs.Accepted.{Accepted, Concerned, one, each, concerned_by, last_moment, account_count, IsInTime}
+use Rattle.charging.specs.Accepted as accepted
 use Rattle.charging.specs.Outcomes.{outcome}
 
 -- the history of an account after a list of accepted commands
@@ -24,20 +24,20 @@ AreTables b list tables = accepted.AreTablesOf (outcome b) b list tables
 abbrev pub moment_of : List Accepted → ℕ → ℕ
 moment_of list t = max t (last_moment list)
 
-abbrev pub answer_on : Option (List ℕ) → Book → List Accepted → Command → ℕ → Answer
-answer_on None b list c t = Swept (account_count list)
-answer_on (Some a) b list c t = (outcome b (history b a list) c t).answer
+abbrev pub answer_on : Concerned → Book → List Accepted → Command → ℕ → Answer
+answer_on each b list c t = Swept (account_count list)
+answer_on (one a) b list c t = (outcome b (history b a list) c t).answer
 
 -- a command's answer at its moment: by the history of the account that it names; a sweep's is the number of accounts
 abbrev pub answer_to : Book → List Accepted → Command → ℕ → Answer
-answer_to b list c t = answer_on (account_of c) b list c t
+answer_to b list c t = answer_on (concerned_by c) b list c t
 
-abbrev pub accepts_on : Option (List ℕ) → Book → List Accepted → Command → ℕ → Bool
-accepts_on None b list c t = true
-accepts_on (Some a) b list c t = (outcome b (history b a list) c t).accepted
+abbrev pub accepts_on : Concerned → Book → List Accepted → Command → ℕ → Bool
+accepts_on each b list c t = true
+accepts_on (one a) b list c t = (outcome b (history b a list) c t).accepted
 
 abbrev pub accepts : Book → List Accepted → Command → ℕ → Bool
-accepts b list c t = accepts_on (account_of c) b list c t
+accepts b list c t = accepts_on (concerned_by c) b list c t
 
 -- the list with the command where it is accepted
 abbrev pub with_command : Book → List Accepted → Command → ℕ → List Accepted

@@ -9,7 +9,7 @@ use Rattle.commands.specs.declared.service.Service.{Service}
 use Rattle.tariffs.specs.Books.{Book}
 use Rattle.decisions.specs.Known.{is_known}
 use Rattle.decisions.specs.Reports.{parts_of}
-use Rattle.keepers.specs.Accepted.{Accepted, account_of, names}
+use Rattle.charging.specs.Accepted.{Accepted, concerned_by, names}
 use Rattle.charging.specs.Outcomes.{outcome}
 use Rattle.charging.specs.Served.{history}
 
@@ -54,7 +54,7 @@ with_reports b t command.Sweep reports = reports
 abbrev pub reports_of : Book → List ℕ → List Accepted → List Report
 reports_of b a [] = []
 reports_of b a (d ∷ before) =
-    if names a (account_of d.command)
+    if names a (concerned_by d.command)
     then (if (outcome b (history b a before) d.command d.moment).accepted
     then with_reports b d.moment d.command (reports_of b a before)
     else reports_of b a before)

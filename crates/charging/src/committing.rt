@@ -2,19 +2,21 @@
 
 ghost use Rattle.std.specs.Prelude.{◌≡◌, ◌≤◌, max, OnOk, OnErr};
 ghost use Rattle.reserving.specs.Rows.{IsAccount};
-ghost use Rattle.keepers.specs.Change.{changed};
+ghost use Rattle.reserving.specs.Stored.{stored};
+ghost use Rattle.keepers.specs.Change.{IsMadeFrom, changed};
 ghost use Rattle.keepers.specs.Faults.{HasCause};
 
-use keepers::{Change, Keeper, KeptAnswer, Loaded, StoreFault};
-use reserving::ChargeRow;
+use keepers::{Keeper, KeptAnswer, Loaded, StoreFault};
+use reserving::{Account, ChargeRow};
 use units::Moment;
 
 /// The moment of a command on an account: it isn't before that of the account's last change.
-pub(crate) fn moment_on(loaded: &Loaded, moment: Moment) -> Moment
-    ensures value { result ≡ max moment loaded.now.account.as_of }
-    ensures later { loaded.now.account.as_of ≤ result }
+pub(crate) fn moment_on(account: &Account, moment: Moment) -> Moment
+    ensures value { result ≡ max moment account.now.as_of }
+    ensures later { account.now.as_of ≤ result }
+    ensures kept { IsAccount account.now }
 {
-    moment.max(loaded.account.as_of())
+    moment.max(account.as_of())
 }
 
 /// Commits an account as it stands, with the charges that a command made and what is kept of it.
@@ -24,9 +26,11 @@ pub(crate) fn commit<K: Keeper>(
     charges: Vec<ChargeRow>,
     kept: Option<KeptAnswer>,
 ) -> Result<(), StoreFault>
-    ensures done { K.clean keeper.new → OnOk result (K.content keeper.new ≡ changed (record {
+    ensures done { K.clean keeper.new → OnOk result (IsMadeFrom loaded.entry.before (stored loaded.entry.account) ((K.content keeper.old).rows loaded.entry.number) → K.content keeper.new ≡ changed (record {
       moment = loaded.entry.account.as_of;
-      account = loaded.entry;
+      number = loaded.entry.number;
+      after = stored loaded.entry.account;
+      before = loaded.entry.before;
       charges = charges;
       kept = kept;
     }) (K.content keeper.old)) }
@@ -36,10 +40,5 @@ pub(crate) fn commit<K: Keeper>(
     ensures cause { HasCause (K.failed keeper.old) (K.failed keeper.new) result }
 {
     let moment = loaded.account.as_of();
-    keeper.commit(Change {
-        moment,
-        account: loaded,
-        charges,
-        kept,
-    })
+    keeper.commit(loaded.into_change(moment, charges, kept))
 }

@@ -3,7 +3,7 @@
 ghost use Rattle.std.specs.Prelude.{ℕ, List, []};
 ghost use Rattle.tariffs.specs.Books.{Book, IsBook};
 ghost use Rattle.keepers.specs.Tables.{no_tables};
-ghost use Rattle.keepers.specs.Accepted.{Accepted, IsInTime};
+ghost use Rattle.charging.specs.Accepted.{Accepted, IsInTime};
 ghost use Rattle.charging.specs.Served.{history, AreTables};
 ghost use Rattle.charging.specs.SessionReports.{reports_of};
 ghost use Rattle.charging.specs.Paid.{ArePaid};

@@ -1,15 +1,16 @@
 //! Operators' commands: accounts are opened, credited, barred, and swept.
 
-ghost use Rattle.std.specs.Prelude.{◌≡◌, ◌≤◌, IfOk, IfSome, None, OnErr};
+ghost use Rattle.std.specs.Prelude.{◌≡◌, ◌≤◌, IfOk, IfSome, None, Some, OnErr};
 ghost use Rattle.commands.specs.declared.command.Command.TheVariants as command;
 ghost use Rattle.commands.specs.declared.command.Content.TheVariants as content;
 ghost use Rattle.tariffs.specs.Books.{Book};
 ghost use Rattle.reserving.specs.Ledger.{Ledger};
-ghost use Rattle.reserving.specs.Rows.{IsRowsOf};
+ghost use Rattle.reserving.specs.Left.{LeftRows, IsWith};
 ghost use Rattle.keepers.specs.Keys.{key_of};
+ghost use Rattle.keepers.specs.Change.{IsLoad};
 ghost use Rattle.keepers.specs.Faults.{HasCause};
 ghost use Rattle.charging.specs.Outcomes.{is_unusable};
-ghost use Rattle.charging.specs.Stepping.{ServesAt, IsLoaded, Credits, bar_command};
+ghost use Rattle.charging.specs.Stepping.{ServesAt, Credits, bar_command};
 
 use crate::committing::{commit, moment_on};
 use crate::repetition::repeated;
@@ -34,13 +35,18 @@ pub(crate) fn open_account<K: Keeper>(
     ensures cleanness { K.clean keeper.new → K.clean keeper.old }
     ensures cause { HasCause (K.failed keeper.old) (K.failed keeper.new) result }
 {
-    if let Some(loaded) = keeper.load(book, &number)? {
-        keeper.abandon(loaded);
+    if keeper.has_account(&number)? {
         return Ok(Answer::Refused(Refusal::AccountExists));
     }
+    let before = Account::new(alloc, book).into_stored();
     let mut account = Account::new(alloc, book);
     account.advance(moment);
-    commit(keeper, Loaded { number, account }, Vec::new(alloc), None)?;
+    let loaded = Loaded {
+        number,
+        account,
+        before,
+    };
+    commit(keeper, loaded, Vec::new(alloc), None)?;
     Ok(Answer::Done)
 }
 
@@ -58,10 +64,10 @@ pub(crate) fn set_barred<K: Keeper>(
     ensures cleanness { K.clean keeper.new → K.clean keeper.old }
     ensures cause { HasCause (K.failed keeper.old) (K.failed keeper.new) result }
 {
-    let Some(mut loaded) = keeper.load(book, &number)? else {
+    let Some(mut loaded) = keeper.load(book, &number, moment)? else {
         return Ok(Answer::Refused(Refusal::AccountUnknown));
     };
-    let moment = moment_on(&loaded, moment);
+    let moment = moment_on(&loaded.account, moment);
     loaded.account.set_barred(barred, moment);
     commit(keeper, loaded, Vec::new(alloc), None)?;
     Ok(Answer::Done)
@@ -78,7 +84,6 @@ pub(crate) fn sweep<K: Keeper>(
     ensures cleanness { K.clean keeper.new → K.clean keeper.old }
     ensures cause { HasCause (K.failed keeper.old) (K.failed keeper.new) result }
 {
-    let _ranges = book.validity();
     let count = keeper.sweep(book, moment)?;
     Ok(Answer::Swept(count))
 }
@@ -101,7 +106,7 @@ pub(crate) fn serve_credit<K: Keeper>(
         let conflict = Answer::Refused(Refusal::ContentDiffers);
         return Ok(repeated(kept, &Content::Credit(credit), conflict));
     }
-    let Some(loaded) = keeper.load(book, &credit.account)? else {
+    let Some(loaded) = keeper.load(book, &credit.account, moment)? else {
         return Ok(Answer::Refused(Refusal::AccountUnknown));
     };
     credit_account(alloc, keeper, loaded, credit, moment)
@@ -134,7 +139,7 @@ fn add_bucket(
     moment: Moment,
 ) -> Result<Option<u32>, AllocError>
     requires later { account.old.as_of ≤ moment }
-    ensures credits { IfOk result (λ number. (ledger : Ledger) → IsRowsOf ledger account.old → Credits number credit.now moment ledger account.new) }
+    ensures credits { IfOk result (λ number. (ledger : Ledger) (left : LeftRows) → IsWith ledger left moment account.old → Credits number credit.now moment ledger left account.new) }
     ensures moment { IfOk result (λ number. IfSome number (λ n. account.new.as_of ≡ moment)) }
     ensures tariff { account.new.book ≡ account.old.book }
 {
@@ -158,13 +163,13 @@ fn credit_account<K: Keeper>(
     credit: Credit,
     moment: Moment,
 ) -> Result<Answer, StoreFault>
-    ensures served { K.clean keeper.new → (b : Book) → IsLoaded b credit.account (K.content keeper.old) loaded.entry → (K.content keeper.old).answers credit.account (key_of (content.Credit credit)) ≡ None →
+    ensures served { K.clean keeper.new → (b : Book) → IsLoad b moment credit.account ((K.content keeper.old).rows credit.account) (Some loaded.entry) → (K.content keeper.old).answers credit.account (key_of (content.Credit credit)) ≡ None →
         ServesAt b (command.Credit credit) moment (K.content keeper.old) (K.content keeper.new) result }
     ensures err { K.clean keeper.new → OnErr result (K.content keeper.new ≡ K.content keeper.old) }
     ensures cleanness { K.clean keeper.new → K.clean keeper.old }
     ensures cause { HasCause (K.failed keeper.old) (K.failed keeper.new) result }
 {
-    let moment = moment_on(&loaded, moment);
+    let moment = moment_on(&loaded.account, moment);
     match add_bucket(&mut loaded.account, &credit, moment) {
         Ok(Some(number)) => {
             let kept = KeptAnswer {

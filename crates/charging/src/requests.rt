@@ -1,23 +1,23 @@
 //! Requests of gateways.
 
-ghost use Rattle.std.specs.Prelude.{◌≡◌, Some, None, IfOk, OnErr};
+ghost use Rattle.std.specs.Prelude.{◌≡◌, Some, None, false, IfOk, IfSome, OnErr};
 ghost use Rattle.commands.specs.declared.answer.Answer.TheVariants as answer;
 ghost use Rattle.commands.specs.declared.answer.Failure.TheVariants.{InvalidAvpValue};
 ghost use Rattle.commands.specs.declared.avp.Avp.TheVariants.{RequestNumber};
 ghost use Rattle.commands.specs.declared.command.Command.TheVariants.{Ccr};
 ghost use Rattle.commands.specs.declared.command.Content.TheVariants as content;
 ghost use Rattle.tariffs.specs.Books.{Book};
-ghost use Rattle.reserving.specs.Rows.{IsAccount};
+ghost use Rattle.reserving.specs.Stored.{stored};
 ghost use Rattle.decisions.specs.Decisions.{is_read};
-ghost use Rattle.keepers.specs.Change.{changed};
+ghost use Rattle.keepers.specs.Change.{IsLoad, IsMadeFrom, changed};
 ghost use Rattle.keepers.specs.Faults.{HasCause};
 ghost use Rattle.charging.specs.Outcomes.{failed, repeated};
-ghost use Rattle.charging.specs.Stepping.{ServesAt, IsLoaded, kept_of_request};
+ghost use Rattle.charging.specs.Stepping.{Answers, ServesAt, is_known, kept_of_request};
 
 use crate::committing::{commit, moment_on};
 use crate::repetition::repeated;
 use commands::{Answer, Ask, Avp, Content, EventAction, Failure, Outcome, Request, RequestAnswer};
-use decisions::{Decided, decide, read};
+use decisions::{Decided, begins_session, decide, read};
 use keepers::{Keeper, KeptAnswer, Key, Loaded, StoreFault, copy_answer};
 use std::alloc::{AllocError, Global};
 use tariffs::TariffBook;
@@ -40,10 +40,31 @@ pub(crate) fn serve_request<K: Keeper>(
     if let Some(kept) = kept {
         return Ok(repeat(kept, request)?);
     }
-    let Some(loaded) = keeper.load(book, &request.account)? else {
+    let read = answer_read(keeper, book, &request, moment)?;
+    if let Some(answer) = read {
+        return Ok(answer);
+    }
+    if is_known(keeper, &request)? {
+        return Ok(failed(&request, Failure::InvalidAvpValue(Avp::SessionId))?);
+    }
+    let Some(loaded) = keeper.load(book, &request.account, moment)? else {
         return Ok(failed(&request, Failure::UserUnknown)?);
     };
-    answer_on(alloc, keeper, loaded, request, moment)
+    decide_on(alloc, keeper, loaded, request, moment)
+}
+
+/// Whether a request begins a session of which the account has a row.
+fn is_known<K: Keeper>(keeper: &mut K, request: &Request) -> Result<bool, StoreFault>
+    ensures found { K.clean keeper.new → IfOk result (λ known. known ≡ is_known request.now (K.content keeper.old)) }
+    ensures same { K.clean keeper.new → K.content keeper.new ≡ K.content keeper.old }
+    ensures cleanness { K.clean keeper.new → K.clean keeper.old }
+    ensures cause { HasCause (K.failed keeper.old) (K.failed keeper.new) result }
+{
+    if begins_session(&request.ask) {
+        keeper.knows_session(&request.account, &request.session)
+    } else {
+        Ok(false)
+    }
 }
 
 /// Whether the request is a read: it is answered anew each time.
@@ -94,31 +115,28 @@ fn repeat(kept: KeptAnswer, request: Request) -> Result<Answer, AllocError>
     Ok(repeated(kept, &Content::Request(request), conflict))
 }
 
-/// Answers a request on its account: a read by the account as it stands, any other is decided.
-fn answer_on<K: Keeper>(
-    alloc: Global,
+/// The answer to a check or an enquiry, by the account as it stands; None: the request is neither.
+fn answer_read<K: Keeper>(
     keeper: &mut K,
-    loaded: Loaded,
-    request: Request,
+    book: &TariffBook,
+    request: &Request,
     moment: Moment,
-) -> Result<Answer, StoreFault>
-    ensures served { K.clean keeper.new → (b : Book) → IsLoaded b request.account (K.content keeper.old) loaded.entry → kept_of_request request (K.content keeper.old) ≡ None →
-        ServesAt b (Ccr request) moment (K.content keeper.old) (K.content keeper.new) result }
-    ensures err { K.clean keeper.new → OnErr result (K.content keeper.new ≡ K.content keeper.old) }
+) -> Result<Option<Answer>, StoreFault>
+    ensures served { K.clean keeper.new → IfOk result (λ o. IfSome o (λ given. Answers book.now (Ccr request.now) moment (K.content keeper.old) (K.content keeper.new) given)) }
+    ensures same { K.clean keeper.new → K.content keeper.new ≡ K.content keeper.old }
     ensures cleanness { K.clean keeper.new → K.clean keeper.old }
     ensures cause { HasCause (K.failed keeper.old) (K.failed keeper.new) result }
 {
-    let now = moment_on(&loaded, moment);
-    match read(&loaded.account, &request, now) {
-        Ok(Some(answer)) => {
-            keeper.abandon(loaded);
-            Ok(Answer::Request(answer))
-        }
-        Ok(None) => decide_on(alloc, keeper, loaded, request, moment),
-        Err(AllocError) => {
-            keeper.abandon(loaded);
-            Err(StoreFault::Memory)
-        }
+    if !is_read(&request.ask) {
+        return Ok(None);
+    }
+    let Some(account) = keeper.view(book, &request.account, moment)? else {
+        return Ok(Some(failed(request, Failure::UserUnknown)?));
+    };
+    let now = moment_on(&account, moment);
+    match read(&account, request, now)? {
+        Some(answer) => Ok(Some(Answer::Request(answer))),
+        None => Ok(None),
     }
 }
 
@@ -130,14 +148,15 @@ fn decide_on<K: Keeper>(
     request: Request,
     moment: Moment,
 ) -> Result<Answer, StoreFault>
-    ensures served { K.clean keeper.new → (b : Book) → IsLoaded b request.account (K.content keeper.old) loaded.entry → kept_of_request request (K.content keeper.old) ≡ None →
+    ensures served { K.clean keeper.new → (b : Book) → IsLoad b moment request.account ((K.content keeper.old).rows request.account) (Some loaded.entry) →
+        kept_of_request request (K.content keeper.old) ≡ None → is_known request (K.content keeper.old) ≡ false →
         ServesAt b (Ccr request) moment (K.content keeper.old) (K.content keeper.new) result }
     ensures err { K.clean keeper.new → OnErr result (K.content keeper.new ≡ K.content keeper.old) }
     ensures cleanness { K.clean keeper.new → K.clean keeper.old }
     ensures cause { HasCause (K.failed keeper.old) (K.failed keeper.new) result }
 {
-    let moment = moment_on(&loaded, moment);
-    match decide(alloc, &mut loaded.account, &request, moment) {
+    let moment = moment_on(&loaded.account, moment);
+    match decide(alloc, &mut loaded.account, &request, false, moment) {
         Ok(decided) if decided.accepted => keep(keeper, loaded, decided, request),
         Ok(decided) => {
             keeper.abandon(loaded);
@@ -157,9 +176,11 @@ fn keep<K: Keeper>(
     decided: Decided,
     request: Request,
 ) -> Result<Answer, StoreFault>
-    ensures done { K.clean keeper.new → IfOk result (λ given. (given ≡ answer.Request decided.answer) × IsAccount loaded.entry.account × (K.content keeper.new ≡ changed (record {
+    ensures done { K.clean keeper.new → IfOk result (λ given. (given ≡ answer.Request decided.answer) × (IsMadeFrom loaded.entry.before (stored loaded.entry.account) ((K.content keeper.old).rows loaded.entry.number) → K.content keeper.new ≡ changed (record {
       moment = loaded.entry.account.as_of;
-      account = loaded.entry;
+      number = loaded.entry.number;
+      after = stored loaded.entry.account;
+      before = loaded.entry.before;
       charges = decided.charges;
       kept = Some (record { content = content.Request request; answer = answer.Request decided.answer });
     }) (K.content keeper.old))) }

@@ -3,7 +3,7 @@
 use crate::book::book;
 use crate::lines::dated_commands;
 use crate::rows::rows;
-use crate::scenarios::{answered, try_all};
+use crate::scenarios::{answered, try_all, whole_lines};
 use charging::run;
 use keepers::{Failing, Keeper, MemoryKeeper, StoreFault};
 use std::alloc::Global;
@@ -16,15 +16,32 @@ const EIGHT: &str = r##"1767571200 open 49151
 = {"Result-Code":2001}
 1767571200 credit 49151 {"Amount":1000000,"Reference":"c1"}
 = {"Bucket":1,"Result-Code":2001}
-1767607200 {"Session-Id":"s1","CC-Request-Type":1,"CC-Request-Number":0,"Subscription-Id":{"Subscription-Id-Type":0,"Subscription-Id-Data":"49151"},"Multiple-Services-Credit-Control":[{"Rating-Group":10,"Requested-Service-Unit":{"CC-Time":600}}]}
-= {"CC-Request-Number":0,"CC-Request-Type":1,"Multiple-Services-Credit-Control":[{"Granted-Service-Unit":{"CC-Time":600},"Rating-Group":10,"Result-Code":2001,"Validity-Time":3600}],"Result-Code":2001,"Session-Id":"s1"}
-1767607500 {"Session-Id":"s1","CC-Request-Type":2,"CC-Request-Number":1,"Subscription-Id":{"Subscription-Id-Type":0,"Subscription-Id-Data":"49151"},"Multiple-Services-Credit-Control":[{"Rating-Group":10,"Requested-Service-Unit":{"CC-Time":60},"Used-Service-Unit":[{"CC-Time":60}]}]}
-= {"CC-Request-Number":1,"CC-Request-Type":2,"Multiple-Services-Credit-Control":[{"Granted-Service-Unit":{"CC-Time":60},"Rating-Group":10,"Result-Code":2001,"Validity-Time":3600}],"Result-Code":2001,"Session-Id":"s1"}
-1767607560 {"Session-Id":"s1","CC-Request-Type":2,"CC-Request-Number":1,"Subscription-Id":{"Subscription-Id-Type":0,"Subscription-Id-Data":"49151"},"Multiple-Services-Credit-Control":[{"Rating-Group":10,"Requested-Service-Unit":{"CC-Time":60},"Used-Service-Unit":[{"CC-Time":60}]}]}
-= {"CC-Request-Number":1,"CC-Request-Type":2,"Multiple-Services-Credit-Control":[{"Granted-Service-Unit":{"CC-Time":60},"Rating-Group":10,"Result-Code":2001,"Validity-Time":3600}],"Result-Code":2001,"Session-Id":"s1"}
+1767607200 {"Session-Id":"s1","CC-Request-Type":1,"CC-Request-Number":0,
+  "Subscription-Id":{"Subscription-Id-Type":0,"Subscription-Id-Data":"49151"},
+  "Multiple-Services-Credit-Control":[{"Rating-Group":10,"Requested-Service-Unit":{"CC-Time":600}}]}
+= {"CC-Request-Number":0,"CC-Request-Type":1,
+  "Multiple-Services-Credit-Control":[{"Granted-Service-Unit":{"CC-Time":600},"Rating-Group":10,
+  "Result-Code":2001,"Validity-Time":3600}],"Result-Code":2001,"Session-Id":"s1"}
+1767607500 {"Session-Id":"s1","CC-Request-Type":2,"CC-Request-Number":1,
+  "Subscription-Id":{"Subscription-Id-Type":0,"Subscription-Id-Data":"49151"},
+  "Multiple-Services-Credit-Control":[{"Rating-Group":10,"Requested-Service-Unit":{"CC-Time":60},
+  "Used-Service-Unit":[{"CC-Time":60}]}]}
+= {"CC-Request-Number":1,"CC-Request-Type":2,
+  "Multiple-Services-Credit-Control":[{"Granted-Service-Unit":{"CC-Time":60},"Rating-Group":10,
+  "Result-Code":2001,"Validity-Time":3600}],"Result-Code":2001,"Session-Id":"s1"}
+1767607560 {"Session-Id":"s1","CC-Request-Type":2,"CC-Request-Number":1,
+  "Subscription-Id":{"Subscription-Id-Type":0,"Subscription-Id-Data":"49151"},
+  "Multiple-Services-Credit-Control":[{"Rating-Group":10,"Requested-Service-Unit":{"CC-Time":60},
+  "Used-Service-Unit":[{"CC-Time":60}]}]}
+= {"CC-Request-Number":1,"CC-Request-Type":2,
+  "Multiple-Services-Credit-Control":[{"Granted-Service-Unit":{"CC-Time":60},"Rating-Group":10,
+  "Result-Code":2001,"Validity-Time":3600}],"Result-Code":2001,"Session-Id":"s1"}
 1767607560 bar 49151
 = {"Result-Code":2001}
-1767607620 {"Session-Id":"r1","CC-Request-Type":4,"CC-Request-Number":0,"Subscription-Id":{"Subscription-Id-Type":0,"Subscription-Id-Data":"49151"},"Requested-Action":1,"Requested-Service-Unit":{"CC-Money":{"Unit-Value":{"Value-Digits":1,"Exponent":-6},"Currency-Code":978}}}
+1767607620 {"Session-Id":"r1","CC-Request-Type":4,"CC-Request-Number":0,
+  "Subscription-Id":{"Subscription-Id-Type":0,"Subscription-Id-Data":"49151"},"Requested-Action":1,
+  "Requested-Service-Unit":{"CC-Money":{"Unit-Value":{"Value-Digits":1,"Exponent":-6},
+  "Currency-Code":978}}}
 = {"CC-Request-Number":0,"CC-Request-Type":4,"Result-Code":2001,"Session-Id":"r1"}
 1767614700 sweep
 = {"Accounts":1,"Result-Code":2001}
@@ -45,12 +62,13 @@ fn eight_commands(rt: HostRuntime) -> Result<(), Fail> {
 /// text whether the answers are a beginning of those above, the store fault or 0, the count of failures, and the rows.
 fn failing_after(alloc: Global, book: &TariffBook, calls: u64) -> Result<(usize, String), Fail> {
     let mut keeper = Failing::new(MemoryKeeper::new(alloc), calls);
-    let commands = dated_commands(alloc, EIGHT, 8)?;
+    let eight = whole_lines(alloc, EIGHT)?;
+    let commands = dated_commands(alloc, eight.as_str(), 8)?;
     let run = run(alloc, &mut keeper, book, commands);
     let failures = keeper.failures();
     let mut keeper = keeper.into_inner();
-    let answers = answered(alloc, EIGHT, &run.answers)?;
-    let beginning = EIGHT.starts_with(answers.as_str());
+    let answers = answered(alloc, eight.as_str(), &run.answers)?;
+    let beginning = eight.as_str().starts_with(answers.as_str());
     let rows = rows(alloc, &mut keeper, book)?;
     let fault = fault_number(run.fault);
     let text = format!(in alloc; "{} {} {}\n{}", beginning, fault, failures, rows.as_str())?;
@@ -69,7 +87,8 @@ fn fault_number(fault: Option<StoreFault>) -> u8 {
 /// that these commands leave over a store that doesn't fail.
 fn stopped_after(alloc: Global, book: &TariffBook, most: usize) -> Result<String, Fail> {
     let mut keeper = MemoryKeeper::new(alloc);
-    let commands = dated_commands(alloc, EIGHT, most)?;
+    let eight = whole_lines(alloc, EIGHT)?;
+    let commands = dated_commands(alloc, eight.as_str(), most)?;
     let _answers = run(alloc, &mut keeper, book, commands);
     let rows = rows(alloc, &mut keeper, book)?;
     let store = if most < 8 { "2 1" } else { "0 0" };

@@ -24,3 +24,5 @@ mod rows;
 mod scenarios;
 #[cfg(test)]
 mod sessions;
+#[cfg(test)]
+mod spent;

@@ -53,7 +53,7 @@ fn dated(alloc: Global, line: &str) -> Result<DatedCommand, Fail> {
     let (at, words) = line.split_once(" ").ok_or("a moment and a command")?;
     let moment = moment(at)?;
     let command = if words.starts_with("{") {
-        Command::Ccr(read_request(alloc, words.as_bytes())?)
+        read_request(alloc, words.as_bytes())?
     } else {
         let (name, words) = words.split_once(" ").unwrap_or((words, ""));
         command(alloc, name, words)?

@@ -13,7 +13,9 @@ const OPENED: &str = r##"1767571200 credit 49151 {"Amount":1000000,"Reference":"
 = {"Refusal":"O2"}
 1767571200 unbar 49151
 = {"Refusal":"O2"}
-1767571200 {"Session-Id":"u1","CC-Request-Type":1,"CC-Request-Number":0,"Subscription-Id":{"Subscription-Id-Type":0,"Subscription-Id-Data":"49151"},"Multiple-Services-Credit-Control":[{"Rating-Group":10,"Requested-Service-Unit":{"CC-Time":60}}]}
+1767571200 {"Session-Id":"u1","CC-Request-Type":1,"CC-Request-Number":0,
+  "Subscription-Id":{"Subscription-Id-Type":0,"Subscription-Id-Data":"49151"},
+  "Multiple-Services-Credit-Control":[{"Rating-Group":10,"Requested-Service-Unit":{"CC-Time":60}}]}
 = {"CC-Request-Number":0,"CC-Request-Type":1,"Result-Code":5030,"Session-Id":"u1"}
 unchanged
 
@@ -106,7 +108,10 @@ const BARRED: &str = r##"1767571200 open 49151
 = {"Bucket":1,"Result-Code":2001}
 1767607200 bar 49151
 = {"Result-Code":2001}
-1767607200 {"Session-Id":"d1","CC-Request-Type":4,"CC-Request-Number":0,"Subscription-Id":{"Subscription-Id-Type":0,"Subscription-Id-Data":"49151"},"Requested-Action":0,"Multiple-Services-Credit-Control":[{"Rating-Group":30,"Requested-Service-Unit":{"CC-Service-Specific-Units":1}}]}
+1767607200 {"Session-Id":"d1","CC-Request-Type":4,"CC-Request-Number":0,
+  "Subscription-Id":{"Subscription-Id-Type":0,"Subscription-Id-Data":"49151"},"Requested-Action":0,
+  "Multiple-Services-Credit-Control":[{"Rating-Group":30,
+  "Requested-Service-Unit":{"CC-Service-Specific-Units":1}}]}
 = {"CC-Request-Number":0,"CC-Request-Type":4,"Result-Code":4010,"Session-Id":"d1"}
 1767607230 bar 49151
 = {"Result-Code":2001}
@@ -115,10 +120,18 @@ account: 1767607230 true 1
 
 1767607260 unbar 49151
 = {"Result-Code":2001}
-1767607320 {"Session-Id":"d1","CC-Request-Type":4,"CC-Request-Number":0,"Subscription-Id":{"Subscription-Id-Type":0,"Subscription-Id-Data":"49151"},"Requested-Action":0,"Multiple-Services-Credit-Control":[{"Rating-Group":30,"Requested-Service-Unit":{"CC-Service-Specific-Units":1}}]}
+1767607320 {"Session-Id":"d1","CC-Request-Type":4,"CC-Request-Number":0,
+  "Subscription-Id":{"Subscription-Id-Type":0,"Subscription-Id-Data":"49151"},"Requested-Action":0,
+  "Multiple-Services-Credit-Control":[{"Rating-Group":30,
+  "Requested-Service-Unit":{"CC-Service-Specific-Units":1}}]}
 = {"CC-Request-Number":0,"CC-Request-Type":4,"Result-Code":4010,"Session-Id":"d1"}
-1767607320 {"Session-Id":"d2","CC-Request-Type":4,"CC-Request-Number":0,"Subscription-Id":{"Subscription-Id-Type":0,"Subscription-Id-Data":"49151"},"Requested-Action":0,"Multiple-Services-Credit-Control":[{"Rating-Group":30,"Requested-Service-Unit":{"CC-Service-Specific-Units":1}}]}
-= {"CC-Request-Number":0,"CC-Request-Type":4,"Multiple-Services-Credit-Control":[{"Granted-Service-Unit":{"CC-Service-Specific-Units":1},"Rating-Group":30,"Result-Code":2001}],"Result-Code":2001,"Session-Id":"d2"}
+1767607320 {"Session-Id":"d2","CC-Request-Type":4,"CC-Request-Number":0,
+  "Subscription-Id":{"Subscription-Id-Type":0,"Subscription-Id-Data":"49151"},"Requested-Action":0,
+  "Multiple-Services-Credit-Control":[{"Rating-Group":30,
+  "Requested-Service-Unit":{"CC-Service-Specific-Units":1}}]}
+= {"CC-Request-Number":0,"CC-Request-Type":4,
+  "Multiple-Services-Credit-Control":[{"Granted-Service-Unit":{"CC-Service-Specific-Units":1},
+  "Rating-Group":30,"Result-Code":2001}],"Result-Code":2001,"Session-Id":"d2"}
 account: 1767607320 false 2
 buckets: (1000000; 910000, 0, 90000, 0)
 counters: 30 0 1;
@@ -126,10 +139,17 @@ sessions: d1 0 1767607200 NeverOpened; d2 0 1767607320 NeverOpened;
 groups: d2 30 used 1 not reserved;
 charges: 1 at 1767607320 of d2 30 1 90000 90000 0;
 
-1767607380 {"Session-Id":"x1","CC-Request-Type":1,"CC-Request-Number":0,"Subscription-Id":{"Subscription-Id-Type":0,"Subscription-Id-Data":"49152"},"Multiple-Services-Credit-Control":[{"Rating-Group":10,"Requested-Service-Unit":{"CC-Time":60}}]}
+1767607380 {"Session-Id":"x1","CC-Request-Type":1,"CC-Request-Number":0,
+  "Subscription-Id":{"Subscription-Id-Type":0,"Subscription-Id-Data":"49152"},
+  "Multiple-Services-Credit-Control":[{"Rating-Group":10,"Requested-Service-Unit":{"CC-Time":60}}]}
 = {"CC-Request-Number":0,"CC-Request-Type":1,"Result-Code":4012,"Session-Id":"x1"}
-1767607380 {"Session-Id":"e1","CC-Request-Type":4,"CC-Request-Number":0,"Subscription-Id":{"Subscription-Id-Type":0,"Subscription-Id-Data":"49152"},"Requested-Action":0,"Multiple-Services-Credit-Control":[{"Rating-Group":30,"Requested-Service-Unit":{"CC-Service-Specific-Units":2}}]}
-= {"CC-Request-Number":0,"CC-Request-Type":4,"Multiple-Services-Credit-Control":[{"Granted-Service-Unit":{"CC-Service-Specific-Units":2},"Rating-Group":30,"Result-Code":2001}],"Result-Code":2001,"Session-Id":"e1"}
+1767607380 {"Session-Id":"e1","CC-Request-Type":4,"CC-Request-Number":0,
+  "Subscription-Id":{"Subscription-Id-Type":0,"Subscription-Id-Data":"49152"},"Requested-Action":0,
+  "Multiple-Services-Credit-Control":[{"Rating-Group":30,
+  "Requested-Service-Unit":{"CC-Service-Specific-Units":2}}]}
+= {"CC-Request-Number":0,"CC-Request-Type":4,
+  "Multiple-Services-Credit-Control":[{"Granted-Service-Unit":{"CC-Service-Specific-Units":2},
+  "Rating-Group":30,"Result-Code":2001}],"Result-Code":2001,"Session-Id":"e1"}
 account: 1767607320 false 2
 49152 account: 1767607380 false 2
 49152 buckets: (180000; 0, 0, 180000, 0)
@@ -173,25 +193,73 @@ max_grant = 1000000000000000
 cycle = "none"
 final = "terminate"
 price = [{period = "all", tiers = [{price = 1}]}]
+[[group]]
+id = 11
+unit = "octets"
+block = 1000000000000000
+slice = 1000000000000000
+max_grant = 1000000000000000
+cycle = "none"
+final = "terminate"
+price = [{period = "all", tiers = [{price = 1}]}]
 "#;
 
-/// A session's use ends at 10^18 octets. A report of one more is refused as a whole and changes nothing.
+/// A session's use ends at 10^18 octets. A report of one more is refused as a whole and changes nothing, nor does a
+/// report of another group beside it, whichever stands first.
 const PASSED: &str = r##"1767571200 open 49151
 = {"Result-Code":2001}
 1767571200 credit 49151 {"Amount":2000,"Reference":"c1"}
 = {"Bucket":1,"Result-Code":2001}
-1767607200 {"Session-Id":"s1","CC-Request-Type":1,"CC-Request-Number":0,"Subscription-Id":{"Subscription-Id-Type":0,"Subscription-Id-Data":"49151"},"Multiple-Services-Credit-Control":[{"Rating-Group":10,"Requested-Service-Unit":{"CC-Total-Octets":1000000000000000}}]}
-= {"CC-Request-Number":0,"CC-Request-Type":1,"Multiple-Services-Credit-Control":[{"Granted-Service-Unit":{"CC-Total-Octets":1000000000000000},"Rating-Group":10,"Result-Code":2001,"Validity-Time":3600}],"Result-Code":2001,"Session-Id":"s1"}
-1767607260 {"Session-Id":"s1","CC-Request-Type":2,"CC-Request-Number":1,"Subscription-Id":{"Subscription-Id-Type":0,"Subscription-Id-Data":"49151"},"Multiple-Services-Credit-Control":[{"Rating-Group":10,"Used-Service-Unit":[{"CC-Total-Octets":1000000000000000000}]}]}
-= {"CC-Request-Number":1,"CC-Request-Type":2,"Multiple-Services-Credit-Control":[{"Rating-Group":10,"Result-Code":2001}],"Result-Code":2001,"Session-Id":"s1"}
+1767607200 {"Session-Id":"s1","CC-Request-Type":1,"CC-Request-Number":0,
+  "Subscription-Id":{"Subscription-Id-Type":0,"Subscription-Id-Data":"49151"},
+  "Multiple-Services-Credit-Control":[{"Rating-Group":10,
+  "Requested-Service-Unit":{"CC-Total-Octets":1000000000000000}}]}
+= {"CC-Request-Number":0,"CC-Request-Type":1,
+  "Multiple-Services-Credit-Control":[{"Granted-Service-Unit":{"CC-Total-Octets":1000000000000000},
+  "Rating-Group":10,"Result-Code":2001,"Validity-Time":3600}],"Result-Code":2001,"Session-Id":"s1"}
+1767607260 {"Session-Id":"s1","CC-Request-Type":2,"CC-Request-Number":1,
+  "Subscription-Id":{"Subscription-Id-Type":0,"Subscription-Id-Data":"49151"},
+  "Multiple-Services-Credit-Control":[{"Rating-Group":10,
+  "Used-Service-Unit":[{"CC-Total-Octets":1000000000000000000}]}]}
+= {"CC-Request-Number":1,"CC-Request-Type":2,"Multiple-Services-Credit-Control":[{"Rating-Group":10,
+  "Result-Code":2001}],"Result-Code":2001,"Session-Id":"s1"}
 account: 1767607260 false 2
 buckets: (2000; 1000, 0, 1000, 0)
 groups: s1 10 used 1000000000000000000 not reserved;
 charges: 1 at 1767607260 of s1 10 1000 1000 1000 0;
 
-1767607320 {"Session-Id":"s1","CC-Request-Type":2,"CC-Request-Number":2,"Subscription-Id":{"Subscription-Id-Type":0,"Subscription-Id-Data":"49151"},"Multiple-Services-Credit-Control":[{"Rating-Group":10,"Used-Service-Unit":[{"CC-Total-Octets":1}]}]}
+1767607320 {"Session-Id":"s1","CC-Request-Type":2,"CC-Request-Number":2,
+  "Subscription-Id":{"Subscription-Id-Type":0,"Subscription-Id-Data":"49151"},
+  "Multiple-Services-Credit-Control":[{"Rating-Group":10,
+  "Used-Service-Unit":[{"CC-Total-Octets":1}]}]}
 = {"CC-Request-Number":2,"CC-Request-Type":2,"Result-Code":5012,"Session-Id":"s1"}
-unchanged"##;
+unchanged
+
+1767607320 {"Session-Id":"s1","CC-Request-Type":2,"CC-Request-Number":2,
+  "Subscription-Id":{"Subscription-Id-Type":0,"Subscription-Id-Data":"49151"},
+  "Multiple-Services-Credit-Control":[
+  {"Rating-Group":11,"Used-Service-Unit":[{"CC-Total-Octets":1}]},
+  {"Rating-Group":10,"Used-Service-Unit":[{"CC-Total-Octets":1}]}]}
+= {"CC-Request-Number":2,"CC-Request-Type":2,"Result-Code":5012,"Session-Id":"s1"}
+unchanged
+
+1767607320 {"Session-Id":"s1","CC-Request-Type":2,"CC-Request-Number":2,
+  "Subscription-Id":{"Subscription-Id-Type":0,"Subscription-Id-Data":"49151"},
+  "Multiple-Services-Credit-Control":[
+  {"Rating-Group":10,"Used-Service-Unit":[{"CC-Total-Octets":1}]},
+  {"Rating-Group":11,"Used-Service-Unit":[{"CC-Total-Octets":1}]}]}
+= {"CC-Request-Number":2,"CC-Request-Type":2,"Result-Code":5012,"Session-Id":"s1"}
+unchanged
+
+1767607320 {"Session-Id":"s1","CC-Request-Type":2,"CC-Request-Number":2,
+  "Subscription-Id":{"Subscription-Id-Type":0,"Subscription-Id-Data":"49151"},
+  "Multiple-Services-Credit-Control":[{"Rating-Group":11,
+  "Used-Service-Unit":[{"CC-Total-Octets":1}]}]}
+= {"CC-Request-Number":2,"CC-Request-Type":2,"Multiple-Services-Credit-Control":[{"Rating-Group":11,
+  "Result-Code":2001}],"Result-Code":2001,"Session-Id":"s1"}
+buckets: (2000; 999, 0, 1001, 0)
+groups: s1 10 used 1000000000000000000 not reserved; s1 11 used 1 not reserved;
+charges: 1 at 1767607260 of s1 10 1000 1000 1000 0; 2 at 1767607320 of s1 11 1 1 1 0;"##;
 
 #[test]
 fn a_report_past_a_stored_limit(rt: HostRuntime) -> Result<(), Fail> {

@@ -1,17 +1,18 @@
 //! The rows of accounts as text, a line a table.
 
 use crate::lines::account;
+use buckets::Bucket;
 use identifiers::AccountNumber;
-use keepers::{Keeper, MemoryKeeper, StoreFault};
-use reserving::{Account, ChargeRow, Reservation, SessionGroup};
+use keepers::{Keeper, MemoryKeeper, StoreFault, WholeAccount};
+use reserving::{Account, ChargeRow, Counter, Reservation, Session, SessionGroup};
 use std::alloc::{AllocError, Global};
 use std::test::Fail;
 use tariffs::TariffBook;
 
-/// Each bucket by number: what was credited; what of it is available, reserved, charged and expired.
-fn buckets(alloc: Global, account: &Account) -> Result<String, AllocError> {
+/// Each bucket in the order of use: what was credited; what of it is available, reserved, charged and expired.
+fn buckets(alloc: Global, rows: &[Bucket]) -> Result<String, AllocError> {
     let mut text = String::from_str(alloc, "buckets:")?;
-    for bucket in account.purse().buckets() {
+    for bucket in rows {
         let (credited, available) = (bucket.credited(), bucket.available());
         let first = format!(in alloc; " ({}; {}", credited, available)?;
         let (reserved, charged) = (bucket.reserved(), bucket.charged());
@@ -23,19 +24,19 @@ fn buckets(alloc: Global, account: &Account) -> Result<String, AllocError> {
 }
 
 /// Each counter's group, cycle and blocks.
-fn counters(alloc: Global, account: &Account) -> Result<String, AllocError> {
+fn counters(alloc: Global, rows: &[Counter]) -> Result<String, AllocError> {
     let mut text = String::from_str(alloc, "counters:")?;
-    for counter in account.counters() {
+    for counter in rows {
         let piece = format!(in alloc; " {} {} {};", counter.group, counter.cycle, counter.blocks)?;
         text.push_str(piece.as_str())?;
     }
     Ok(text)
 }
 
-/// Each session's name, last number, last moment and state.
-fn sessions(alloc: Global, account: &Account) -> Result<String, AllocError> {
+/// Each session's name, last number, last moment and state. Those that weren't loaded by the last change stand first.
+fn sessions(alloc: Global, rows: &[Session]) -> Result<String, AllocError> {
     let mut text = String::from_str(alloc, "sessions:")?;
-    for row in account.sessions() {
+    for row in rows {
         let (id, touched) = (row.id.as_str(), row.touched.seconds());
         let piece = format!(in alloc; " {} {} {} {:?};", id, row.last_number, touched, row.state)?;
         text.push_str(piece.as_str())?;
@@ -64,9 +65,9 @@ fn reserved(alloc: Global, row: &SessionGroup) -> Result<String, AllocError> {
 }
 
 /// What each session has used of each group, and what it holds for it.
-fn groups(alloc: Global, account: &Account) -> Result<String, AllocError> {
+fn groups(alloc: Global, rows: &[SessionGroup]) -> Result<String, AllocError> {
     let mut text = String::from_str(alloc, "groups:")?;
-    for row in account.groups() {
+    for row in rows {
         let reserved = reserved(alloc, row)?;
         let (id, reserved) = (row.session.as_str(), reserved.as_str());
         let piece = format!(in alloc; " {} {} used {} {};", id, row.group, row.used, reserved)?;
@@ -76,13 +77,17 @@ fn groups(alloc: Global, account: &Account) -> Result<String, AllocError> {
 }
 
 /// The rows of an account but its charges; first its moment, whether it is barred, and the number of its next charge.
-fn account_rows(alloc: Global, account: &Account) -> Result<String, AllocError> {
+fn account_rows(
+    alloc: Global,
+    account: &Account,
+    whole: &WholeAccount,
+) -> Result<String, AllocError> {
     let (at, barred) = (account.as_of().seconds(), account.is_barred());
     let first = format!(in alloc; "account: {} {} {}", at, barred, account.next_charge())?;
-    let buckets = buckets(alloc, account)?;
-    let counters = counters(alloc, account)?;
-    let sessions = sessions(alloc, account)?;
-    let groups = groups(alloc, account)?;
+    let buckets = buckets(alloc, whole.buckets.as_slice())?;
+    let counters = counters(alloc, whole.counters.as_slice())?;
+    let sessions = sessions(alloc, whole.sessions.as_slice())?;
+    let groups = groups(alloc, whole.groups.as_slice())?;
     let money = format!(in alloc; "{}\n{}\n", first.as_str(), buckets.as_str())?;
     let use_of = format!(in alloc; "{}\n{}\n", counters.as_str(), sessions.as_str())?;
     format!(in alloc;
@@ -93,19 +98,22 @@ fn account_rows(alloc: Global, account: &Account) -> Result<String, AllocError> 
     )
 }
 
-/// The rows of the account as the keeper loads it; none where there is no account. It is given up.
-fn loaded_rows(
+/// Every row of the account; none where there is no account.
+fn kept_rows(
     alloc: Global,
     keeper: &mut MemoryKeeper,
     book: &TariffBook,
     number: &AccountNumber,
 ) -> Result<String, StoreFault> {
-    let Some(loaded) = keeper.load(book, number)? else {
+    let last = keeper.last()?;
+    let Some(account) = keeper.view(book, number, last)? else {
         return Ok(String::new(alloc));
     };
-    let text = account_rows(alloc, &loaded.account);
-    keeper.abandon(loaded);
-    Ok(text?)
+    let mut whole = keeper.whole(number)?;
+    whole
+        .buckets
+        .sort_by_key(|bucket| (bucket.until().seconds(), bucket.number()))?;
+    Ok(account_rows(alloc, &account, &whole)?)
 }
 
 /// Each charge's number, moment, session and group, its blocks, and its amounts: rated, collected, uncollected.
@@ -135,7 +143,7 @@ fn rows_of(
     word: &str,
 ) -> Result<String, Fail> {
     let number = account(alloc, number)?;
-    let account = loaded_rows(alloc, keeper, book, &number)?;
+    let account = kept_rows(alloc, keeper, book, &number)?;
     let charges = charges(alloc, keeper.charges(&number))?;
     let rows = format!(in alloc; "{}{}", account.as_str(), charges.as_str())?;
     let mut text = String::new(alloc);

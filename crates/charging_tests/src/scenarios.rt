@@ -2,7 +2,8 @@
 //!
 //! A scenario is a text of parts with an empty line between them. A part is commands, each with its answer in the line
 //! after it, and then lines of the rows as they are after these commands; `unchanged` says that no row is another than
-//! before them. The commands of a part are run as one list.
+//! before them. The commands of a part are run as one list. A line that begins with two spaces goes on with the one
+//! before it.
 
 use crate::book::book;
 use crate::lines::{dated_commands, is_command};
@@ -15,6 +16,11 @@ use std::process::Abort;
 use std::test::Fail;
 use tariffs::TariffBook;
 use wire::write_answer;
+
+/// The text with each line that begins with two spaces put behind the one before it.
+pub(crate) fn whole_lines(alloc: Global, text: &str) -> Result<String, AllocError> {
+    text.replace(alloc, "\n  ", "")
+}
 
 /// The commands among these lines, each with its answer in the line after it, as far as there are answers.
 pub(crate) fn answered(
@@ -88,7 +94,8 @@ fn try_parts(
     scenario: &str,
 ) -> Result<(), Fail> {
     let mut keeper = MemoryKeeper::new(alloc);
-    for part in scenario.split("\n\n") {
+    let scenario = whole_lines(alloc, scenario)?;
+    for part in scenario.as_str().split("\n\n") {
         let told = told(alloc, &mut keeper, book, part)?;
         assert_eq!(rt; told.as_str().trim_end(), part.trim_end());
     }

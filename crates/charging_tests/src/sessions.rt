@@ -9,15 +9,24 @@ const SWITCH: &str = r##"1767571200 open 49151
 = {"Result-Code":2001}
 1767571200 credit 49151 {"Amount":1000000,"Reference":"c1"}
 = {"Bucket":1,"Result-Code":2001}
-1767598200 {"Session-Id":"s1","CC-Request-Type":1,"CC-Request-Number":0,"Subscription-Id":{"Subscription-Id-Type":0,"Subscription-Id-Data":"49151"},"Multiple-Services-Credit-Control":[{"Rating-Group":10,"Requested-Service-Unit":{"CC-Time":600}}]}
-= {"CC-Request-Number":0,"CC-Request-Type":1,"Multiple-Services-Credit-Control":[{"Granted-Service-Unit":{"CC-Time":600,"Tariff-Time-Change":1767600000},"Rating-Group":10,"Result-Code":2001,"Validity-Time":3600}],"Result-Code":2001,"Session-Id":"s1"}
+1767598200 {"Session-Id":"s1","CC-Request-Type":1,"CC-Request-Number":0,
+  "Subscription-Id":{"Subscription-Id-Type":0,"Subscription-Id-Data":"49151"},
+  "Multiple-Services-Credit-Control":[{"Rating-Group":10,"Requested-Service-Unit":{"CC-Time":600}}]}
+= {"CC-Request-Number":0,"CC-Request-Type":1,
+  "Multiple-Services-Credit-Control":[{"Granted-Service-Unit":{"CC-Time":600,
+  "Tariff-Time-Change":1767600000},"Rating-Group":10,"Result-Code":2001,"Validity-Time":3600}],
+  "Result-Code":2001,"Session-Id":"s1"}
 last: 1767598200
 buckets: (1000000; 0, 1000000, 0, 0)
 counters:
 charges:
 
-1767600300 {"Session-Id":"s1","CC-Request-Type":2,"CC-Request-Number":1,"Subscription-Id":{"Subscription-Id-Type":0,"Subscription-Id-Data":"49151"},"Multiple-Services-Credit-Control":[{"Rating-Group":10,"Used-Service-Unit":[{"CC-Time":300,"Tariff-Change-Usage":0},{"CC-Time":90,"Tariff-Change-Usage":1}]}]}
-= {"CC-Request-Number":1,"CC-Request-Type":2,"Multiple-Services-Credit-Control":[{"Rating-Group":10,"Result-Code":2001}],"Result-Code":2001,"Session-Id":"s1"}
+1767600300 {"Session-Id":"s1","CC-Request-Type":2,"CC-Request-Number":1,
+  "Subscription-Id":{"Subscription-Id-Type":0,"Subscription-Id-Data":"49151"},
+  "Multiple-Services-Credit-Control":[{"Rating-Group":10,"Used-Service-Unit":[{"CC-Time":300,
+  "Tariff-Change-Usage":0},{"CC-Time":90,"Tariff-Change-Usage":1}]}]}
+= {"CC-Request-Number":1,"CC-Request-Type":2,"Multiple-Services-Credit-Control":[{"Rating-Group":10,
+  "Result-Code":2001}],"Result-Code":2001,"Session-Id":"s1"}
 buckets: (1000000; 550000, 0, 450000, 0)
 counters: 10 0 7;
 charges: 1 at 1767600300 of s1 10 7 450000 450000 0;"##;
@@ -32,14 +41,22 @@ const SHORT: &str = r##"1767571200 open 49151
 = {"Result-Code":2001}
 1767571200 credit 49151 {"Amount":250000,"Reference":"c1"}
 = {"Bucket":1,"Result-Code":2001}
-1767607200 {"Session-Id":"s3","CC-Request-Type":1,"CC-Request-Number":0,"Subscription-Id":{"Subscription-Id-Type":0,"Subscription-Id-Data":"49151"},"Multiple-Services-Credit-Control":[{"Rating-Group":10,"Requested-Service-Unit":{"CC-Time":600}}]}
-= {"CC-Request-Number":0,"CC-Request-Type":1,"Multiple-Services-Credit-Control":[{"Final-Unit-Indication":{"Final-Unit-Action":0},"Granted-Service-Unit":{"CC-Time":120},"Rating-Group":10,"Result-Code":2001,"Validity-Time":3600}],"Result-Code":2001,"Session-Id":"s3"}
+1767607200 {"Session-Id":"s3","CC-Request-Type":1,"CC-Request-Number":0,
+  "Subscription-Id":{"Subscription-Id-Type":0,"Subscription-Id-Data":"49151"},
+  "Multiple-Services-Credit-Control":[{"Rating-Group":10,"Requested-Service-Unit":{"CC-Time":600}}]}
+= {"CC-Request-Number":0,"CC-Request-Type":1,
+  "Multiple-Services-Credit-Control":[{"Final-Unit-Indication":{"Final-Unit-Action":0},
+  "Granted-Service-Unit":{"CC-Time":120},"Rating-Group":10,"Result-Code":2001,
+  "Validity-Time":3600}],"Result-Code":2001,"Session-Id":"s3"}
 buckets: (250000; 50000, 200000, 0, 0)
 sessions: s3 0 1767607200 Open;
 groups: s3 10 used 0 holds 1 200000;
 
-1767607500 {"Session-Id":"s3","CC-Request-Type":3,"CC-Request-Number":1,"Subscription-Id":{"Subscription-Id-Type":0,"Subscription-Id-Data":"49151"},"Multiple-Services-Credit-Control":[{"Rating-Group":10,"Used-Service-Unit":[{"CC-Time":300}]}]}
-= {"CC-Request-Number":1,"CC-Request-Type":3,"Multiple-Services-Credit-Control":[{"Rating-Group":10,"Result-Code":2001}],"Result-Code":2001,"Session-Id":"s3"}
+1767607500 {"Session-Id":"s3","CC-Request-Type":3,"CC-Request-Number":1,
+  "Subscription-Id":{"Subscription-Id-Type":0,"Subscription-Id-Data":"49151"},
+  "Multiple-Services-Credit-Control":[{"Rating-Group":10,"Used-Service-Unit":[{"CC-Time":300}]}]}
+= {"CC-Request-Number":1,"CC-Request-Type":3,"Multiple-Services-Credit-Control":[{"Rating-Group":10,
+  "Result-Code":2001}],"Result-Code":2001,"Session-Id":"s3"}
 last: 1767607500
 buckets: (250000; 0, 0, 250000, 0)
 counters: 10 0 5;
@@ -57,17 +74,30 @@ const STARTED: &str = r##"1767571200 open 49151
 = {"Result-Code":2001}
 1767571200 credit 49151 {"Amount":1000000,"Reference":"c1"}
 = {"Bucket":1,"Result-Code":2001}
-1767607200 {"Session-Id":"s5","CC-Request-Type":1,"CC-Request-Number":0,"Subscription-Id":{"Subscription-Id-Type":0,"Subscription-Id-Data":"49151"},"Multiple-Services-Credit-Control":[{"Rating-Group":10,"Requested-Service-Unit":{"CC-Time":600}}]}
-= {"CC-Request-Number":0,"CC-Request-Type":1,"Multiple-Services-Credit-Control":[{"Granted-Service-Unit":{"CC-Time":600},"Rating-Group":10,"Result-Code":2001,"Validity-Time":3600}],"Result-Code":2001,"Session-Id":"s5"}
+1767607200 {"Session-Id":"s5","CC-Request-Type":1,"CC-Request-Number":0,
+  "Subscription-Id":{"Subscription-Id-Type":0,"Subscription-Id-Data":"49151"},
+  "Multiple-Services-Credit-Control":[{"Rating-Group":10,"Requested-Service-Unit":{"CC-Time":600}}]}
+= {"CC-Request-Number":0,"CC-Request-Type":1,
+  "Multiple-Services-Credit-Control":[{"Granted-Service-Unit":{"CC-Time":600},"Rating-Group":10,
+  "Result-Code":2001,"Validity-Time":3600}],"Result-Code":2001,"Session-Id":"s5"}
 buckets: (1000000; 0, 1000000, 0, 0)
 
-1767607500 {"Session-Id":"s5","CC-Request-Type":2,"CC-Request-Number":1,"Subscription-Id":{"Subscription-Id-Type":0,"Subscription-Id-Data":"49151"},"Multiple-Services-Credit-Control":[{"Rating-Group":10,"Requested-Service-Unit":{"CC-Time":600},"Used-Service-Unit":[{"CC-Time":61}]}]}
-= {"CC-Request-Number":1,"CC-Request-Type":2,"Multiple-Services-Credit-Control":[{"Final-Unit-Indication":{"Final-Unit-Action":0},"Granted-Service-Unit":{"CC-Time":539},"Rating-Group":10,"Result-Code":2001,"Validity-Time":3600}],"Result-Code":2001,"Session-Id":"s5"}
+1767607500 {"Session-Id":"s5","CC-Request-Type":2,"CC-Request-Number":1,
+  "Subscription-Id":{"Subscription-Id-Type":0,"Subscription-Id-Data":"49151"},
+  "Multiple-Services-Credit-Control":[{"Rating-Group":10,"Requested-Service-Unit":{"CC-Time":600},
+  "Used-Service-Unit":[{"CC-Time":61}]}]}
+= {"CC-Request-Number":1,"CC-Request-Type":2,
+  "Multiple-Services-Credit-Control":[{"Final-Unit-Indication":{"Final-Unit-Action":0},
+  "Granted-Service-Unit":{"CC-Time":539},"Rating-Group":10,"Result-Code":2001,
+  "Validity-Time":3600}],"Result-Code":2001,"Session-Id":"s5"}
 buckets: (1000000; 0, 800000, 200000, 0)
 charges: 1 at 1767607500 of s5 10 2 200000 200000 0;
 
-1767607560 {"Session-Id":"s5","CC-Request-Type":2,"CC-Request-Number":2,"Subscription-Id":{"Subscription-Id-Type":0,"Subscription-Id-Data":"49151"},"Multiple-Services-Credit-Control":[{"Rating-Group":10,"Used-Service-Unit":[{"CC-Time":59}]}]}
-= {"CC-Request-Number":2,"CC-Request-Type":2,"Multiple-Services-Credit-Control":[{"Rating-Group":10,"Result-Code":2001}],"Result-Code":2001,"Session-Id":"s5"}
+1767607560 {"Session-Id":"s5","CC-Request-Type":2,"CC-Request-Number":2,
+  "Subscription-Id":{"Subscription-Id-Type":0,"Subscription-Id-Data":"49151"},
+  "Multiple-Services-Credit-Control":[{"Rating-Group":10,"Used-Service-Unit":[{"CC-Time":59}]}]}
+= {"CC-Request-Number":2,"CC-Request-Type":2,"Multiple-Services-Credit-Control":[{"Rating-Group":10,
+  "Result-Code":2001}],"Result-Code":2001,"Session-Id":"s5"}
 buckets: (1000000; 800000, 0, 200000, 0)
 counters: 10 0 2;
 charges: 1 at 1767607500 of s5 10 2 200000 200000 0; 2 at 1767607560 of s5 10 0 0 0 0;"##;
@@ -82,19 +112,34 @@ const FREE: &str = r##"1767571200 open 49151
 = {"Result-Code":2001}
 1767571200 credit 49151 {"Amount":50000,"Reference":"c1"}
 = {"Bucket":1,"Result-Code":2001}
-1767607200 {"Session-Id":"s7","CC-Request-Type":1,"CC-Request-Number":0,"Subscription-Id":{"Subscription-Id-Type":0,"Subscription-Id-Data":"49151"},"Multiple-Services-Credit-Control":[{"Rating-Group":20,"Requested-Service-Unit":{"CC-Total-Octets":103809024}}]}
-= {"CC-Request-Number":0,"CC-Request-Type":1,"Multiple-Services-Credit-Control":[{"Granted-Service-Unit":{"CC-Total-Octets":103809024},"Rating-Group":20,"Result-Code":2001,"Validity-Time":3600}],"Result-Code":2001,"Session-Id":"s7"}
+1767607200 {"Session-Id":"s7","CC-Request-Type":1,"CC-Request-Number":0,
+  "Subscription-Id":{"Subscription-Id-Type":0,"Subscription-Id-Data":"49151"},
+  "Multiple-Services-Credit-Control":[{"Rating-Group":20,
+  "Requested-Service-Unit":{"CC-Total-Octets":103809024}}]}
+= {"CC-Request-Number":0,"CC-Request-Type":1,
+  "Multiple-Services-Credit-Control":[{"Granted-Service-Unit":{"CC-Total-Octets":103809024},
+  "Rating-Group":20,"Result-Code":2001,"Validity-Time":3600}],"Result-Code":2001,"Session-Id":"s7"}
 buckets: (50000; 50000, 0, 0, 0)
 counters:
 
-1767607500 {"Session-Id":"s7","CC-Request-Type":2,"CC-Request-Number":1,"Subscription-Id":{"Subscription-Id-Type":0,"Subscription-Id-Data":"49151"},"Multiple-Services-Credit-Control":[{"Rating-Group":20,"Requested-Service-Unit":{"CC-Total-Octets":2097152},"Used-Service-Unit":[{"CC-Total-Octets":103809024}]}]}
-= {"CC-Request-Number":1,"CC-Request-Type":2,"Multiple-Services-Credit-Control":[{"Granted-Service-Unit":{"CC-Total-Octets":2097152},"Rating-Group":20,"Result-Code":2001,"Validity-Time":3600}],"Result-Code":2001,"Session-Id":"s7"}
+1767607500 {"Session-Id":"s7","CC-Request-Type":2,"CC-Request-Number":1,
+  "Subscription-Id":{"Subscription-Id-Type":0,"Subscription-Id-Data":"49151"},
+  "Multiple-Services-Credit-Control":[{"Rating-Group":20,
+  "Requested-Service-Unit":{"CC-Total-Octets":2097152},
+  "Used-Service-Unit":[{"CC-Total-Octets":103809024}]}]}
+= {"CC-Request-Number":1,"CC-Request-Type":2,
+  "Multiple-Services-Credit-Control":[{"Granted-Service-Unit":{"CC-Total-Octets":2097152},
+  "Rating-Group":20,"Result-Code":2001,"Validity-Time":3600}],"Result-Code":2001,"Session-Id":"s7"}
 buckets: (50000; 40000, 10000, 0, 0)
 counters: 20 684 99;
 charges: 1 at 1767607500 of s7 20 99 0 0 0;
 
-1767607560 {"Session-Id":"s7","CC-Request-Type":2,"CC-Request-Number":2,"Subscription-Id":{"Subscription-Id-Type":0,"Subscription-Id-Data":"49151"},"Multiple-Services-Credit-Control":[{"Rating-Group":20,"Used-Service-Unit":[{"CC-Total-Octets":2097152}]}]}
-= {"CC-Request-Number":2,"CC-Request-Type":2,"Multiple-Services-Credit-Control":[{"Rating-Group":20,"Result-Code":2001}],"Result-Code":2001,"Session-Id":"s7"}
+1767607560 {"Session-Id":"s7","CC-Request-Type":2,"CC-Request-Number":2,
+  "Subscription-Id":{"Subscription-Id-Type":0,"Subscription-Id-Data":"49151"},
+  "Multiple-Services-Credit-Control":[{"Rating-Group":20,
+  "Used-Service-Unit":[{"CC-Total-Octets":2097152}]}]}
+= {"CC-Request-Number":2,"CC-Request-Type":2,"Multiple-Services-Credit-Control":[{"Rating-Group":20,
+  "Result-Code":2001}],"Result-Code":2001,"Session-Id":"s7"}
 buckets: (50000; 40000, 0, 10000, 0)
 counters: 20 684 101;"##;
 
@@ -108,12 +153,26 @@ const GROUPS: &str = r##"1767571200 open 49151
 = {"Result-Code":2001}
 1767571200 credit 49151 {"Amount":500000,"Reference":"c1"}
 = {"Bucket":1,"Result-Code":2001}
-1767607200 {"Session-Id":"s17","CC-Request-Type":1,"CC-Request-Number":0,"Subscription-Id":{"Subscription-Id-Type":0,"Subscription-Id-Data":"49151"},"Multiple-Services-Credit-Control":[{"Rating-Group":10,"Requested-Service-Unit":{"CC-Time":180}},{"Rating-Group":30,"Requested-Service-Unit":{"CC-Service-Specific-Units":2}}]}
-= {"CC-Request-Number":0,"CC-Request-Type":1,"Multiple-Services-Credit-Control":[{"Granted-Service-Unit":{"CC-Time":180},"Rating-Group":10,"Result-Code":2001,"Validity-Time":3600},{"Granted-Service-Unit":{"CC-Service-Specific-Units":2},"Rating-Group":30,"Result-Code":2001,"Validity-Time":3600}],"Result-Code":2001,"Session-Id":"s17"}
+1767607200 {"Session-Id":"s17","CC-Request-Type":1,"CC-Request-Number":0,
+  "Subscription-Id":{"Subscription-Id-Type":0,"Subscription-Id-Data":"49151"},
+  "Multiple-Services-Credit-Control":[{"Rating-Group":10,"Requested-Service-Unit":{"CC-Time":180}},
+  {"Rating-Group":30,"Requested-Service-Unit":{"CC-Service-Specific-Units":2}}]}
+= {"CC-Request-Number":0,"CC-Request-Type":1,
+  "Multiple-Services-Credit-Control":[{"Granted-Service-Unit":{"CC-Time":180},"Rating-Group":10,
+  "Result-Code":2001,"Validity-Time":3600},{"Granted-Service-Unit":{"CC-Service-Specific-Units":2},
+  "Rating-Group":30,"Result-Code":2001,"Validity-Time":3600}],"Result-Code":2001,"Session-Id":"s17"}
 buckets: (500000; 20000, 480000, 0, 0)
 
-1767607500 {"Session-Id":"s17","CC-Request-Type":2,"CC-Request-Number":1,"Subscription-Id":{"Subscription-Id-Type":0,"Subscription-Id-Data":"49151"},"Multiple-Services-Credit-Control":[{"Rating-Group":30,"Requested-Service-Unit":{"CC-Service-Specific-Units":3},"Used-Service-Unit":[{"CC-Service-Specific-Units":1}]},{"Rating-Group":10,"Used-Service-Unit":[{"CC-Time":60}]}]}
-= {"CC-Request-Number":1,"CC-Request-Type":2,"Multiple-Services-Credit-Control":[{"Granted-Service-Unit":{"CC-Service-Specific-Units":3},"Rating-Group":30,"Result-Code":2001,"Validity-Time":3600},{"Rating-Group":10,"Result-Code":2001}],"Result-Code":2001,"Session-Id":"s17"}
+1767607500 {"Session-Id":"s17","CC-Request-Type":2,"CC-Request-Number":1,
+  "Subscription-Id":{"Subscription-Id-Type":0,"Subscription-Id-Data":"49151"},
+  "Multiple-Services-Credit-Control":[{"Rating-Group":30,
+  "Requested-Service-Unit":{"CC-Service-Specific-Units":3},
+  "Used-Service-Unit":[{"CC-Service-Specific-Units":1}]},{"Rating-Group":10,
+  "Used-Service-Unit":[{"CC-Time":60}]}]}
+= {"CC-Request-Number":1,"CC-Request-Type":2,
+  "Multiple-Services-Credit-Control":[{"Granted-Service-Unit":{"CC-Service-Specific-Units":3},
+  "Rating-Group":30,"Result-Code":2001,"Validity-Time":3600},{"Rating-Group":10,
+  "Result-Code":2001}],"Result-Code":2001,"Session-Id":"s17"}
 buckets: (500000; 40000, 270000, 190000, 0)
 charges: 1 at 1767607500 of s17 30 1 90000 90000 0; 2 at 1767607500 of s17 10 1 100000 100000 0;"##;
 
@@ -127,16 +186,29 @@ const LARGE: &str = r##"1767571200 open 49151
 = {"Result-Code":2001}
 1767571200 credit 49151 {"Amount":90000,"Reference":"c1"}
 = {"Bucket":1,"Result-Code":2001}
-1767607200 {"Session-Id":"s16","CC-Request-Type":1,"CC-Request-Number":0,"Subscription-Id":{"Subscription-Id-Type":0,"Subscription-Id-Data":"49151"},"Multiple-Services-Credit-Control":[{"Rating-Group":30,"Requested-Service-Unit":{"CC-Service-Specific-Units":1}}]}
-= {"CC-Request-Number":0,"CC-Request-Type":1,"Multiple-Services-Credit-Control":[{"Granted-Service-Unit":{"CC-Service-Specific-Units":1},"Rating-Group":30,"Result-Code":2001,"Validity-Time":3600}],"Result-Code":2001,"Session-Id":"s16"}
+1767607200 {"Session-Id":"s16","CC-Request-Type":1,"CC-Request-Number":0,
+  "Subscription-Id":{"Subscription-Id-Type":0,"Subscription-Id-Data":"49151"},
+  "Multiple-Services-Credit-Control":[{"Rating-Group":30,
+  "Requested-Service-Unit":{"CC-Service-Specific-Units":1}}]}
+= {"CC-Request-Number":0,"CC-Request-Type":1,
+  "Multiple-Services-Credit-Control":[{"Granted-Service-Unit":{"CC-Service-Specific-Units":1},
+  "Rating-Group":30,"Result-Code":2001,"Validity-Time":3600}],"Result-Code":2001,"Session-Id":"s16"}
 buckets: (90000; 0, 90000, 0, 0)
 
-1767607260 {"Session-Id":"s16","CC-Request-Type":2,"CC-Request-Number":1,"Subscription-Id":{"Subscription-Id-Type":0,"Subscription-Id-Data":"49151"},"Multiple-Services-Credit-Control":[{"Rating-Group":30,"Used-Service-Unit":[{"CC-Service-Specific-Units":1000000001}]}]}
-= {"CC-Request-Number":1,"CC-Request-Type":2,"Failed-AVP":"Used-Service-Unit","Result-Code":5004,"Session-Id":"s16"}
+1767607260 {"Session-Id":"s16","CC-Request-Type":2,"CC-Request-Number":1,
+  "Subscription-Id":{"Subscription-Id-Type":0,"Subscription-Id-Data":"49151"},
+  "Multiple-Services-Credit-Control":[{"Rating-Group":30,
+  "Used-Service-Unit":[{"CC-Service-Specific-Units":1000000001}]}]}
+= {"CC-Request-Number":1,"CC-Request-Type":2,"Failed-AVP":"Used-Service-Unit","Result-Code":5004,
+  "Session-Id":"s16"}
 unchanged
 
-1767607320 {"Session-Id":"s16","CC-Request-Type":2,"CC-Request-Number":1,"Subscription-Id":{"Subscription-Id-Type":0,"Subscription-Id-Data":"49151"},"Multiple-Services-Credit-Control":[{"Rating-Group":30,"Used-Service-Unit":[{"CC-Service-Specific-Units":1000000000}]}]}
-= {"CC-Request-Number":1,"CC-Request-Type":2,"Multiple-Services-Credit-Control":[{"Rating-Group":30,"Result-Code":2001}],"Result-Code":2001,"Session-Id":"s16"}
+1767607320 {"Session-Id":"s16","CC-Request-Type":2,"CC-Request-Number":1,
+  "Subscription-Id":{"Subscription-Id-Type":0,"Subscription-Id-Data":"49151"},
+  "Multiple-Services-Credit-Control":[{"Rating-Group":30,
+  "Used-Service-Unit":[{"CC-Service-Specific-Units":1000000000}]}]}
+= {"CC-Request-Number":1,"CC-Request-Type":2,"Multiple-Services-Credit-Control":[{"Rating-Group":30,
+  "Result-Code":2001}],"Result-Code":2001,"Session-Id":"s16"}
 buckets: (90000; 0, 0, 90000, 0)
 counters: 30 0 1000000000;
 charges: 1 at 1767607320 of s16 30 1000000000 90000000000000 90000 89999999910000;"##;

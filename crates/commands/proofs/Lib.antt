@@ -1,1 +1,3 @@
 pub mod Differing
+pub mod Exact
+pub mod Inverses

@@ -1,5 +1,7 @@
 -- The numbers and names by which answers and requests are told.
-use Rattle.std.specs.Prelude.{ℕ, List, codes}
+use Rattle.std.specs.Prelude.{ℕ, ◌==◌, List, [], ◌∷◌, Option, codes, nat_eq}
+use Rattle.std.specs.List.{find}
+use Rattle.std.specs.Cmp.Lexicographic.{pointwise}
 use Rattle.commands.specs.declared.request.RequestKind.{RequestKind}
 use Rattle.commands.specs.declared.request.RequestKind.TheVariants as kind
 use Rattle.commands.specs.declared.request.EventAction.{EventAction}
@@ -22,6 +24,13 @@ kind_number kind.Update = 2
 kind_number kind.Termination = 3
 kind_number kind.Event = 4
 
+-- the one of this number
+abbrev pub all_kinds : List RequestKind
+all_kinds = kind.Initial ∷ kind.Update ∷ kind.Termination ∷ kind.Event ∷ []
+
+abbrev pub kind_numbered : ℕ → Option RequestKind
+kind_numbered n = find (λ x. kind_number x == n) all_kinds
+
 abbrev pub kind_of_ask : Ask → RequestKind
 kind_of_ask (ask.Initial services) = kind.Initial
 kind_of_ask (ask.Update services) = kind.Update
@@ -35,11 +44,25 @@ action_number action.DirectDebiting = 0
 action_number action.CheckBalance = 2
 action_number action.PriceEnquiry = 3
 
+-- the one of this number
+abbrev pub all_actions : List EventAction
+all_actions = action.DirectDebiting ∷ action.CheckBalance ∷ action.PriceEnquiry ∷ []
+
+abbrev pub action_numbered : ℕ → Option EventAction
+action_numbered n = find (λ x. action_number x == n) all_actions
+
 -- Result-Code (RFC 8506 section 9)
 abbrev pub service_failure_number : ServiceFailure → ℕ
 service_failure_number EndUserServiceDenied = 4010
 service_failure_number CreditLimitReached = 4012
 service_failure_number RatingFailed = 5031
+
+-- the one of this number
+abbrev pub all_service_failures : List ServiceFailure
+all_service_failures = EndUserServiceDenied ∷ CreditLimitReached ∷ RatingFailed ∷ []
+
+abbrev pub service_failure_numbered : ℕ → Option ServiceFailure
+service_failure_numbered n = find (λ x. service_failure_number x == n) all_service_failures
 
 -- Result-Code (RFC 8506 section 9, RFC 6733 section 7.1)
 abbrev pub failure_number : Failure → ℕ
@@ -54,6 +77,13 @@ abbrev pub balance_number : Balance → ℕ
 balance_number EnoughCredit = 0
 balance_number NoCredit = 1
 
+-- the one of this number
+abbrev pub all_balances : List Balance
+all_balances = EnoughCredit ∷ NoCredit ∷ []
+
+abbrev pub balance_numbered : ℕ → Option Balance
+balance_numbered n = find (λ x. balance_number x == n) all_balances
+
 -- refusals of operators' commands (profile)
 abbrev pub refusal_name : Refusal → List ℕ
 refusal_name AccountExists = codes "O1"
@@ -63,3 +93,10 @@ refusal_name VoucherSpent = codes "O4"
 refusal_name ContentDiffers = codes "O5"
 refusal_name OutOfRange = codes "O6"
 refusal_name ScopeUnknown = codes "O7"
+
+-- the one of this name
+abbrev pub all_refusals : List Refusal
+all_refusals = AccountExists ∷ AccountUnknown ∷ VoucherUnknown ∷ VoucherSpent ∷ ContentDiffers ∷ OutOfRange ∷ ScopeUnknown ∷ []
+
+abbrev pub refusal_named : List ℕ → Option Refusal
+refusal_named name = find (λ r. pointwise nat_eq (refusal_name r) name) all_refusals

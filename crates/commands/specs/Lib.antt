@@ -8,4 +8,4 @@ pub mod Services
 pub mod Refunds
 pub mod Codes
 pub mod Alike
-pub mod Exact
+pub mod Inverse

@@ -1,11 +1,13 @@
 -- How the members of requests, answers and operators' bodies are spelled.
-use Rattle.std.specs.Prelude.{ℕ, List, codes}
-use Rattle.units.specs.declared.blocks.UnitKind.{UnitKind}
-use Rattle.units.specs.declared.blocks.UnitKind.TheVariants.{Time, TotalOctets, ServiceSpecific}
+use Rattle.std.specs.Prelude.{ℕ, List, [], ◌∷◌, Option, codes, nat_eq}
+use Rattle.std.specs.List.{find}
+use Rattle.std.specs.Cmp.Lexicographic.{pointwise}
 use Rattle.commands.specs.declared.avp.Avp.{Avp}
 use Rattle.commands.specs.declared.avp.Avp.TheVariants as avp
 
--- the AVPs' names (RFC 8506 section 8; RFC 6733 section 7.5 for Failed-AVP), and those of the profile
+-- ---- what can be at fault
+
+-- the AVPs' names (RFC 8506 section 8), and those of the profile
 abbrev pub name_of : Avp → List ℕ
 name_of avp.SessionId = codes "Session-Id"
 name_of avp.RequestType = codes "CC-Request-Type"
@@ -23,18 +25,6 @@ name_of avp.UnitValue = codes "Unit-Value"
 name_of avp.ValueDigits = codes "Value-Digits"
 name_of avp.Exponent = codes "Exponent"
 name_of avp.CurrencyCode = codes "Currency-Code"
-name_of avp.ResultCode = codes "Result-Code"
-name_of avp.FailedAvp = codes "Failed-AVP"
-name_of avp.GrantedUnit = codes "Granted-Service-Unit"
-name_of avp.TariffTimeChange = codes "Tariff-Time-Change"
-name_of avp.ValidityTime = codes "Validity-Time"
-name_of avp.FinalUnit = codes "Final-Unit-Indication"
-name_of avp.FinalUnitAction = codes "Final-Unit-Action"
-name_of avp.RedirectServer = codes "Redirect-Server"
-name_of avp.RedirectAddressType = codes "Redirect-Address-Type"
-name_of avp.RedirectServerAddress = codes "Redirect-Server-Address"
-name_of avp.CheckBalanceResult = codes "Check-Balance-Result"
-name_of avp.CostInformation = codes "Cost-Information"
 name_of avp.Amount = codes "Amount"
 name_of avp.From = codes "From"
 name_of avp.Until = codes "Until"
@@ -42,6 +32,61 @@ name_of avp.Scope = codes "Scope"
 name_of avp.Reference = codes "Reference"
 name_of avp.VoucherCode = codes "Voucher-Code"
 name_of avp.Month = codes "Month"
-name_of avp.Bucket = codes "Bucket"
-name_of avp.Accounts = codes "Accounts"
-name_of avp.Refusal = codes "Refusal"
+
+-- every one of them
+abbrev pub all_avps : List Avp
+all_avps = avp.SessionId ∷ avp.RequestType ∷ avp.RequestNumber ∷ avp.SubscriptionId ∷ avp.SubscriptionIdType ∷ avp.SubscriptionIdData ∷ avp.RequestedAction ∷ avp.Services ∷ avp.RatingGroup ∷ avp.RequestedUnit ∷ avp.UsedUnit ∷ avp.Money ∷ avp.UnitValue ∷ avp.ValueDigits ∷ avp.Exponent ∷ avp.CurrencyCode ∷ avp.Amount ∷ avp.From ∷ avp.Until ∷ avp.Scope ∷ avp.Reference ∷ avp.VoucherCode ∷ avp.Month ∷ []
+
+-- the one of this name
+abbrev pub avp_named : List ℕ → Option Avp
+avp_named name = find (λ a. pointwise nat_eq (name_of a) name) all_avps
+
+-- ---- what can't (RFC 8506 section 8; RFC 6733 section 7.5 for Failed-AVP; and the profile)
+
+abbrev pub tariff_change_usage : List ℕ
+tariff_change_usage = codes "Tariff-Change-Usage"
+
+abbrev pub result_code : List ℕ
+result_code = codes "Result-Code"
+
+abbrev pub failed_avp : List ℕ
+failed_avp = codes "Failed-AVP"
+
+abbrev pub granted_unit : List ℕ
+granted_unit = codes "Granted-Service-Unit"
+
+abbrev pub tariff_time_change : List ℕ
+tariff_time_change = codes "Tariff-Time-Change"
+
+abbrev pub validity_time : List ℕ
+validity_time = codes "Validity-Time"
+
+abbrev pub final_unit : List ℕ
+final_unit = codes "Final-Unit-Indication"
+
+abbrev pub final_unit_action : List ℕ
+final_unit_action = codes "Final-Unit-Action"
+
+abbrev pub redirect_server : List ℕ
+redirect_server = codes "Redirect-Server"
+
+abbrev pub redirect_address_type : List ℕ
+redirect_address_type = codes "Redirect-Address-Type"
+
+abbrev pub redirect_server_address : List ℕ
+redirect_server_address = codes "Redirect-Server-Address"
+
+abbrev pub check_balance_result : List ℕ
+check_balance_result = codes "Check-Balance-Result"
+
+abbrev pub cost_information : List ℕ
+cost_information = codes "Cost-Information"
+
+abbrev pub bucket : List ℕ
+bucket = codes "Bucket"
+
+abbrev pub accounts : List ℕ
+accounts = codes "Accounts"
+
+abbrev pub refusal : List ℕ
+refusal = codes "Refusal"

@@ -1,5 +1,7 @@
-ghost use Rattle.std.specs.Prelude.{◌≡◌};
-ghost use Rattle.commands.specs.Codes.{failure_number, service_failure_number, refusal_name, balance_number};
+ghost use Rattle.std.specs.Prelude.{◌≡◌, ◌==◌, nat_eq};
+ghost use Rattle.std.specs.List.{find};
+ghost use Rattle.std.specs.Cmp.Lexicographic.{pointwise};
+ghost use Rattle.commands.specs.Codes.{failure_number, service_failure_number, service_failure_numbered, refusal_name, refusal_named, balance_number, balance_numbered};
 
 use crate::avp::Avp;
 use crate::quantity::Quantity;
@@ -40,6 +42,18 @@ pub enum ServiceFailure {
     RatingFailed,
 }
 
+const SERVICE_FAILURES: [ServiceFailure; 3] = [
+    ServiceFailure::EndUserServiceDenied,
+    ServiceFailure::CreditLimitReached,
+    ServiceFailure::RatingFailed,
+];
+
+fn service_failure_numbered(all: &[ServiceFailure], number: u64) -> Option<ServiceFailure>
+    ensures { result ≡ find (λ x. service_failure_number x == number) all.now }
+{
+    all.iter().copied().find(|one| one.number() == number)
+}
+
 impl ServiceFailure {
     /// Its Result-Code (RFC 8506 section 9).
     pub fn number(self) -> u64
@@ -50,6 +64,13 @@ impl ServiceFailure {
             ServiceFailure::CreditLimitReached => 4012,
             ServiceFailure::RatingFailed => 5031,
         }
+    }
+
+    /// The one of this number.
+    pub fn numbered(number: u64) -> Option<ServiceFailure>
+        ensures { result ≡ service_failure_numbered number }
+    {
+        service_failure_numbered(&SERVICE_FAILURES, number)
     }
 }
 
@@ -116,6 +137,14 @@ pub enum Balance {
     NoCredit,
 }
 
+const BALANCES: [Balance; 2] = [Balance::EnoughCredit, Balance::NoCredit];
+
+fn balance_numbered(all: &[Balance], number: u64) -> Option<Balance>
+    ensures { result ≡ find (λ x. balance_number x == number) all.now }
+{
+    all.iter().copied().find(|one| one.number() == number)
+}
+
 impl Balance {
     /// Its number in the text.
     pub fn number(self) -> u64
@@ -125,6 +154,13 @@ impl Balance {
             Balance::EnoughCredit => 0,
             Balance::NoCredit => 1,
         }
+    }
+
+    /// The one of this number.
+    pub fn numbered(number: u64) -> Option<Balance>
+        ensures { result ≡ balance_numbered number }
+    {
+        balance_numbered(&BALANCES, number)
     }
 }
 
@@ -211,6 +247,22 @@ pub enum Refusal {
     ScopeUnknown,
 }
 
+const REFUSALS: [Refusal; 7] = [
+    Refusal::AccountExists,
+    Refusal::AccountUnknown,
+    Refusal::VoucherUnknown,
+    Refusal::VoucherSpent,
+    Refusal::ContentDiffers,
+    Refusal::OutOfRange,
+    Refusal::ScopeUnknown,
+];
+
+fn refusal_named(all: &[Refusal], name: &str) -> Option<Refusal>
+    ensures { result ≡ find (λ r. pointwise nat_eq (refusal_name r) name.now) all.now }
+{
+    all.iter().copied().find(|refusal| refusal.name() == name)
+}
+
 impl Refusal {
     /// Its name in the text.
     pub fn name(self) -> &'static str
@@ -225,6 +277,13 @@ impl Refusal {
             Refusal::OutOfRange => "O6",
             Refusal::ScopeUnknown => "O7",
         }
+    }
+
+    /// The one of this name.
+    pub fn named(name: &str) -> Option<Refusal>
+        ensures { result ≡ refusal_named name.now }
+    {
+        refusal_named(&REFUSALS, name)
     }
 }
 

@@ -1,8 +1,10 @@
-ghost use Rattle.std.specs.Prelude.{◌≡◌};
-ghost use Rattle.commands.specs.Names.{name_of};
+ghost use Rattle.std.specs.Prelude.{◌≡◌, nat_eq};
+ghost use Rattle.std.specs.List.{find};
+ghost use Rattle.std.specs.Cmp.Lexicographic.{pointwise};
+ghost use Rattle.commands.specs.Names.{name_of, avp_named};
 
-/// A member of a request, an answer or an operator's body: an AVP of RFC 8506 by its name, or a member of the
-/// profile.
+/// A member of a request or an operator's body, or a part of a path, that can be at fault: an AVP of RFC 8506 by its
+/// name, or a member of the profile.
 #[derive(Clone, Copy, Debug, PartialEq, Eq)]
 pub enum Avp {
     SessionId,
@@ -21,18 +23,6 @@ pub enum Avp {
     ValueDigits,
     Exponent,
     CurrencyCode,
-    ResultCode,
-    FailedAvp,
-    GrantedUnit,
-    TariffTimeChange,
-    ValidityTime,
-    FinalUnit,
-    FinalUnitAction,
-    RedirectServer,
-    RedirectAddressType,
-    RedirectServerAddress,
-    CheckBalanceResult,
-    CostInformation,
     Amount,
     From,
     Until,
@@ -40,9 +30,39 @@ pub enum Avp {
     Reference,
     VoucherCode,
     Month,
-    Bucket,
-    Accounts,
-    Refusal,
+}
+
+/// Every one of them.
+const ALL: [Avp; 23] = [
+    Avp::SessionId,
+    Avp::RequestType,
+    Avp::RequestNumber,
+    Avp::SubscriptionId,
+    Avp::SubscriptionIdType,
+    Avp::SubscriptionIdData,
+    Avp::RequestedAction,
+    Avp::Services,
+    Avp::RatingGroup,
+    Avp::RequestedUnit,
+    Avp::UsedUnit,
+    Avp::Money,
+    Avp::UnitValue,
+    Avp::ValueDigits,
+    Avp::Exponent,
+    Avp::CurrencyCode,
+    Avp::Amount,
+    Avp::From,
+    Avp::Until,
+    Avp::Scope,
+    Avp::Reference,
+    Avp::VoucherCode,
+    Avp::Month,
+];
+
+fn first_of(all: &[Avp], name: &str) -> Option<Avp>
+    ensures { result ≡ find (λ a. pointwise nat_eq (name_of a) name.now) all.now }
+{
+    all.iter().copied().find(|avp| avp.name() == name)
 }
 
 impl Avp {
@@ -67,18 +87,6 @@ impl Avp {
             Avp::ValueDigits => "Value-Digits",
             Avp::Exponent => "Exponent",
             Avp::CurrencyCode => "Currency-Code",
-            Avp::ResultCode => "Result-Code",
-            Avp::FailedAvp => "Failed-AVP",
-            Avp::GrantedUnit => "Granted-Service-Unit",
-            Avp::TariffTimeChange => "Tariff-Time-Change",
-            Avp::ValidityTime => "Validity-Time",
-            Avp::FinalUnit => "Final-Unit-Indication",
-            Avp::FinalUnitAction => "Final-Unit-Action",
-            Avp::RedirectServer => "Redirect-Server",
-            Avp::RedirectAddressType => "Redirect-Address-Type",
-            Avp::RedirectServerAddress => "Redirect-Server-Address",
-            Avp::CheckBalanceResult => "Check-Balance-Result",
-            Avp::CostInformation => "Cost-Information",
             Avp::Amount => "Amount",
             Avp::From => "From",
             Avp::Until => "Until",
@@ -86,9 +94,13 @@ impl Avp {
             Avp::Reference => "Reference",
             Avp::VoucherCode => "Voucher-Code",
             Avp::Month => "Month",
-            Avp::Bucket => "Bucket",
-            Avp::Accounts => "Accounts",
-            Avp::Refusal => "Refusal",
         }
+    }
+
+    /// The one of this name.
+    pub fn named(name: &str) -> Option<Avp>
+        ensures { result ≡ avp_named name.now }
+    {
+        first_of(&ALL, name)
     }
 }

@@ -1,11 +1,11 @@
 ghost use Rattle.std.specs.Prelude.{◌≡◌, ◌↔◌, IsTrue};
 
-use crate::request::{Request, same_request};
+use crate::request::Request;
 use identifiers::{AccountNumber, Reference};
 use units::{Moment, Money};
 
 /// A credit by an operator: a new bucket for the account.
-#[derive(Clone, Debug, Drop)]
+#[derive(Clone, Debug, Drop, PartialEq, Eq)]
 pub struct Credit {
     pub account: AccountNumber,
     pub amount: Money,
@@ -37,39 +37,12 @@ pub enum Command {
 }
 
 /// What is kept of an accepted command beside its answer, so that a repeat of it is known.
-#[derive(Clone, Debug, Drop)]
+#[derive(Clone, Debug, Drop, PartialEq, Eq)]
 pub enum Content {
     /// Of a request, under its session and number.
     Request(Request),
     /// Of a credit, under its reference.
     Credit(Credit),
-}
-
-impl PartialEq for Credit {
-    ghost use Rattle.std.specs.Cmp.{decided, partial_equiv_from_equiv};
-    ghost use Rattle.commands.specs.Alike.{same_credit};
-    ghost use Rattle.commands.specs.Exact.{credit_exact};
-
-    ghost eq = { same_credit };
-
-    ghost laws = { partial_equiv_from_equiv (decided same_credit credit_exact) };
-
-    fn eq(&self, other: &Credit) -> bool {
-        self.account == other.account
-            && self.amount == other.amount
-            && self.from == other.from
-            && self.until == other.until
-            && self.scope == other.scope
-            && self.reference == other.reference
-    }
-}
-
-impl Eq for Credit {
-    ghost use Rattle.std.specs.Cmp.{decided};
-    ghost use Rattle.commands.specs.Alike.{same_credit};
-    ghost use Rattle.commands.specs.Exact.{credit_exact};
-
-    ghost laws = { decided same_credit credit_exact };
 }
 
 /// Whether two credits are the same: a credit that comes again with the same content is a repeat (profile).
@@ -80,12 +53,9 @@ pub fn same_credit(a: &Credit, b: &Credit) -> bool
 }
 
 /// Whether what is kept of two commands is the same.
-pub fn same_content(a: &Content, b: &Content) -> bool
-    ensures { IsTrue result ↔ (a.now ≡ b.now) }
+#[tactic(auto, using(crate::proofs::Exact::request_exact, crate::proofs::Exact::credit_exact))]
+pub fn same_content(one: &Content, other: &Content) -> bool
+    ensures { IsTrue result ↔ (one.now ≡ other.now) }
 {
-    match (a, b) {
-        (Content::Request(a), Content::Request(b)) => same_request(a, b),
-        (Content::Credit(a), Content::Credit(b)) => same_credit(a, b),
-        _ => false,
-    }
+    one == other
 }

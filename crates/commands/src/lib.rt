@@ -6,6 +6,7 @@
 mod answer;
 mod avp;
 mod command;
+pub mod names;
 mod quantity;
 mod request;
 mod service;
@@ -22,4 +23,4 @@ pub use crate::request::{Ask, Event, EventAction, Refund, Request, RequestKind, 
 pub use crate::service::{
     InitialServices, Requested, Service, TerminationServices, UpdateServices,
 };
-pub use crate::used::{TariffChangeUsage, UsedPart, UsedParts};
+pub use crate::used::{UsedParts, usage_number, usage_numbered};

@@ -1,5 +1,4 @@
 ghost use Rattle.std.specs.Prelude.{◌≡◌, ◌≤◌, IsTrue};
-ghost use Rattle.commands.specs.Alike.{same_kind};
 ghost use Rattle.commands.specs.Quantities.{is_quantity};
 
 use std::marker::Model;
@@ -9,7 +8,7 @@ use units::UnitKind;
 /// to 10^18 octets (CC-Total-Octets, section 8.23) or events (CC-Service-Specific-Units, section 8.26).
 ///
 /// Contracts see a record of its kind and its units.
-#[derive(Clone, Copy, Debug)]
+#[derive(Clone, Copy, Debug, PartialEq, Eq)]
 pub struct Quantity {
     kind: UnitKind,
     units: u64,
@@ -53,38 +52,4 @@ impl Quantity {
     {
         self.units
     }
-}
-
-/// Whether two kinds are the same.
-pub(crate) fn same_kind(a: UnitKind, b: UnitKind) -> bool
-    ensures { result ≡ same_kind a b }
-{
-    match (a, b) {
-        (UnitKind::Time, UnitKind::Time) => true,
-        (UnitKind::TotalOctets, UnitKind::TotalOctets) => true,
-        (UnitKind::ServiceSpecific, UnitKind::ServiceSpecific) => true,
-        _ => false,
-    }
-}
-
-impl PartialEq for Quantity {
-    ghost use Rattle.std.specs.Cmp.{decided, partial_equiv_from_equiv};
-    ghost use Rattle.commands.specs.Alike.{same_quantity};
-    ghost use Rattle.commands.specs.Exact.{quantity_exact};
-
-    ghost eq = { same_quantity };
-
-    ghost laws = { partial_equiv_from_equiv (decided same_quantity quantity_exact) };
-
-    fn eq(&self, other: &Quantity) -> bool {
-        same_kind(self.kind, other.kind) && self.units == other.units
-    }
-}
-
-impl Eq for Quantity {
-    ghost use Rattle.std.specs.Cmp.{decided};
-    ghost use Rattle.commands.specs.Alike.{same_quantity};
-    ghost use Rattle.commands.specs.Exact.{quantity_exact};
-
-    ghost laws = { decided same_quantity quantity_exact };
 }

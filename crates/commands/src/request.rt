@@ -1,5 +1,6 @@
-ghost use Rattle.std.specs.Prelude.{◌≡◌, ◌↔◌, IsTrue};
-ghost use Rattle.commands.specs.Codes.{kind_number, kind_of_ask, action_number};
+ghost use Rattle.std.specs.Prelude.{◌≡◌, ◌==◌, ◌↔◌, IsTrue};
+ghost use Rattle.std.specs.List.{find};
+ghost use Rattle.commands.specs.Codes.{kind_number, kind_numbered, kind_of_ask, action_number, action_numbered};
 ghost use Rattle.commands.specs.Refunds.{is_refund};
 
 use crate::service::{InitialServices, Requested, TerminationServices, UpdateServices};
@@ -20,6 +21,19 @@ pub enum RequestKind {
     Event,
 }
 
+const KINDS: [RequestKind; 4] = [
+    RequestKind::Initial,
+    RequestKind::Update,
+    RequestKind::Termination,
+    RequestKind::Event,
+];
+
+fn kind_numbered(all: &[RequestKind], number: u64) -> Option<RequestKind>
+    ensures { result ≡ find (λ x. kind_number x == number) all.now }
+{
+    all.iter().copied().find(|one| one.number() == number)
+}
+
 impl RequestKind {
     /// Its number in the text.
     pub fn number(self) -> u64
@@ -31,6 +45,13 @@ impl RequestKind {
             RequestKind::Termination => 3,
             RequestKind::Event => 4,
         }
+    }
+
+    /// The one of this number.
+    pub fn numbered(number: u64) -> Option<RequestKind>
+        ensures { result ≡ kind_numbered number }
+    {
+        kind_numbered(&KINDS, number)
     }
 }
 
@@ -45,6 +66,18 @@ pub enum EventAction {
     PriceEnquiry,
 }
 
+const ACTIONS: [EventAction; 3] = [
+    EventAction::DirectDebiting,
+    EventAction::CheckBalance,
+    EventAction::PriceEnquiry,
+];
+
+fn action_numbered(all: &[EventAction], number: u64) -> Option<EventAction>
+    ensures { result ≡ find (λ x. action_number x == number) all.now }
+{
+    all.iter().copied().find(|one| one.number() == number)
+}
+
 impl EventAction {
     /// Its number in the text.
     pub fn number(self) -> u64
@@ -56,10 +89,17 @@ impl EventAction {
             EventAction::PriceEnquiry => 3,
         }
     }
+
+    /// The one of this number.
+    pub fn numbered(number: u64) -> Option<EventAction>
+        ensures { result ≡ action_numbered number }
+    {
+        action_numbered(&ACTIONS, number)
+    }
 }
 
 /// An event of one service (Immediate Event Charging, 3GPP TS 32.299 clause 6.3).
-#[derive(Clone, Copy, Debug)]
+#[derive(Clone, Copy, Debug, PartialEq, Eq)]
 pub struct Event {
     pub action: EventAction,
     /// Rating-Group (RFC 8506 section 8.29).
@@ -71,7 +111,7 @@ pub struct Event {
 /// section 8.22; ISO 4217).
 ///
 /// Contracts see a record of the micro-units and the currency.
-#[derive(Clone, Copy, Debug)]
+#[derive(Clone, Copy, Debug, PartialEq, Eq)]
 pub struct Refund {
     money: Money,
     currency: u16,
@@ -117,7 +157,7 @@ impl Refund {
 }
 
 /// What a request asks for, by its type.
-#[derive(Clone, Debug, Drop)]
+#[derive(Clone, Debug, Drop, PartialEq, Eq)]
 pub enum Ask {
     /// A session begins and asks for units.
     Initial(InitialServices),
@@ -132,7 +172,7 @@ pub enum Ask {
 }
 
 /// A request for credit control (CCR, RFC 8506 section 3.1). A repeat of it has an equal value.
-#[derive(Clone, Debug, Drop)]
+#[derive(Clone, Debug, Drop, PartialEq, Eq)]
 pub struct Request {
     pub session: SessionId,
     /// CC-Request-Number (RFC 8506 section 8.2).
@@ -156,107 +196,8 @@ impl Request {
     }
 }
 
-impl PartialEq for Event {
-    ghost use Rattle.std.specs.Cmp.{decided, partial_equiv_from_equiv};
-    ghost use Rattle.commands.specs.Alike.{same_event};
-    ghost use Rattle.commands.specs.Exact.{event_exact};
-
-    ghost eq = { same_event };
-
-    ghost laws = { partial_equiv_from_equiv (decided same_event event_exact) };
-
-    fn eq(&self, other: &Event) -> bool {
-        self.action.number() == other.action.number()
-            && self.group == other.group
-            && self.requested == other.requested
-    }
-}
-
-impl Eq for Event {
-    ghost use Rattle.std.specs.Cmp.{decided};
-    ghost use Rattle.commands.specs.Alike.{same_event};
-    ghost use Rattle.commands.specs.Exact.{event_exact};
-
-    ghost laws = { decided same_event event_exact };
-}
-
-impl PartialEq for Refund {
-    ghost use Rattle.std.specs.Cmp.{decided, partial_equiv_from_equiv};
-    ghost use Rattle.commands.specs.Alike.{same_refund};
-    ghost use Rattle.commands.specs.Exact.{refund_exact};
-
-    ghost eq = { same_refund };
-
-    ghost laws = { partial_equiv_from_equiv (decided same_refund refund_exact) };
-
-    fn eq(&self, other: &Refund) -> bool {
-        self.money == other.money && self.currency == other.currency
-    }
-}
-
-impl Eq for Refund {
-    ghost use Rattle.std.specs.Cmp.{decided};
-    ghost use Rattle.commands.specs.Alike.{same_refund};
-    ghost use Rattle.commands.specs.Exact.{refund_exact};
-
-    ghost laws = { decided same_refund refund_exact };
-}
-
-impl PartialEq for Ask {
-    ghost use Rattle.std.specs.Cmp.{decided, partial_equiv_from_equiv};
-    ghost use Rattle.commands.specs.Alike.{same_ask};
-    ghost use Rattle.commands.specs.Exact.{ask_exact};
-
-    ghost eq = { same_ask };
-
-    ghost laws = { partial_equiv_from_equiv (decided same_ask ask_exact) };
-
-    fn eq(&self, other: &Ask) -> bool {
-        match (self, other) {
-            (Ask::Initial(a), Ask::Initial(b)) => a == b,
-            (Ask::Update(a), Ask::Update(b)) => a == b,
-            (Ask::Termination(a), Ask::Termination(b)) => a == b,
-            (Ask::Event(a), Ask::Event(b)) => a == b,
-            (Ask::Refund(a), Ask::Refund(b)) => a == b,
-            _ => false,
-        }
-    }
-}
-
-impl Eq for Ask {
-    ghost use Rattle.std.specs.Cmp.{decided};
-    ghost use Rattle.commands.specs.Alike.{same_ask};
-    ghost use Rattle.commands.specs.Exact.{ask_exact};
-
-    ghost laws = { decided same_ask ask_exact };
-}
-
-impl PartialEq for Request {
-    ghost use Rattle.std.specs.Cmp.{decided, partial_equiv_from_equiv};
-    ghost use Rattle.commands.specs.Alike.{same_request};
-    ghost use Rattle.commands.specs.Exact.{request_exact};
-
-    ghost eq = { same_request };
-
-    ghost laws = { partial_equiv_from_equiv (decided same_request request_exact) };
-
-    fn eq(&self, other: &Request) -> bool {
-        self.number == other.number
-            && self.session == other.session
-            && self.account == other.account
-            && self.ask == other.ask
-    }
-}
-
-impl Eq for Request {
-    ghost use Rattle.std.specs.Cmp.{decided};
-    ghost use Rattle.commands.specs.Alike.{same_request};
-    ghost use Rattle.commands.specs.Exact.{request_exact};
-
-    ghost laws = { decided same_request request_exact };
-}
-
 /// Whether two requests are the same: a request that comes again with the same content is a repeat (profile).
+#[tactic(auto, using(crate::proofs::Exact::request_exact))]
 pub fn same_request(a: &Request, b: &Request) -> bool
     ensures { IsTrue result ↔ (a.now ≡ b.now) }
 {

@@ -6,7 +6,7 @@ use crate::used::UsedParts;
 use std::marker::Model;
 
 /// What a service asks for (Requested-Service-Unit, RFC 8506 section 8.18).
-#[derive(Clone, Copy, Debug)]
+#[derive(Clone, Copy, Debug, PartialEq, Eq)]
 pub enum Requested {
     /// As much as the rating group grants at a time: an empty Requested-Service-Unit.
     Slice,
@@ -15,7 +15,7 @@ pub enum Requested {
 }
 
 /// A service of a request, by its rating group (Multiple-Services-Credit-Control, RFC 8506 section 8.16).
-#[derive(Clone, Debug, Drop)]
+#[derive(Clone, Debug, Drop, PartialEq, Eq)]
 pub struct Service {
     /// Rating-Group (RFC 8506 section 8.29).
     pub group: u32,
@@ -139,62 +139,14 @@ impl TerminationServices {
     }
 }
 
-impl PartialEq for Requested {
-    ghost use Rattle.std.specs.Cmp.{decided, partial_equiv_from_equiv};
-    ghost use Rattle.commands.specs.Alike.{same_requested};
-    ghost use Rattle.commands.specs.Exact.{requested_exact};
-
-    ghost eq = { same_requested };
-
-    ghost laws = { partial_equiv_from_equiv (decided same_requested requested_exact) };
-
-    fn eq(&self, other: &Requested) -> bool {
-        match (self, other) {
-            (Requested::Slice, Requested::Slice) => true,
-            (Requested::Units(a), Requested::Units(b)) => a == b,
-            _ => false,
-        }
-    }
-}
-
-impl Eq for Requested {
-    ghost use Rattle.std.specs.Cmp.{decided};
-    ghost use Rattle.commands.specs.Alike.{same_requested};
-    ghost use Rattle.commands.specs.Exact.{requested_exact};
-
-    ghost laws = { decided same_requested requested_exact };
-}
-
-impl PartialEq for Service {
-    ghost use Rattle.std.specs.Cmp.{decided, partial_equiv_from_equiv};
-    ghost use Rattle.commands.specs.Alike.{same_service};
-    ghost use Rattle.commands.specs.Exact.{service_exact};
-
-    ghost eq = { same_service };
-
-    ghost laws = { partial_equiv_from_equiv (decided same_service service_exact) };
-
-    fn eq(&self, other: &Service) -> bool {
-        self.group == other.group && self.requested == other.requested && self.used == other.used
-    }
-}
-
-impl Eq for Service {
-    ghost use Rattle.std.specs.Cmp.{decided};
-    ghost use Rattle.commands.specs.Alike.{same_service};
-    ghost use Rattle.commands.specs.Exact.{service_exact};
-
-    ghost laws = { decided same_service service_exact };
-}
-
 impl PartialEq for InitialServices {
-    ghost use Rattle.std.specs.Cmp.{decided, partial_equiv_from_equiv};
-    ghost use Rattle.commands.specs.Alike.{same_services};
-    ghost use Rattle.commands.specs.Exact.{services_exact};
+    ghost use Rattle.std.specs.Cmp.{partial_equiv_from_equiv};
+    ghost use Rattle.std.specs.Cmp.Lexicographic.{pointwise, lists_equiv};
+    ghost use Rattle.commands.specs.contracts.service.ServiceEq.TheImpl.Laws.{laws-law};
 
-    ghost eq = { same_services };
+    ghost eq = { pointwise ⟦<Service as PartialEq>⟧.eq };
 
-    ghost laws = { partial_equiv_from_equiv (decided same_services services_exact) };
+    ghost laws = { partial_equiv_from_equiv (lists_equiv laws-law) };
 
     fn eq(&self, other: &InitialServices) -> bool {
         self.list.as_slice() == other.list.as_slice()
@@ -202,21 +154,20 @@ impl PartialEq for InitialServices {
 }
 
 impl Eq for InitialServices {
-    ghost use Rattle.std.specs.Cmp.{decided};
-    ghost use Rattle.commands.specs.Alike.{same_services};
-    ghost use Rattle.commands.specs.Exact.{services_exact};
+    ghost use Rattle.std.specs.Cmp.Lexicographic.{lists_equiv};
+    ghost use Rattle.commands.specs.contracts.service.ServiceEq.TheImpl.Laws.{laws-law};
 
-    ghost laws = { decided same_services services_exact };
+    ghost laws = { lists_equiv laws-law };
 }
 
 impl PartialEq for UpdateServices {
-    ghost use Rattle.std.specs.Cmp.{decided, partial_equiv_from_equiv};
-    ghost use Rattle.commands.specs.Alike.{same_services};
-    ghost use Rattle.commands.specs.Exact.{services_exact};
+    ghost use Rattle.std.specs.Cmp.{partial_equiv_from_equiv};
+    ghost use Rattle.std.specs.Cmp.Lexicographic.{pointwise, lists_equiv};
+    ghost use Rattle.commands.specs.contracts.service.ServiceEq.TheImpl.Laws.{laws-law};
 
-    ghost eq = { same_services };
+    ghost eq = { pointwise ⟦<Service as PartialEq>⟧.eq };
 
-    ghost laws = { partial_equiv_from_equiv (decided same_services services_exact) };
+    ghost laws = { partial_equiv_from_equiv (lists_equiv laws-law) };
 
     fn eq(&self, other: &UpdateServices) -> bool {
         self.list.as_slice() == other.list.as_slice()
@@ -224,21 +175,20 @@ impl PartialEq for UpdateServices {
 }
 
 impl Eq for UpdateServices {
-    ghost use Rattle.std.specs.Cmp.{decided};
-    ghost use Rattle.commands.specs.Alike.{same_services};
-    ghost use Rattle.commands.specs.Exact.{services_exact};
+    ghost use Rattle.std.specs.Cmp.Lexicographic.{lists_equiv};
+    ghost use Rattle.commands.specs.contracts.service.ServiceEq.TheImpl.Laws.{laws-law};
 
-    ghost laws = { decided same_services services_exact };
+    ghost laws = { lists_equiv laws-law };
 }
 
 impl PartialEq for TerminationServices {
-    ghost use Rattle.std.specs.Cmp.{decided, partial_equiv_from_equiv};
-    ghost use Rattle.commands.specs.Alike.{same_services};
-    ghost use Rattle.commands.specs.Exact.{services_exact};
+    ghost use Rattle.std.specs.Cmp.{partial_equiv_from_equiv};
+    ghost use Rattle.std.specs.Cmp.Lexicographic.{pointwise, lists_equiv};
+    ghost use Rattle.commands.specs.contracts.service.ServiceEq.TheImpl.Laws.{laws-law};
 
-    ghost eq = { same_services };
+    ghost eq = { pointwise ⟦<Service as PartialEq>⟧.eq };
 
-    ghost laws = { partial_equiv_from_equiv (decided same_services services_exact) };
+    ghost laws = { partial_equiv_from_equiv (lists_equiv laws-law) };
 
     fn eq(&self, other: &TerminationServices) -> bool {
         self.list.as_slice() == other.list.as_slice()
@@ -246,9 +196,8 @@ impl PartialEq for TerminationServices {
 }
 
 impl Eq for TerminationServices {
-    ghost use Rattle.std.specs.Cmp.{decided};
-    ghost use Rattle.commands.specs.Alike.{same_services};
-    ghost use Rattle.commands.specs.Exact.{services_exact};
+    ghost use Rattle.std.specs.Cmp.Lexicographic.{lists_equiv};
+    ghost use Rattle.commands.specs.contracts.service.ServiceEq.TheImpl.Laws.{laws-law};
 
-    ghost laws = { decided same_services services_exact };
+    ghost laws = { lists_equiv laws-law };
 }

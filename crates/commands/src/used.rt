@@ -1,41 +1,40 @@
-ghost use Rattle.std.specs.Prelude.{◌≡◌, ◌≤◌, IsTrue};
-ghost use Rattle.commands.specs.Reports.{usage_number, is_report};
+ghost use Rattle.std.specs.Prelude.{◌≡◌, ◌≤◌, ◌==◌, IsTrue};
+ghost use Rattle.std.specs.List.{find};
+ghost use Rattle.commands.specs.Reports.{usage_number, usage_numbered, is_report};
 
-use crate::quantity::same_kind;
 use std::marker::Model;
-use units::UnitKind;
+use units::{TariffChangeUsage, UnitKind, UsedPart};
 
-/// When units were used, seen from a tariff switch (Tariff-Change-Usage, RFC 8506 section 8.27).
-#[derive(Clone, Copy, Debug)]
-pub enum TariffChangeUsage {
-    /// UNIT_BEFORE_TARIFF_CHANGE
-    UnitBeforeTariffChange,
-    /// UNIT_AFTER_TARIFF_CHANGE
-    UnitAfterTariffChange,
-    /// UNIT_INDETERMINATE
-    UnitIndeterminate,
-}
-
-impl TariffChangeUsage {
-    /// Its number in the text.
-    pub fn number(self) -> u64
-        ensures { result ≡ usage_number self }
-    {
-        match self {
-            TariffChangeUsage::UnitBeforeTariffChange => 0,
-            TariffChangeUsage::UnitAfterTariffChange => 1,
-            TariffChangeUsage::UnitIndeterminate => 2,
-        }
+/// The number of a Tariff-Change-Usage in the text (RFC 8506 section 8.27).
+pub fn usage_number(usage: TariffChangeUsage) -> u64
+    ensures { result ≡ usage_number usage }
+{
+    match usage {
+        TariffChangeUsage::UnitBeforeTariffChange => 0,
+        TariffChangeUsage::UnitAfterTariffChange => 1,
+        TariffChangeUsage::UnitIndeterminate => 2,
     }
 }
 
-/// A part of a report of used units.
-#[derive(Clone, Copy, Debug)]
-pub struct UsedPart {
-    /// Units of the report's kind.
-    pub units: u64,
-    /// When they were used; None where the tariff didn't change or nothing is told.
-    pub tag: Option<TariffChangeUsage>,
+const USAGES: [TariffChangeUsage; 3] = [
+    TariffChangeUsage::UnitBeforeTariffChange,
+    TariffChangeUsage::UnitAfterTariffChange,
+    TariffChangeUsage::UnitIndeterminate,
+];
+
+fn usage_of(all: &[TariffChangeUsage], number: u64) -> Option<TariffChangeUsage>
+    ensures { result ≡ find (λ x. usage_number x == number) all.now }
+{
+    all.iter()
+        .copied()
+        .find(|usage| usage_number(*usage) == number)
+}
+
+/// The Tariff-Change-Usage of this number.
+pub fn usage_numbered(number: u64) -> Option<TariffChangeUsage>
+    ensures { result ≡ usage_numbered number }
+{
+    usage_of(&USAGES, number)
 }
 
 /// What a service reports as used (Used-Service-Unit, RFC 8506 section 8.19), in the order of the report: 1 to 4
@@ -86,68 +85,27 @@ impl UsedParts {
     }
 }
 
-impl PartialEq for TariffChangeUsage {
-    ghost use Rattle.std.specs.Cmp.{decided, partial_equiv_from_equiv};
-    ghost use Rattle.commands.specs.Reports.{same_usage};
-    ghost use Rattle.commands.specs.Exact.{usage_exact};
-
-    ghost eq = { same_usage };
-
-    ghost laws = { partial_equiv_from_equiv (decided same_usage usage_exact) };
-
-    fn eq(&self, other: &TariffChangeUsage) -> bool {
-        self.number() == other.number()
-    }
-}
-
-impl Eq for TariffChangeUsage {
-    ghost use Rattle.std.specs.Cmp.{decided};
-    ghost use Rattle.commands.specs.Reports.{same_usage};
-    ghost use Rattle.commands.specs.Exact.{usage_exact};
-
-    ghost laws = { decided same_usage usage_exact };
-}
-
-impl PartialEq for UsedPart {
-    ghost use Rattle.std.specs.Cmp.{decided, partial_equiv_from_equiv};
-    ghost use Rattle.commands.specs.Alike.{same_part};
-    ghost use Rattle.commands.specs.Exact.{part_exact};
-
-    ghost eq = { same_part };
-
-    ghost laws = { partial_equiv_from_equiv (decided same_part part_exact) };
-
-    fn eq(&self, other: &UsedPart) -> bool {
-        self.units == other.units && self.tag == other.tag
-    }
-}
-
-impl Eq for UsedPart {
-    ghost use Rattle.std.specs.Cmp.{decided};
-    ghost use Rattle.commands.specs.Alike.{same_part};
-    ghost use Rattle.commands.specs.Exact.{part_exact};
-
-    ghost laws = { decided same_part part_exact };
-}
-
 impl PartialEq for UsedParts {
-    ghost use Rattle.std.specs.Cmp.{decided, partial_equiv_from_equiv};
-    ghost use Rattle.commands.specs.Alike.{same_report};
-    ghost use Rattle.commands.specs.Exact.{report_exact};
+    ghost use Rattle.std.specs.Ordering.{on, eq_of_both};
+    ghost use Rattle.std.specs.Cmp.{partial_equiv_from_equiv, on_equiv, and_equiv};
+    ghost use Rattle.std.specs.Cmp.Lexicographic.{pointwise, lists_equiv};
+    ghost use Rattle.units.specs.contracts.blocks.UnitKindEq.TheImpl.Laws.{laws-law as kinds};
+    ghost use Rattle.units.specs.contracts.blocks.UsedPartEq.TheImpl.Laws.{laws-law as parts};
 
-    ghost eq = { same_report };
+    ghost eq = { eq_of_both (on (λ u. u.kind) ⟦<UnitKind as PartialEq>⟧.eq) (on (λ u. u.parts) (pointwise ⟦<UsedPart as PartialEq>⟧.eq)) };
 
-    ghost laws = { partial_equiv_from_equiv (decided same_report report_exact) };
+    ghost laws = { partial_equiv_from_equiv (and_equiv (on_equiv (λ u. u.kind) kinds) (on_equiv (λ u. u.parts) (lists_equiv parts))) };
 
     fn eq(&self, other: &UsedParts) -> bool {
-        same_kind(self.kind, other.kind) && self.list.as_slice() == other.list.as_slice()
+        self.kind == other.kind && self.list.as_slice() == other.list.as_slice()
     }
 }
 
 impl Eq for UsedParts {
-    ghost use Rattle.std.specs.Cmp.{decided};
-    ghost use Rattle.commands.specs.Alike.{same_report};
-    ghost use Rattle.commands.specs.Exact.{report_exact};
+    ghost use Rattle.std.specs.Cmp.{on_equiv, and_equiv};
+    ghost use Rattle.std.specs.Cmp.Lexicographic.{lists_equiv};
+    ghost use Rattle.units.specs.contracts.blocks.UnitKindEq.TheImpl.Laws.{laws-law as kinds};
+    ghost use Rattle.units.specs.contracts.blocks.UsedPartEq.TheImpl.Laws.{laws-law as parts};
 
-    ghost laws = { decided same_report report_exact };
+    ghost laws = { and_equiv (on_equiv (λ u. u.kind) kinds) (on_equiv (λ u. u.parts) (lists_equiv parts)) };
 }

@@ -1,5 +1,5 @@
 -- A session that is opened, touched, or only goes on in time is live.
-use Rattle.std.proofs.Common.{◌≡◌, ℕ, ◌+◌, ◌*◌, ◌<◌, Bool, true, false, List, map, refl, ap, ◌∙◌, Option, Some, None, arith}
+use Rattle.std.proofs.Common.{◌≡◌, ℕ, ◌+◌, ◌*◌, ◌<◌, Bool, true, false, List, map, refl, sym, ap, subst, ◌∙◌, Option, Some, None, arith}
 use Rattle.std.specs.Prelude.{if◌then◌else◌, ◌&&◌, not, nat_lt, option_map}
 use Rattle.std.proofs.lemmas.Bool.Decides.{nat_tests}
 use Rattle.reserving.specs.declared.session.Session.{Session}
@@ -7,11 +7,11 @@ use Rattle.reserving.specs.declared.session.SessionState.TheVariants.{Open, Ende
 use Rattle.reserving.specs.declared.session.SessionGroup.{SessionGroup}
 use Rattle.reserving.specs.Sessions.{is_session, session_in, is_open, is_live_in, is_live_row}
 use Rattle.reserving.specs.Rows.{AccountRows}
-use Rattle.reserving.specs.Changes.{advanced, lapse, lapse_group, session_put, touched_session}
+use Rattle.reserving.specs.Changes.{advanced, lapse, lapse_group, session_put, touched_session, touched_account}
 use Rattle.reserving.proofs.Lists.{find-map, find-put, find-passes}
 use Rattle.reserving.proofs.Holds.{same_itself}
 use Rattle.commands.specs.declared.service.Service.{Service}
-use Rattle.tariffs.specs.Books.{Book}
+use Rattle.tariffs.specs.Books.{Book, IsBook}
 use Rattle.reserving.proofs.ReservedCall.{free_later}
 use Rattle.decisions.specs.Free.{AreFree}
 use Rattle.decisions.proofs.Services.{free_kept}
@@ -60,3 +60,17 @@ live_after old new s t book sessions live =
 -- services' groups stay free as time goes on
 pub free_lapsed : (keeps : List ℕ → Bool) (book : Book) (s : List ℕ) (services : List Service) (rows : List SessionGroup) → AreFree book s services rows → AreFree book s services (map (lapse_group keeps) rows)
 free_lapsed keeps book s services rows free = free_kept book s services rows (map (lapse_group keeps) rows) (λ g none. free_later keeps s g rows none) free
+
+-- ---- an account's session
+
+-- a book's validity isn't 0
+pub some_validity : (book : Book) (a : AccountRows) → book ≡ a.book → IsBook book → 0 < a.book.validity
+some_validity book a is ranges =
+    let lower : 0 < book.validity = omega (arith, ranges.some_validity) in
+    subst (λ (b : Book). 0 < b.validity) is lower
+
+-- a session that is touched while it is live goes on
+pub touched_live : (a new : AccountRows) (t n : ℕ) (s : List ℕ) → 0 < a.book.validity → new ≡ touched_account s n (advanced t a) → is_live_in a.book.validity t a.sessions s ≡ true → is_live_in new.book.validity t new.sessions s ≡ true
+touched_live a new t n s some is live =
+    subst (λ (r : AccountRows). is_live_in r.book.validity t r.sessions s ≡ true) (sym is)
+    (live_touched a.book.validity t n s (map (lapse a.book.validity t) a.sessions) some (live_lapsed a.book.validity t a.sessions s live))

@@ -12,18 +12,18 @@ use Rattle.tariffs.specs.Books.{Book}
 use Rattle.tariffs.specs.Tariffs.{GroupTariff}
 use Rattle.reserving.specs.declared.charge.ChargeRow.{ChargeRow}
 use Rattle.reserving.specs.declared.settle.Settled.{Settled}
-use Rattle.reserving.specs.Ledger.{Ledger, used, counter, next_charge}
-use Rattle.reserving.specs.Pricing.{cycle_at}
-use Rattle.reserving.specs.Settlement.{settled_by, passes_limit, passes, report_price, reported}
+use Rattle.reserving.specs.Ledger.{Ledger}
+use Rattle.reserving.specs.Settlement.{settled_by, passes_limit}
 use Rattle.reserving.specs.Requests.{recorded, credited}
 use Rattle.reserving.specs.Debiting.{debited, is_covered, debit_passes}
 use Rattle.reserving.specs.Charges.{charge_rows}
 use Rattle.reserving.specs.Results.{IsSettlementOf, IsDebitOf}
 use Rattle.reserving.specs.Rows.{AccountRows, IsRowsOf}
+use Rattle.reserving.specs.Left.{LeftRows, joined, NotLeft, IsBeside, IsWith}
 use Rattle.reserving.proofs.ChargeRows.{told_row, charge_rows-settlement, charge_rows-debit, charge_rows-recorded, charge_rows-credited}
 use Rattle.decisions.specs.Decided.{Decision, accepted, told}
 use Rattle.decisions.specs.Events.{charged_if_covered, refunded}
-use Rattle.decisions.specs.Follows.{Agrees, Follows, Reports, PassesBy}
+use Rattle.decisions.specs.Follows.{IsNew, Agrees, Follows, Reports}
 use Rattle.decisions.proofs.Rulings.{uncharged}
 
 -- ---- reports
@@ -34,27 +34,20 @@ told_with t g settled number name = λ i. told_row (number i) t (name i) g settl
 
 -- a report that is settled makes its charge
 pub reports_settled : (old new : AccountRows) (t : ℕ) (s : List ℕ) (g : ℕ) (parts : List UsedPart) (settled : Settled) (row : ChargeRow) → length parts ≢ 0 → row ≡ told_row old.next_charge t s g settled →
-    ((ledger : Ledger) → IsRowsOf ledger old → passes_limit old.book t s g parts ledger ≡ false) →
-    ((ledger : Ledger) → IsRowsOf ledger old → IsRowsOf (settled_by old.book t s g parts ledger) new) →
-    ((ledger : Ledger) → IsRowsOf ledger old → IsSettlementOf old.book t s g parts ledger settled) → Reports row old new t s g parts
+    ((ledger : Ledger) (left : LeftRows) → IsWith ledger left t old → passes_limit old.book t s g parts ledger ≡ false) →
+    ((ledger : Ledger) (left : LeftRows) → IsWith ledger left t old → IsWith (settled_by old.book t s g parts ledger) left t new) →
+    ((ledger : Ledger) (left : LeftRows) → IsWith ledger left t old → IsSettlementOf old.book t s g parts ledger settled) → Reports row old new t s g parts
 reports_settled old new t s g [] settled row some is within after told = absurd (some refl)
-reports_settled old new t s g (p ∷ ps) settled row some is within after told = λ ledger rows. record {
-  within = within ledger rows;
-  rows = after ledger rows;
-  written = charge_rows-settlement old.book t old.next_charge s g p ps ledger settled rows.next_charge (told ledger rows) ∙ ap (λ r. charge_rows ledger ++ r ∷ []) (sym is);
+reports_settled old new t s g (p ∷ ps) settled row some is within after told = λ ledger left h. record {
+  within = within ledger left h;
+  rows = after ledger left h;
+  written = charge_rows-settlement old.book t old.next_charge s g p ps ledger settled h.rows.next_charge (told ledger left h) ∙ ap (λ r. charge_rows ledger ++ r ∷ []) (sym is);
 }
 
-past_last : (before units count blocks charge : ℕ) → 4294967295 < charge → passes before units count blocks charge ≡ true
-past_last before units count blocks charge h = grind (arith, nat_tests)
-
--- a report without a number for its charge
-pub passes_numbers : (old : AccountRows) (t : ℕ) (s : List ℕ) (g : ℕ) (parts : List UsedPart) → length parts ≢ 0 → 4294967295 < old.next_charge → PassesBy old t s g parts
-passes_numbers old t s g [] some h = absurd (some refl)
-passes_numbers old t s g (p ∷ ps) some h = λ ledger rows.
-    let count : ℕ = counter (cycle_at old.book g) g (cycle_at old.book g t) ledger in
-    past_last (used s g ledger) (reported (p ∷ ps)) count (report_price old.book t s g (p ∷ ps) ledger).blocks (next_charge ledger) (subst (λ n. 4294967295 < n) rows.next_charge h)
-
 -- ---- debits
+
+with_beside : (ledger : Ledger) (left : LeftRows) (t : ℕ) (a : AccountRows) → IsBeside left t a → IsRowsOf ledger (joined left a) → IsWith ledger left t a
+with_beside ledger left t a beside rows = record { apart = beside.apart; cycles = beside.cycles; rows = rows }
 
 -- what units that were charged are answered
 abbrev pub debit_outcome : GroupTariff → ℕ → ℕ → Outcome
@@ -62,21 +55,22 @@ debit_outcome tariff g units = Services (record { group = g; outcome = service.D
 
 -- an event whose price is covered
 pub follows_charged : (old middle new : AccountRows) (tariff : GroupTariff) (t : ℕ) (s : List ℕ) (n g units : ℕ) (settled : Settled) (row : ChargeRow) → row ≡ told_row old.next_charge t s g settled →
-    ((ledger : Ledger) → IsRowsOf ledger old → IsDebitOf old.book t s g units ledger middle settled) →
-    ((ledger : Ledger) → IsRowsOf ledger middle → IsRowsOf (recorded t s n ledger) new) →
-    Follows old new (debit_outcome tariff g units) true (row ∷ []) (charged_if_covered old.book tariff t s n g units)
-follows_charged old middle new tariff t s n g units settled row is debit records = λ ledger rows.
-    let own : IsDebitOf old.book t s g units ledger middle settled = debit ledger rows in
+    ((ledger : Ledger) (left : LeftRows) → NotLeft s left → IsWith ledger left t old → IsBeside left t middle × IsDebitOf old.book t s g units ledger (joined left middle) settled) →
+    ((ledger : Ledger) (left : LeftRows) → NotLeft s left → IsWith ledger left t middle → IsWith (recorded t s n ledger) left t new) →
+    Follows (IsNew s) (charged_if_covered old.book tariff t s n g units) t old new (debit_outcome tariff g units) true (row ∷ [])
+follows_charged old middle new tariff t s n g units settled row is debit records = λ ledger left asked h.
+    let beside : IsBeside left t middle = (debit ledger left asked h).0 in
+    let own : IsDebitOf old.book t s g units ledger (joined left middle) settled = (debit ledger left asked h).1 in
     let after : Ledger = debited old.book t s g units ledger in
     let decision : Decision = accepted (debit_outcome tariff g units) (recorded t s n after) in
-    let agrees : Agrees (debit_outcome tariff g units) true (row ∷ []) decision ledger new = record {
+    let agrees : Agrees (debit_outcome tariff g units) true (row ∷ []) decision ledger left t new = record {
       same = refl;
       acceptance = refl;
-      rows = records after own.rows;
-      written = charge_rows-recorded t s n after ∙ charge_rows-debit old.book t old.next_charge s g units ledger middle settled rows.next_charge own ∙ ap (λ r. charge_rows ledger ++ r ∷ []) (sym is);
+      rows = records after left asked (with_beside after left t middle beside own.rows);
+      written = charge_rows-recorded t s n after ∙ charge_rows-debit old.book t old.next_charge s g units ledger (joined left middle) settled h.rows.next_charge own ∙ ap (λ r. charge_rows ledger ++ r ∷ []) (sym is);
     } in
     let same : charged_if_covered old.book tariff t s n g units ledger ≡ decision = rw (own.covered, own.within) refl in
-    subst (λ d. Agrees (debit_outcome tariff g units) true (row ∷ []) d ledger new) (sym same) agrees
+    subst (λ d. Agrees (debit_outcome tariff g units) true (row ∷ []) d ledger left t new) (sym same) agrees
 
 -- an event whose price is covered, and whose charge passes a limit
 pub charge_passes : (b : Book) (tariff : GroupTariff) (t : ℕ) (s : List ℕ) (n g units : ℕ) (ledger : Ledger) → (is_covered b t g units ledger ≡ true) × (debit_passes b t s g units ledger ≡ true) →
@@ -107,16 +101,16 @@ not_fault {R} {E} {x} {e} r is fault = let both : Ok x ≡ Err e = sym is ∙ fa
 
 -- money that is paid back
 pub follows_refunded : (old middle new : AccountRows) (t : ℕ) (s : List ℕ) (n : ℕ) (r : Refund) → old.next_bucket ≤ 4294967295 →
-    ((ledger : Ledger) → IsRowsOf ledger old → IsRowsOf (credited t t 4102444800 None r.micros ledger) middle) →
-    ((ledger : Ledger) → IsRowsOf ledger middle → IsRowsOf (recorded t s n ledger) new) → Follows old new Refunded true [] (refunded t s n r)
-follows_refunded old middle new t s n r few credits records = λ ledger rows.
+    ((ledger : Ledger) (left : LeftRows) → IsWith ledger left t old → IsWith (credited t t 4102444800 None r.micros ledger) left t middle) →
+    ((ledger : Ledger) (left : LeftRows) → NotLeft s left → IsWith ledger left t middle → IsWith (recorded t s n ledger) left t new) → Follows (IsNew s) (refunded t s n r) t old new Refunded true []
+follows_refunded old middle new t s n r few credits records = λ ledger left asked h.
     let after : Ledger = credited t t 4102444800 None r.micros ledger in
     let decision : Decision = accepted Refunded (recorded t s n after) in
-    let agrees : Agrees Refunded true [] decision ledger new = record {
+    let agrees : Agrees Refunded true [] decision ledger left t new = record {
       same = refl;
       acceptance = refl;
-      rows = records after (credits ledger rows);
+      rows = records after left asked (credits ledger left h);
       written = uncharged (recorded t s n after) ledger (charge_rows-recorded t s n after ∙ charge_rows-credited t t 4102444800 None r.micros ledger);
     } in
-    let same : refunded t s n r ledger ≡ decision = rw (ap (nat_lt 4294967295) (sym rows.next_bucket) ∙ one_more old.next_bucket few) refl in
-    subst (λ d. Agrees Refunded true [] d ledger new) (sym same) agrees
+    let same : refunded t s n r ledger ≡ decision = rw (ap (nat_lt 4294967295) (sym h.rows.next_bucket) ∙ one_more old.next_bucket few) refl in
+    subst (λ d. Agrees Refunded true [] d ledger left t new) (sym same) agrees

@@ -1,13 +1,8 @@
 -- The units that a service asks for and reports (RFC 8506 sections 8.17 to 8.19).
-use Rattle.std.specs.Prelude.{ℕ, Bool, true, false, not, ◌||◌, nat_lt, if◌then◌else◌, List, [], ◌∷◌, Option, Some, None, map, option_map}
+use Rattle.std.specs.Prelude.{ℕ, Bool, false, not, ◌||◌, nat_lt, if◌then◌else◌, List, [], ◌∷◌, Option, Some, None}
 use Rattle.units.specs.declared.blocks.UnitKind.{UnitKind}
-use Rattle.units.specs.declared.blocks.UnitKind.TheVariants as unit
+use Rattle.units.specs.contracts.blocks.UnitKindPartialEq.TheImpl.{ghosts as kinds}
 use Rattle.units.specs.declared.blocks.UsedPart.{UsedPart}
-use Rattle.units.specs.declared.blocks.TariffChangeUsage.{TariffChangeUsage}
-use Rattle.units.specs.declared.blocks.TariffChangeUsage.TheVariants as change
-use Rattle.commands.specs.declared.used.UsedPart.{UsedPart as ReportPart}
-use Rattle.commands.specs.declared.used.TariffChangeUsage.{TariffChangeUsage as Tag}
-use Rattle.commands.specs.declared.used.TariffChangeUsage.TheVariants as tag
 use Rattle.commands.specs.declared.service.Requested.{Requested}
 use Rattle.commands.specs.declared.service.Requested.TheVariants.{Slice, Units}
 use Rattle.commands.specs.declared.service.Service.{Service}
@@ -22,10 +17,7 @@ use Rattle.reserving.specs.Pricing.{tariff_of}
 use Rattle.reserving.specs.Settlement.{reported}
 
 abbrev pub is_kind : UnitKind → UnitKind → Bool
-is_kind unit.Time unit.Time = true
-is_kind unit.TotalOctets unit.TotalOctets = true
-is_kind unit.ServiceSpecific unit.ServiceSpecific = true
-is_kind a b = false
+is_kind = kinds.eq
 
 -- the units that are asked for; None: an empty Requested-Service-Unit, which asks for the group's slice
 abbrev pub units_of : Requested → Option ℕ
@@ -36,18 +28,10 @@ abbrev pub asked_units : Option Requested → Option ℕ
 asked_units None = None
 asked_units (Some r) = units_of r
 
-abbrev pub change_of : Tag → TariffChangeUsage
-change_of tag.UnitBeforeTariffChange = change.UnitBeforeTariffChange
-change_of tag.UnitAfterTariffChange = change.UnitAfterTariffChange
-change_of tag.UnitIndeterminate = change.UnitIndeterminate
-
-abbrev pub part_of : ReportPart → UsedPart
-part_of p = record { units = record { 0 = p.units }; change = option_map change_of p.tag }
-
 -- the parts of a report
 abbrev pub parts_of : Option Used → List UsedPart
 parts_of None = []
-parts_of (Some u) = map part_of u.parts
+parts_of (Some u) = u.parts
 
 -- ---- units that a service can't speak of
 
@@ -59,7 +43,7 @@ asks_other kind (Some (Units q)) = not (is_kind q.kind kind)
 -- a use in other units than the group's, or one that starts more than 10^9 blocks
 abbrev pub reports_other : GroupTariff → ℕ → Option Used → Bool
 reports_other tariff before None = false
-reports_other tariff before (Some u) = not (is_kind u.kind tariff.unit) || nat_lt 1000000000 (started before (reported (map part_of u.parts)) tariff.block)
+reports_other tariff before (Some u) = not (is_kind u.kind tariff.unit) || nat_lt 1000000000 (started before (reported (u.parts)) tariff.block)
 
 -- what is wrong with the units of a service by its group's tariff, what it asks for first; nothing where the group has none
 abbrev pub wrong_units : Option GroupTariff → ℕ → Service → Option Avp

@@ -45,7 +45,12 @@ pub(crate) fn granted_outcome(
 ) -> Result<ServiceOutcome, AllocError>
     requires some { 0 < units.0 }
     requires most { units.0 ≤ tariff.now.max_grant }
-    ensures { IfOk result (λ outcome. outcome ≡ service.Granted (record { quantity = record { kind = tariff.now.unit; units = units.0 }; switch = switch; validity = validity; last = final_unit tariff.now fewer })) }
+    ensures { IfOk result (λ outcome. outcome ≡ service.Granted (record {
+      quantity = record { kind = tariff.now.unit; units = units.0 };
+      switch = switch;
+      validity = validity;
+      last = final_unit tariff.now fewer;
+    })) }
 {
     let _ranges = tariff.max_grant();
     let last = final_unit(tariff, fewer)?;

@@ -1,12 +1,13 @@
 ghost use Rattle.std.specs.Prelude.{◌≡◌, ◌≤◌, ℕ, true, false, [], None, Some, is_some, IfOk, IfErr, IfSome, OnOk, ◌++◌, if◌then◌else◌};
 ghost use Rattle.reserving.specs.Ledger.{Ledger};
-ghost use Rattle.reserving.specs.Rows.{IsRowsOf};
+ghost use Rattle.reserving.specs.Left.{LeftRows, IsWith};
 ghost use Rattle.reserving.specs.Charges.{charge_rows};
 ghost use Rattle.reserving.specs.Sessions.{is_live_in};
 ghost use Rattle.commands.specs.Services.{groups_differ};
 ghost use Rattle.commands.specs.declared.request.Ask.TheVariants as ask;
 ghost use Rattle.decisions.specs.Free.{AreFree};
-ghost use Rattle.decisions.specs.Follows.{Follows, StandsAt, Settles, IsRefusal};
+ghost use Rattle.decisions.specs.Asked.{IsAsked, Knows, KnowsUnlessRead};
+ghost use Rattle.decisions.specs.Follows.{Always, IsRuledBy, Settles, IsRefusal};
 ghost use Rattle.decisions.specs.Events.{event_decision};
 ghost use Rattle.decisions.specs.Decisions.{decision, decided, initial_decision, update_decision, termination_decision, answer_of, is_read};
 
@@ -39,17 +40,17 @@ fn initial(
     account: &mut Account,
     request: &Request,
     services: &[Service],
+    known: bool,
     moment: Moment,
 ) -> Result<Ruling, AllocError>
     requires apart { groups_differ services.now ≡ true }
     requires later { account.old.as_of ≤ moment }
-    ensures follows { IfOk result (λ r.
-        Follows account.old account.new r.outcome r.accepted r.charges.items
-        (initial_decision account.old.book moment request.now.session request.now.number services.now)) }
-    ensures stands { IfOk result (StandsAt moment account.old account.new) }
+    ensures ruled { IfOk result (IsRuledBy (Knows request.now.session known)
+        (initial_decision account.old.book moment request.now.session request.now.number services.now)
+        moment account.old account.new) }
     ensures tariff { account.new.book ≡ account.old.book }
 {
-    if let Some(failure) = initial_refusal(account, &request.session, services) {
+    if let Some(failure) = initial_refusal(account, &request.session, services, known) {
         return Ok(Ruling::refused(alloc, failure));
     }
     open_unless_barred(alloc, account, request, services, moment)
@@ -63,6 +64,7 @@ fn settle_or_refuse(
     services: &[Service],
     moment: Moment,
 ) -> Result<Result<Vec<ChargeRow>, Failure>, AllocError>
+    requires apart { groups_differ services.now ≡ true }
     requires later { account.old.as_of ≤ moment }
     ensures unrefused { IfOk result (λ r. IfOk r (λ charges. IsRefusal None account.old moment request.now.session request.now.number services.now)) }
     ensures settles { IfOk result (λ r. IfOk r (λ charges. Settles charges.items account.old account.new moment request.now.session services.now)) }
@@ -98,10 +100,9 @@ fn update(
 ) -> Result<Ruling, AllocError>
     requires apart { groups_differ services.now ≡ true }
     requires later { account.old.as_of ≤ moment }
-    ensures follows { IfOk result (λ r.
-        Follows account.old account.new r.outcome r.accepted r.charges.items
-        (update_decision account.old.book moment request.now.session request.now.number services.now)) }
-    ensures stands { IfOk result (StandsAt moment account.old account.new) }
+    ensures ruled { IfOk result (IsRuledBy Always
+        (update_decision account.old.book moment request.now.session request.now.number services.now)
+        moment account.old account.new) }
     ensures tariff { account.new.book ≡ account.old.book }
 {
     let charges = match settle_or_refuse(alloc, account, request, services, moment)? {
@@ -119,11 +120,11 @@ fn terminate(
     services: &[Service],
     moment: Moment,
 ) -> Result<Ruling, AllocError>
+    requires apart { groups_differ services.now ≡ true }
     requires later { account.old.as_of ≤ moment }
-    ensures follows { IfOk result (λ r.
-        Follows account.old account.new r.outcome r.accepted r.charges.items
-        (termination_decision account.old.book moment request.now.session request.now.number services.now)) }
-    ensures stands { IfOk result (StandsAt moment account.old account.new) }
+    ensures ruled { IfOk result (IsRuledBy Always
+        (termination_decision account.old.book moment request.now.session request.now.number services.now)
+        moment account.old account.new) }
     ensures tariff { account.new.book ≡ account.old.book }
 {
     let charges = match settle_or_refuse(alloc, account, request, services, moment)? {
@@ -140,17 +141,17 @@ fn decide_event(
     account: &mut Account,
     request: &Request,
     event: &Event,
+    known: bool,
     moment: Moment,
 ) -> Result<Ruling, AllocError>
     requires later { account.old.as_of ≤ moment }
-    ensures follows { IfOk result (λ r.
-        Follows account.old account.new r.outcome r.accepted r.charges.items
-        (event_decision account.old.book moment request.now.session request.now.number event.now)) }
-    ensures stands { IfOk result (StandsAt moment account.old account.new) }
+    ensures ruled { IfOk result (IsRuledBy (KnowsUnlessRead event.now request.now.session known)
+        (event_decision account.old.book moment request.now.session request.now.number event.now)
+        moment account.old account.new) }
     ensures tariff { account.new.book ≡ account.old.book }
 {
     match event.action {
-        EventAction::DirectDebiting => debit(alloc, account, request, event, moment),
+        EventAction::DirectDebiting => debit(alloc, account, request, event, known, moment),
         EventAction::CheckBalance => {
             let outcome = checked(account, event, moment);
             Ok(Ruling::told(alloc, outcome))
@@ -166,17 +167,24 @@ fn decide_ask(
     alloc: Global,
     account: &mut Account,
     request: &Request,
+    known: bool,
     moment: Moment,
 ) -> Result<Ruling, AllocError>
     requires later { account.old.as_of ≤ moment }
-    ensures follows { IfOk result (λ r.
-        Follows account.old account.new r.outcome r.accepted r.charges.items
-        (decided account.old.book moment request.now.session request.now.number request.now.ask)) }
-    ensures stands { IfOk result (StandsAt moment account.old account.new) }
+    ensures ruled { IfOk result (IsRuledBy (λ ledger left. IsAsked ledger left request.now known)
+        (decided account.old.book moment request.now.session request.now.number request.now.ask)
+        moment account.old account.new) }
     ensures tariff { account.new.book ≡ account.old.book }
 {
     match &request.ask {
-        Ask::Initial(services) => initial(alloc, account, request, services.as_slice(), moment),
+        Ask::Initial(services) => initial(
+            alloc,
+            account,
+            request,
+            services.as_slice(),
+            known,
+            moment,
+        ),
         Ask::Update(services) => update(alloc, account, request, services.as_slice(), moment),
         Ask::Termination(services) => terminate(
             alloc,
@@ -185,8 +193,8 @@ fn decide_ask(
             services.as_slice(),
             moment,
         ),
-        Ask::Event(event) => decide_event(alloc, account, request, event, moment),
-        Ask::Refund(money) => refund(alloc, account, request, *money, moment),
+        Ask::Event(event) => decide_event(alloc, account, request, event, known, moment),
+        Ask::Refund(money) => refund(alloc, account, request, *money, known, moment),
     }
 }
 
@@ -205,8 +213,9 @@ fn answer_to(request: &Request, session: SessionId, outcome: Outcome) -> Request
 
 /// Decides a request on an account in the order of decisions, and answers it (RFC 8506 sections 5.1, 6 and 9).
 ///
-/// The request's number has no kept answer in its session: the caller looks for those before. A refused request
-/// changes nothing, nor does a check or an enquiry.
+/// The account has its live rows alone: `known` tells whether some request of the Session-Id was accepted before. It
+/// is asked only where the request begins a session, `begins_session`. The request's number has no kept answer in its
+/// session: the caller looks for those before. A refused request changes nothing, nor does a check or an enquiry.
 ///
 /// # Errors
 /// Want of memory. Then the account is to be given up: it may be changed in part.
@@ -214,16 +223,21 @@ pub fn decide(
     alloc: Global,
     account: &mut Account,
     request: &Request,
+    known: bool,
     moment: Moment,
 ) -> Result<Decided, AllocError>
     requires later { account.old.as_of ≤ moment }
-    ensures answer { IfOk result (λ d. (ledger : Ledger) → IsRowsOf ledger account.old →
+    ensures answer { IfOk result (λ d. (ledger : Ledger) (left : LeftRows) → IsWith ledger left moment account.old →
+        IsAsked ledger left request.now known →
         d.answer ≡ answer_of request.now (decision account.old.book moment request.now ledger).outcome) }
-    ensures accepted { IfOk result (λ d. (ledger : Ledger) → IsRowsOf ledger account.old →
+    ensures accepted { IfOk result (λ d. (ledger : Ledger) (left : LeftRows) → IsWith ledger left moment account.old →
+        IsAsked ledger left request.now known →
         d.accepted ≡ (decision account.old.book moment request.now ledger).accepted) }
-    ensures rows { IfOk result (λ d. (ledger : Ledger) → IsRowsOf ledger account.old →
-        IsRowsOf (decision account.old.book moment request.now ledger).after account.new) }
-    ensures charges { IfOk result (λ d. (ledger : Ledger) → IsRowsOf ledger account.old →
+    ensures rows { IfOk result (λ d. (ledger : Ledger) (left : LeftRows) → IsWith ledger left moment account.old →
+        IsAsked ledger left request.now known →
+        IsWith (decision account.old.book moment request.now ledger).after left moment account.new) }
+    ensures charges { IfOk result (λ d. (ledger : Ledger) (left : LeftRows) → IsWith ledger left moment account.old →
+        IsAsked ledger left request.now known →
         charge_rows (decision account.old.book moment request.now ledger).after ≡ charge_rows ledger ++ d.charges.items) }
     ensures moment { IfOk result (λ d. account.new.as_of ≡ if d.accepted then moment else account.old.as_of) }
     ensures tariff { account.new.book ≡ account.old.book }
@@ -231,7 +245,7 @@ pub fn decide(
     ensures unwritten { IfOk result (λ d. d.accepted ≡ false → d.charges.items ≡ []) }
 {
     let session = request.session.clone()?;
-    let ruling = decide_ask(alloc, account, request, moment)?;
+    let ruling = decide_ask(alloc, account, request, known, moment)?;
     Ok(Decided {
         answer: answer_to(request, session, ruling.outcome),
         accepted: ruling.accepted,
@@ -250,7 +264,7 @@ pub fn read(
     moment: Moment,
 ) -> Result<Option<RequestAnswer>, AllocError>
     requires later { account.now.as_of ≤ moment }
-    ensures answer { IfOk result (λ r. IfSome r (λ answer. (ledger : Ledger) → IsRowsOf ledger account.now →
+    ensures answer { IfOk result (λ r. IfSome r (λ answer. (ledger : Ledger) (left : LeftRows) → IsWith ledger left moment account.now →
         answer ≡ answer_of request.now (decision account.now.book moment request.now ledger).outcome)) }
     ensures read { IfOk result (λ r. is_some r ≡ is_read request.now.ask) }
 {

@@ -5,8 +5,9 @@ ghost use Rattle.commands.specs.declared.answer.ServiceOutcome.TheVariants as se
 ghost use Rattle.reserving.specs.Sessions.{session_in};
 ghost use Rattle.reserving.specs.Pricing.{tariff_of};
 ghost use Rattle.decisions.specs.Reports.{asks_other};
+ghost use Rattle.decisions.specs.Asked.{Knows};
 ghost use Rattle.decisions.specs.Events.{event_fault, charged_if_covered, charged_unless_barred, debit_decision, event_units, refunded, refund_decision};
-ghost use Rattle.decisions.specs.Follows.{Follows, StandsAt};
+ghost use Rattle.decisions.specs.Follows.{IsNew, IsRuledBy};
 
 use crate::charges::charge_row;
 use crate::looking::tariff_of;
@@ -55,9 +56,10 @@ fn charge(
     requires later { account.old.as_of ≤ moment }
     requires new { session_in request.now.session account.old.sessions ≡ None }
     requires kind { asks_other tariff.now.unit (Some event.now.requested) ≡ false }
-    ensures follows { IfOk result (λ r. Follows account.old account.new r.outcome r.accepted r.charges.items
-        (charged_if_covered account.old.book tariff.now moment request.now.session request.now.number event.now.group (event_units tariff.now event.now.requested))) }
-    ensures stands { IfOk result (StandsAt moment account.old account.new) }
+    ensures ruled { IfOk result (IsRuledBy (IsNew request.now.session)
+        (charged_if_covered account.old.book tariff.now moment request.now.session request.now.number event.now.group
+        (event_units tariff.now event.now.requested))
+        moment account.old account.new) }
     ensures tariff { account.new.book ≡ account.old.book }
 {
     let quantity = event_quantity(tariff, &event.requested);
@@ -95,10 +97,9 @@ fn charge_unless_denied(
     requires later { account.old.as_of ≤ moment }
     requires new { session_in request.now.session account.old.sessions ≡ None }
     requires units { event_fault account.old.book event.now ≡ None }
-    ensures follows { IfOk result (λ r.
-        Follows account.old account.new r.outcome r.accepted r.charges.items
-        (charged_unless_barred account.old.book moment request.now.session request.now.number event.now)) }
-    ensures stands { IfOk result (StandsAt moment account.old account.new) }
+    ensures ruled { IfOk result (IsRuledBy (IsNew request.now.session)
+        (charged_unless_barred account.old.book moment request.now.session request.now.number event.now)
+        moment account.old account.new) }
     ensures tariff { account.new.book ≡ account.old.book }
 {
     if account.is_barred() {
@@ -118,16 +119,16 @@ pub(crate) fn debit(
     account: &mut Account,
     request: &Request,
     event: &Event,
+    known: bool,
     moment: Moment,
 ) -> Result<Ruling, AllocError>
     requires later { account.old.as_of ≤ moment }
-    ensures follows { IfOk result (λ r.
-        Follows account.old account.new r.outcome r.accepted r.charges.items
-        (debit_decision account.old.book moment request.now.session request.now.number event.now)) }
-    ensures stands { IfOk result (StandsAt moment account.old account.new) }
+    ensures ruled { IfOk result (IsRuledBy (Knows request.now.session known)
+        (debit_decision account.old.book moment request.now.session request.now.number event.now)
+        moment account.old account.new) }
     ensures tariff { account.new.book ≡ account.old.book }
 {
-    if let Some(failure) = debit_refusal(account, &request.session, event) {
+    if let Some(failure) = debit_refusal(account, &request.session, event, known) {
         return Ok(Ruling::refused(alloc, failure));
     }
     charge_unless_denied(alloc, account, request, event, moment)
@@ -143,10 +144,9 @@ fn pay_back(
 ) -> Result<Ruling, AllocError>
     requires later { account.old.as_of ≤ moment }
     requires new { session_in request.now.session account.old.sessions ≡ None }
-    ensures follows { IfOk result (λ r.
-        Follows account.old account.new r.outcome r.accepted r.charges.items
-        (refunded moment request.now.session request.now.number refund)) }
-    ensures stands { IfOk result (StandsAt moment account.old account.new) }
+    ensures ruled { IfOk result (IsRuledBy (IsNew request.now.session)
+        (refunded moment request.now.session request.now.number refund)
+        moment account.old account.new) }
     ensures tariff { account.new.book ≡ account.old.book }
 {
     match account.credit(moment, Moment::no_end(), None, refund.money(), moment) {
@@ -166,16 +166,16 @@ pub(crate) fn refund(
     account: &mut Account,
     request: &Request,
     refund: Refund,
+    known: bool,
     moment: Moment,
 ) -> Result<Ruling, AllocError>
     requires later { account.old.as_of ≤ moment }
-    ensures follows { IfOk result (λ r.
-        Follows account.old account.new r.outcome r.accepted r.charges.items
-        (refund_decision account.old.book moment request.now.session request.now.number refund)) }
-    ensures stands { IfOk result (StandsAt moment account.old account.new) }
+    ensures ruled { IfOk result (IsRuledBy (Knows request.now.session known)
+        (refund_decision account.old.book moment request.now.session request.now.number refund)
+        moment account.old account.new) }
     ensures tariff { account.new.book ≡ account.old.book }
 {
-    if let Some(failure) = refund_refusal(account, &request.session, refund) {
+    if let Some(failure) = refund_refusal(account, &request.session, refund, known) {
         return Ok(Ruling::refused(alloc, failure));
     }
     pay_back(alloc, account, request, refund, moment)

@@ -4,13 +4,13 @@ ghost use Rattle.reserving.specs.Requests.{touched};
 ghost use Rattle.reserving.specs.Sessions.{is_live_in, session_in};
 ghost use Rattle.reserving.specs.Prepared.{reservation_in};
 ghost use Rattle.reserving.specs.Pricing.{tariff_of};
-ghost use Rattle.reserving.specs.Rows.{IsRowsOf};
+ghost use Rattle.reserving.specs.Left.{LeftRows, IsWith};
 ghost use Rattle.commands.specs.Services.{groups_differ};
 ghost use Rattle.decisions.specs.Known.{is_known};
 ghost use Rattle.decisions.specs.Free.{AreFree, OthersKept};
 ghost use Rattle.decisions.specs.Granting.{granted, granted_units, grants_new, any_grants, denial, first_denial};
-ghost use Rattle.decisions.specs.Decisions.{opened, opened_unless_barred};
-ghost use Rattle.decisions.specs.Follows.{Grants, GrantsAll, Follows, StandsAt};
+ghost use Rattle.decisions.specs.Decisions.{opened_unless_barred};
+ghost use Rattle.decisions.specs.Follows.{Grants, GrantsAll, IsNew, IsRuledBy};
 
 use crate::answering::granted_outcome;
 use crate::looking::{is_known, tariff_of};
@@ -49,7 +49,7 @@ fn first_denial(book: &TariffBook, services: &[Service]) -> ServiceFailure
 /// Whether the service of a new session would be granted a unit.
 fn grants_new(account: &Account, service: &Service, moment: Moment) -> bool
     requires { account.now.as_of ≤ moment }
-    ensures { (ledger : Ledger) → IsRowsOf ledger account.now → result ≡ grants_new account.now.book moment ledger service.now }
+    ensures { (ledger : Ledger) (left : LeftRows) → IsWith ledger left moment account.now → result ≡ grants_new account.now.book moment ledger service.now }
 {
     let requested = asked_units(&service.requested);
     account.would_grant(service.group, requested, moment)
@@ -58,7 +58,7 @@ fn grants_new(account: &Account, service: &Service, moment: Moment) -> bool
 /// Whether some service of a new session would be granted a unit.
 fn any_grants(account: &Account, services: &[Service], moment: Moment) -> bool
     requires { account.now.as_of ≤ moment }
-    ensures { (ledger : Ledger) → IsRowsOf ledger account.now → result ≡ any_grants account.now.book moment ledger services.now }
+    ensures { (ledger : Ledger) (left : LeftRows) → IsWith ledger left moment account.now → result ≡ any_grants account.now.book moment ledger services.now }
 {
     for service in services {
         if grants_new(account, service, moment) {
@@ -81,8 +81,8 @@ fn grant_units(
     requires later { account.old.as_of ≡ moment }
     requires live { is_live_in account.old.book.validity moment account.old.sessions session.now ≡ true }
     requires free { reservation_in session.now group account.old.groups ≡ None }
-    ensures grants { IfOk result (λ outcome. (ledger : Ledger) → IsRowsOf ledger account.old →
-        Grants outcome (granted_units account.old.book tariff.now moment session.now group (option_map (λ u. u.0) requested) ledger) account.new) }
+    ensures grants { IfOk result (λ outcome. (ledger : Ledger) (left : LeftRows) → IsWith ledger left moment account.old →
+        Grants outcome (granted_units account.old.book tariff.now moment session.now group (option_map (λ u. u.0) requested) ledger) left moment account.new) }
     ensures moment { OnOk result (account.new.as_of ≡ moment) }
     ensures live { OnOk result (is_live_in account.new.book.validity moment account.new.sessions session.now ≡ true) }
     ensures others { OnOk result (OthersKept session.now group account.old.groups account.new.groups) }
@@ -113,8 +113,8 @@ fn grant(
     requires later { account.old.as_of ≡ moment }
     requires live { is_live_in account.old.book.validity moment account.old.sessions session.now ≡ true }
     requires free { is_known account.old.book service.now.group ≡ true → reservation_in session.now service.now.group account.old.groups ≡ None }
-    ensures grants { IfOk result (λ outcome. (ledger : Ledger) → IsRowsOf ledger account.old →
-        Grants outcome (granted account.old.book moment session.now service.now ledger) account.new) }
+    ensures grants { IfOk result (λ outcome. (ledger : Ledger) (left : LeftRows) → IsWith ledger left moment account.old →
+        Grants outcome (granted account.old.book moment session.now service.now ledger) left moment account.new) }
     ensures moment { OnOk result (account.new.as_of ≡ moment) }
     ensures live { OnOk result (is_live_in account.new.book.validity moment account.new.sessions session.now ≡ true) }
     ensures others { OnOk result (OthersKept session.now service.now.group account.old.groups account.new.groups) }
@@ -135,31 +135,6 @@ fn grant(
 }
 
 /// Grants the services of a live session what they ask for, in the order of the request.
-fn grant_each(
-    alloc: Global,
-    account: &mut Account,
-    session: &SessionId,
-    services: &[Service],
-    moment: Moment,
-) -> Result<Vec<ServiceAnswer>, AllocError>
-    requires apart { groups_differ services.now ≡ true }
-    requires later { account.old.as_of ≡ moment }
-    requires live { is_live_in account.old.book.validity moment account.old.sessions session.now ≡ true }
-    requires free { AreFree account.old.book session.now services.now account.old.groups }
-    ensures grants { IfOk result (λ answers. (ledger : Ledger) → IsRowsOf ledger account.old →
-        GrantsAll answers.items account.old.book moment session.now services.now ledger account.new) }
-    ensures moment { OnOk result (account.new.as_of ≡ moment) }
-    ensures tariff { account.new.book ≡ account.old.book }
-{
-    let mut answers = Vec::new(alloc);
-    for service in services {
-        let outcome = grant(account, session, service, moment)?;
-        let group = service.group;
-        answers.push(ServiceAnswer { group, outcome })?;
-    }
-    Ok(answers)
-}
-
 fn grant_services(
     alloc: Global,
     account: &mut Account,
@@ -171,46 +146,22 @@ fn grant_services(
     requires later { account.old.as_of ≡ moment }
     requires live { is_live_in account.old.book.validity moment account.old.sessions session.now ≡ true }
     requires free { AreFree account.old.book session.now services.now account.old.groups }
-    ensures grants { IfOk result (λ answers. (ledger : Ledger) → IsRowsOf ledger account.old →
-        GrantsAll answers account.old.book moment session.now services.now ledger account.new) }
+    ensures grants { IfOk result (λ answers. (ledger : Ledger) (left : LeftRows) → IsWith ledger left moment account.old →
+        GrantsAll answers account.old.book moment session.now services.now ledger left account.new) }
     ensures moment { OnOk result (account.new.as_of ≡ moment) }
     ensures tariff { account.new.book ≡ account.old.book }
 {
-    let answers = grant_each(alloc, account, session, services, moment)?;
+    let mut answers = Vec::new(alloc);
+    for service in services {
+        let outcome = grant(account, session, service, moment)?;
+        let group = service.group;
+        answers.push(ServiceAnswer { group, outcome })?;
+    }
     Ok(ServiceAnswers::new(answers))
 }
 
-/// Opens the session of an initial request that grants some service a unit; else the request is denied.
-fn open(
-    alloc: Global,
-    account: &mut Account,
-    request: &Request,
-    services: &[Service],
-    moment: Moment,
-) -> Result<Ruling, AllocError>
-    requires apart { groups_differ services.now ≡ true }
-    requires later { account.old.as_of ≤ moment }
-    requires new { session_in request.now.session account.old.sessions ≡ None }
-    requires free { AreFree account.old.book request.now.session services.now account.old.groups }
-    ensures follows { IfOk result (λ r.
-        Follows account.old account.new r.outcome r.accepted r.charges.items
-        (opened account.old.book moment request.now.session request.now.number services.now)) }
-    ensures stands { IfOk result (StandsAt moment account.old account.new) }
-    ensures tariff { account.new.book ≡ account.old.book }
-{
-    let _ranges = account.book().validity();
-    if !any_grants(account, services, moment) {
-        let why = first_denial(account.book(), services);
-        return deny(alloc, account, request, why, moment);
-    }
-    let Ok(()) = account.open(&request.session, request.number, moment) else {
-        return Err(AllocError);
-    };
-    let answers = grant_services(alloc, account, &request.session, services, moment)?;
-    Ok(Ruling::accepted(Outcome::Services(answers), Vec::new(alloc)))
-}
-
-/// Opens the session of an initial request unless the account is barred, which denies the request whole.
+/// Opens the session of an initial request that grants some service a unit; else the request is denied, as it is whole
+/// where the account is barred.
 pub(crate) fn open_unless_barred(
     alloc: Global,
     account: &mut Account,
@@ -222,17 +173,25 @@ pub(crate) fn open_unless_barred(
     requires later { account.old.as_of ≤ moment }
     requires new { session_in request.now.session account.old.sessions ≡ None }
     requires free { AreFree account.old.book request.now.session services.now account.old.groups }
-    ensures follows { IfOk result (λ r.
-        Follows account.old account.new r.outcome r.accepted r.charges.items
-        (opened_unless_barred account.old.book moment request.now.session request.now.number services.now)) }
-    ensures stands { IfOk result (StandsAt moment account.old account.new) }
+    ensures ruled { IfOk result (IsRuledBy (IsNew request.now.session)
+        (opened_unless_barred account.old.book moment request.now.session request.now.number services.now)
+        moment account.old account.new) }
     ensures tariff { account.new.book ≡ account.old.book }
 {
     if account.is_barred() {
         let why = ServiceFailure::EndUserServiceDenied;
         return deny(alloc, account, request, why, moment);
     }
-    open(alloc, account, request, services, moment)
+    let _ranges = account.book().validity();
+    if !any_grants(account, services, moment) {
+        let why = first_denial(account.book(), services);
+        return deny(alloc, account, request, why, moment);
+    }
+    let Ok(()) = account.open(&request.session, request.number, moment) else {
+        return Err(AllocError);
+    };
+    let answers = grant_services(alloc, account, &request.session, services, moment)?;
+    Ok(Ruling::accepted(Outcome::Services(answers), Vec::new(alloc)))
 }
 
 /// Touches a live session with an update, whose services are settled, and grants them what they ask for.
@@ -247,8 +206,9 @@ pub(crate) fn renew(
     requires later { account.old.as_of ≤ moment }
     requires live { is_live_in account.old.book.validity moment account.old.sessions request.now.session ≡ true }
     requires free { AreFree account.old.book request.now.session services.now account.old.groups }
-    ensures grants { IfOk result (λ answers. (ledger : Ledger) → IsRowsOf ledger account.old →
-        GrantsAll answers account.old.book moment request.now.session services.now (touched moment request.now.session request.now.number ledger) account.new) }
+    ensures grants { IfOk result (λ answers. (ledger : Ledger) (left : LeftRows) → IsWith ledger left moment account.old →
+        GrantsAll answers account.old.book moment request.now.session services.now
+        (touched moment request.now.session request.now.number ledger) left account.new) }
     ensures moment { OnOk result (account.new.as_of ≡ moment) }
     ensures tariff { account.new.book ≡ account.old.book }
 {

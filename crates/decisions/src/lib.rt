@@ -4,6 +4,7 @@
 #![tactic(auto)]
 
 mod answering;
+mod asking;
 mod charges;
 mod deciding;
 mod events;
@@ -15,6 +16,7 @@ mod reports;
 mod ruling;
 mod settling;
 
+pub use crate::asking::begins_session;
 pub use crate::deciding::{Decided, decide, read};
 
 #[cfg(test)]

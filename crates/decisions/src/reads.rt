@@ -2,7 +2,7 @@
 
 ghost use Rattle.std.specs.Prelude.{◌≡◌, ◌≤◌, ◌<◌, ◌^◌, ℕ, None, Some};
 ghost use Rattle.reserving.specs.Ledger.{Ledger};
-ghost use Rattle.reserving.specs.Rows.{IsRowsOf};
+ghost use Rattle.reserving.specs.Left.{LeftRows, IsWith};
 ghost use Rattle.decisions.specs.Events.{balance_of, check_decision, enquiry_decision};
 
 use crate::looking::tariff_of;
@@ -25,7 +25,8 @@ fn balance(covered: bool) -> Balance
 /// Whether the account could pay for an event's units (CHECK_BALANCE, RFC 8506 section 6.2).
 pub(crate) fn checked(account: &Account, event: &Event, moment: Moment) -> Outcome
     requires later { account.now.as_of ≤ moment }
-    ensures { (ledger : Ledger) → IsRowsOf ledger account.now → result ≡ (check_decision account.now.book moment event.now ledger).outcome }
+    ensures { (ledger : Ledger) (left : LeftRows) → IsWith ledger left moment account.now →
+        result ≡ (check_decision account.now.book moment event.now ledger).outcome }
 {
     if let Some(failure) = event_refusal(account, event) {
         return Outcome::Failed(failure);
@@ -40,7 +41,8 @@ pub(crate) fn checked(account: &Account, event: &Event, moment: Moment) -> Outco
 
 /// What an event's units would cost (PRICE_ENQUIRY, RFC 8506 section 6.1).
 pub(crate) fn priced(account: &Account, event: &Event, moment: Moment) -> Outcome
-    ensures { (ledger : Ledger) → IsRowsOf ledger account.now → result ≡ (enquiry_decision account.now.book moment event.now ledger).outcome }
+    ensures { (ledger : Ledger) (left : LeftRows) → IsWith ledger left moment account.now →
+        result ≡ (enquiry_decision account.now.book moment event.now ledger).outcome }
 {
     if let Some(failure) = event_refusal(account, event) {
         return Outcome::Failed(failure);

@@ -1,27 +1,16 @@
-ghost use Rattle.std.specs.Prelude.{◌≡◌, ◌<◌, ◌≤◌, ◌^◌, IfOk, map, option_map, sum_by, Some, None, false};
+ghost use Rattle.std.specs.Prelude.{◌≡◌, ◌<◌, ◌≤◌, ◌^◌, IfOk, option_map, Some, None, false};
 ghost use Rattle.reserving.specs.Settlement.{reported};
 ghost use Rattle.tariffs.specs.Tariffs.{IsTariff};
 ghost use Rattle.decisions.specs.Events.{event_units, wrong_event};
-ghost use Rattle.decisions.specs.Reports.{is_kind, units_of, asked_units, change_of, part_of, parts_of, asks_other, reports_other, wrong_units};
+ghost use Rattle.decisions.specs.Reports.{units_of, asked_units, parts_of, asks_other, reports_other, wrong_units};
 
 use commands::{Avp, Quantity, Requested, Service, UsedParts};
 use std::alloc::{AllocError, Global};
 use tariffs::Tariff;
-use units::{TariffChangeUsage, UnitKind, Units, UsedPart, blocks_started};
+use units::{UnitKind, Units, UsedPart, blocks_started};
 
 /// The most blocks that a report can start.
 const MOST_BLOCKS: u64 = 1_000_000_000;
-
-fn is_kind(a: UnitKind, b: UnitKind) -> bool
-    ensures { result ≡ is_kind a b }
-{
-    match (a, b) {
-        (UnitKind::Time, UnitKind::Time) => true,
-        (UnitKind::TotalOctets, UnitKind::TotalOctets) => true,
-        (UnitKind::ServiceSpecific, UnitKind::ServiceSpecific) => true,
-        _ => false,
-    }
-}
 
 /// The units that are asked for; None: the group's slice.
 pub(crate) fn requested_units(requested: &Requested) -> Option<Units>
@@ -43,44 +32,12 @@ pub(crate) fn asked_units(requested: &Option<Requested>) -> Option<Units>
     }
 }
 
-fn change_of(tag: commands::TariffChangeUsage) -> TariffChangeUsage
-    ensures { result ≡ change_of tag }
-{
-    match tag {
-        commands::TariffChangeUsage::UnitBeforeTariffChange => {
-            TariffChangeUsage::UnitBeforeTariffChange
-        }
-        commands::TariffChangeUsage::UnitAfterTariffChange => {
-            TariffChangeUsage::UnitAfterTariffChange
-        }
-        commands::TariffChangeUsage::UnitIndeterminate => TariffChangeUsage::UnitIndeterminate,
-    }
-}
-
-fn part_of(part: &commands::UsedPart) -> UsedPart
-    ensures { result ≡ part_of part.now }
-{
-    UsedPart {
-        units: Units(part.units),
-        change: match part.tag {
-            Some(tag) => Some(change_of(tag)),
-            None => None,
-        },
-    }
-}
-
-fn report_parts(alloc: Global, used: &UsedParts) -> Result<Vec<UsedPart>, AllocError>
-    ensures { IfOk result (λ v. v.items ≡ map part_of used.now.parts) }
-{
-    used.parts().iter().map(|part| part_of(part)).collect(alloc)
-}
-
 /// The parts of a service's report; none without a report.
 pub(crate) fn parts_of(alloc: Global, service: &Service) -> Result<Vec<UsedPart>, AllocError>
     ensures { IfOk result (λ v. v.items ≡ parts_of service.now.used) }
 {
     match &service.used {
-        Some(used) => report_parts(alloc, used),
+        Some(used) => used.parts().to_vec(alloc),
         None => Ok(Vec::new(alloc)),
     }
 }
@@ -89,7 +46,7 @@ fn is_other(kind: UnitKind, requested: &Requested) -> bool
     ensures { result ≡ asks_other kind (Some requested.now) }
 {
     match requested {
-        Requested::Units(quantity) => !is_kind(quantity.kind(), kind),
+        Requested::Units(quantity) => quantity.kind() != kind,
         Requested::Slice => false,
     }
 }
@@ -104,16 +61,16 @@ fn asks_other(kind: UnitKind, requested: &Option<Requested>) -> bool
 }
 
 /// The units of a list of parts.
-fn units_of(parts: &[commands::UsedPart]) -> u64
-    requires { sum_by (λ p. p.units) parts.now < 2 ^ 64 }
-    ensures { result ≡ sum_by (λ p. p.units) parts.now }
+fn units_of(parts: &[UsedPart]) -> u64
+    requires { reported parts.now < 2 ^ 64 }
+    ensures { result ≡ reported parts.now }
 {
-    parts.iter().map(|part| part.units).sum()
+    parts.iter().map(|part| part.units.0).sum()
 }
 
 /// The units of a report, all its parts together.
 fn reported_units(used: &UsedParts) -> u64
-    ensures { result ≡ reported (map part_of used.now.parts) }
+    ensures { result ≡ reported used.now.parts }
 {
     units_of(used.parts())
 }
@@ -123,8 +80,7 @@ fn reports_other(tariff: &Tariff, before: u64, used: &UsedParts) -> bool
 {
     let block = tariff.block();
     let units = Units(reported_units(used));
-    !is_kind(used.kind(), tariff.unit())
-        || MOST_BLOCKS < blocks_started(Units(before), units, block).0
+    used.kind() != tariff.unit() || MOST_BLOCKS < blocks_started(Units(before), units, block).0
 }
 
 /// What is wrong with the units of a service by its group's tariff, what it asks for first; `before` is the session's

@@ -3,7 +3,7 @@
 ghost use Rattle.std.specs.Prelude.{◌≡◌, ◌≤◌, IfOk, None, true, false, []};
 ghost use Rattle.reserving.specs.Sessions.{session_in};
 ghost use Rattle.decisions.specs.Decided.{denied};
-ghost use Rattle.decisions.specs.Follows.{Follows, StandsAt};
+ghost use Rattle.decisions.specs.Follows.{IsNew, IsRuledBy};
 
 use commands::{Failure, Outcome, Request, ServiceFailure};
 use reserving::{Account, ChargeRow};
@@ -65,10 +65,9 @@ pub(crate) fn deny(
 ) -> Result<Ruling, AllocError>
     requires later { account.old.as_of ≤ moment }
     requires new { session_in request.now.session account.old.sessions ≡ None }
-    ensures follows { IfOk result (λ r.
-        Follows account.old account.new r.outcome r.accepted r.charges.items
-        (denied moment request.now.session request.now.number why)) }
-    ensures stands { IfOk result (StandsAt moment account.old account.new) }
+    ensures ruled { IfOk result (IsRuledBy (IsNew request.now.session)
+        (denied moment request.now.session request.now.number why)
+        moment account.old account.new) }
     ensures tariff { account.new.book ≡ account.old.book }
 {
     match account.deny(&request.session, request.number, moment) {

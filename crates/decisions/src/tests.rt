@@ -9,7 +9,7 @@ ghost use Rattle.std.specs.Prelude.{◌≡◌, true, Some, None, IsTrue};
 ghost use Rattle.commands.specs.Refunds.{is_refund};
 ghost use Rattle.commands.specs.declared.service.Requested.TheVariants.{Slice};
 
-use crate::{Decided, decide, read};
+use crate::{Decided, begins_session, decide, read};
 use commands::{
     Ask, Event, EventAction, Failure, InitialServices, Outcome, Refund, Request, Requested,
     Service, ServiceAnswer, ServiceOutcome,
@@ -145,19 +145,25 @@ fn come_to(alloc: Global, decided: &Decided) -> Result<String, Fail> {
     Ok(text)
 }
 
+/// Whether some request of the session was accepted: the whole account is there.
+fn is_known(account: &Account, session: &SessionId) -> bool {
+    account.sessions().iter().any(|row| row.id == *session)
+}
+
 /// A request that is read, or else decided.
 fn requested(
     rt: &impl Abort,
     alloc: Global,
     account: &mut Account,
     request: &Request,
+    known: bool,
     at: Moment,
 ) -> Result<String, Fail> {
     assert!(rt; account.as_of() <= at);
     if let Some(answer) = read(account, request, at)? {
         return told(alloc, &answer.outcome);
     }
-    let decided = decide(alloc, account, request, at)?;
+    let decided = decide(alloc, account, request, known, at)?;
     come_to(alloc, &decided)
 }
 
@@ -200,9 +206,15 @@ fn outcome(
     match call {
         "credit" => credit(rt, alloc, account, words, at),
         "bar" => bar(rt, alloc, account, words, at),
+        "known" => {
+            let (call, words) = words.split_once(" ").ok_or("a call and its words")?;
+            let request = request(rt, alloc, call, words)?;
+            requested(rt, alloc, account, &request, true, at)
+        }
         _ => {
             let request = request(rt, alloc, call, words)?;
-            requested(rt, alloc, account, &request, at)
+            let known = is_known(account, &request.session);
+            requested(rt, alloc, account, &request, known, at)
         }
     }
 }
@@ -298,4 +310,44 @@ const BARRED: &str = "1767571200 credit 1000000 -> 1 (1000000; 1000000, 0, 0, 0)
 #[test]
 fn an_account_that_is_barred(rt: HostRuntime) -> Result<(), Fail> {
     try_all(&rt, rt.alloc(), BARRED)
+}
+
+/// Requests of a session that was left behind: the account has no row of it, and only the caller knows it. Of a check
+/// nothing need be known.
+const LEFT: &str = "1767571200 credit 1000000 -> 1 (1000000; 1000000, 0, 0, 0)
+1767607200 known initial s20 10 -> false 5004 (1000000; 1000000, 0, 0, 0)
+1767607200 known debit s20 30 -> false 5004 (1000000; 1000000, 0, 0, 0)
+1767607200 known refund s20 1 978 -> false 5004 (1000000; 1000000, 0, 0, 0)
+1767607200 known check s20 30 -> 0 (1000000; 1000000, 0, 0, 0)
+1767607200 debit s20 30 -> true 30 debited 1; #1 90000 (1000000; 910000, 0, 90000, 0)";
+
+#[test]
+fn a_session_that_was_left(rt: HostRuntime) -> Result<(), Fail> {
+    try_all(&rt, rt.alloc(), LEFT)
+}
+
+/// Requests that begin a session, by the words of their call.
+const BEGINNINGS: &str = "initial s 10 -> true
+debit s 30 -> true
+refund s 1 978 -> true
+check s 30 -> false
+price s 30 -> false";
+
+fn begins(rt: &impl Abort, alloc: Global, line: &str) -> Result<bool, Fail> {
+    let (call, words) = line.split_once(" ").ok_or("a call and its words")?;
+    let request = request(rt, alloc, call, words)?;
+    Ok(begins_session(&request.ask))
+}
+
+#[test]
+fn requests_that_begin_a_session(rt: HostRuntime) -> Result<(), Fail> {
+    for line in BEGINNINGS.lines() {
+        let (call, expected) = line.split_once(" -> ").ok_or("a line")?;
+        assert_eq!(rt;
+            begins(&rt, rt.alloc(), call)?,
+            expected == "true",
+            "{call}"
+        );
+    }
+    Ok(())
 }

@@ -9,7 +9,7 @@ use Rattle.commands.specs.declared.command.Command.TheVariants as command
 use Rattle.json_fields.specs.declared.fault.WireFault.{WireFault}
 use Rattle.json_fields.specs.declared.fault.WireFault.TheVariants.{Invalid}
 use Rattle.json_fields.specs.Gives.{Fails, ◌>>=◌}
-use Rattle.wire_requests.specs.Reading.{request_of}
+use Rattle.wire.specs.Requests.{command_of}
 use Rattle.wire.specs.Credits.{credit_of}
 use Rattle.http_heads.specs.declared.status.Status.{Status}
 use Rattle.http_heads.specs.declared.status.Status.TheVariants.{NotFound, MethodNotAllowed}
@@ -38,7 +38,7 @@ account_in target = if is_account_number (account_part target) then Ok (account_
 
 -- the command of a row, by the path and then by the body
 abbrev pub command_by : Route → List ℕ → List ℕ → Result Command WireFault
-command_by Ccr target body = request_of body >>= λ r. Ok (command.Ccr r)
+command_by Ccr target body = command_of body
 command_by Account target body = account_in target >>= λ a. Ok (command.OpenAccount a)
 command_by Credits target body = account_in target >>= λ a. credit_of a body >>= λ c. Ok (command.Credit c)
 

@@ -40,6 +40,10 @@ no_members = codes "{}"
 abbrev pub unable : List ℕ
 unable = codes "{\"Result-Code\":5012}"
 
+-- a refusal is told, or that there is no memory
+abbrev pub TellsRefusal : Bool → Status → (List ℕ → Type 0) → Type 0
+TellsRefusal closes status Writes = Writes (response status closes no_members) ⊎ Writes (response Unavailable closes unable)
+
 -- a request that isn't read is told its fault, or that there is no memory
 abbrev pub TellsFault : Bool → WireFault → (List ℕ → Type 0) → Type 0
 TellsFault closes fault Writes =

@@ -71,7 +71,7 @@ fn read_command(
     ensures { Gives (λ c. c) result (command_by route target.now body.now) }
 {
     match route {
-        Route::Ccr => Ok(Command::Ccr(read_request(alloc, body)?)),
+        Route::Ccr => read_request(alloc, body),
         Route::Account => Ok(Command::OpenAccount(account_in(alloc, target)?)),
         Route::Credits => {
             let account = account_in(alloc, target)?;

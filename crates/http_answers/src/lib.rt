@@ -7,5 +7,5 @@ mod text;
 
 pub use crate::asking::{Asked, ask};
 pub use crate::routes::{Route, known_router};
-pub use crate::text::{NO_MEMBERS, tell, tell_fault, tell_unable};
+pub use crate::text::{NO_MEMBERS, tell, tell_fault, tell_refusal, tell_unable};
 pub use matchit::Router;

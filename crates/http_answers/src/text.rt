@@ -3,7 +3,7 @@ ghost use Rattle.json_fields.specs.declared.fault.WireFault.TheVariants.{Memory}
 ghost use Rattle.std.specs.Io.KnownBytes.{Appends};
 ghost use Rattle.http_heads.specs.declared.status.Status.TheVariants.{BadRequest, Unavailable};
 ghost use Rattle.wire_answers.specs.Spelled.{fault_text};
-ghost use Rattle.http_answers.specs.Texts.{status_line, closing_line, response, unable, Begins, TellsFault};
+ghost use Rattle.http_answers.specs.Texts.{status_line, closing_line, response, unable, Begins, TellsRefusal, TellsFault};
 
 use byte_streams::{StreamFault, write_whole};
 use http_heads::Status;
@@ -102,6 +102,25 @@ pub fn tell_unable<W: Write>(writer: &mut W, closes: bool) -> Result<(), StreamF
         write_whole(writer, unable_at_last())
     } else {
         write_whole(writer, unable())
+    }
+}
+
+/// Writes that a request is refused.
+///
+/// # Errors
+/// `Write` where the writer failed. Then a beginning of it is written.
+pub fn tell_refusal<W: Write>(
+    alloc: Global,
+    writer: &mut W,
+    status: Status,
+    closes: bool,
+) -> Result<(), StreamFault>
+    ensures ok { OnOk result (TellsRefusal closes status (Appends (W.contents writer.old) (W.contents writer.new))) }
+    ensures err { OnErr result (TellsRefusal closes status (Begins (W.contents writer.old) (W.contents writer.new))) }
+{
+    match response(alloc, status, closes, NO_MEMBERS) {
+        Ok(text) => write_whole(writer, text.as_bytes()),
+        Err(_) => tell_unable(writer, closes),
     }
 }
 

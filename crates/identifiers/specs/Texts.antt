@@ -1,6 +1,7 @@
 -- Which texts are names.
-use Rattle.std.specs.Prelude.{ℕ, ◌&&◌, ◌==◌, List, length, Bool, nat_le}
+use Rattle.std.specs.Prelude.{ℕ, ◌&&◌, ◌==◌, List, length, Bool, nat_eq, nat_le}
 use Rattle.std.specs.List.{list_all}
+use Rattle.std.specs.Cmp.Lexicographic.{pointwise}
 
 -- a byte from 0x21 to 0x7E: a letter, a digit or a sign of ASCII, and no space
 abbrev pub is_visible : ℕ → Bool
@@ -29,3 +30,7 @@ is_voucher_code s = (length s == 12) && list_all is_digit s
 -- the URL of a redirection: 1 to 200 visible bytes (Redirect-Server-Address, RFC 8506 section 8.39; profile)
 abbrev pub is_redirect_address : List ℕ → Bool
 is_redirect_address s = nat_le 1 (length s) && nat_le (length s) 200 && list_all is_visible s
+
+-- two names are the same byte by byte
+abbrev pub same_name : List ℕ → List ℕ → Bool
+same_name = pointwise nat_eq

@@ -10,6 +10,8 @@ use Rattle.std.proofs.lemmas.Bool.{and_parts}
 use Rattle.json.proofs.Printed.Utf8.{are_ascii, IsUtf8-are_ascii}
 use Rattle.serde_json.specs.Data.{Data, number, negative, string, array, object, Items, no_items, item, Members, no_members, member, depth, items_depth, members_depth}
 use Rattle.serde_json.specs.Written.{compact_text}
+use Rattle.commands.specs.declared.avp.Avp.TheVariants as avp
+use Rattle.commands.specs.Names.{name_of}
 use Rattle.json_fields.specs.declared.fault.WireFault.{WireFault}
 use Rattle.json_fields.specs.Spelling.{whole, perhaps, value_data, money_data}
 use Rattle.json_fields.specs.Fields.{document_at}
@@ -82,11 +84,11 @@ fit_value : (n micros : ℕ) → micros ≤ 18446744073709551615 → Fit (suc n)
 unfolding value_data
 fit_value n micros h =
     let exponent : Fit n (number (negative (negsuc 5))) = record { tidy = lit< tt; deep = omega arith } in
-    let digits : FitMembers n (member (codes "Value-Digits") (whole micros) no_members) = fit_member n _ (whole micros) no_members refl (fit_whole n micros h) tt (fit_none n) in
+    let digits : FitMembers n (member (name_of avp.ValueDigits) (whole micros) no_members) = fit_member n _ (whole micros) no_members refl (fit_whole n micros h) tt (fit_none n) in
     fit_object n _ (fit_member n _ _ _ refl exponent (refl, tt) digits)
 
 pub fit_money : (n micros currency : ℕ) → micros ≤ 18446744073709551615 → currency ≤ 65535 → Fit (suc (suc n)) (money_data micros currency)
 unfolding money_data
 fit_money n micros currency h k =
-    let value : FitMembers (suc n) (member (codes "Unit-Value") (value_data micros) no_members) = fit_member (suc n) _ _ no_members refl (fit_value n micros h) tt (fit_none (suc n)) in
+    let value : FitMembers (suc n) (member (name_of avp.UnitValue) (value_data micros) no_members) = fit_member (suc n) _ _ no_members refl (fit_value n micros h) tt (fit_none (suc n)) in
     fit_object (suc n) _ (fit_member (suc n) _ _ _ refl (fit_whole (suc n) currency (omega arith)) (refl, tt) value)

@@ -14,7 +14,7 @@ use Rattle.commands.specs.Quantities.{most_units}
 use Rattle.json_fields.specs.declared.fault.WireFault.{WireFault}
 use Rattle.json_fields.specs.Gives.{◌>>=◌, or_fault, where_holds}
 use Rattle.json_fields.specs.Spelling.{whole, perhaps}
-use Rattle.json_fields.specs.Fields.{member_at, number_at, optional_at, text_at, object_at}
+use Rattle.json_fields.specs.Fields.{member_at, number_at, optional_in, optional_at, text_at, object_at}
 use Rattle.json_fields.specs.Unit.{name_of_unit, has_unit, lacks_others, kind_told, units_at}
 
 skip : {X : Type 0} (o : Ordering) (a b : X) → is_eq o ≡ false → match_ordering o a b a ≡ a
@@ -39,10 +39,13 @@ pub number_found : (a : Avp) (low high : ℕ) (d : Data) (n : ℕ) → get (name
 unfolding number_at member_at
 number_found a low high d n e l h = rw e (in_range low high n _ l h)
 
+pub optional_in_found : (name : List ℕ) (fault : WireFault) (low high : ℕ) (d : Data) (o : Option ℕ) → get name d ≡ option_map whole o → IfSome o (λ n. (low ≤ n) × (n ≤ high)) → optional_in name fault low high d ≡ Ok o
+unfolding optional_in
+optional_in_found name fault low high d None e h = rw e refl
+optional_in_found name fault low high d (Some n) e h = rw (e, le-leb low n h.0, le-leb n high h.1) refl
+
 pub optional_found : (a : Avp) (low high : ℕ) (d : Data) (o : Option ℕ) → get (name_of a) d ≡ option_map whole o → IfSome o (λ n. (low ≤ n) × (n ≤ high)) → optional_at a low high d ≡ Ok o
-unfolding optional_at
-optional_found a low high d None e h = rw e refl
-optional_found a low high d (Some n) e h = rw (e, le-leb low n h.0, le-leb n high h.1) refl
+optional_found a low high d o e h = optional_in_found (name_of a) _ low high d o e h
 
 pub text_found : (a : Avp) (d : Data) (s : List ℕ) → get (name_of a) d ≡ Some (string s) → text_at a d ≡ Ok s
 unfolding text_at member_at
@@ -52,6 +55,6 @@ pub object_found : (a : Avp) (d : Data) (ms : Members) → get (name_of a) d ≡
 unfolding object_at member_at
 object_found a d ms e = rw e refl
 
-pub units_found : (told : Avp) (low : ℕ) (kind : UnitKind) (d : Data) (n : ℕ) → get (name_of_unit kind) d ≡ Some (whole n) → lacks_others kind d ≡ true → low ≤ n → n ≤ most_units kind → units_at told low kind d ≡ Ok n
+pub units_found : (fault : WireFault) (low : ℕ) (kind : UnitKind) (d : Data) (n : ℕ) → get (name_of_unit kind) d ≡ Some (whole n) → lacks_others kind d ≡ true → low ≤ n → n ≤ most_units kind → units_at fault low kind d ≡ Ok n
 unfolding units_at
-units_found told low kind d n e alone l h = rw (e, le-leb low n l, le-leb n (most_units kind) h, alone) refl
+units_found fault low kind d n e alone l h = rw (e, le-leb low n l, le-leb n (most_units kind) h, alone) refl

@@ -27,26 +27,29 @@ unfoldable pub member_at : Avp → Data → Result Data WireFault
 member_at a d = or_fault (Missing a) (get (name_of a) d)
 
 -- the whole number of this range that a value is
-abbrev pub whole_in : Avp → ℕ → ℕ → Data → Result ℕ WireFault
-whole_in told low high v = do
-  n ← or_fault (Invalid told) (option_and_then as_u64 (as_number v))
-  where_holds (nat_le low n && nat_le n high) (Invalid told) n
+abbrev pub whole_in : WireFault → ℕ → ℕ → Data → Result ℕ WireFault
+whole_in fault low high v = do
+  n ← or_fault fault (option_and_then as_u64 (as_number v))
+  where_holds (nat_le low n && nat_le n high) fault n
 
 -- a whole number of this range
 unfoldable pub number_at : Avp → ℕ → ℕ → Data → Result ℕ WireFault
 number_at a low high d = do
   v ← member_at a d
-  whole_in a low high v
+  whole_in (Invalid a) low high v
 
-abbrev pub optional_when : Avp → ℕ → ℕ → Option Data → Result (Option ℕ) WireFault
-optional_when a low high None = Ok None
-optional_when a low high (Some v) = do
-  n ← whole_in a low high v
+abbrev pub optional_when : WireFault → ℕ → ℕ → Option Data → Result (Option ℕ) WireFault
+optional_when fault low high None = Ok None
+optional_when fault low high (Some v) = do
+  n ← whole_in fault low high v
   Ok (Some n)
 
 -- a whole number of this range, where it is there
-unfoldable pub optional_at : Avp → ℕ → ℕ → Data → Result (Option ℕ) WireFault
-optional_at a low high d = optional_when a low high (get (name_of a) d)
+unfoldable pub optional_in : List ℕ → WireFault → ℕ → ℕ → Data → Result (Option ℕ) WireFault
+optional_in name fault low high d = optional_when fault low high (get name d)
+
+abbrev pub optional_at : Avp → ℕ → ℕ → Data → Result (Option ℕ) WireFault
+optional_at a low high d = optional_in (name_of a) (Invalid a) low high d
 
 -- a text
 unfoldable pub text_at : Avp → Data → Result (List ℕ) WireFault

@@ -1,5 +1,7 @@
 -- How values are spelled: compact JSON, with the members in the byte order of their names.
-use Rattle.std.specs.Prelude.{ℕ, negsuc, List, codes, Option, Some, None}
+use Rattle.std.specs.Prelude.{ℕ, negsuc, List, Option, Some, None}
+use Rattle.commands.specs.declared.avp.Avp.TheVariants as avp
+use Rattle.commands.specs.Names.{name_of}
 use Rattle.serde_json.specs.Data.{Data, number, unsigned, negative, object, Members, no_members, member}
 
 -- a whole number
@@ -14,10 +16,10 @@ perhaps k (Some d) ms = member k d ms
 -- micro-units of a currency (Unit-Value with Exponent -6 and Currency-Code, RFC 8506 sections 8.8 to 8.11)
 unfoldable pub value_data : ℕ → Data
 value_data micros = object
-    (member (codes "Exponent") (number (negative (negsuc 5)))
-    (member (codes "Value-Digits") (whole micros) no_members))
+    (member (name_of avp.Exponent) (number (negative (negsuc 5)))
+    (member (name_of avp.ValueDigits) (whole micros) no_members))
 
 unfoldable pub money_data : ℕ → ℕ → Data
 money_data micros currency = object
-    (member (codes "Currency-Code") (whole currency)
-    (member (codes "Unit-Value") (value_data micros) no_members))
+    (member (name_of avp.CurrencyCode) (whole currency)
+    (member (name_of avp.UnitValue) (value_data micros) no_members))

@@ -4,10 +4,8 @@ use Rattle.serde_json.specs.Data.{Data}
 use Rattle.serde_json.specs.Find.{get}
 use Rattle.units.specs.declared.blocks.UnitKind.{UnitKind}
 use Rattle.units.specs.declared.blocks.UnitKind.TheVariants.{Time, TotalOctets, ServiceSpecific}
-use Rattle.commands.specs.declared.avp.Avp.{Avp}
 use Rattle.commands.specs.Quantities.{most_units}
 use Rattle.json_fields.specs.declared.fault.WireFault.{WireFault}
-use Rattle.json_fields.specs.declared.fault.WireFault.TheVariants.{Invalid}
 use Rattle.json_fields.specs.Gives.{◌>>=◌, or_fault, where_holds}
 use Rattle.json_fields.specs.Fields.{whole_in}
 
@@ -33,9 +31,9 @@ lacks_others Time d = lacks_unit TotalOctets d && lacks_unit ServiceSpecific d
 lacks_others TotalOctets d = lacks_unit Time d && lacks_unit ServiceSpecific d
 lacks_others ServiceSpecific d = lacks_unit Time d && lacks_unit TotalOctets d
 
--- the units of this kind, alone, from so many on; each fault is told of the member that holds them
-unfoldable pub units_at : Avp → ℕ → UnitKind → Data → Result ℕ WireFault
-units_at told low kind d = do
-  v ← or_fault (Invalid told) (get (name_of_unit kind) d)
-  n ← whole_in told low (most_units kind) v
-  where_holds (lacks_others kind d) (Invalid told) n
+-- the units of this kind, alone, from so many on; each fault is this one, of the member that holds them
+unfoldable pub units_at : WireFault → ℕ → UnitKind → Data → Result ℕ WireFault
+units_at fault low kind d = do
+  v ← or_fault fault (get (name_of_unit kind) d)
+  n ← whole_in fault low (most_units kind) v
+  where_holds (lacks_others kind d) fault n

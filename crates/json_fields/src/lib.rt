@@ -8,7 +8,7 @@ mod writing;
 
 pub use crate::fault::WireFault;
 pub use crate::reading::{
-    array, document, is_text, member, number, object, optional_number, text, whole_in,
+    array, document, is_text, member, number, object, optional_in, optional_number, text, whole_in,
 };
 pub use crate::unit::{unit_name, unit_told, units_in};
 pub use crate::writing::{put_money, put_number, put_perhaps, put_text};

@@ -1,7 +1,7 @@
 ghost use Rattle.std.specs.Prelude.{◌≡◌, ◌≤◌, ◌↔◌, IfOk, IfSome, IsTrue};
 ghost use Rattle.serde_json.specs.View.{view, items_view};
 ghost use Rattle.json_fields.specs.Gives.{Gives, Says, or_fault};
-ghost use Rattle.json_fields.specs.Fields.{json_of, document_at, member_at, whole_in, number_at, optional_at, text_at, object_at, array_of};
+ghost use Rattle.json_fields.specs.Fields.{json_of, document_at, member_at, whole_in, number_at, optional_in, optional_at, text_at, object_at, array_of};
 
 use crate::fault::WireFault;
 use commands::Avp;
@@ -40,14 +40,14 @@ pub fn member<'v>(parent: &'v Value, name: Avp) -> Result<&'v Value, WireFault>
     parent.get(name.name()).ok_or(WireFault::Missing(name))
 }
 
-/// The whole number that a value is, from `low` to `high`; a fault is told of `told`.
-pub fn whole_in(value: &Value, told: Avp, low: u64, high: u64) -> Result<u64, WireFault>
-    ensures reads { Says (λ n. n) result (whole_in told low high (view value.now)) }
+/// The whole number that a value is, from `low` to `high`, and else `fault`.
+pub fn whole_in(value: &Value, fault: WireFault, low: u64, high: u64) -> Result<u64, WireFault>
+    ensures reads { Says (λ n. n) result (whole_in fault low high (view value.now)) }
     ensures within { IfOk result (λ n. (low ≤ n) × (n ≤ high)) }
 {
-    let n = value.as_u64().ok_or(WireFault::Invalid(told))?;
+    let n = value.as_u64().ok_or(fault)?;
     if !(low..=high).contains(&n) {
-        return Err(WireFault::Invalid(told));
+        return Err(fault);
     }
     Ok(n)
 }
@@ -58,11 +58,10 @@ pub fn number(parent: &Value, name: Avp, low: u64, high: u64) -> Result<u64, Wir
     ensures reads { Says (λ n. n) result (number_at name low high (view parent.now)) }
     ensures within { IfOk result (λ n. (low ≤ n) × (n ≤ high)) }
 {
-    whole_in(member(parent, name)?, name, low, high)
+    whole_in(member(parent, name)?, WireFault::Invalid(name), low, high)
 }
 
 /// The member of this name, a whole number from `low` to `high`, where it is there.
-#[tactic(auto, unfolding(crate::specs::Fields::optional_at))]
 pub fn optional_number(
     parent: &Value,
     name: Avp,
@@ -72,9 +71,24 @@ pub fn optional_number(
     ensures reads { Says (λ n. n) result (optional_at name low high (view parent.now)) }
     ensures within { IfOk result (λ o. IfSome o (λ n. (low ≤ n) × (n ≤ high))) }
 {
-    match parent.get(name.name()) {
+    optional_in(parent, name.name(), WireFault::Invalid(name), low, high)
+}
+
+/// The member of this name, a whole number from `low` to `high`, where it is there; and else `fault`.
+#[tactic(auto, unfolding(crate::specs::Fields::optional_in))]
+pub fn optional_in(
+    parent: &Value,
+    name: &str,
+    fault: WireFault,
+    low: u64,
+    high: u64,
+) -> Result<Option<u64>, WireFault>
+    ensures reads { Says (λ n. n) result (optional_in name.now fault low high (view parent.now)) }
+    ensures within { IfOk result (λ o. IfSome o (λ n. (low ≤ n) × (n ≤ high))) }
+{
+    match parent.get(name) {
         None => Ok(None),
-        Some(value) => Ok(Some(whole_in(value, name, low, high)?)),
+        Some(value) => Ok(Some(whole_in(value, fault, low, high)?)),
     }
 }
 

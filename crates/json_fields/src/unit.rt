@@ -6,7 +6,6 @@ ghost use Rattle.json_fields.specs.Unit.{name_of_unit, has_unit, lacks_others, k
 
 use crate::fault::WireFault;
 use crate::reading::whole_in;
-use commands::Avp;
 use serde_json::Value;
 use units::UnitKind;
 
@@ -65,17 +64,17 @@ fn lacks_others(value: &Value, kind: UnitKind) -> bool
     }
 }
 
-/// The units of this kind in `value`, alone, at least `low`. Each fault is told of `told`.
+/// The units of this kind in `value`, alone, at least `low`, and else `fault`.
 #[tactic(auto, unfolding(crate::specs::Unit::units_at))]
-pub fn units_in(value: &Value, told: Avp, low: u64, kind: UnitKind) -> Result<u64, WireFault>
-    ensures reads { Says (λ n. n) result (units_at told low kind (view value.now)) }
+pub fn units_in(value: &Value, fault: WireFault, low: u64, kind: UnitKind) -> Result<u64, WireFault>
+    ensures reads { Says (λ n. n) result (units_at fault low kind (view value.now)) }
     ensures within { IfOk result (λ n. (low ≤ n) × (n ≤ most_units kind)) }
 {
-    let units = value.get(unit_name(kind)).ok_or(WireFault::Invalid(told))?;
-    let n = whole_in(units, told, low, most_units(kind))?;
+    let units = value.get(unit_name(kind)).ok_or(fault)?;
+    let n = whole_in(units, fault, low, most_units(kind))?;
     if lacks_others(value, kind) {
         Ok(n)
     } else {
-        Err(WireFault::Invalid(told))
+        Err(fault)
     }
 }

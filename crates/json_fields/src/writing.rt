@@ -3,6 +3,7 @@ ghost use Rattle.serde_json.specs.Data.{string};
 ghost use Rattle.json_fields.specs.Spelling.{whole, value_data, money_data};
 ghost use Rattle.json_fields.specs.Tokens.{Adds, tokens_of, member_tokens, perhaps_tokens};
 
+use commands::Avp;
 use json::Writer;
 use std::alloc::AllocError;
 
@@ -39,9 +40,9 @@ fn put_value(out: &mut Writer, micros: u64) -> Result<(), AllocError>
     ensures { Adds result out.old out.new (tokens_of (value_data micros)) }
 {
     out.begin_object()?;
-    out.key("Exponent")?;
+    out.key(Avp::Exponent.name())?;
     out.i64(-6)?;
-    put_number(out, "Value-Digits", micros)?;
+    put_number(out, Avp::ValueDigits.name(), micros)?;
     out.end_object()?;
     Ok(())
 }
@@ -52,8 +53,8 @@ pub fn put_money(out: &mut Writer, micros: u64, currency: u16) -> Result<(), All
     ensures { Adds result out.old out.new (tokens_of (money_data micros currency)) }
 {
     out.begin_object()?;
-    put_number(out, "Currency-Code", currency as u64)?;
-    out.key("Unit-Value")?;
+    put_number(out, Avp::CurrencyCode.name(), currency as u64)?;
+    out.key(Avp::UnitValue.name())?;
     put_value(out, micros)?;
     out.end_object()?;
     Ok(())

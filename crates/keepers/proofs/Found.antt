@@ -1,172 +1,143 @@
--- Accounts in a list, found by their numbers and written where they were found.
-use Rattle.std.proofs.Common.{◌≡◌, ℕ, suc, ◌+◌, Bool, true, false, cond, List, [], ◌∷◌, ◌++◌, length, get_or, set, refl, sym, ap, ◌∙◌, arith, Option, Some, None}
-use Rattle.std.specs.Prelude.{if◌then◌else◌, is_some, option_map, position, Result, Ok, Err, OnErr}
+-- Rows found by number among those that pass, and among merged ones.
+use Rattle.std.proofs.Common.{◌≡◌, ℕ, ◌+◌, Bool, true, false, cond, List, [], ◌∷◌, ◌++◌, refl, sym, ap, subst, ◌∙◌, Option, Some, None}
+use Rattle.std.specs.Prelude.{if◌then◌else◌, ◌==◌, ◌≢◌, filter, not}
 use Rattle.std.specs.List.{find}
-use Rattle.std.specs.HashMap.{get}
-use Rattle.std.specs.Cmp.Lexicographic.{bytes_decides}
-use Rattle.commands.specs.Alike.{same_name}
-use Rattle.reserving.specs.declared.charge.ChargeRow.{ChargeRow}
-use Rattle.reserving.specs.Keyed.{put}
-use Rattle.reserving.specs.Stored.{StoredRows}
-use Rattle.reserving.proofs.Lists.{find-passes, find-put, find-put_other}
-use Rattle.reserving.proofs.KeysFound.{placed, unplaced, put-none}
-use Rattle.keepers.specs.declared.key.Key.{Key}
-use Rattle.keepers.specs.declared.key.KeptAnswer.{KeptAnswer}
-use Rattle.keepers.specs.declared.entries.Entry.{Entry}
-use Rattle.keepers.specs.Keys.{same_key}
-use Rattle.keepers.specs.Change.{kept_after}
-use Rattle.keepers.specs.Memory.{is_entry, entry_in, rows_of_entry, answer_of_entry, charges_of_entry}
+use Rattle.buckets.specs.Row.{Row, precedes, IsBalanced}
+use Rattle.buckets.specs.Spend.{Each, IsSound, IsInOrder, AreDistinct, DiffersFromAll, PrecedesAll}
+use Rattle.reserving.specs.Rows.{EachIn, AreApart}
+use Rattle.reserving.proofs.Lists.{no_some, some_of, not_both}
+use Rattle.reserving.proofs.Keys.{same_number, number_same}
+use Rattle.reserving.specs.Left.{bucket_in, placed, merged, only, first_of}
+use Rattle.reserving.proofs.LeftTests.{find_filter}
+use Rattle.keepers.specs.Keyed.{same_bucket}
 
-pub on_err : {T E P : Type 0} (r : Result T E) → P → OnErr r P
-on_err (Ok x) p = tt
-on_err (Err e) p = p
+-- ---- what passes
 
--- the account that stands where the number was found
-pub record IsFound (n : List ℕ) (e : Entry) (xs : List Entry) : Type 0 where
-  pub number : e.number ≡ n
-  pub found : entry_in n xs ≡ Some e
+all_filter : (x : Row) (p : Row → Bool) (xs : List Row) → PrecedesAll x xs → PrecedesAll x (filter p xs)
+all_filter x p [] h = tt
+all_filter x p (y ∷ ys) h = elim (p y) as (λ t. PrecedesAll x (cond t (y ∷ filter p ys) (filter p ys))) [ true ↦ (h.0, all_filter x p ys h.1) | false ↦ all_filter x p ys h.1 ]
 
-pub found_at : (n : List ℕ) (place : ℕ) (xs : List Entry) (e : Entry) → position (is_entry n) xs ≡ Some place → e ≡ get_or xs place e → IsFound n e xs
-found_at n place xs e h is =
-    let found : entry_in n xs ≡ Some e = (placed (is_entry n) e place xs h).found e ∙ ap Some (sym is) in
-    record { number = (bytes_decides e.number n).0 (find-passes (is_entry n) xs e found); found = found }
+order_filter : (p : Row → Bool) (xs : List Row) → IsInOrder xs → IsInOrder (filter p xs)
+order_filter p [] h = tt
+order_filter p (x ∷ xs) h = elim (p x) as (λ t. IsInOrder (cond t (x ∷ filter p xs) (filter p xs))) [ true ↦ (all_filter x p xs h.0, order_filter p xs h.1) | false ↦ order_filter p xs h.1 ]
 
--- ---- an account that is put
+pub each_filter : (P : Row → Type 0) (p : Row → Bool) (xs : List Row) → Each P xs → Each P (filter p xs)
+each_filter P p [] h = tt
+each_filter P p (x ∷ xs) h = elim (p x) as (λ t. Each P (cond t (x ∷ filter p xs) (filter p xs))) [ true ↦ (h.0, each_filter P p xs h.1) | false ↦ each_filter P p xs h.1 ]
 
-entry_put : (n a : List ℕ) (e : Entry) (xs : List Entry) → e.number ≡ n → entry_in a (put (is_entry n) e xs) ≡ (if same_name n a then Some e else entry_in a xs)
-entry_put n a e xs number = at (same_name n a) refl
+distinct_filter : (p : Row → Bool) (xs : List Row) → AreDistinct xs → AreDistinct (filter p xs)
+distinct_filter p [] h = tt
+distinct_filter p (x ∷ xs) h = elim (p x) as (λ t. AreDistinct (cond t (x ∷ filter p xs) (filter p xs))) [ true ↦ (each_filter (λ b. b.number ≢ x.number) p xs h.0, distinct_filter p xs h.1) | false ↦ distinct_filter p xs h.1 ]
+
+pub sound_filter : (p : Row → Bool) (xs : List Row) → IsSound xs → IsSound (filter p xs)
+sound_filter p xs h = record { order = order_filter p xs h.order; distinct = distinct_filter p xs h.distinct; balanced = each_filter IsBalanced p xs h.balanced }
+
+-- ---- one number each
+
+number_apart : (x : Row) (xs : List Row) → DiffersFromAll x.number xs → EachIn (λ y. (y.number == x.number) ≡ false) xs
+number_apart x [] h = tt
+number_apart x (y ∷ ys) h = (at (y.number == x.number) refl, number_apart x ys h.1)
   where
-    other : same_name n a ≡ false → (y : Entry) → is_entry n y ≡ true → is_entry a y ≡ false
-    other h y e = ap (λ m. same_name m a) ((bytes_decides y.number n).0 e) ∙ h
+    at : (t : Bool) → (y.number == x.number) ≡ t → t ≡ false
+    at true e = absurd (h.0 (same_number y.number x.number e))
+    at false e = refl
 
-    at : (t : Bool) → same_name n a ≡ t → entry_in a (put (is_entry n) e xs) ≡ (if t then Some e else entry_in a xs)
-    at true h =
-        ap (λ m. entry_in m (put (is_entry n) e xs)) (sym ((bytes_decides n a).0 h))
-        ∙ find-put (is_entry n) e xs ((bytes_decides e.number n).1 number)
-    at false h = find-put_other (is_entry n) (is_entry a) e xs (ap (λ m. same_name m a) number ∙ h) (other h)
+pub distinct_apart : (xs : List Row) → AreDistinct xs → AreApart same_bucket xs
+distinct_apart [] h = tt
+distinct_apart (x ∷ xs) h = (number_apart x xs h.0, distinct_apart xs h.1)
 
-pub rows_put : (n a : List ℕ) (e : Entry) (rows : StoredRows) (xs : List Entry) → e.number ≡ n → rows_of_entry e ≡ rows →
-    option_map rows_of_entry (entry_in a (put (is_entry n) e xs)) ≡ (if same_name n a then Some rows else option_map rows_of_entry (entry_in a xs))
-rows_put n a e rows xs number is = ap (option_map rows_of_entry) (entry_put n a e xs number) ∙ at (same_name n a)
+pub one_bucket : (n : ℕ) (x y : Row) → (x.number == n) ≡ true → (y.number == n) ≡ true → same_bucket x y ≡ true
+one_bucket n x y e k = (λ i. y.number == same_number x.number n e i) ∙ k
+
+pub bucket_filter : (n : ℕ) (p : Row → Bool) (xs : List Row) → AreDistinct xs → bucket_in n (filter p xs) ≡ only p (bucket_in n xs)
+bucket_filter n p xs h = find_filter same_bucket (λ b. b.number == n) (one_bucket n) p xs (distinct_apart xs h)
+
+-- ---- merged
+
+differs_placed : (n : ℕ) (b : Row) (xs : List Row) → DiffersFromAll n (placed b xs) → (b.number ≢ n) × DiffersFromAll n xs
+differs_placed n b [] h = (h.0, tt)
+differs_placed n b (x ∷ xs) h = at (precedes b x) h (differs_placed n b xs)
   where
-    at : (t : Bool) → option_map rows_of_entry (if t then Some e else entry_in a xs) ≡ (if t then Some rows else option_map rows_of_entry (entry_in a xs))
-    at true = ap Some is
-    at false = refl
+    at : (t : Bool) → DiffersFromAll n (if t then b ∷ x ∷ xs else x ∷ placed b xs) → (DiffersFromAll n (placed b xs) → (b.number ≢ n) × DiffersFromAll n xs) → (b.number ≢ n) × DiffersFromAll n (x ∷ xs)
+    at true k rest = (k.0, k.1)
+    at false k rest = let r = rest k.1 in (r.0, (k.0, r.1))
 
-pub answers_put : (n a : List ℕ) (k : Key) (e : Entry) (kept : Option KeptAnswer) (xs : List Entry) → e.number ≡ n →
-    ((q : Key) → get same_key e.answers q ≡ kept_after kept q (answer_of_entry q (entry_in n xs))) →
-    answer_of_entry k (entry_in a (put (is_entry n) e xs)) ≡ (if same_name n a then kept_after kept k (answer_of_entry k (entry_in a xs)) else answer_of_entry k (entry_in a xs))
-answers_put n a k e kept xs number is = ap (answer_of_entry k) (entry_put n a e xs number) ∙ at (same_name n a) refl
+distinct_placed : (b : Row) (xs : List Row) → AreDistinct (placed b xs) → DiffersFromAll b.number xs × AreDistinct xs
+distinct_placed b [] h = (tt, tt)
+distinct_placed b (x ∷ xs) h = at (precedes b x) h (distinct_placed b xs)
   where
-    at : (t : Bool) → same_name n a ≡ t → answer_of_entry k (if t then Some e else entry_in a xs) ≡ (if t then kept_after kept k (answer_of_entry k (entry_in a xs)) else answer_of_entry k (entry_in a xs))
-    at true h = is k ∙ ap (λ m. kept_after kept k (answer_of_entry k (entry_in m xs))) ((bytes_decides n a).0 h)
-    at false h = refl
+    turned : b.number ≢ x.number → x.number ≢ b.number
+    turned n e = n (sym e)
 
-pub charges_put : (n a : List ℕ) (e : Entry) (more : List ChargeRow) (xs : List Entry) → e.number ≡ n → e.charges.items ≡ charges_of_entry (entry_in n xs) ++ more →
-    charges_of_entry (entry_in a (put (is_entry n) e xs)) ≡ (if same_name n a then charges_of_entry (entry_in a xs) ++ more else charges_of_entry (entry_in a xs))
-charges_put n a e more xs number is = ap charges_of_entry (entry_put n a e xs number) ∙ at (same_name n a) refl
+    at : (t : Bool) → AreDistinct (if t then b ∷ x ∷ xs else x ∷ placed b xs) → (AreDistinct (placed b xs) → DiffersFromAll b.number xs × AreDistinct xs) → DiffersFromAll b.number (x ∷ xs) × AreDistinct (x ∷ xs)
+    at true k rest = (k.0, k.1)
+    at false k rest = let r = rest k.1 in let d = differs_placed x.number b xs k.0 in ((turned d.0, r.0), (d.1, r.1))
+
+bucket_placed : (n : ℕ) (b : Row) (xs : List Row) → DiffersFromAll b.number xs → bucket_in n (placed b xs) ≡ first_of (bucket_in n xs) (cond (b.number == n) (Some b) None)
+bucket_placed n b [] h = refl
+bucket_placed n b (x ∷ xs) h = at (precedes b x) (b.number == n) (x.number == n) refl refl (bucket_placed n b xs h.1)
   where
-    at : (t : Bool) → same_name n a ≡ t → charges_of_entry (if t then Some e else entry_in a xs) ≡ (if t then charges_of_entry (entry_in a xs) ++ more else charges_of_entry (entry_in a xs))
-    at true h = is ∙ ap (λ m. charges_of_entry (entry_in m xs) ++ more) ((bytes_decides n a).0 h)
-    at false h = refl
+    none : (b.number == n) ≡ true → (ys : List Row) → DiffersFromAll b.number ys → bucket_in n ys ≡ None
+    none e [] d = refl
+    none e (y ∷ ys) d = by (y.number == n) refl (none e ys d.1)
+      where
+        by : (t : Bool) → (y.number == n) ≡ t → bucket_in n ys ≡ None → cond t (Some y) (bucket_in n ys) ≡ None
+        by true k rest = absurd (d.0 (same_number y.number n k ∙ sym (same_number b.number n e)))
+        by false k rest = rest
 
-pub length-put : {A : Type 0} (p : A → Bool) (x : A) (xs : List A) → length (put p x xs) ≡ (if is_some (find p xs) then length xs else length xs + 1)
-length-put p x [] = refl
-length-put p x (y ∷ ys) = at (p y) (length-put p x ys)
+    both : {A : Type 0} (o : Option A) → first_of o None ≡ o
+    both None = refl
+    both (Some y) = refl
+
+    at : (p u v : Bool) → (b.number == n) ≡ u → (x.number == n) ≡ v → bucket_in n (placed b xs) ≡ first_of (bucket_in n xs) (cond (b.number == n) (Some b) None) →
+        bucket_in n (if p then b ∷ x ∷ xs else x ∷ placed b xs) ≡ first_of (cond v (Some x) (bucket_in n xs)) (cond u (Some b) None)
+    at true true v e k rest = rw e (sym (ap (λ o. first_of o (Some b)) (ap (λ t. cond t (Some x) (bucket_in n xs)) (sym k) ∙ none e (x ∷ xs) h)))
+    at true false v e k rest = rw (e, k) (sym (both (cond v (Some x) (bucket_in n xs))))
+    at false true true e k rest = absurd (h.0 (same_number x.number n k ∙ sym (same_number b.number n e)))
+    at false true false e k rest = rw k (rest ∙ ap (λ t. first_of (bucket_in n xs) (cond t (Some b) None)) e)
+    at false false true e k rest = rw k refl
+    at false false false e k rest = rw k (rest ∙ ap (λ t. first_of (bucket_in n xs) (cond t (Some b) None)) e)
+
+later_first : {A : Type 0} (o p q : Option A) → first_of (first_of o p) q ≡ first_of o (first_of p q)
+later_first None p q = refl
+later_first (Some x) p q = refl
+
+cond_first : (t : Bool) (b : Row) (o : Option Row) → (t ≡ true → o ≡ None) → first_of o (cond t (Some b) None) ≡ cond t (Some b) o
+cond_first true b o h = ap (λ p. first_of p (Some b)) (h refl)
+cond_first false b None h = refl
+cond_first false b (Some x) h = refl
+
+pub distinct_merged : (left rows : List Row) → AreDistinct (merged left rows) → AreDistinct rows
+distinct_merged [] rows h = h
+distinct_merged (b ∷ bs) rows h = distinct_merged bs rows (distinct_placed b (merged bs rows) h).1
+
+-- found among those loaded, or among those left
+pub bucket_merged : (n : ℕ) (left rows : List Row) → AreDistinct (merged left rows) → bucket_in n (merged left rows) ≡ first_of (bucket_in n rows) (bucket_in n left)
+bucket_merged n [] rows h = sym (both (bucket_in n rows))
   where
-    more : (t : Bool) (n : ℕ) → suc (if t then n else n + 1) ≡ (if t then suc n else suc n + 1)
-    more true n = refl
-    more false n = omega arith
-
-    at : (t : Bool) → length (put p x ys) ≡ (if is_some (find p ys) then length ys else length ys + 1) →
-        length (if t then x ∷ ys else y ∷ put p x ys) ≡ (if is_some (cond t (Some y) (find p ys)) then length (y ∷ ys) else length (y ∷ ys) + 1)
-    at true r = refl
-    at false r = ap suc r ∙ more (is_some (find p ys)) (length ys)
-
--- ---- an account that is put as it was
-
-pub rows_stay : (n a : List ℕ) (e old : Entry) (xs : List Entry) → IsFound n old xs → e.number ≡ n → rows_of_entry e ≡ rows_of_entry old →
-    option_map rows_of_entry (entry_in a (put (is_entry n) e xs)) ≡ option_map rows_of_entry (entry_in a xs)
-rows_stay n a e old xs there number is = rows_put n a e (rows_of_entry old) xs number is ∙ at (same_name n a) refl
+    both : {A : Type 0} (o : Option A) → first_of o None ≡ o
+    both None = refl
+    both (Some y) = refl
+bucket_merged n (b ∷ bs) rows h =
+    let d = distinct_placed b (merged bs rows) h in
+    let rest : bucket_in n (merged bs rows) ≡ first_of (bucket_in n rows) (bucket_in n bs) = bucket_merged n bs rows d.1 in
+    bucket_placed n b (merged bs rows) d.0
+    ∙ ap (λ o. first_of o (cond (b.number == n) (Some b) None)) rest
+    ∙ later_first (bucket_in n rows) (bucket_in n bs) (cond (b.number == n) (Some b) None)
+    ∙ at (sym rest) (b.number == n) refl
   where
-    at : (t : Bool) → same_name n a ≡ t → (if t then Some (rows_of_entry old) else option_map rows_of_entry (entry_in a xs)) ≡ option_map rows_of_entry (entry_in a xs)
-    at true h = ap (option_map rows_of_entry) (sym there.found ∙ ap (λ m. entry_in m xs) ((bytes_decides n a).0 h))
-    at false h = refl
+    none : (ys : List Row) → (b.number == n) ≡ true → DiffersFromAll b.number ys → bucket_in n ys ≡ None
+    none [] e d = refl
+    none (y ∷ ys) e d = by (y.number == n) refl (none ys e d.1)
+      where
+        by : (t : Bool) → (y.number == n) ≡ t → bucket_in n ys ≡ None → cond t (Some y) (bucket_in n ys) ≡ None
+        by true k rest = absurd (d.0 (same_number y.number n k ∙ sym (same_number b.number n e)))
+        by false k rest = rest
 
-pub answers_stay : (n a : List ℕ) (k : Key) (e old : Entry) (xs : List Entry) → IsFound n old xs → e.number ≡ n →
-    ((q : Key) → get same_key e.answers q ≡ get same_key old.answers q) →
-    answer_of_entry k (entry_in a (put (is_entry n) e xs)) ≡ answer_of_entry k (entry_in a xs)
-answers_stay n a k e old xs there number is =
-    answers_put n a k e None xs number (λ q. is q ∙ ap (answer_of_entry q) (sym there.found)) ∙ at (same_name n a)
-  where
-    at : (t : Bool) → (if t then answer_of_entry k (entry_in a xs) else answer_of_entry k (entry_in a xs)) ≡ answer_of_entry k (entry_in a xs)
-    at true = refl
-    at false = refl
+    second_none : (o p : Option Row) → first_of o p ≡ None → p ≡ None
+    second_none None p e = e
+    second_none (Some x) p e = absurd (no_some x (sym e))
 
-pub charges_stay : (n a : List ℕ) (e old : Entry) (xs : List Entry) → IsFound n old xs → e.number ≡ n → e.charges.items ≡ old.charges.items →
-    charges_of_entry (entry_in a (put (is_entry n) e xs)) ≡ charges_of_entry (entry_in a xs)
-charges_stay n a e old xs there number is = ap charges_of_entry (entry_put n a e xs number) ∙ at (same_name n a) refl
-  where
-    at : (t : Bool) → same_name n a ≡ t → charges_of_entry (if t then Some e else entry_in a xs) ≡ charges_of_entry (entry_in a xs)
-    at true h = is ∙ ap charges_of_entry (sym there.found ∙ ap (λ m. entry_in m xs) ((bytes_decides n a).0 h))
-    at false h = refl
-
--- ---- at the place where it was found
-
-module _ (n : List ℕ) (place : ℕ) (xs : List Entry) (old e : Entry) (at : position (is_entry n) xs ≡ Some place) (is : old ≡ get_or xs place old) (number : e.number ≡ old.number) where
-  there : IsFound n old xs
-  there = found_at n place xs old at is
-
-  set_put : set xs place e ≡ put (is_entry n) e xs
-  set_put = sym (placed (is_entry n) e place xs at).put
-
-  pub rows_written : (a : List ℕ) (rows : StoredRows) → rows_of_entry e ≡ rows →
-      option_map rows_of_entry (entry_in a (set xs place e)) ≡ (if same_name n a then Some rows else option_map rows_of_entry (entry_in a xs))
-  rows_written a rows same = ap (λ ys. option_map rows_of_entry (entry_in a ys)) set_put ∙ rows_put n a e rows xs (number ∙ there.number) same
-
-  pub answers_written : (kept : Option KeptAnswer) (a : List ℕ) (k : Key) → ((q : Key) → get same_key e.answers q ≡ kept_after kept q (get same_key old.answers q)) →
-      answer_of_entry k (entry_in a (set xs place e)) ≡ (if same_name n a then kept_after kept k (answer_of_entry k (entry_in a xs)) else answer_of_entry k (entry_in a xs))
-  answers_written kept a k same =
-      ap (λ ys. answer_of_entry k (entry_in a ys)) set_put
-      ∙ answers_put n a k e kept xs (number ∙ there.number) (λ q. same q ∙ ap (λ o. kept_after kept q (answer_of_entry q o)) (sym there.found))
-
-  pub charges_written : (more : List ChargeRow) (a : List ℕ) → e.charges.items ≡ old.charges.items ++ more →
-      charges_of_entry (entry_in a (set xs place e)) ≡ (if same_name n a then charges_of_entry (entry_in a xs) ++ more else charges_of_entry (entry_in a xs))
-  charges_written more a same =
-      ap (λ ys. charges_of_entry (entry_in a ys)) set_put
-      ∙ charges_put n a e more xs (number ∙ there.number) (same ∙ ap (λ o. charges_of_entry o ++ more) (sym there.found))
-
-  pub count_written : length (set xs place e) ≡ (if is_some (entry_in n xs) then length xs else length xs + 1)
-  count_written = ap length set_put ∙ length-put (is_entry n) e xs
-
-  pub rows_left : (a : List ℕ) → rows_of_entry e ≡ rows_of_entry old → option_map rows_of_entry (entry_in a (set xs place e)) ≡ option_map rows_of_entry (entry_in a xs)
-  rows_left a same = ap (λ ys. option_map rows_of_entry (entry_in a ys)) set_put ∙ rows_stay n a e old xs there (number ∙ there.number) same
-
-  pub answers_left : (a : List ℕ) (k : Key) → ((q : Key) → get same_key e.answers q ≡ get same_key old.answers q) → answer_of_entry k (entry_in a (set xs place e)) ≡ answer_of_entry k (entry_in a xs)
-  answers_left a k same = ap (λ ys. answer_of_entry k (entry_in a ys)) set_put ∙ answers_stay n a k e old xs there (number ∙ there.number) same
-
-  pub charges_left : (a : List ℕ) → e.charges.items ≡ old.charges.items → charges_of_entry (entry_in a (set xs place e)) ≡ charges_of_entry (entry_in a xs)
-  charges_left a same = ap (λ ys. charges_of_entry (entry_in a ys)) set_put ∙ charges_stay n a e old xs there (number ∙ there.number) same
-
--- ---- a new account
-
-module _ (n : List ℕ) (xs : List Entry) (e : Entry) (none : position (is_entry n) xs ≡ None) (number : e.number ≡ n) where
-  push_put : xs ++ e ∷ [] ≡ put (is_entry n) e xs
-  push_put = sym (put-none (is_entry n) e xs (unplaced (is_entry n) xs none))
-
-  pub rows_added : (a : List ℕ) → option_map rows_of_entry (entry_in a (xs ++ e ∷ [])) ≡ (if same_name n a then Some (rows_of_entry e) else option_map rows_of_entry (entry_in a xs))
-  rows_added a = ap (λ ys. option_map rows_of_entry (entry_in a ys)) push_put ∙ rows_put n a e (rows_of_entry e) xs number refl
-
-  pub answers_added : (kept : Option KeptAnswer) (a : List ℕ) (k : Key) → ((q : Key) → get same_key e.answers q ≡ kept_after kept q None) →
-      answer_of_entry k (entry_in a (xs ++ e ∷ [])) ≡ (if same_name n a then kept_after kept k (answer_of_entry k (entry_in a xs)) else answer_of_entry k (entry_in a xs))
-  answers_added kept a k same =
-      ap (λ ys. answer_of_entry k (entry_in a ys)) push_put
-      ∙ answers_put n a k e kept xs number (λ q. same q ∙ ap (λ o. kept_after kept q (answer_of_entry q o)) (sym (unplaced (is_entry n) xs none)))
-
-  pub charges_added : (a : List ℕ) → charges_of_entry (entry_in a (xs ++ e ∷ [])) ≡ (if same_name n a then charges_of_entry (entry_in a xs) ++ e.charges.items else charges_of_entry (entry_in a xs))
-  charges_added a =
-      ap (λ ys. charges_of_entry (entry_in a ys)) push_put
-      ∙ charges_put n a e e.charges.items xs number (ap (λ o. charges_of_entry o ++ e.charges.items) (sym (unplaced (is_entry n) xs none)))
-
-  pub count_added : length (xs ++ e ∷ []) ≡ (if is_some (entry_in n xs) then length xs else length xs + 1)
-  count_added = ap length push_put ∙ length-put (is_entry n) e xs
+    at : first_of (bucket_in n rows) (bucket_in n bs) ≡ bucket_in n (merged bs rows) → (t : Bool) → (b.number == n) ≡ t → first_of (bucket_in n rows) (first_of (bucket_in n bs) (cond t (Some b) None)) ≡ first_of (bucket_in n rows) (cond t (Some b) (bucket_in n bs))
+    at is t e = ap (first_of (bucket_in n rows)) (cond_first t b (bucket_in n bs) (λ k.
+        second_none (bucket_in n rows) (bucket_in n bs) (is ∙ none (merged bs rows) (e ∙ k) (distinct_placed b (merged bs rows) h).0)))

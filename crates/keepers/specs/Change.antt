@@ -1,38 +1,118 @@
--- What a keeper loads, and what a commit and a sweep leave.
+-- What a keeper loads of an account, and what a commit and a sweep leave.
 -- Source: profile.
-use Rattle.std.specs.Prelude.{ℕ, ◌+◌, ◌++◌, Option, Some, None, List, is_some, if◌then◌else◌, option_map}
-use Rattle.commands.specs.Alike.{same_name}
+use Rattle.std.specs.Prelude.{◌≡◌, ℕ, ◌+◌, ◌++◌, ◌==◌, ◌≤◌, ◌||◌, Bool, true, false, not, Option, Some, None, List, is_some, option_map, if◌then◌else◌}
+use Rattle.identifiers.specs.Texts.{same_name}
+use Rattle.buckets.specs.Row.{Row}
 use Rattle.tariffs.specs.Books.{Book}
-use Rattle.reserving.specs.Stored.{StoredRows, stored, priced, advanced_stored}
+use Rattle.reserving.specs.declared.session.Session.{Session}
+use Rattle.reserving.specs.declared.session.SessionGroup.{SessionGroup}
+use Rattle.reserving.specs.declared.session.Counter.{Counter}
+use Rattle.reserving.specs.Ledger.{Ledger}
+use Rattle.reserving.specs.Pricing.{cycle_at}
+use Rattle.reserving.specs.Sessions.{is_open, session_in, group_in, counter_in}
+use Rattle.reserving.specs.Rows.{AccountRows, AreApart, IsRowsOf}
+use Rattle.reserving.specs.Stored.{StoredRows, IsStored, stored, priced}
+use Rattle.reserving.specs.Left.{is_dead, is_open_row, only, first_of, bucket_in, IsDead}
 use Rattle.keepers.specs.declared.key.Key.{Key}
 use Rattle.keepers.specs.declared.key.KeptAnswer.{KeptAnswer}
+use Rattle.keepers.specs.Keys.{same_key, key_of}
 use Rattle.keepers.specs.declared.loaded.Loaded.{Loaded}
 use Rattle.keepers.specs.declared.loaded.Change.{Change}
-use Rattle.keepers.specs.Keys.{same_key, key_of}
-use Rattle.keepers.specs.Tables.{Tables}
+use Rattle.keepers.specs.Keyed.{same_bucket}
+use Rattle.keepers.specs.Tables.{Head, Rows, Tables, GroupRow, no_rows, head_of, group_row, held_of, AreListed, charge_in}
 
--- an account as it is loaded: its rows, priced by the book
-abbrev pub loaded_from : Book → List ℕ → StoredRows → Loaded
-loaded_from book a rows = record { number = a; account = priced book rows }
+-- ---- load
 
-abbrev pub loaded : Book → List ℕ → Option StoredRows → Option Loaded
-loaded book a rows = option_map (loaded_from book a) rows
+abbrev pub has_reservation : Option GroupRow → Bool
+has_reservation None = false
+has_reservation (Some r) = is_some r.periods
+
+-- a group's row and what is held there are loaded
+abbrev pub is_loaded : Rows → List ℕ → ℕ → Bool
+is_loaded r s g = is_open_row (r.sessions s) || has_reservation (r.groups s g)
+
+-- the account is what may still change at the moment: the buckets that aren't dead, the open sessions, what they have of
+-- groups and whatever holds a reservation, and the counters of the cycles at the moment
+pub record IsLoadedFrom (book : Book) (t : ℕ) (r : Rows) (a : AccountRows) : Type 0 where
+  pub priced_by : a.book ≡ book
+  pub head : r.head ≡ Some (head_of (stored a))
+  pub buckets : (n : ℕ) → bucket_in n a.buckets ≡ only (λ b. not (is_dead b)) (r.buckets n)
+  pub sessions : (s : List ℕ) → session_in s a.sessions ≡ only (λ x. is_open x.state) (r.sessions s)
+  pub groups : (s : List ℕ) (g : ℕ) → option_map group_row (group_in s g a.groups) ≡ (if is_loaded r s g then r.groups s g else None)
+  pub holds : (s : List ℕ) (g n : ℕ) → held_of n (group_in s g a.groups) ≡ (if is_loaded r s g then r.holds s g n else 0)
+  pub counters : (g c : ℕ) → counter_in g c a.counters ≡ (if c == cycle_at book g t then r.counters g c else None)
+
+abbrev pub IsLoad : Book → ℕ → List ℕ → Rows → Option Loaded → Type 0
+IsLoad book t n r None = r.head ≡ None
+IsLoad book t n r (Some l) = (l.number ≡ n) × IsLoadedFrom book t r l.account × (l.before ≡ stored l.account)
+
+-- the same without a copy of what was loaded
+abbrev pub IsView : Book → ℕ → Rows → Option AccountRows → Type 0
+IsView book t r None = r.head ≡ None
+IsView book t r (Some a) = IsLoadedFrom book t r a
+
+-- the buckets that can't be used any more, each once
+pub record AreDeadOf (r : Rows) (rows : List Row) : Type 0 where
+  pub found : (n : ℕ) → bucket_in n rows ≡ only is_dead (r.buckets n)
+  pub apart : AreApart same_bucket rows
+
+-- ---- a commit
+
+-- what is held of a bucket, where a change may name the group
+abbrev pub held_over : ℕ → Option SessionGroup → ℕ → ℕ
+held_over n None before = before
+held_over n (Some r) before = held_of n (Some r)
+
+-- the change's rows over those that are there
+abbrev pub over : StoredRows → Rows → Rows
+over w r = record {
+  head = Some (head_of w);
+  buckets = λ n. first_of (bucket_in n w.buckets) (r.buckets n);
+  counters = λ g c. first_of (counter_in g c w.counters) (r.counters g c);
+  sessions = λ s. first_of (session_in s w.sessions) (r.sessions s);
+  groups = λ s g. first_of (option_map group_row (group_in s g w.groups)) (r.groups s g);
+  holds = λ s g n. held_over n (group_in s g w.groups) (r.holds s g n);
+}
 
 -- what is found under a key once an answer more is kept
 abbrev pub kept_after : Option KeptAnswer → Key → Option KeptAnswer → Option KeptAnswer
 kept_after None k before = before
 kept_after (Some kept) k before = if same_key (key_of kept.content) k then Some kept else before
 
--- the tables with a change
 abbrev pub changed : Change → Tables → Tables
 changed change tables = record {
   last = change.moment;
-  accounts = λ a. if same_name change.account.number a then Some (stored change.account.account) else tables.accounts a;
-  answers = λ a k. if same_name change.account.number a then kept_after change.kept k (tables.answers a k) else tables.answers a k;
-  charges = λ a. if same_name change.account.number a then tables.charges a ++ change.charges.items else tables.charges a;
-  count = if is_some (tables.accounts change.account.number) then tables.count else tables.count + 1;
+  rows = λ a. if same_name change.number a then over change.after (tables.rows a) else tables.rows a;
+  answers = λ a k. if same_name change.number a then kept_after change.kept k (tables.answers a k) else tables.answers a k;
+  charges = λ a n. if same_name change.number a then first_of (tables.charges a n) (charge_in n change.charges.items) else tables.charges a n;
+  count = if is_some (tables.rows change.number).head then tables.count else tables.count + 1;
 }
 
--- the tables with each account at a moment
-abbrev pub swept : Book → ℕ → Tables → Tables
-swept book t tables = record tables { last = t; accounts = λ a. option_map (advanced_stored book t) (tables.accounts a) }
+-- the rows before the change are there, and what isn't among those after it can't change any more
+pub record IsMadeFrom (before after : StoredRows) (r : Rows) : Type 0 where
+  pub buckets : (n : ℕ) (x : Row) → bucket_in n before.buckets ≡ Some x → r.buckets n ≡ Some x
+  pub counters : (g c : ℕ) (x : Counter) → counter_in g c before.counters ≡ Some x → r.counters g c ≡ Some x
+  pub sessions : (s : List ℕ) (x : Session) → session_in s before.sessions ≡ Some x → r.sessions s ≡ Some x
+  pub groups : (s : List ℕ) (g : ℕ) (x : SessionGroup) → group_in s g before.groups ≡ Some x → r.groups s g ≡ Some (group_row x)
+  pub holds : (s : List ℕ) (g n : ℕ) (x : SessionGroup) → group_in s g before.groups ≡ Some x → r.holds s g n ≡ held_of n (Some x)
+  pub dead : (n : ℕ) (x : Row) → r.buckets n ≡ Some x → bucket_in n after.buckets ≡ None → IsDead x
+  pub ended : (s : List ℕ) (x : Session) → r.sessions s ≡ Some x → session_in s after.sessions ≡ None → is_open x.state ≡ false
+  pub free : (s : List ℕ) (g : ℕ) (x : GroupRow) → r.groups s g ≡ Some x → group_in s g after.groups ≡ None → (x.periods ≡ None) × (session_in s after.sessions ≡ None)
+
+-- ---- a sweep
+
+-- from each ledger whose rows the account has at a moment, its rows at the later one
+pub record AreRowsAt (book : Book) (ledger : Ledger) (t : ℕ) (r : Rows) : Type 0 where
+  pub listed : StoredRows
+  pub are : AreListed listed r
+  pub kept : IsStored listed
+  pub moment : listed.as_of ≡ t
+  pub rows : IsRowsOf ledger (priced book listed)
+
+pub record IsSwept (book : Book) (t : ℕ) (old new : Tables) : Type 0 where
+  pub last : new.last ≡ t
+  pub none : (a : List ℕ) → (old.rows a).head ≡ None → new.rows a ≡ old.rows a
+  pub rows : (a : List ℕ) (ledger : Ledger) (u : ℕ) → u ≤ t → AreRowsAt book ledger u (old.rows a) → AreRowsAt book ledger t (new.rows a)
+  pub answers : (a : List ℕ) (k : Key) → new.answers a k ≡ old.answers a k
+  pub charges : (a : List ℕ) (n : ℕ) → new.charges a n ≡ old.charges a n
+  pub count : new.count ≡ old.count

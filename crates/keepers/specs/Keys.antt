@@ -7,7 +7,7 @@ use Rattle.std.specs.Cmp.Lexicographic.{bytes_decides}
 use Rattle.std.specs.Hash as fed
 use Rattle.std.proofs.Common.{refl, sym, ap, subst, true≢false}
 use Rattle.std.proofs.lemmas.Bool.{and_parts}
-use Rattle.commands.specs.Alike.{same_name}
+use Rattle.identifiers.specs.Texts.{same_name}
 use Rattle.commands.specs.declared.command.Content.{Content}
 use Rattle.commands.specs.declared.command.Content.TheVariants as content
 use Rattle.keepers.specs.declared.key.Key.{Key}

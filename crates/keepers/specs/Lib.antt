@@ -1,8 +1,13 @@
 pub mod Faults
 pub mod Keys
+pub mod Keyed
 pub mod Tables
+pub mod Whole
 pub mod Change
+pub mod Differing
+pub mod Parts
+pub mod Named
+pub mod Inside
 pub mod Memory
 pub mod Failing
-pub mod Histories
-pub mod Accepted
+pub mod Steps

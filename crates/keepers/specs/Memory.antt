@@ -1,17 +1,22 @@
 -- What the keeper in memory holds.
 -- Source: profile.
-use Rattle.std.specs.Prelude.{ℕ, Bool, List, [], length, Option, Some, None, option_map}
+use Rattle.std.specs.Prelude.{◌≡◌, ◌≤◌, ℕ, Bool, List, [], ◌∷◌, length, Option, Some, None, option_map, position}
 use Rattle.std.specs.List.{find}
-use Rattle.std.specs.HashMap.{get}
-use Rattle.commands.specs.Alike.{same_name}
+use Rattle.std.specs.HashMap.{HashMap, get}
+use Rattle.std.specs.declared.hash.FoldHasher.{FoldHasher}
+use Rattle.std.specs.declared.hash.BuildHasherDefault.{BuildHasherDefault}
+use Rattle.identifiers.specs.Texts.{same_name}
 use Rattle.tariffs.specs.Books.{Book}
 use Rattle.reserving.specs.declared.charge.ChargeRow.{ChargeRow}
-use Rattle.reserving.specs.Stored.{StoredRows, advanced_stored}
+use Rattle.reserving.specs.declared.session.Session.{Session}
 use Rattle.keepers.specs.declared.key.Key.{Key}
 use Rattle.keepers.specs.declared.key.KeptAnswer.{KeptAnswer}
-use Rattle.keepers.specs.declared.entries.Entry.{Entry}
 use Rattle.keepers.specs.Keys.{same_key}
-use Rattle.keepers.specs.Tables.{Tables}
+use Rattle.keepers.specs.declared.entries.Entry.{Entry}
+use Rattle.keepers.specs.Tables.{Rows, Tables, no_rows, charge_in}
+use Rattle.keepers.specs.Parts.{rows_of}
+use Rattle.keepers.specs.Change.{AreRowsAt}
+use Rattle.reserving.specs.Ledger.{Ledger}
 
 -- whether it is the account of this number
 abbrev pub is_entry : List ℕ → Entry → Bool
@@ -20,8 +25,12 @@ is_entry a e = same_name e.number a
 abbrev pub entry_in : List ℕ → List Entry → Option Entry
 entry_in a entries = find (is_entry a) entries
 
-abbrev pub rows_of_entry : Entry → StoredRows
-rows_of_entry e = e.rows
+abbrev pub rows_of_entry : Option Entry → Rows
+rows_of_entry None = no_rows
+rows_of_entry (Some e) = rows_of e.rows
+
+abbrev pub session_of_entry : List ℕ → Option Entry → Option Session
+session_of_entry s o = (rows_of_entry o).sessions s
 
 abbrev pub answer_of_entry : Key → Option Entry → Option KeptAnswer
 answer_of_entry k None = None
@@ -31,14 +40,32 @@ abbrev pub charges_of_entry : Option Entry → List ChargeRow
 charges_of_entry None = []
 charges_of_entry (Some e) = e.charges.items
 
-abbrev pub advanced_entry : Book → ℕ → Entry → Entry
-advanced_entry book t e = record e { rows = advanced_stored book t e.rows }
+-- ---- where each account stands
+
+abbrev pub Places : Type 0
+Places = HashMap (List ℕ) ℕ (BuildHasherDefault FoldHasher)
+
+-- each number is found at the place of its account
+abbrev pub ArePlaced : Places → List Entry → Type 0
+ArePlaced places entries = (a : List ℕ) → get same_name places a ≡ position (is_entry a) entries
+
+-- an account as a sweep leaves it
+pub record IsSweptEntry (book : Book) (t : ℕ) (old new : Entry) : Type 0 where
+  pub number : new.number ≡ old.number
+  pub rows : (ledger : Ledger) (u : ℕ) → u ≤ t → AreRowsAt book ledger u (rows_of old.rows) → AreRowsAt book ledger t (rows_of new.rows)
+  pub charges : new.charges ≡ old.charges
+  pub answers : new.answers ≡ old.answers
+
+abbrev pub AreSwept : Book → ℕ → List Entry → List Entry → Type 0
+AreSwept book t [] [] = Unit {0}
+AreSwept book t (x ∷ xs) (y ∷ ys) = IsSweptEntry book t x y × AreSwept book t xs ys
+AreSwept book t xs ys = ⊥
 
 abbrev pub memory_tables : ℕ → List Entry → Tables
 memory_tables last entries = record {
   last = last;
-  accounts = λ a. option_map rows_of_entry (entry_in a entries);
+  rows = λ a. rows_of_entry (entry_in a entries);
   answers = λ a k. answer_of_entry k (entry_in a entries);
-  charges = λ a. charges_of_entry (entry_in a entries);
+  charges = λ a n. charge_in n (charges_of_entry (entry_in a entries));
   count = length entries;
 }

@@ -1,24 +1,87 @@
--- What a keeper holds.
+-- What a keeper holds, each row under its key.
 -- Source: profile.
-use Rattle.std.specs.Prelude.{ℕ, List, [], Option, None}
+use Rattle.std.specs.Prelude.{◌≡◌, ℕ, ◌==◌, Bool, List, [], Option, Some, None, option_map, sum_by, if◌then◌else◌}
+use Rattle.std.specs.List.{find}
+use Rattle.buckets.specs.declared.holds.Hold.{Hold}
+use Rattle.buckets.specs.Row.{Row}
+use Rattle.rating.specs.declared.grant.Periods.{Periods}
 use Rattle.reserving.specs.declared.charge.ChargeRow.{ChargeRow}
+use Rattle.reserving.specs.declared.session.Session.{Session}
+use Rattle.reserving.specs.declared.session.SessionGroup.{SessionGroup}
+use Rattle.reserving.specs.declared.session.Counter.{Counter}
+use Rattle.reserving.specs.Sessions.{session_in, group_in, counter_in, holds_in}
+use Rattle.reserving.specs.Left.{bucket_in}
 use Rattle.reserving.specs.Stored.{StoredRows}
 use Rattle.keepers.specs.declared.key.Key.{Key}
 use Rattle.keepers.specs.declared.key.KeptAnswer.{KeptAnswer}
+
+-- what is kept of an account once
+pub record Head : Type 0 where
+  pub as_of : ℕ
+  pub barred : Bool
+  pub next_bucket : ℕ
+  pub next_charge : ℕ
+
+-- what a session has of a group: its use, and the periods of its reservation where it has one
+pub record GroupRow : Type 0 where
+  pub used : ℕ
+  pub periods : Option Periods
+
+-- an account's rows: a bucket by its number, a counter by group and cycle, a session by its name, what it has of a group
+-- by name and group, and what its reservation there holds of a bucket by the bucket's number too, 0 where it holds nothing
+pub record Rows : Type 0 where
+  pub head : Option Head
+  pub buckets : ℕ → Option Row
+  pub counters : ℕ → ℕ → Option Counter
+  pub sessions : List ℕ → Option Session
+  pub groups : List ℕ → ℕ → Option GroupRow
+  pub holds : List ℕ → ℕ → ℕ → ℕ
+
+-- no account
+abbrev pub no_rows : Rows
+no_rows = record { head = None; buckets = λ n. None; counters = λ g c. None; sessions = λ s. None; groups = λ s g. None; holds = λ s g n. 0 }
 
 -- the tables; accounts are known by the bytes of their numbers
 pub record Tables : Type 0 where
   -- the moment of the last accepted command
   pub last : ℕ
   -- the rows of accounts
-  pub accounts : List ℕ → Option StoredRows
+  pub rows : List ℕ → Rows
   -- what is kept under the keys of an account
   pub answers : List ℕ → Key → Option KeptAnswer
-  -- the charges of an account, in order
-  pub charges : List ℕ → List ChargeRow
+  -- the charges of an account, by their numbers
+  pub charges : List ℕ → ℕ → Option ChargeRow
   -- how many accounts there are
   pub count : ℕ
 
 -- before any command
 abbrev pub no_tables : Tables
-no_tables = record { last = 0; accounts = λ a. None; answers = λ a k. None; charges = λ a. []; count = 0 }
+no_tables = record { last = 0; rows = λ a. no_rows; answers = λ a k. None; charges = λ a n. None; count = 0 }
+
+-- ---- lists of rows
+
+abbrev pub head_of : StoredRows → Head
+head_of w = record { as_of = w.as_of; barred = w.barred; next_bucket = w.next_bucket; next_charge = w.next_charge }
+
+abbrev pub group_row : SessionGroup → GroupRow
+group_row r = record { used = r.used; periods = option_map (λ x. x.periods) r.reservation }
+
+abbrev pub held_at : ℕ → List Hold → ℕ
+held_at n holds = sum_by (λ h. if h.bucket == n then h.amount else 0) holds
+
+-- what is held of a bucket
+abbrev pub held_of : ℕ → Option SessionGroup → ℕ
+held_of n None = 0
+held_of n (Some r) = held_at n (holds_in r.reservation)
+
+-- the rows are those of the list, whatever its order
+pub record AreListed (w : StoredRows) (r : Rows) : Type 0 where
+  pub head : r.head ≡ Some (head_of w)
+  pub buckets : (n : ℕ) → r.buckets n ≡ bucket_in n w.buckets
+  pub counters : (g c : ℕ) → r.counters g c ≡ counter_in g c w.counters
+  pub sessions : (s : List ℕ) → r.sessions s ≡ session_in s w.sessions
+  pub groups : (s : List ℕ) (g : ℕ) → r.groups s g ≡ option_map group_row (group_in s g w.groups)
+  pub holds : (s : List ℕ) (g n : ℕ) → r.holds s g n ≡ held_of n (group_in s g w.groups)
+
+abbrev pub charge_in : ℕ → List ChargeRow → Option ChargeRow
+charge_in n rows = find (λ c. c.number == n) rows

@@ -1,17 +1,26 @@
 //! The accounts of the keeper in memory, each with its charges and its kept answers.
 
-ghost use Rattle.std.specs.Prelude.{◌≡◌, ◌<◌, ◌^◌, ◌+◌, ◌++◌, ℕ, List, Some, is_some, IfOk, OnOk, OnErr, map, length, position, option_map, if◌then◌else◌};
-ghost use Rattle.std.specs.HashMap.{get};
-ghost use Rattle.commands.specs.Alike.{same_name};
+ghost use Rattle.std.specs.Prelude.{◌≡◌, ◌<◌, ◌^◌, ◌+◌, ◌++◌, ℕ, List, Some, None, is_some, IfOk, IsOk, OnOk, OnErr, option_map, map, length, position, if◌then◌else◌};
+ghost use Rattle.std.specs.HashMap.{get, spare};
+ghost use Rattle.identifiers.specs.Texts.{same_name};
 ghost use Rattle.keepers.specs.declared.key.Key.{Key};
-ghost use Rattle.keepers.specs.Keys.{same_key};
-ghost use Rattle.keepers.specs.Change.{loaded, kept_after};
-ghost use Rattle.keepers.specs.Memory.{is_entry, entry_in, rows_of_entry, answer_of_entry, charges_of_entry, advanced_entry};
+ghost use Rattle.keepers.specs.Keys.{same_key, key_of};
+ghost use Rattle.keepers.specs.Change.{kept_after, AreDeadOf};
+ghost use Rattle.keepers.specs.Tables.{Rows, no_rows};
+ghost use Rattle.keepers.specs.Whole.{AreWhole};
+ghost use Rattle.keepers.specs.Change.{IsLoad, IsView, IsMadeFrom, over};
+ghost use Rattle.keepers.specs.Parts.{rows_of};
+ghost use Rattle.keepers.specs.Memory.{entry_in, rows_of_entry, answer_of_entry, charges_of_entry, session_of_entry, IsSweptEntry, AreSwept, ArePlaced};
+ghost use Rattle.reserving.specs.Stored.{StoredRows};
 
+use crate::accounts::Accounts;
 use crate::key::{KeptAnswer, Key};
 use crate::loaded::Loaded;
-use identifiers::AccountNumber;
-use reserving::{ChargeRow, StoredAccount};
+use crate::store::Store;
+use crate::whole::WholeAccount;
+use buckets::Bucket;
+use identifiers::{AccountNumber, SessionId};
+use reserving::{Account, ChargeRow, StoredAccount};
 use std::alloc::{AllocError, Global};
 use std::collections::HashMap;
 use tariffs::TariffBook;
@@ -21,62 +30,142 @@ use units::Moment;
 #[derive(Drop)]
 pub(crate) struct Entry {
     pub(crate) number: AccountNumber,
-    pub(crate) rows: StoredAccount,
+    pub(crate) rows: Store,
     pub(crate) charges: Vec<ChargeRow>,
     pub(crate) answers: HashMap<Key, KeptAnswer>,
 }
 
-/// The place of the account of this number.
-fn place_of(entries: &[Entry], number: &AccountNumber) -> Option<usize>
-    ensures { result ≡ position (is_entry number.now) entries.now }
-{
-    entries.iter().position(|entry| entry.number == *number)
-}
-
-/// A copy of the account of this number, priced by the book.
-pub(crate) fn load_entry<'b>(
-    entries: &[Entry],
+/// What may still change of the account of this number.
+pub(crate) fn view_entry<'b>(
+    accounts: &Accounts,
     book: &'b TariffBook,
     number: &AccountNumber,
-) -> Result<Option<Loaded<'b>>, AllocError>
-    ensures { IfOk result (λ found. found ≡ loaded book.now number.now (option_map rows_of_entry (entry_in number.now entries.now))) }
+    moment: Moment,
+) -> Result<Option<Account<'b>>, AllocError>
+    ensures { IfOk result (λ found. IsView book.now moment (rows_of_entry (entry_in number.now accounts.now.entries.items)) found) }
 {
-    let Some(place) = place_of(entries, number) else {
+    let Some(entry) = accounts.find(number) else {
         return Ok(None);
     };
-    let entry = &entries[place];
+    let account = entry.rows.load(book, moment)?;
+    Ok(Some(account))
+}
+
+/// What may still change of the account of this number, with a copy of it.
+pub(crate) fn load_entry<'b>(
+    accounts: &Accounts,
+    book: &'b TariffBook,
+    number: &AccountNumber,
+    moment: Moment,
+) -> Result<Option<Loaded<'b>>, AllocError>
+    ensures { IfOk result (λ found. IsLoad book.now moment number.now (rows_of_entry (entry_in number.now accounts.now.entries.items)) found) }
+{
+    let Some(entry) = accounts.find(number) else {
+        return Ok(None);
+    };
     let number = number.clone()?;
-    let account = entry.rows.load(book)?;
-    Ok(Some(Loaded { number, account }))
+    let account = entry.rows.load(book, moment)?;
+    let before = account.copy()?.into_stored();
+    Ok(Some(Loaded {
+        number,
+        account,
+        before,
+    }))
+}
+
+/// Whether there is an account of this number.
+pub(crate) fn has_entry(accounts: &Accounts, number: &AccountNumber) -> bool
+    ensures { result ≡ is_some (rows_of_entry (entry_in number.now accounts.now.entries.items)).head }
+{
+    accounts.find(number).is_some()
+}
+
+/// Whether the account of this number has a row of this session.
+pub(crate) fn has_session(accounts: &Accounts, number: &AccountNumber, session: &SessionId) -> bool
+    ensures { result ≡ is_some (session_of_entry session.now (entry_in number.now accounts.now.entries.items)) }
+{
+    match accounts.find(number) {
+        Some(entry) => entry.rows.knows(session),
+        None => false,
+    }
+}
+
+/// The dead buckets of the account of this number.
+pub(crate) fn dead_in(
+    alloc: Global,
+    accounts: &Accounts,
+    number: &AccountNumber,
+) -> Result<Vec<Bucket>, AllocError>
+    ensures { IfOk result (λ found. AreDeadOf (rows_of_entry (entry_in number.now accounts.now.entries.items)) found.items) }
+{
+    let Some(entry) = accounts.find(number) else {
+        return Ok(Vec::new(alloc));
+    };
+    entry.rows.dead_buckets()
+}
+
+/// A copy of every row of the account of this number; none where there is no such account.
+pub(crate) fn whole_in(
+    alloc: Global,
+    accounts: &Accounts,
+    number: &AccountNumber,
+) -> Result<WholeAccount, AllocError>
+    ensures { IfOk result (AreWhole (rows_of_entry (entry_in number.now accounts.now.entries.items))) }
+{
+    let Some(entry) = accounts.find(number) else {
+        return Ok(WholeAccount::none(alloc));
+    };
+    entry.rows.whole()
 }
 
 /// A copy of what is kept under a key of the account of this number.
 pub(crate) fn find_kept(
-    entries: &[Entry],
+    accounts: &Accounts,
     number: &AccountNumber,
     key: &Key,
 ) -> Result<Option<KeptAnswer>, AllocError>
-    ensures { IfOk result (λ found. found ≡ answer_of_entry key.now (entry_in number.now entries.now)) }
+    ensures { IfOk result (λ found. found ≡ answer_of_entry key.now (entry_in number.now accounts.now.entries.items)) }
 {
-    let Some(place) = place_of(entries, number) else {
+    let Some(entry) = accounts.find(number) else {
         return Ok(None);
     };
-    match entries[place].answers.get(key) {
+    match entry.answers.get(key) {
         Some(kept) => Ok(Some(kept.copy()?)),
         None => Ok(None),
     }
 }
 
-/// Keeps an answer under its key. At a fault nothing has changed.
-fn keep(answers: &mut HashMap<Key, KeptAnswer>, kept: Option<KeptAnswer>) -> Result<(), AllocError>
-    ensures ok { OnOk result ((k : Key) → get same_key answers.new k ≡ kept_after kept k (get same_key answers.old k)) }
-    ensures err { OnErr result ((k : Key) → get same_key answers.new k ≡ get same_key answers.old k) }
+/// Makes room for one answer more, and takes the key of this one. What is kept stays.
+fn make_room(
+    answers: &mut HashMap<Key, KeptAnswer>,
+    kept: &Option<KeptAnswer>,
+) -> Result<Option<Key>, AllocError>
+    ensures same { (k : Key) → get same_key answers.new k ≡ get same_key answers.old k }
+    ensures room { OnOk result (0 < spare answers.new) }
+    ensures key { IfOk result (λ key. key ≡ option_map (λ x. key_of x.content) kept.now) }
 {
-    let Some(kept) = kept else {
-        return Ok(());
+    let key = match kept {
+        Some(kept) => Some(Key::of(&kept.content)?),
+        None => None,
     };
-    let key = Key::of(&kept.content)?;
-    answers.insert(key, kept)?;
+    answers.reserve(1)?;
+    Ok(key)
+}
+
+/// Keeps an answer under its key, for which there is room.
+fn keep(
+    answers: &mut HashMap<Key, KeptAnswer>,
+    key: Option<Key>,
+    kept: Option<KeptAnswer>,
+) -> Result<(), AllocError>
+    requires room { 0 < spare answers.old }
+    requires key { key ≡ option_map (λ x. key_of x.content) kept }
+    ensures ok { IsOk result }
+    ensures kept { (k : Key) → get same_key answers.new k ≡ kept_after kept k (get same_key answers.old k) }
+{
+    if let (Some(key), Some(kept)) = (key, kept) {
+        answers.insert(key, kept)?;
+    }
     Ok(())
 }
 
@@ -89,7 +178,7 @@ fn write_entry(
     kept: Option<KeptAnswer>,
 ) -> Result<(), AllocError>
     ensures number { entry.new.number ≡ entry.old.number }
-    ensures rows { OnOk result (entry.new.rows ≡ rows) }
+    ensures rows { OnOk result ((before : StoredRows) → IsMadeFrom before rows (rows_of entry.old.rows) → rows_of entry.new.rows ≡ over rows (rows_of entry.old.rows)) }
     ensures answers { OnOk result ((k : Key) → get same_key entry.new.answers k ≡ kept_after kept k (get same_key entry.old.answers k)) }
     ensures charges { OnOk result (entry.new.charges.items ≡ entry.old.charges.items ++ charges.items) }
     ensures err_rows { OnErr result (entry.new.rows ≡ entry.old.rows) }
@@ -97,9 +186,58 @@ fn write_entry(
     ensures err_charges { OnErr result (entry.new.charges.items ≡ entry.old.charges.items) }
 {
     entry.charges.reserve(charges.len())?;
-    keep(&mut entry.answers, kept)?;
+    let key = make_room(&mut entry.answers, &kept)?;
+    entry.rows.replace(rows)?;
+    keep(&mut entry.answers, key, kept)?;
     entry.charges.append(&mut charges)?;
-    entry.rows = rows;
+    Ok(())
+}
+
+/// A new account.
+fn new_entry(
+    alloc: Global,
+    number: AccountNumber,
+    rows: StoredAccount,
+    charges: Vec<ChargeRow>,
+    kept: Option<KeptAnswer>,
+) -> Result<Entry, AllocError>
+    ensures number { IfOk result (λ e. e.number ≡ number) }
+    ensures rows { IfOk result (λ e. rows_of e.rows ≡ over rows no_rows) }
+    ensures answers { IfOk result (λ e. (k : Key) → get same_key e.answers k ≡ kept_after kept k None) }
+    ensures charges { IfOk result (λ e. e.charges.items ≡ charges.items) }
+{
+    let mut answers = HashMap::new(alloc);
+    let key = make_room(&mut answers, &kept)?;
+    keep(&mut answers, key, kept)?;
+    let rows = Store::new(alloc, rows);
+    Ok(Entry {
+        number,
+        rows,
+        charges,
+        answers,
+    })
+}
+
+/// The place that is kept for a number.
+pub(crate) fn place_of(
+    places: &HashMap<AccountNumber, usize>,
+    number: &AccountNumber,
+) -> Option<usize>
+    ensures { result ≡ get same_name places.now number.now }
+{
+    places.get(number).copied()
+}
+
+/// Keeps the place of an account. At a fault nothing has changed.
+fn put_place(
+    places: &mut HashMap<AccountNumber, usize>,
+    number: AccountNumber,
+    place: usize,
+) -> Result<(), AllocError>
+    ensures done { OnOk result ((a : List ℕ) → get same_name places.new a ≡ (if same_name number a then Some place else get same_name places.old a)) }
+    ensures err { OnErr result ((a : List ℕ) → get same_name places.new a ≡ get same_name places.old a) }
+{
+    places.insert(number, place)?;
     Ok(())
 }
 
@@ -108,60 +246,60 @@ fn write_entry(
 pub(crate) fn put_entry(
     alloc: Global,
     entries: &mut Vec<Entry>,
+    places: &mut HashMap<AccountNumber, usize>,
     number: AccountNumber,
     rows: StoredAccount,
     charges: Vec<ChargeRow>,
     kept: Option<KeptAnswer>,
 ) -> Result<(), AllocError>
-    ensures accounts { OnOk result ((a : List ℕ) → option_map rows_of_entry (entry_in a entries.new.items) ≡
-        (if same_name number a then Some rows else option_map rows_of_entry (entry_in a entries.old.items))) }
+    requires { ArePlaced places.old entries.old.items }
+    ensures places { ArePlaced places.new entries.new.items }
+    ensures rows { OnOk result ((before : StoredRows) → IsMadeFrom before rows (rows_of_entry (entry_in number entries.old.items)) → (a : List ℕ) → rows_of_entry (entry_in a entries.new.items) ≡
+        (if same_name number a then over rows (rows_of_entry (entry_in a entries.old.items)) else rows_of_entry (entry_in a entries.old.items))) }
     ensures answers { OnOk result ((a : List ℕ) (k : Key) → answer_of_entry k (entry_in a entries.new.items) ≡
         (if same_name number a then kept_after kept k (answer_of_entry k (entry_in a entries.old.items)) else answer_of_entry k (entry_in a entries.old.items))) }
     ensures charges { OnOk result ((a : List ℕ) → charges_of_entry (entry_in a entries.new.items) ≡
         (if same_name number a then charges_of_entry (entry_in a entries.old.items) ++ charges.items else charges_of_entry (entry_in a entries.old.items))) }
     ensures count { OnOk result (length entries.new.items ≡ (if is_some (entry_in number entries.old.items) then length entries.old.items else length entries.old.items + 1)) }
-    ensures err_accounts { OnErr result ((a : List ℕ) → option_map rows_of_entry (entry_in a entries.new.items) ≡ option_map rows_of_entry (entry_in a entries.old.items)) }
+    ensures err_rows { OnErr result ((a : List ℕ) → rows_of_entry (entry_in a entries.new.items) ≡ rows_of_entry (entry_in a entries.old.items)) }
     ensures err_answers { OnErr result ((a : List ℕ) (k : Key) → answer_of_entry k (entry_in a entries.new.items) ≡ answer_of_entry k (entry_in a entries.old.items)) }
     ensures err_charges { OnErr result ((a : List ℕ) → charges_of_entry (entry_in a entries.new.items) ≡ charges_of_entry (entry_in a entries.old.items)) }
     ensures err_count { OnErr result (length entries.new.items ≡ length entries.old.items) }
 {
-    if let Some(place) = place_of(entries, &number) {
+    if let Some(place) = place_of(places, &number) {
         write_entry(&mut entries[place], rows, charges, kept)?;
         return Ok(());
     }
-    let mut answers = HashMap::new(alloc);
-    keep(&mut answers, kept)?;
-    entries.push(Entry {
-        number,
-        rows,
-        charges,
-        answers,
-    })?;
+    let key = number.clone()?;
+    let entry = new_entry(alloc, number, rows, charges, kept)?;
+    entries.reserve(1)?;
+    put_place(places, key, entries.len())?;
+    entries.push_reserved(entry);
     Ok(())
 }
 
 /// The charges of the account of this number, in order; none where there is no such account.
-pub(crate) fn charges_in<'e>(entries: &'e [Entry], number: &AccountNumber) -> &'e [ChargeRow]
-    ensures { result.now ≡ charges_of_entry (entry_in number.now entries.now) }
+pub(crate) fn charges_in<'e>(accounts: &'e Accounts, number: &AccountNumber) -> &'e [ChargeRow]
+    ensures { result.now ≡ charges_of_entry (entry_in number.now accounts.now.entries.items) }
 {
-    match place_of(entries, number) {
-        Some(place) => entries[place].charges.as_slice(),
+    match accounts.find(number) {
+        Some(entry) => entry.charges.as_slice(),
         None => &[],
     }
 }
 
 /// Brings each account to the moment.
 pub(crate) fn advance_entries(entries: &mut Vec<Entry>, book: &TariffBook, moment: Moment)
-    ensures { entries.new.items ≡ map (advanced_entry book.now moment) entries.old.items }
+    ensures rows { AreSwept book.now moment entries.old.items entries.new.items }
 {
     for entry in entries.iter_mut() {
-        entry.rows.advance(book, moment);
+        advance_entry(entry, book, moment);
     }
 }
 
-/// How many accounts there are.
-pub(crate) fn count_of(entries: &[Entry]) -> u64
-    ensures { result ≡ length entries.now }
+/// Brings an account to the moment.
+fn advance_entry(entry: &mut Entry, book: &TariffBook, moment: Moment)
+    ensures { IsSweptEntry book.now moment entry.old entry.new }
 {
-    entries.len() as u64
+    entry.rows.advance(book, moment);
 }

@@ -4,7 +4,9 @@ use crate::fault::StoreFault;
 use crate::keeper::Keeper;
 use crate::key::{KeptAnswer, Key};
 use crate::loaded::{Change, Loaded};
-use identifiers::AccountNumber;
+use buckets::Bucket;
+use identifiers::{AccountNumber, SessionId};
+use reserving::Account;
 use tariffs::TariffBook;
 use units::Moment;
 
@@ -95,11 +97,49 @@ impl<K: Keeper> Keeper for Failing<K> {
         &mut self,
         book: &'b TariffBook,
         account: &AccountNumber,
+        moment: Moment,
     ) -> Result<Option<Loaded<'b>>, StoreFault> {
         if self.fails() {
             return Err(StoreFault::Store);
         }
-        self.inner.load(book, account)
+        self.inner.load(book, account, moment)
+    }
+
+    fn view<'b>(
+        &mut self,
+        book: &'b TariffBook,
+        account: &AccountNumber,
+        moment: Moment,
+    ) -> Result<Option<Account<'b>>, StoreFault> {
+        if self.fails() {
+            return Err(StoreFault::Store);
+        }
+        self.inner.view(book, account, moment)
+    }
+
+    fn has_account(&mut self, account: &AccountNumber) -> Result<bool, StoreFault> {
+        if self.fails() {
+            return Err(StoreFault::Store);
+        }
+        self.inner.has_account(account)
+    }
+
+    fn knows_session(
+        &mut self,
+        account: &AccountNumber,
+        session: &SessionId,
+    ) -> Result<bool, StoreFault> {
+        if self.fails() {
+            return Err(StoreFault::Store);
+        }
+        self.inner.knows_session(account, session)
+    }
+
+    fn dead_buckets(&mut self, account: &AccountNumber) -> Result<Vec<Bucket>, StoreFault> {
+        if self.fails() {
+            return Err(StoreFault::Store);
+        }
+        self.inner.dead_buckets(account)
     }
 
     fn find_answer(
@@ -113,15 +153,8 @@ impl<K: Keeper> Keeper for Failing<K> {
         self.inner.find_answer(account, key)
     }
 
-    fn commit<'b>(&mut self, change: Change<'b>) -> Result<(), StoreFault> {
+    fn commit(&mut self, change: Change) -> Result<(), StoreFault> {
         if self.fails() {
-            let Change {
-                moment: _,
-                account,
-                charges: _,
-                kept: _,
-            } = change;
-            self.inner.abandon(account);
             return Err(StoreFault::Store);
         }
         self.inner.commit(change)

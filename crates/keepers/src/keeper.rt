@@ -1,12 +1,14 @@
-ghost use Rattle.std.specs.Prelude.{◌≡◌, ◌≤◌, ℕ, IfOk, OnOk, OnErr};
-ghost use Rattle.keepers.specs.Tables.{Tables};
-ghost use Rattle.keepers.specs.Change.{loaded, changed, swept};
+ghost use Rattle.std.specs.Prelude.{◌≡◌, ◌≤◌, ℕ, IfOk, OnOk, OnErr, is_some};
 ghost use Rattle.keepers.specs.Faults.{HasCause, max_failures};
+ghost use Rattle.keepers.specs.Tables.{Tables};
+ghost use Rattle.keepers.specs.Change.{IsLoad, IsView, AreDeadOf, IsMadeFrom, changed, IsSwept};
 
 use crate::fault::StoreFault;
 use crate::key::{KeptAnswer, Key};
 use crate::loaded::{Change, Loaded};
-use identifiers::AccountNumber;
+use buckets::Bucket;
+use identifiers::{AccountNumber, SessionId};
+use reserving::Account;
 use tariffs::TariffBook;
 use units::Moment;
 
@@ -35,13 +37,53 @@ pub trait Keeper {
         ensures cleanness { clean self.new → clean self.old }
         ensures cause { HasCause (failed self.old) (failed self.new) result };
 
-    /// The account of this number, priced by the book; None where there is none.
+    /// What may still change of the account of this number at the moment, priced by the book; None where there is no
+    /// account.
     fn load<'b>(
         &mut self,
         book: &'b TariffBook,
         account: &AccountNumber,
+        moment: Moment,
     ) -> Result<Option<Loaded<'b>>, StoreFault>
-        ensures found { clean self.new → IfOk result (λ found. found ≡ loaded book.now account.now ((content self.old).accounts account.now)) }
+        ensures found { clean self.new → IfOk result (λ found. IsLoad book.now moment account.now ((content self.old).rows account.now) found) }
+        ensures same { clean self.new → content self.new ≡ content self.old }
+        ensures cleanness { clean self.new → clean self.old }
+        ensures cause { HasCause (failed self.old) (failed self.new) result };
+
+    /// What may still change of the account of this number at the moment, to be read; None where there is no account.
+    fn view<'b>(
+        &mut self,
+        book: &'b TariffBook,
+        account: &AccountNumber,
+        moment: Moment,
+    ) -> Result<Option<Account<'b>>, StoreFault>
+        ensures found { clean self.new → IfOk result (λ found. IsView book.now moment ((content self.old).rows account.now) found) }
+        ensures same { clean self.new → content self.new ≡ content self.old }
+        ensures cleanness { clean self.new → clean self.old }
+        ensures cause { HasCause (failed self.old) (failed self.new) result };
+
+    /// Whether there is an account of this number.
+    fn has_account(&mut self, account: &AccountNumber) -> Result<bool, StoreFault>
+        ensures found { clean self.new → IfOk result (λ there. there ≡ is_some ((content self.old).rows account.now).head) }
+        ensures same { clean self.new → content self.new ≡ content self.old }
+        ensures cleanness { clean self.new → clean self.old }
+        ensures cause { HasCause (failed self.old) (failed self.new) result };
+
+    /// Whether an account has a row of this session, which may be over.
+    fn knows_session(
+        &mut self,
+        account: &AccountNumber,
+        session: &SessionId,
+    ) -> Result<bool, StoreFault>
+        ensures found { clean self.new → IfOk result (λ known. known ≡ is_some (((content self.old).rows account.now).sessions session.now)) }
+        ensures same { clean self.new → content self.new ≡ content self.old }
+        ensures cleanness { clean self.new → clean self.old }
+        ensures cause { HasCause (failed self.old) (failed self.new) result };
+
+    /// The buckets of an account that can't be used any more, which `load` leaves, in any order; none where there is no
+    /// account.
+    fn dead_buckets(&mut self, account: &AccountNumber) -> Result<Vec<Bucket>, StoreFault>
+        ensures found { clean self.new → IfOk result (λ found. AreDeadOf ((content self.old).rows account.now) found.items) }
         ensures same { clean self.new → content self.new ≡ content self.old }
         ensures cleanness { clean self.new → clean self.old }
         ensures cause { HasCause (failed self.old) (failed self.new) result };
@@ -58,8 +100,8 @@ pub trait Keeper {
         ensures cause { HasCause (failed self.old) (failed self.new) result };
 
     /// Makes the change, in one transaction. At a fault nothing has changed.
-    fn commit<'b>(&mut self, change: Change<'b>) -> Result<(), StoreFault>
-        ensures done { clean self.new → OnOk result (content self.new ≡ changed change.entry (content self.old)) }
+    fn commit(&mut self, change: Change) -> Result<(), StoreFault>
+        ensures done { clean self.new → OnOk result (IsMadeFrom change.before change.after ((content self.old).rows change.number) → content self.new ≡ changed change (content self.old)) }
         ensures err { clean self.new → OnErr result (content self.new ≡ content self.old) }
         ensures cleanness { clean self.new → clean self.old }
         ensures cause { HasCause (failed self.old) (failed self.new) result };
@@ -72,7 +114,7 @@ pub trait Keeper {
     /// changed.
     fn sweep(&mut self, book: &TariffBook, moment: Moment) -> Result<u64, StoreFault>
         ensures count { clean self.new → IfOk result (λ n. n ≡ (content self.old).count) }
-        ensures done { clean self.new → OnOk result (content self.new ≡ swept book.now moment (content self.old)) }
+        ensures done { clean self.new → OnOk result (IsSwept book.now moment (content self.old) (content self.new)) }
         ensures err { clean self.new → OnErr result (content self.new ≡ content self.old) }
         ensures cleanness { clean self.new → clean self.old }
         ensures cause { HasCause (failed self.old) (failed self.new) result };

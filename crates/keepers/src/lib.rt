@@ -1,22 +1,30 @@
 //! Keepers: what stores the rows of accounts, their charges and the answers that are kept, and what it promises.
 #![tactic(auto)]
 
+mod accounts;
 mod copies;
+mod differing;
 mod entries;
 mod failing;
 mod fault;
 mod keeper;
 mod key;
+mod laws;
 mod loaded;
 mod memory;
+mod store;
+mod whole;
 
 pub use crate::copies::{copy_answer, copy_content, copy_credit, copy_request};
+pub use crate::differing::{is_new_bucket, is_new_counter, is_new_group, is_new_session};
 pub use crate::failing::Failing;
 pub use crate::fault::StoreFault;
 pub use crate::keeper::Keeper;
 pub use crate::key::{KeptAnswer, Key};
+pub use crate::laws::{only_what_differs, taken_and_left};
 pub use crate::loaded::{Change, Loaded};
 pub use crate::memory::MemoryKeeper;
+pub use crate::whole::WholeAccount;
 
 #[cfg(test)]
 mod tests;

@@ -1,16 +1,20 @@
-ghost use Rattle.std.specs.Prelude.{◌≡◌};
-ghost use Rattle.keepers.specs.Tables.{no_tables};
+ghost use Rattle.std.specs.Prelude.{◌≡◌, ℕ, IfOk};
+ghost use Rattle.keepers.specs.Tables.{no_tables, charge_in};
+ghost use Rattle.keepers.specs.Whole.{AreWhole};
 
+use crate::accounts::Accounts;
 use crate::entries::{
-    Entry, advance_entries, charges_in, count_of, find_kept, load_entry, put_entry,
+    charges_in, dead_in, find_kept, has_entry, has_session, load_entry, view_entry, whole_in,
 };
 use crate::fault::StoreFault;
 use crate::keeper::Keeper;
 use crate::key::{KeptAnswer, Key};
 use crate::loaded::{Change, Loaded};
-use identifiers::AccountNumber;
-use reserving::ChargeRow;
-use std::alloc::Global;
+use crate::whole::WholeAccount;
+use buckets::Bucket;
+use identifiers::{AccountNumber, SessionId};
+use reserving::{Account, ChargeRow};
+use std::alloc::{AllocError, Global};
 use tariffs::TariffBook;
 use units::Moment;
 
@@ -18,7 +22,7 @@ use units::Moment;
 #[derive(Drop)]
 pub struct MemoryKeeper {
     last: Moment,
-    entries: Vec<Entry>,
+    accounts: Accounts,
     alloc: Global,
 }
 
@@ -31,23 +35,33 @@ impl MemoryKeeper {
     {
         MemoryKeeper {
             last: Moment::first(),
-            entries: Vec::new(alloc),
+            accounts: Accounts::new(alloc),
             alloc,
         }
     }
 
     /// The charges of an account, in order; none where there is no such account.
     pub fn charges(&self, account: &AccountNumber) -> &[ChargeRow]
-        ensures { result.now ≡ (⟦<MemoryKeeper as Keeper>⟧.content self.now).charges account.now }
+        ensures { (n : ℕ) → charge_in n result.now ≡ (⟦<MemoryKeeper as Keeper>⟧.content self.now).charges account.now n }
     {
-        charges_in(&self.entries, account)
+        charges_in(&self.accounts, account)
+    }
+
+    /// A copy of every row of an account; none where there is no such account.
+    ///
+    /// # Errors
+    /// Out of memory.
+    pub fn whole(&self, account: &AccountNumber) -> Result<WholeAccount, AllocError>
+        ensures { IfOk result (AreWhole ((⟦<MemoryKeeper as Keeper>⟧.content self.now).rows account.now)) }
+    {
+        whole_in(self.alloc, &self.accounts, account)
     }
 }
 
 impl Keeper for MemoryKeeper {
     ghost use Rattle.keepers.specs.Memory.{memory_tables};
 
-    ghost content = { λ k. memory_tables k.last k.entries.items };
+    ghost content = { λ k. memory_tables k.last k.accounts.entries.items };
 
     ghost failed = { λ _. 0 };
 
@@ -69,8 +83,34 @@ impl Keeper for MemoryKeeper {
         &mut self,
         book: &'b TariffBook,
         account: &AccountNumber,
+        moment: Moment,
     ) -> Result<Option<Loaded<'b>>, StoreFault> {
-        Ok(load_entry(&self.entries, book, account)?)
+        Ok(load_entry(&self.accounts, book, account, moment)?)
+    }
+
+    fn view<'b>(
+        &mut self,
+        book: &'b TariffBook,
+        account: &AccountNumber,
+        moment: Moment,
+    ) -> Result<Option<Account<'b>>, StoreFault> {
+        Ok(view_entry(&self.accounts, book, account, moment)?)
+    }
+
+    fn has_account(&mut self, account: &AccountNumber) -> Result<bool, StoreFault> {
+        Ok(has_entry(&self.accounts, account))
+    }
+
+    fn knows_session(
+        &mut self,
+        account: &AccountNumber,
+        session: &SessionId,
+    ) -> Result<bool, StoreFault> {
+        Ok(has_session(&self.accounts, account, session))
+    }
+
+    fn dead_buckets(&mut self, account: &AccountNumber) -> Result<Vec<Bucket>, StoreFault> {
+        Ok(dead_in(self.alloc, &self.accounts, account)?)
     }
 
     fn find_answer(
@@ -78,19 +118,19 @@ impl Keeper for MemoryKeeper {
         account: &AccountNumber,
         key: &Key,
     ) -> Result<Option<KeptAnswer>, StoreFault> {
-        Ok(find_kept(&self.entries, account, key)?)
+        Ok(find_kept(&self.accounts, account, key)?)
     }
 
-    fn commit<'b>(&mut self, change: Change<'b>) -> Result<(), StoreFault> {
+    fn commit(&mut self, change: Change) -> Result<(), StoreFault> {
         let Change {
             moment,
-            account,
+            number,
+            after,
+            before: _,
             charges,
             kept,
         } = change;
-        let Loaded { number, account } = account;
-        let rows = account.into_stored();
-        put_entry(self.alloc, &mut self.entries, number, rows, charges, kept)?;
+        self.accounts.put(number, after, charges, kept)?;
         self.last = moment;
         Ok(())
     }
@@ -99,12 +139,13 @@ impl Keeper for MemoryKeeper {
         let Loaded {
             number: _,
             account: _,
+            before: _,
         } = loaded;
     }
 
     fn sweep(&mut self, book: &TariffBook, moment: Moment) -> Result<u64, StoreFault> {
-        advance_entries(&mut self.entries, book, moment);
+        self.accounts.advance(book, moment);
         self.last = moment;
-        Ok(count_of(&self.entries))
+        Ok(self.accounts.count())
     }
 }

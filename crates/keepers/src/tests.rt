@@ -1,9 +1,8 @@
 //! Scenarios of a keeper: what each call gives, a line a call. An account has a credit of 150,000 micro-units until
 //! 1767607800, 10:10 on a day in January 2026.
 
-use crate::{
-    Change, Failing, Keeper, KeptAnswer, Key, Loaded, MemoryKeeper, StoreFault, copy_credit,
-};
+use crate::{Change, Failing, Keeper, KeptAnswer, Key, MemoryKeeper, StoreFault, copy_credit};
+use buckets::Bucket;
 use commands::{Answer, Content, Credit};
 use identifiers::{AccountNumber, Reference, SessionId};
 use reserving::{Account, ChargeRow};
@@ -52,32 +51,36 @@ fn credit(alloc: Global, text: &str) -> Result<Credit, Fail> {
     })
 }
 
-fn sight_of(loaded: &Loaded) -> Seen {
+/// The first bucket of these.
+fn seen_of(account: &Account, buckets: &[Bucket]) -> Seen {
     let (mut available, mut expired) = (0, 0);
-    if let [bucket, ..] = loaded.account.purse().buckets() {
+    if let [bucket, ..] = buckets {
         available = bucket.available();
         expired = bucket.expired();
     }
     Seen {
-        barred: loaded.account.is_barred(),
-        as_of: loaded.account.as_of().seconds(),
+        barred: account.is_barred(),
+        as_of: account.as_of().seconds(),
         available,
         expired,
     }
 }
 
-/// What is seen of an account, which is given up.
+/// What is seen of an account: its first live bucket, or its first dead one.
 fn sight<K: Keeper>(
     keeper: &mut K,
     book: &TariffBook,
     number: &AccountNumber,
+    at: Moment,
 ) -> Result<Option<Seen>, StoreFault> {
-    let Some(loaded) = keeper.load(book, number)? else {
+    let Some(account) = keeper.view(book, number, at)? else {
         return Ok(None);
     };
-    let seen = sight_of(&loaded);
-    keeper.abandon(loaded);
-    Ok(Some(seen))
+    if !account.purse().buckets().is_empty() {
+        return Ok(Some(seen_of(&account, account.purse().buckets())));
+    }
+    let dead = keeper.dead_buckets(number)?;
+    Ok(Some(seen_of(&account, dead.as_slice())))
 }
 
 /// Opens an account.
@@ -89,11 +92,14 @@ fn open<K: Keeper>(
     moment: Moment,
 ) -> Result<(), StoreFault> {
     let number = number.clone()?;
+    let before = Account::new(alloc, book).into_stored();
     let mut account = Account::new(alloc, book);
     account.advance(moment);
     keeper.commit(Change {
         moment,
-        account: Loaded { number, account },
+        number,
+        after: account.into_stored(),
+        before,
         charges: Vec::new(alloc),
         kept: None,
     })
@@ -108,7 +114,7 @@ fn give<K: Keeper>(
     moment: Moment,
 ) -> Result<(), StoreFault> {
     let content = Content::Credit(copy_credit(credit)?);
-    let Some(mut loaded) = keeper.load(book, &credit.account)? else {
+    let Some(mut loaded) = keeper.load(book, &credit.account, moment)? else {
         return Ok(());
     };
     let until = credit.until.unwrap_or(Moment::no_end());
@@ -124,12 +130,8 @@ fn give<K: Keeper>(
         return Err(StoreFault::Memory);
     };
     let answer = Answer::Bucket(bucket);
-    keeper.commit(Change {
-        moment,
-        account: loaded,
-        charges: Vec::new(alloc),
-        kept: Some(KeptAnswer { content, answer }),
-    })
+    let kept = Some(KeptAnswer { content, answer });
+    keeper.commit(loaded.into_change(moment, Vec::new(alloc), kept))
 }
 
 /// Bars an account.
@@ -140,7 +142,7 @@ fn bar<K: Keeper>(
     number: &AccountNumber,
     moment: Moment,
 ) -> Result<(), StoreFault> {
-    let Some(mut loaded) = keeper.load(book, number)? else {
+    let Some(mut loaded) = keeper.load(book, number, moment)? else {
         return Ok(());
     };
     if moment < loaded.account.as_of() {
@@ -148,12 +150,7 @@ fn bar<K: Keeper>(
         return Ok(());
     }
     loaded.account.set_barred(true, moment);
-    keeper.commit(Change {
-        moment,
-        account: loaded,
-        charges: Vec::new(alloc),
-        kept: None,
-    })
+    keeper.commit(loaded.into_change(moment, Vec::new(alloc), None))
 }
 
 /// What a minute comes to.
@@ -178,15 +175,10 @@ fn charge<K: Keeper>(
     moment: Moment,
     charges: Vec<ChargeRow>,
 ) -> Result<(), StoreFault> {
-    let Some(account) = keeper.load(book, number)? else {
+    let Some(loaded) = keeper.load(book, number, moment)? else {
         return Ok(());
     };
-    keeper.commit(Change {
-        moment,
-        account,
-        charges,
-        kept: None,
-    })
+    keeper.commit(loaded.into_change(moment, charges, None))
 }
 
 /// The bucket of a kept answer.
@@ -287,7 +279,7 @@ fn told<K: Keeper>(
     word: &str,
 ) -> Result<String, Fail> {
     let number = account(alloc, word)?;
-    match sight(keeper, book, &number) {
+    match sight(keeper, book, &number, moment(END)?) {
         Ok(Some(seen)) => {
             let (barred, at) = (seen.barred, seen.as_of);
             Ok(format!(in alloc; "{} {} {} {}", barred, at, seen.available, seen.expired)?)

@@ -11,9 +11,9 @@ use Rattle.commands.specs.declared.answer.Answer.{Answer}
 use Rattle.tariffs.specs.Books.{Book}
 use Rattle.keepers.specs.Faults.{max_failures}
 use Rattle.keepers.specs.Tables.{Tables, no_tables}
-use Rattle.keepers.proofs.AcceptedTables.{tables_none}
+use Rattle.charging.proofs.AcceptedTables.{tables_none}
 use Rattle.charging.specs.Outcomes.{outcome}
-use Rattle.keepers.specs.Accepted.{Accepted, IsInTime}
+use Rattle.charging.specs.Accepted.{Accepted, IsInTime}
 use Rattle.charging.specs.declared.running.DatedCommand.{DatedCommand}
 use Rattle.charging.specs.Served.{AreTables, answer_to, moment_of}
 use Rattle.charging.specs.Runs.{after_command, answers_to, after_commands, IsRun, Runs}

@@ -3,12 +3,11 @@
 use Rattle.std.specs.Prelude.{ℕ, Bool, ◌==◌, ◌&&◌, List, length, Option, None, Result, Ok, nat_lt, if◌then◌else◌}
 use Rattle.std.specs.List.{before_first, after_first, position_or_len}
 use Rattle.std.specs.Str.{is_utf8}
-use Rattle.commands.specs.declared.command.Command.TheVariants.{Ccr}
 use Rattle.json_fields.specs.declared.fault.WireFault.{WireFault}
 use Rattle.json_fields.specs.declared.fault.WireFault.TheVariants.{NotRequest}
 use Rattle.json_fields.specs.Gives.{◌>>=◌, or_fault}
 use Rattle.operator.specs.Lines.{moment_of}
-use Rattle.wire_requests.specs.Reading.{request_of}
+use Rattle.wire.specs.Requests.{command_of}
 use Rattle.charging.specs.declared.running.DatedCommand.{DatedCommand}
 
 -- a space is found in a text
@@ -28,5 +27,5 @@ line_rest line = after_first (λ b. b == 32) line
 abbrev pub line_request : List ℕ → Result DatedCommand WireFault
 line_request line =
     or_fault NotRequest (line_moment line) >>= λ t.
-    request_of (line_rest line) >>= λ r.
-    Ok (record { moment = t; command = Ccr r })
+    command_of (line_rest line) >>= λ c.
+    Ok (record { moment = t; command = c })

@@ -10,7 +10,7 @@ use Rattle.json_fields.specs.declared.fault.WireFault.{WireFault}
 use Rattle.wire_answers.specs.Spelled.{answer_text, fault_text}
 use Rattle.tariffs.specs.Books.{Book}
 use Rattle.keepers.specs.Tables.{Tables}
-use Rattle.keepers.specs.Accepted.{Accepted, IsInTime}
+use Rattle.charging.specs.Accepted.{Accepted, IsInTime}
 use Rattle.charging.specs.declared.running.DatedCommand.{DatedCommand}
 use Rattle.charging.specs.Served.{AreTables}
 use Rattle.charging.specs.Runs.{answers_to, after_commands}

@@ -3,7 +3,6 @@ ghost use Rattle.json_fields.specs.Gives.{Gives};
 ghost use Rattle.ocs.specs.Lines.{line_moment, line_rest, line_request};
 
 use charging::DatedCommand;
-use commands::Command;
 use operator::{DatedLine, dated_line};
 use std::alloc::Global;
 use wire::{WireFault, read_request};
@@ -26,9 +25,6 @@ pub(crate) fn read_line(alloc: Global, line: &[u8]) -> Result<DatedCommand, Wire
     let Some(DatedLine { moment, body }) = parted(line) else {
         return Err(WireFault::NotRequest);
     };
-    let request = read_request(alloc, body.as_bytes())?;
-    Ok(DatedCommand {
-        moment,
-        command: Command::Ccr(request),
-    })
+    let command = read_request(alloc, body.as_bytes())?;
+    Ok(DatedCommand { moment, command })
 }

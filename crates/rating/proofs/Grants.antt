@@ -7,7 +7,7 @@ use Rattle.std.proofs.Math.Nat.{mul-le-mul_right}
 use Rattle.units.specs.Blocks.{started}
 use Rattle.units.proofs.Started.{multiples_below, started_is}
 use Rattle.tariffs.specs.declared.tiers.Tier.{Tier}
-use Rattle.rating.specs.Granted.{dearer, greatest_covered, IsGreatest, block_start, granted_units, grant_of_blocks, grant_of}
+use Rattle.rating.specs.Granted.{dearer, greatest_covered, IsGreatest, IsGreatestGrant, block_start, granted_units, grant_of_blocks, grant_of}
 use Rattle.rating.specs.declared.grant.Grant.{Grant}
 use Rattle.rating.specs.declared.grant.Periods.{Periods}
 use Rattle.tariffs.specs.Tariffs.{GroupTariff, tiers_at}
@@ -64,7 +64,7 @@ below_next k block some =
     let e : k * block + 1 + (block - 1) ≡ (k + 1) * block + 0 = omega arith in
     rw e (div-mul-add (k + 1) block 0 some)
 
-pub starts_next : (used n block : ℕ) → 0 < block → started used (block_start used block + n * block - used + 1) block ≡ n + 1
+starts_next : (used n block : ℕ) → 0 < block → started used (block_start used block + n * block - used + 1) block ≡ n + 1
 starts_next used n block some =
     let (low, high) = end_bounds used block some in
     let end : used + (block_start used block + n * block - used + 1) ≡ (multiples_below used block + n) * block + 1 = omega arith in
@@ -82,18 +82,18 @@ less_to_end used wanted n block some h =
     let grown : (multiples_below used block + n + 1) * block ≤ multiples_below (used + wanted) block * block = mul-le-mul_right block few in
     omega (arith, grown, high)
 
-pub granted_all : (block used wanted n : ℕ) → n ≡ started used wanted block → wanted ≡ granted_units block used wanted n
+granted_all : (block used wanted n : ℕ) → n ≡ started used wanted block → wanted ≡ granted_units block used wanted n
 granted_all block used wanted n all =
     let test : (n == started used wanted block) ≡ true = grind (arith, nat_tests) in
     rw test refl
 
-pub granted_some : (block used wanted n : ℕ) → n ≢ started used wanted block → block_start used block + n * block - used ≡ granted_units block used wanted n
+granted_some : (block used wanted n : ℕ) → n ≢ started used wanted block → block_start used block + n * block - used ≡ granted_units block used wanted n
 granted_some block used wanted n some =
     let test : (n == started used wanted block) ≡ false = grind (arith, nat_tests) in
     rw test refl
 
 -- the grant of the greatest number of blocks
-pub grant_is : (t : GroupTariff) (periods : Periods) (used place wanted funds n units amount : ℕ)
+grant_is : (t : GroupTariff) (periods : Periods) (used place wanted funds n units amount : ℕ)
     → IsGreatest (tiers_at t periods.before.0) (tiers_at t periods.after.0) place (started used wanted t.block) funds n
     → units ≡ granted_units t.block used wanted n → amount ≡ dearer (tiers_at t periods.before.0) (tiers_at t periods.after.0) place n
     → ◌≡◌ {A = Grant} (record { blocks = record { 0 = n }; units = record { 0 = units }; amount = record { 0 = amount } }) (grant_of t periods used place wanted funds)
@@ -101,3 +101,42 @@ grant_is t periods used place wanted funds n units amount greatest u a =
     let here : ◌≡◌ {A = Grant} (record { blocks = record { 0 = n }; units = record { 0 = units }; amount = record { 0 = amount } }) (grant_of_blocks t periods used place wanted n) =
     λ i. record { blocks = record { 0 = n }; units = record { 0 = u i }; amount = record { 0 = a i } } in
     here ∙ ap (grant_of_blocks t periods used place wanted) (sym (greatest_is (tiers_at t periods.before.0) (tiers_at t periods.after.0) place (started used wanted t.block) funds n greatest))
+
+-- a number that is no more than another and not the same is less
+pub fewer : (n starts wanted : ℕ) → starts ≡ wanted → n ≤ starts → n ≢ starts → n < wanted
+fewer n starts wanted same within apart = grind (arith, same, within, apart)
+
+-- a grant of n blocks of so many units
+abbrev grant_with : ℕ → ℕ → ℕ → Grant
+grant_with n units amount = record { blocks = record { 0 = n }; units = record { 0 = units }; amount = record { 0 = amount } }
+
+-- the greatest number of blocks is all that are wanted
+pub whole_grant : (t : GroupTariff) (periods : Periods) (used place wanted funds n amount : ℕ)
+    → IsGreatest (tiers_at t periods.before.0) (tiers_at t periods.after.0) place (started used wanted t.block) funds n
+    → n ≡ started used wanted t.block → amount ≡ dearer (tiers_at t periods.before.0) (tiers_at t periods.after.0) place n
+    → IsGreatestGrant t periods used place wanted funds (grant_with n wanted amount)
+whole_grant t periods used place wanted funds n amount greatest all is = record {
+  value = grant_is t periods used place wanted funds n wanted amount greatest (granted_all t.block used wanted n all) is;
+  greatest = greatest;
+  starts = sym all;
+  within = omega arith;
+  next = λ less. absurd (omega (arith, less));
+  most = λ less. absurd (omega (arith, less));
+}
+
+-- the greatest number of blocks is less than all that are wanted
+pub cut_grant : (t : GroupTariff) (periods : Periods) (used place wanted funds n amount : ℕ) → 0 < t.block
+    → IsGreatest (tiers_at t periods.before.0) (tiers_at t periods.after.0) place (started used wanted t.block) funds n
+    → n < started used wanted t.block → amount ≡ dearer (tiers_at t periods.before.0) (tiers_at t periods.after.0) place n
+    → IsGreatestGrant t periods used place wanted funds (grant_with n (block_start used t.block + n * t.block - used) amount)
+cut_grant t periods used place wanted funds n amount some greatest few is =
+    let apart : n ≢ started used wanted t.block = λ e. absurd (omega (arith, few, e)) in
+    let next : started used (block_start used t.block + n * t.block - used + 1) t.block ≡ n + 1 = starts_next used n t.block some in
+    record {
+      value = grant_is t periods used place wanted funds n (block_start used t.block + n * t.block - used) amount greatest (granted_some t.block used wanted n apart) is;
+      greatest = greatest;
+      starts = starts_to_end used n t.block some;
+      within = less_to_end used wanted n t.block some few;
+      next = λ less. next;
+      most = λ less. rw next (greatest.next few);
+    }

@@ -1,5 +1,5 @@
 -- Grants (unit reservation, TS 32.299): the greatest number of new blocks that funds cover.
-use Rattle.std.specs.Prelude.{ℕ, zero, suc, ◌+◌, ◌-◌, ◌*◌, ◌/◌, ◌≤◌, ◌<◌, ◌==◌, max, nat_le, List, if◌then◌else◌}
+use Rattle.std.specs.Prelude.{◌≡◌, ℕ, zero, suc, ◌+◌, ◌-◌, ◌*◌, ◌/◌, ◌≤◌, ◌<◌, ◌==◌, max, nat_le, List, if◌then◌else◌}
 use Rattle.units.specs.Blocks.{started}
 use Rattle.tariffs.specs.Prices.{block_price}
 use Rattle.tariffs.specs.declared.tiers.Tier.{Tier}
@@ -48,3 +48,14 @@ abbrev pub grant_of : GroupTariff → Periods → ℕ → ℕ → ℕ → ℕ �
 grant_of t periods used place wanted funds =
     grant_of_blocks t periods used place wanted
     (greatest_covered (tiers_at t periods.before.0) (tiers_at t periods.after.0) place funds (started used wanted t.block))
+
+-- the grant of the wanted units: its number of blocks is the greatest that the funds cover, its units start just these
+-- blocks and are no more than wanted, and where they are fewer, one unit more starts a block that the funds don't cover
+pub record IsGreatestGrant (t : GroupTariff) (periods : Periods) (used place wanted funds : ℕ) (grant : Grant) : Type 0 where
+  pub value : grant ≡ grant_of t periods used place wanted funds
+  pub greatest : IsGreatest (tiers_at t periods.before.0) (tiers_at t periods.after.0) place (started used wanted t.block) funds grant.blocks.0
+  pub starts : started used grant.units.0 t.block ≡ grant.blocks.0
+  pub within : grant.units.0 ≤ wanted
+  pub next : grant.units.0 < wanted → started used (grant.units.0 + 1) t.block ≡ grant.blocks.0 + 1
+  pub most : grant.units.0 < wanted
+      → funds < dearer (tiers_at t periods.before.0) (tiers_at t periods.after.0) place (started used (grant.units.0 + 1) t.block)

@@ -1,9 +1,7 @@
 //! The greatest grant that funds cover.
 
 ghost use Rattle.std.specs.Prelude.{◌≡◌, ◌≤◌, ◌<◌, ◌+◌, ◌-◌, ◌*◌, ◌^◌};
-ghost use Rattle.units.specs.Blocks.{started};
-ghost use Rattle.tariffs.specs.Tariffs.{tiers_at};
-ghost use Rattle.rating.specs.Granted.{dearer, IsGreatest, block_start, grant_of};
+ghost use Rattle.rating.specs.Granted.{dearer, IsGreatest, IsGreatestGrant, block_start};
 ghost use Rattle.rating.specs.Runs.{bound_count};
 
 use crate::runs::{Run, dearer_run, tiers_after};
@@ -107,18 +105,7 @@ pub fn greatest_grant_steps(
     steps: &mut Steps,
 ) -> Grant
     requires { steps.old ≤ 1_000_000_000 }
-    ensures value { result ≡ grant_of tariff.now periods used_before.0 place wanted.0 funds.0 }
-    ensures greatest { IsGreatest (tiers_at tariff.now periods.before.0)
-        (tiers_at tariff.now periods.after.0) place
-        (started used_before.0 wanted.0 tariff.now.block) funds.0 result.blocks.0 }
-    ensures starts { started used_before.0 result.units.0 tariff.now.block ≡ result.blocks.0 }
-    ensures within { result.units.0 ≤ wanted.0 }
-    ensures next { result.units.0 < wanted.0
-        → started used_before.0 (result.units.0 + 1) tariff.now.block ≡ result.blocks.0 + 1 }
-    ensures most { result.units.0 < wanted.0
-        → funds.0 < dearer (tiers_at tariff.now periods.before.0)
-        (tiers_at tariff.now periods.after.0) place
-        (started used_before.0 (result.units.0 + 1) tariff.now.block) }
+    ensures grant { IsGreatestGrant tariff.now periods used_before.0 place wanted.0 funds.0 result }
     ensures steps { steps.new ≤ steps.old + 16 }
 {
     let block = tariff.block();
@@ -155,19 +142,7 @@ pub fn greatest_grant(
     wanted: Units,
     funds: Amount,
 ) -> Grant
-    ensures value { result ≡ grant_of tariff.now periods used_before.0 place wanted.0 funds.0 }
-    ensures greatest { IsGreatest (tiers_at tariff.now periods.before.0)
-        (tiers_at tariff.now periods.after.0) place
-        (started used_before.0 wanted.0 tariff.now.block) funds.0 result.blocks.0 }
-    ensures starts { started used_before.0 result.units.0 tariff.now.block ≡ result.blocks.0 }
-    ensures within { result.units.0 ≤ wanted.0 }
-    // One unit more starts a block more, which the funds don't cover.
-    ensures next { result.units.0 < wanted.0
-        → started used_before.0 (result.units.0 + 1) tariff.now.block ≡ result.blocks.0 + 1 }
-    ensures most { result.units.0 < wanted.0
-        → funds.0 < dearer (tiers_at tariff.now periods.before.0)
-        (tiers_at tariff.now periods.after.0) place
-        (started used_before.0 (result.units.0 + 1) tariff.now.block) }
+    ensures { IsGreatestGrant tariff.now periods used_before.0 place wanted.0 funds.0 result }
 {
     greatest_grant_steps(
         tariff,

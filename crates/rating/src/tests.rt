@@ -4,6 +4,7 @@
 
 use crate::{Grant, Part, Periods, Rated, greatest_grant, rate, rate_report};
 use calendar::Period;
+use std::alloc::Global;
 use std::test::Fail;
 use tariffs::{Tariff, TariffBook, Tier};
 use units::{Amount, Blocks, Units};
@@ -13,9 +14,8 @@ const OFF: Period = Period(0);
 
 const PEAK: Period = Period(1);
 
-/// Prices by many tiers, in blocks of one. Group 40: the first 400000000 at 2 and the others at 3, or in the dearer
-/// period the first 600000000 at 1 and the others at 7. Groups 1 to 3: up to eight tiers with low bounds.
-const TIERS: &str = r#"zone = "+00:00"
+/// Two periods of half a day each.
+const HALVES: &str = r#"zone = "+00:00"
 currency = 978
 validity = 3600
 periods = ["off", "peak"]
@@ -29,43 +29,57 @@ period = "peak"
 days = [1, 2, 3, 4, 5, 6, 7]
 from = "12:00"
 to = "24:00"
-[[group]]
-id = 40
-unit = "octets"
-block = 1
-slice = 1
-max_grant = 999999999
-cycle = "none"
-final = "terminate"
-price = [{period = "off", tiers = [{upto = 400000000, price = 2}, {price = 3}]}, {period = "peak", tiers = [{upto = 600000000, price = 1}, {price = 7}]}]
-[[group]]
-id = 1
-unit = "events"
-block = 1
-slice = 1
-max_grant = 100
-cycle = "none"
-final = "terminate"
-price = [{period = "off", tiers = [{upto = 1, price = 5}, {price = 3}]}, {period = "peak", tiers = [{upto = 2, price = 4}, {upto = 3, price = 9}, {price = 0}]}]
-[[group]]
-id = 2
-unit = "events"
-block = 1
-slice = 1
-max_grant = 100
-cycle = "none"
-final = "terminate"
-price = [{period = "off", tiers = [{upto = 1, price = 1}, {upto = 2, price = 9}, {upto = 3, price = 2}, {upto = 4, price = 8}, {upto = 5, price = 3}, {upto = 6, price = 7}, {upto = 7, price = 4}, {price = 6}]}, {period = "peak", tiers = [{upto = 2, price = 6}, {upto = 3, price = 0}, {upto = 5, price = 5}, {upto = 7, price = 10}, {upto = 11, price = 1}, {upto = 13, price = 2}, {upto = 17, price = 3}, {price = 4}]}]
-[[group]]
-id = 3
-unit = "events"
-block = 1
-slice = 1
-max_grant = 100
-cycle = "none"
-final = "terminate"
-price = [{period = "off", tiers = [{price = 7}]}, {period = "peak", tiers = [{upto = 10, price = 0}, {price = 20}]}]
 "#;
+
+/// Groups in blocks of one: each one's number, unit and greatest grant, and its tiers in both periods. Group 40: the
+/// first 400000000 at 2 and the others at 3, or in the dearer period the first 600000000 at 1 and the others at 7.
+/// Groups 1 to 3: up to eight tiers with low bounds.
+const GROUPS: [[&str; 3]; 4] = [
+    [
+        r#"id = 40
+unit = "octets"
+max_grant = 999999999"#,
+        "{upto = 400000000, price = 2}, {price = 3}",
+        "{upto = 600000000, price = 1}, {price = 7}",
+    ],
+    [
+        r#"id = 1
+unit = "events"
+max_grant = 100"#,
+        "{upto = 1, price = 5}, {price = 3}",
+        "{upto = 2, price = 4}, {upto = 3, price = 9}, {price = 0}",
+    ],
+    [
+        r#"id = 2
+unit = "events"
+max_grant = 100"#,
+        "{upto = 1, price = 1}, {upto = 2, price = 9}, {upto = 3, price = 2}, {upto = 4, price = 8}, {upto = 5, price = 3}, {upto = 6, price = 7}, {upto = 7, price = 4}, {price = 6}",
+        "{upto = 2, price = 6}, {upto = 3, price = 0}, {upto = 5, price = 5}, {upto = 7, price = 10}, {upto = 11, price = 1}, {upto = 13, price = 2}, {upto = 17, price = 3}, {price = 4}",
+    ],
+    [
+        r#"id = 3
+unit = "events"
+max_grant = 100"#,
+        "{price = 7}",
+        "{upto = 10, price = 0}, {price = 20}",
+    ],
+];
+
+/// Prices by many tiers, in blocks of one.
+fn book_of_tiers(alloc: Global) -> Result<TariffBook, Fail> {
+    let mut text = String::from_str(alloc, HALVES)?;
+    for [head, off, peak] in GROUPS {
+        text.push_str("[[group]]\n")?;
+        text.push_str(head)?;
+        text.push_str("\nblock = 1\nslice = 1\ncycle = \"none\"\nfinal = \"terminate\"\n")?;
+        text.push_str("price = [{period = \"off\", tiers = [")?;
+        text.push_str(off)?;
+        text.push_str("]}, {period = \"peak\", tiers = [")?;
+        text.push_str(peak)?;
+        text.push_str("]}]\n")?;
+    }
+    Ok(TariffBook::read(alloc, text.as_bytes())?)
+}
 
 fn grant_of(blocks: u64, units: u64, amount: u128) -> Grant {
     Grant {
@@ -142,7 +156,7 @@ fn rated_in(tariff: &Tariff, period: Period, place: u64, blocks: u64) -> Amount 
 
 #[test]
 fn a_billion_blocks_are_rated(rt: HostRuntime) -> Result<(), Fail> {
-    let book = TariffBook::read(rt.alloc(), TIERS.as_bytes())?;
+    let book = book_of_tiers(rt.alloc())?;
     let tariff = book.tariff(40).ok_or("no group 40")?;
     let cases = [
         (OFF, 0, 1_000_000_000, 2_600_000_000),
@@ -185,7 +199,7 @@ fn granted_over_switch(tariff: &Tariff, wanted: u64, funds: u128) -> Grant {
 
 #[test]
 fn a_billion_blocks_are_granted(rt: HostRuntime) -> Result<(), Fail> {
-    let book = TariffBook::read(rt.alloc(), TIERS.as_bytes())?;
+    let book = book_of_tiers(rt.alloc())?;
     let tariff = book.tariff(40).ok_or("no group 40")?;
     // The dearer prices are 2 up to 400000000, 3 up to 600000000, and then 7.
     let cases = [
@@ -330,7 +344,7 @@ fn told_otherwise(tariff: &Tariff) -> u64 {
 
 #[test]
 fn tiers_tell_what_blocks_do(rt: HostRuntime) -> Result<(), Fail> {
-    let book = TariffBook::read(rt.alloc(), TIERS.as_bytes())?;
+    let book = book_of_tiers(rt.alloc())?;
     for group in [1, 2, 3] {
         let tariff = book.tariff(group).ok_or("no such group")?;
         let otherwise = told_otherwise(tariff);

@@ -9,7 +9,8 @@ use Rattle.reserving.specs.Sessions.{is_session, is_of, is_open, is_live_in}
 use Rattle.reserving.specs.Rows.{AccountRows, IsAccount}
 use Rattle.reserving.specs.Changes.{advanced, lapse, lapse_group, lapsed_in, lapsed_rows}
 use Rattle.reserving.proofs.Lists.{EachIn-map, AreApart-map}
-use Rattle.reserving.proofs.Lapsing.{named_lapsed, lapsable_of, lapsed_rows-is, IsSound-ends, IsBelow-ends, held_lapsed}
+use Rattle.reserving.proofs.InOrder.{order_lapsed}
+use Rattle.reserving.proofs.rows.Lapsing.{ends_keep, named_lapsed, lapsable_of, lapsed_rows-is, IsSound-ends, IsBelow-ends, held_lapsed}
 
 lapse-keys : (v t : ℕ) (x y : Session) → is_session (lapse v t x).id (lapse v t y) ≡ is_session x.id y
 lapse-keys v t x y = ap (λ s. is_session s (lapse v t y)) (kept x) ∙ at y
@@ -20,8 +21,8 @@ lapse-keys v t x y = ap (λ s. is_session s (lapse v t y)) (kept x) ∙ at y
     at : (r : Session) → is_session x.id (lapse v t r) ≡ is_session x.id r
     at r = elim (is_open r.state && not (nat_lt t (r.touched + 2 * v))) as (λ l. is_session x.id (if l then record r { state = Ended } else r) ≡ is_session x.id r) [ true ↦ refl | false ↦ refl ]
 
-pub lapse_group-keys : (v t : ℕ) (sessions : List Session) (x y : SessionGroup) → is_of (lapse_group (is_live_in v t sessions) x).session (lapse_group (is_live_in v t sessions) x).group (lapse_group (is_live_in v t sessions) y) ≡ is_of x.session x.group y
-lapse_group-keys v t sessions x y = at (is_live_in v t sessions x.session) (is_live_in v t sessions y.session)
+pub lapse_group-keys : (keeps : List ℕ → Bool) (x y : SessionGroup) → is_of (lapse_group keeps x).session (lapse_group keeps x).group (lapse_group keeps y) ≡ is_of x.session x.group y
+lapse_group-keys keeps x y = at (keeps x.session) (keeps y.session)
   where
     at : (l m : Bool) → is_of (if l then x else record x { reservation = None }).session (if l then x else record x { reservation = None }).group (if m then y else record y { reservation = None }) ≡ is_of x.session x.group y
     at true true = refl
@@ -29,8 +30,8 @@ lapse_group-keys v t sessions x y = at (is_live_in v t sessions x.session) (is_l
     at false true = refl
     at false false = refl
 
-pub lapse_group-used : (v t : ℕ) (sessions : List Session) (r : SessionGroup) → r.used ≤ 1000000000000000000 → (lapse_group (is_live_in v t sessions) r).used ≤ 1000000000000000000
-lapse_group-used v t sessions r h = elim (is_live_in v t sessions r.session) as (λ l. (if l then r else record r { reservation = None }).used ≤ 1000000000000000000) [ true ↦ h | false ↦ h ]
+pub lapse_group-used : (keeps : List ℕ → Bool) (r : SessionGroup) → r.used ≤ 1000000000000000000 → (lapse_group keeps r).used ≤ 1000000000000000000
+lapse_group-used keeps r h = elim (keeps r.session) as (λ l. (if l then r else record r { reservation = None }).used ≤ 1000000000000000000) [ true ↦ h | false ↦ h ]
 
 pub IsAccount-advanced : (a : AccountRows) (t : ℕ) → IsAccount a → IsAccount (advanced t a)
 IsAccount-advanced a t is = record {
@@ -40,12 +41,13 @@ IsAccount-advanced a t is = record {
   next_bucket = is.next_bucket;
   next_charge = is.next_charge;
   sessions = AreApart-map (λ x y. is_session x.id y) (lapse a.book.validity t) a.sessions (lapse-keys a.book.validity t) is.sessions;
-  groups = AreApart-map (λ x y. is_of x.session x.group y) (lapse_group (is_live_in a.book.validity t a.sessions)) a.groups (lapse_group-keys a.book.validity t a.sessions) is.groups;
+  groups = AreApart-map (λ x y. is_of x.session x.group y) (lapse_group (is_live_in a.book.validity t a.sessions)) a.groups (lapse_group-keys (is_live_in a.book.validity t a.sessions)) is.groups;
   counters = is.counters;
-  used = EachIn-map (λ r. r.used ≤ 1000000000000000000) (λ r. r.used ≤ 1000000000000000000) (lapse_group (is_live_in a.book.validity t a.sessions)) a.groups (lapse_group-used a.book.validity t a.sessions) is.used;
+  used = EachIn-map (λ r. r.used ≤ 1000000000000000000) (λ r. r.used ≤ 1000000000000000000) (lapse_group (is_live_in a.book.validity t a.sessions)) a.groups (lapse_group-used (is_live_in a.book.validity t a.sessions)) is.used;
   counted = is.counted;
   held = held_lapsed (is_live_in a.book.validity t a.sessions) t a.groups a.buckets is.held;
   named = λ b le. named_lapsed (is_live_in a.book.validity t a.sessions) t a.groups b (is.named b le);
+  order = order_lapsed (is_live_in a.book.validity t a.sessions) _ a.buckets a.groups (ends_keep t (lapsed_in (is_live_in a.book.validity t a.sessions) a.groups)).number is.order;
 }
 
 pub map_twice : {A : Type 0} (f g : A → A) (xs : List A) → map f (map g xs) ≡ map (λ x. f (g x)) xs

@@ -17,9 +17,9 @@ use Rattle.reserving.specs.Rows.{AccountRows, EachIn, AreApart, IsAccount, IsRow
 use Rattle.reserving.specs.Changes.{advanced, lapse, lapse_group, lapsed_in}
 use Rattle.reserving.proofs.Lists.{find-map, no_some, some_of}
 use Rattle.reserving.proofs.Holds.{held_split, split_by, held_same, held_none, same_itself, same_from, number_from, number_itself, both}
-use Rattle.reserving.proofs.Later.{is_live-later, is_live-before, session_at-later}
+use Rattle.reserving.proofs.ledger.Later.{is_live-later, is_live-before, session_at-later}
 use Rattle.reserving.specs.Laws.{ended_between}
-use Rattle.reserving.proofs.Positions.{bucket_at-later, holds_at-later}
+use Rattle.reserving.proofs.ledger.Positions.{bucket_at-later, holds_at-later}
 
 -- ---- liveness, read from the rows
 

@@ -1,6 +1,5 @@
 -- The charge rows of a ledger with more facts: a report and a debit add one each, and nothing else adds any.
-use Rattle.std.proofs.Common.{◌≡◌, ℕ, ◌+◌, ◌-◌, ◌≤◌, Bool, true, false, List, [], ◌∷◌, ◌++◌, refl, sym, ap, ◌∙◌, arith, Option}
-use Rattle.std.specs.Prelude.{◌||◌, nat_lt}
+use Rattle.std.proofs.Common.{◌≡◌, ℕ, ◌+◌, ◌-◌, ◌≤◌, Bool, false, List, [], ◌∷◌, ◌++◌, refl, sym, ap, ◌∙◌, arith, Option}
 use Rattle.std.proofs.lemmas.Bool.Decides.{nat_tests}
 use Rattle.std.proofs.lemmas.List.{append-nil}
 use Rattle.units.specs.declared.blocks.UsedPart.{UsedPart}
@@ -11,7 +10,7 @@ use Rattle.buckets.specs.Share.{parts}
 use Rattle.buckets.specs.Holding.{paid, uncollected, holds_of}
 use Rattle.reserving.specs.declared.charge.ChargeRow.{ChargeRow}
 use Rattle.reserving.specs.declared.settle.Settled.{Settled}
-use Rattle.reserving.specs.Ledger.{Dated, Ledger, uses_in, used, counter, next_charge}
+use Rattle.reserving.specs.Ledger.{Ledger, uses_in, counter, next_charge}
 use Rattle.reserving.specs.Ledger.Fact.{Grant, End, Use}
 use Rattle.reserving.specs.Charges.{charge_of, charge_rows}
 use Rattle.reserving.specs.Requests.{recorded, touched, closed, credited, with_bar}

@@ -1,7 +1,6 @@
 -- A bucket is made: what that adds to the rows.
 use Rattle.std.proofs.Common.{◌≡◌, ℕ, ◌+◌, ◌-◌, ◌<◌, ◌≤◌, Bool, true, false, List, [], ◌∷◌, map, refl, sym, ap, ◌∙◌, arith, Option, Some, None}
 use Rattle.std.specs.Prelude.{if◌then◌else◌, ◌==◌, nat_lt}
-use Rattle.buckets.specs.declared.holds.Hold.{Hold}
 use Rattle.buckets.specs.Row.{Row, new_row}
 use Rattle.buckets.specs.Spend.{IsBelow, inserted}
 use Rattle.buckets.specs.Share.{parts}
@@ -16,9 +15,10 @@ use Rattle.reserving.specs.Changes.{credited_account}
 use Rattle.buckets.specs.Row.{with_end, with_release}
 use Rattle.reserving.specs.Sessions.{is_live_in}
 use Rattle.reserving.specs.Changes.{advanced, lapsed_in}
-use Rattle.reserving.proofs.Columns.{with_columns}
-use Rattle.reserving.proofs.Positions.{parts-at}
-use Rattle.reserving.proofs.Lapsing.{ends_keep}
+use Rattle.reserving.proofs.InOrder.{parts-inserted, order_inserted}
+use Rattle.reserving.proofs.ledger.Columns.{with_columns}
+use Rattle.reserving.proofs.ledger.Positions.{parts-at}
+use Rattle.reserving.proofs.rows.Lapsing.{ends_keep}
 use Rattle.reserving.proofs.Advancing.{held_by-split, IsRowsOf-advanced}
 
 -- ---- at its place
@@ -33,18 +33,6 @@ map-inserted f b (x ∷ xs) k = at (nat_lt b.until x.until) refl (map-inserted f
     at : (e : Bool) → nat_lt b.until x.until ≡ e → map f (inserted b xs) ≡ inserted (f b) (map f xs) → map f (if e then b ∷ x ∷ xs else x ∷ inserted b xs) ≡ inserted (f b) (f x ∷ map f xs)
     at true e rest = sym (ap (λ t. if t then f b ∷ f x ∷ map f xs else f x ∷ inserted (f b) (map f xs)) (test ∙ e))
     at false e rest = ap (λ ys. f x ∷ ys) rest ∙ sym (ap (λ t. if t then f b ∷ f x ∷ map f xs else f x ∷ inserted (f b) (map f xs)) (test ∙ e))
-
--- what is nothing at the new bucket is no part
-parts-inserted : (f : Row → ℕ) (b : Row) (rows : List Row) → f b ≡ 0 → parts f (inserted b rows) ≡ parts f rows
-parts-inserted f b [] h = rw h refl
-parts-inserted f b (x ∷ xs) h = at (nat_lt b.until x.until) (parts-inserted f b xs h)
-  where
-    one : Hold
-    one = record { bucket = x.number; amount = f x }
-
-    at : (e : Bool) → parts f (inserted b xs) ≡ parts f xs → parts f (if e then b ∷ x ∷ xs else x ∷ inserted b xs) ≡ parts f (x ∷ xs)
-    at true rest = rw h refl
-    at false rest = λ i. (if nat_lt 0 (f x) then one ∷ rest i else rest i)
 
 pub IsBelow-inserted : (next : ℕ) (b : Row) (rows : List Row) → b.number < next + 1 → IsBelow next rows → IsBelow (next + 1) (inserted b rows)
 IsBelow-inserted next b [] lt h = (lt, tt)
@@ -73,6 +61,7 @@ IsAccount-credited a from until scope amount le most is =
       counted = is.counted;
       held = Each-inserted (λ x. held_by (λ s. true) a.groups x ≡ x.reserved) b a.buckets (is.named b (omega arith)) is.held;
       named = λ x h. is.named x (omega arith);
+      order = order_inserted b a.buckets a.groups (is.named b (omega arith)) is.order;
     }
 
 -- ---- the ledger

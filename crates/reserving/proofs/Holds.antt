@@ -1,8 +1,10 @@
 -- What reservations hold of a bucket, split by reservation; and as the sum over the rows of groups.
 use Rattle.std.proofs.Common.{◌≡◌, ℕ, ◌+◌, Bool, true, false, List, [], ◌∷◌, refl, ap, ◌∙◌, arith}
 use Rattle.std.specs.Prelude.{if◌then◌else◌, ◌==◌, ◌&&◌, not}
+pub use Rattle.std.proofs.lemmas.Bool.{and_parts as both}
 use Rattle.std.proofs.lemmas.Bool.Decides.{nat_tests}
 use Rattle.identifiers.proofs.Equality.{equal_names, names_equal}
+pub use Rattle.reserving.proofs.Keys.{same_number as number_from, number_same as number_itself}
 use Rattle.reserving.specs.Ledger.{Fact, Ledger, is_same, counts_before, hold_of, held, only}
 use Rattle.reserving.specs.Ledger.Fact.{Credit, Grant, Hold as HoldFact, End, Use, Charge, Touch, Close, Recorded, Barred}
 
@@ -75,6 +77,12 @@ split_one l true false h = rw (h refl) refl
 split_one true false x h = refl
 split_one false false x h = refl
 
+-- what is in one is split off
+pub split_less : (p q : Bool) → (q ≡ true → p ≡ true) → one_if p ≡ one_if q + one_if (p && not q)
+split_less p true h = rw (h refl) refl
+split_less true false h = refl
+split_less false false h = refl
+
 -- a live session's reservations, and one of them
 pub one_split : (live : List ℕ → Bool) (session : List ℕ) (group : ℕ) → live session ≡ true → IsSplit (λ s g. live s) (λ s g. live s && not (is_same s session && g == group)) (only session group)
 one_split live session group h s g = split_one (live s) (is_same s session) (g == group) (λ e. ap live (equal_names s session e) ∙ h)
@@ -86,13 +94,3 @@ same_itself s = names_equal s s refl
 
 pub same_from : (a b : List ℕ) → is_same a b ≡ true → a ≡ b
 same_from a b h = equal_names a b h
-
-pub number_from : (a b : ℕ) → (a == b) ≡ true → a ≡ b
-number_from a b h = grind (arith, nat_tests)
-
-pub number_itself : (a : ℕ) → (a == a) ≡ true
-number_itself a = grind (arith, nat_tests)
-
-pub both : (a b : Bool) → (a && b) ≡ true → (a ≡ true) × (b ≡ true)
-both true b h = (refl, h)
-both false b h = (h, absurd (let no : false ≡ true = h in cc))

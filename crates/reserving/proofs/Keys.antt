@@ -2,6 +2,7 @@
 use Rattle.std.proofs.Common.{◌≡◌, ℕ, Bool, true, false, cond, List, [], ◌∷◌, refl, sym, ap, ◌∙◌, Some}
 use Rattle.std.specs.Prelude.{◌==◌, ◌&&◌}
 use Rattle.std.specs.List.{find}
+pub use Rattle.std.proofs.lemmas.Bool.{and_from as both_true}
 use Rattle.std.proofs.lemmas.Bool.Decides.{nat_tests}
 use Rattle.std.proofs.Common.{arith}
 use Rattle.identifiers.proofs.Equality.{equal_names, names_equal}
@@ -15,9 +16,6 @@ pub same_tests : (p q : Bool) → (p ≡ true → q ≡ true) → (q ≡ true �
 same_tests true q f g = sym (f refl)
 same_tests false true f g = g refl
 same_tests false false f g = refl
-
-pub both_true : (a b : Bool) → a ≡ true → b ≡ true → (a && b) ≡ true
-both_true a b p q = rw (p, q) refl
 
 pub first_true : (a b : Bool) → (a && b) ≡ true → a ≡ true
 first_true true b h = refl

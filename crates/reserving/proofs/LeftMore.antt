@@ -1,25 +1,24 @@
 -- Clauses with rows left, buckets that are told by their numbers, and what a commit leaves.
-use Rattle.std.proofs.Common.{◌≡◌, ℕ, ◌+◌, ◌<◌, ◌≤◌, Bool, true, false, cond, List, [], ◌∷◌, ◌++◌, refl, sym, ap, subst, ◌∙◌, arith, Option, Some, None}
-use Rattle.std.specs.Prelude.{if◌then◌else◌, ◌==◌, nat_lt, ◌≢◌, ◌&&◌, ◌||◌, not}
+use Rattle.std.proofs.Common.{◌≡◌, ℕ, ◌<◌, ◌≤◌, Bool, true, false, cond, List, [], ◌∷◌, ◌++◌, refl, sym, ap, subst, ◌∙◌, arith, Option, Some, None}
+use Rattle.std.specs.Prelude.{if◌then◌else◌, ◌==◌, nat_lt, not}
 use Rattle.std.specs.List.{find, list_any}
 use Rattle.std.proofs.lemmas.Bool.Decides.{nat_tests}
 use Rattle.buckets.specs.Row.{Row, precedes}
-use Rattle.buckets.specs.Spend.{Each, inserted, IsBelow, IsSound, IsInOrder, PrecedesAll, AreDistinct, DiffersFromAll}
+use Rattle.buckets.specs.Spend.{inserted, IsBelow, IsSound, IsInOrder, PrecedesAll, AreDistinct, DiffersFromAll}
 use Rattle.reserving.specs.declared.session.Session.{Session}
-use Rattle.reserving.specs.declared.session.SessionGroup.{SessionGroup}
 use Rattle.reserving.specs.Ledger.{Ledger}
 use Rattle.reserving.specs.Sessions.{is_session, session_in, is_live_in}
 use Rattle.reserving.specs.Settlement.{settled_by}
 use Rattle.reserving.specs.Changes.{advanced, settled_by_rows}
 use Rattle.reserving.specs.Rows.{AccountRows, EachIn, AreApart, IsAccount, IsRowsOf}
-use Rattle.reserving.proofs.Lists.{not_both, no_some, some_of, find-passes}
+use Rattle.reserving.proofs.Lists.{not_both, no_some, some_of}
 use Rattle.reserving.proofs.Keys.{same_number, number_same}
 use Rattle.reserving.proofs.Advancing.{IsRowsOf-advanced, session_in-advanced}
 use Rattle.reserving.proofs.Advanced.{IsAccount-advanced}
-use Rattle.reserving.proofs.SettledKept.{IsAccount-ended}
-use Rattle.reserving.specs.Left.{LeftRows, placed, merged, joined, IsLeft, AreOfOtherCycles, IsWith, bucket_in, first_of, only, differing, IsApartSessions}
-use Rattle.reserving.proofs.LeftJoined.{each_in_map, find_behind}
-use Rattle.reserving.proofs.LeftTests.{written, none_each, each_filter, find_filter}
+use Rattle.reserving.proofs.kept.Settled.{IsAccount-ended}
+use Rattle.reserving.specs.Left.{LeftRows, placed, merged, joined, AreOfOtherCycles, IsWith, bucket_in, first_of, only, differing, IsApartSessions}
+use Rattle.reserving.proofs.LeftJoined.{each_in_map}
+use Rattle.reserving.proofs.LeftTests.{written, find_filter}
 use Rattle.reserving.proofs.LeftParted.{one_session, find_both}
 use Rattle.reserving.proofs.LeftFrames.{advanced_joined, settled_by_joined, settled_with_left}
 
@@ -41,20 +40,27 @@ with_advanced ledger left t a le h =
       rows = subst (IsRowsOf ledger) same (IsRowsOf-advanced ledger (joined left a) t h.apart.whole h.rows le);
     }
 
-pub with_ended : (ledger : Ledger) (left : LeftRows) (a : AccountRows) (s : List ℕ) (g : ℕ) → IsWith ledger left a.as_of a → is_live_in a.book.validity a.as_of a.sessions s ≡ true →
-    IsWith (settled_by a.book a.as_of s g [] ledger) left a.as_of (settled_by_rows s g [] a)
-with_ended ledger left a s g h live = record {
+-- a call that leaves sessions and book: what was left stays as it is
+pub with_facts : (new old : Ledger) (left : LeftRows) (t : ℕ) (a b : AccountRows) → b.sessions ≡ a.sessions → b.book ≡ a.book → IsWith old left t a → IsAccount (joined left b) → IsRowsOf new (joined left b) → IsWith new left t b
+with_facts new old left t a b sessions book h whole rows = record {
   apart = record {
     dead = h.apart.dead;
     over = h.apart.over;
-    apart = h.apart.apart;
+    apart = subst (λ xs. EachIn (λ r. session_in r.id xs ≡ None) left.sessions) (sym sessions) h.apart.apart;
     free = h.apart.free;
-    others = h.apart.others;
-    whole = subst IsAccount (settled_by_joined left a s g [] h.apart h.cycles live) (IsAccount-ended (joined left a) s g h.apart.whole);
+    others = subst (λ xs. EachIn (λ r. session_in r.session xs ≡ None) left.groups) (sym sessions) h.apart.others;
+    whole = whole;
   };
-  cycles = h.cycles;
-  rows = settled_with_left ledger left a s g [] h.apart h.cycles live h.rows;
+  cycles = subst (λ x. AreOfOtherCycles x t left.counters) (sym book) h.cycles;
+  rows = rows;
 }
+
+pub with_ended : (ledger : Ledger) (left : LeftRows) (a : AccountRows) (s : List ℕ) (g : ℕ) → IsWith ledger left a.as_of a → is_live_in a.book.validity a.as_of a.sessions s ≡ true →
+    IsWith (settled_by a.book a.as_of s g [] ledger) left a.as_of (settled_by_rows s g [] a)
+with_ended ledger left a s g h live =
+    with_facts (settled_by a.book a.as_of s g [] ledger) ledger left a.as_of a (settled_by_rows s g [] a) refl refl h
+    (subst IsAccount (settled_by_joined left a s g [] h.apart h.cycles live) (IsAccount-ended (joined left a) s g h.apart.whole))
+    (settled_with_left ledger left a s g [] h.apart h.cycles live h.rows)
 
 -- ---- a bucket that is made
 

@@ -1,31 +1,27 @@
 -- What is loaded at a moment and what was left are together the account.
 use Rattle.std.proofs.Common.{◌≡◌, ℕ, ◌+◌, ◌≤◌, Bool, true, false, cond, List, [], ◌∷◌, ◌++◌, refl, sym, ap, subst, ◌∙◌, arith, Option, Some, None}
-use Rattle.std.specs.Prelude.{if◌then◌else◌, filter, not, ◌==◌, ◌&&◌, is_some}
+use Rattle.std.specs.Prelude.{if◌then◌else◌, filter, not, ◌==◌}
 use Rattle.std.specs.List.{find}
 use Rattle.std.proofs.lemmas.Bool.Decides.{nat_tests}
 use Rattle.buckets.specs.Row.{Row, precedes}
 use Rattle.buckets.specs.Spend.{Each, IsSound, IsBelow, IsInOrder, PrecedesAll}
-use Rattle.buckets.specs.declared.holds.Hold.{Hold}
 use Rattle.buckets.specs.Holding.{held_in}
-use Rattle.rating.specs.declared.grant.Periods.{Periods}
 use Rattle.reserving.specs.declared.session.Session.{Session}
-use Rattle.reserving.specs.declared.session.SessionState.{SessionState}
-use Rattle.reserving.specs.declared.session.SessionState.TheVariants.{Open, Ended, NeverOpened}
 use Rattle.reserving.specs.declared.session.SessionGroup.{SessionGroup}
-use Rattle.reserving.specs.declared.session.Reservation.{Reservation}
 use Rattle.reserving.specs.declared.session.Counter.{Counter}
-use Rattle.reserving.specs.Ledger.{Ledger, Recording, is_same, is_live, last_touch, last_recording, open_grant}
+use Rattle.reserving.specs.Ledger.{Ledger, is_same, last_recording}
 use Rattle.reserving.specs.Pricing.{cycle_at}
 use Rattle.reserving.specs.Balance.{buckets_at}
-use Rattle.reserving.specs.Sessions.{is_session, session_in, session_at, session_row, state_at, is_open, is_of, group_in, group_at, is_counter, counter_in, counter_at, holds_in, held_by, holds_at, reservation_at, reservation_of}
+use Rattle.reserving.specs.Sessions.{is_session, session_in, session_at, is_open, is_of, group_in, group_at, is_counter, counter_in, counter_at, holds_in, held_by, reservation_at}
 use Rattle.reserving.specs.Rows.{AccountRows, EachIn, AreApart, IsAccount, IsRowsOf}
 use Rattle.reserving.proofs.Lists.{not_both, no_some, some_of, find-passes as passes}
 use Rattle.reserving.proofs.Holds.{same_from, same_itself}
-use Rattle.reserving.proofs.Keys.{found_own, is_same-sym, first_true, second_true, both_true, same_number, number_same}
+use Rattle.reserving.proofs.Keys.{found_own, is_same-sym, first_true, second_true, same_number}
 use Rattle.reserving.proofs.Advancing.{groups_each, found_each}
-use Rattle.reserving.specs.Left.{LeftRows, placed, merged, joined, IsDead, is_dead, is_open_row, only, first_of, left_of, IsLeft, AreOfOtherCycles, IsPartOf, IsLoadedWith}
-use Rattle.reserving.proofs.LeftEnded.{closed_free}
+use Rattle.reserving.specs.Left.{LeftRows, placed, merged, joined, IsDead, is_dead, is_open_row, only, first_of, left_of, AreOfOtherCycles, IsPartOf, IsLoadedWith}
+use Rattle.reserving.proofs.left.Ended.{closed_free}
 use Rattle.reserving.proofs.LeftJoined.{each_in_map, held_behind}
+use Rattle.reserving.proofs.InOrder.{order_joined}
 use Rattle.reserving.proofs.LeftTests.{each_filter, each_passes, each_append, each_with, apart_filter, apart_append, none_each, find_filter}
 
 -- ---- buckets
@@ -242,13 +238,17 @@ module _ (ledger : Ledger) (t : ℕ) (w a : AccountRows) (is : IsAccount w) (own
         (each_in_map _ _ left.counters (λ r e. none_each (is_counter r.group r.cycle) a.counters (part.counters r.group r.cycle ∙ ap (λ u. if u then counter_in r.group r.cycle w.counters else None) e)) cycles);
     used = each_append _ left.groups a.groups (each_filter _ (λ (r : SessionGroup). not (is_open_row (session_in r.session w.sessions))) w.groups is.used) own.used;
     counted = each_append _ left.counters a.counters (each_filter _ (λ (r : Counter). not (r.cycle == cycle_at w.book r.group t)) w.counters is.counted) own.counted;
-    held = each_merged _ left.buckets a.buckets (both_each left.buckets (each_among _ is_dead w.buckets is.held) (each_dead w.buckets)) (live_each a.buckets own.held);
+    held = each_merged _ left.buckets a.buckets held_left (live_each a.buckets own.held);
     named = λ b le. held_behind (λ s. true) left.groups a.groups b free ∙ own.named b le;
+    order = order_joined left a.buckets a.groups free held_left (each_dead w.buckets) own.order;
   }
     where
       both_each : (xs : List Row) → Each (λ b. held_by (λ s. true) w.groups b ≡ b.reserved) xs → Each IsDead xs → Each (λ b. held_by (λ s. true) (left.groups ++ a.groups) b ≡ b.reserved) xs
       both_each [] e d = tt
       both_each (x ∷ xs) e d = (held_same x e.0 d.0, both_each xs e.1 d.1)
+
+      held_left : Each (λ b. held_by (λ s. true) (left.groups ++ a.groups) b ≡ b.reserved) left.buckets
+      held_left = both_each left.buckets (each_among _ is_dead w.buckets is.held) (each_dead w.buckets)
 
       live_each : (xs : List Row) → Each (λ b. held_by (λ s. true) a.groups b ≡ b.reserved) xs → Each (λ b. held_by (λ s. true) (left.groups ++ a.groups) b ≡ b.reserved) xs
       live_each [] e = tt

@@ -1,14 +1,13 @@
 -- What is read of an account beside the rows that were left: funds, prices, quotas and limits.
-use Rattle.std.proofs.Common.{◌≡◌, ℕ, ◌+◌, ◌-◌, ◌<◌, ◌≤◌, Bool, true, false, List, [], ◌∷◌, ◌++◌, refl, sym, ap, subst, ◌∙◌, arith, Option, Some, None}
+use Rattle.std.proofs.Common.{◌≡◌, ℕ, ◌+◌, ◌-◌, arith, ◌≤◌, true, false, List, [], refl, sym, ap, subst, ◌∙◌, Option, None}
 use Rattle.std.specs.Prelude.{option_map}
 use Rattle.units.specs.declared.blocks.UsedPart.{UsedPart}
 use Rattle.buckets.specs.declared.holds.Hold.{Hold}
 use Rattle.buckets.specs.Row.{Row}
 use Rattle.buckets.specs.Spend.{Each, funds}
-use Rattle.buckets.specs.Holding.{held_in, held_sum, uncollected}
+use Rattle.buckets.specs.Holding.{held_in, uncollected}
 use Rattle.rating.specs.declared.grant.Grant.{Grant}
 use Rattle.rating.specs.declared.grant.Periods.{Periods}
-use Rattle.tariffs.specs.Books.{Book}
 use Rattle.reserving.specs.declared.session.SessionGroup.{SessionGroup}
 use Rattle.reserving.specs.declared.session.Reservation.{Reservation}
 use Rattle.reserving.specs.Ledger.{Ledger, is_live}
@@ -17,14 +16,15 @@ use Rattle.reserving.specs.Pricing.{cycle_at, periods_at}
 use Rattle.reserving.specs.Quotas.{IsQuota}
 use Rattle.reserving.specs.Reservation.{grant_for}
 use Rattle.reserving.specs.Sessions.{is_of, is_live_in}
-use Rattle.reserving.specs.Settlement.{reported, price_of, passes, passes_limit}
-use Rattle.reserving.specs.Debiting.{untagged, event_price, is_covered, debit_passes}
+use Rattle.reserving.specs.Settlement.{reported, price_of, passes, passes_limit, passes_after}
+use Rattle.reserving.specs.Debiting.{untagged, event_price, debit_passes}
 use Rattle.reserving.specs.Changes.{advanced, used_in, count_in, price_in, event_price_in}
-use Rattle.reserving.specs.Rows.{AccountRows, EachIn, IsRowsOf}
+use Rattle.reserving.specs.Rows.{AccountRows, EachIn}
 use Rattle.reserving.specs.Left.{LeftRows, merged, joined, IsDead, IsLeft, AreOfOtherCycles, IsWith}
 use Rattle.reserving.proofs.Advancing.{IsRowsOf-advanced, is_live_in-is}
-use Rattle.reserving.proofs.SettledCall.{passes_is}
-use Rattle.reserving.proofs.Debited.{event_price_is, debit_passes_is}
+use Rattle.reserving.proofs.PassedLimits.{passes_after-none}
+use Rattle.reserving.proofs.calls.Settled.{passes_after_is}
+use Rattle.reserving.proofs.calls.Debited.{event_price_is, debit_passes_is}
 use Rattle.reserving.proofs.ReservedCall.{new_told, QuotaOf}
 use Rattle.reserving.proofs.LeftMerged.{sum_merged, funds_merged}
 use Rattle.reserving.proofs.LeftFrames.{live, not_of_live, row_same, count_beside, advanced_joined}
@@ -66,12 +66,20 @@ pub price_joined : (left : LeftRows) (a : AccountRows) (s : List ℕ) (g t : ℕ
 price_joined left a s g t used_parts h cycles not_of =
     λ i. price_of a.book t g (option_map (λ (r : Reservation). r.periods) (row_same left a h s g not_of i).reservation) (row_same left a h s g not_of i).used (count_beside a.book t g left.counters a.counters cycles i) used_parts
 
+pub passes_after_told : (charges : ℕ) (ledger : Ledger) (left : LeftRows) (t : ℕ) (a : AccountRows) (s : List ℕ) (g : ℕ) (used_parts : List UsedPart) → a.as_of ≤ t → IsWith ledger left t a → is_live_in a.book.validity t a.sessions s ≡ true → (used_parts ≡ [] → ⊥) →
+    passes_after charges a.book t s g used_parts ledger ≡ passes (used_in s g a.groups) (reported used_parts) (count_in g (cycle_at a.book g t) a.counters) (price_in s g t used_parts a).blocks (a.next_charge + charges)
+passes_after_told charges ledger left t a s g used_parts le h alive some =
+    let not_of : EachIn (λ r. is_of s g r ≡ false) left.groups = not_of_live left a t s g h.apart alive in
+    passes_after_is charges ledger (joined left a) s g t used_parts h.apart.whole h.rows le (live left a h.apart t s ∙ alive) some
+    ∙ (λ i. passes (used_joined left a s g h.apart not_of i) (reported used_parts) (count_beside a.book t g left.counters a.counters h.cycles i) (price_joined left a s g t used_parts h.apart h.cycles not_of i).blocks (a.next_charge + charges))
+
 pub passes_told : (ledger : Ledger) (left : LeftRows) (t : ℕ) (a : AccountRows) (s : List ℕ) (g : ℕ) (used_parts : List UsedPart) → a.as_of ≤ t → IsWith ledger left t a → is_live_in a.book.validity t a.sessions s ≡ true → (used_parts ≡ [] → ⊥) →
     passes_limit a.book t s g used_parts ledger ≡ passes (used_in s g a.groups) (reported used_parts) (count_in g (cycle_at a.book g t) a.counters) (price_in s g t used_parts a).blocks a.next_charge
 passes_told ledger left t a s g used_parts le h alive some =
-    let not_of : EachIn (λ r. is_of s g r ≡ false) left.groups = not_of_live left a t s g h.apart alive in
-    passes_is ledger (joined left a) s g t used_parts h.apart.whole h.rows le (live left a h.apart t s ∙ alive) some
-    ∙ (λ i. passes (used_joined left a s g h.apart not_of i) (reported used_parts) (count_beside a.book t g left.counters a.counters h.cycles i) (price_joined left a s g t used_parts h.apart h.cycles not_of i).blocks a.next_charge)
+    let next : a.next_charge + 0 ≡ a.next_charge = omega arith in
+    sym (passes_after-none a.book t s g used_parts ledger)
+    ∙ passes_after_told 0 ledger left t a s g used_parts le h alive some
+    ∙ ap (passes (used_in s g a.groups) (reported used_parts) (count_in g (cycle_at a.book g t) a.counters) (price_in s g t used_parts a).blocks) next
 
 -- what is collected of an amount doesn't know of dead buckets
 pub uncollected_merged : (holds : List Hold) (g t amount : ℕ) (left rows : List Row) → Each IsDead left → Each (λ b. held_in holds b ≡ 0) left → uncollected holds g t amount (merged left rows) ≡ uncollected holds g t amount rows

@@ -1,9 +1,9 @@
 -- Rows found among those that pass a test, and rows that differ from those before.
-use Rattle.std.proofs.Common.{◌≡◌, ℕ, Bool, true, false, cond, List, [], ◌∷◌, ◌++◌, refl, sym, ap, ◌∙◌, Option, Some, None}
+use Rattle.std.proofs.Common.{◌≡◌, Bool, true, false, cond, List, [], ◌∷◌, ◌++◌, refl, sym, ap, ◌∙◌, Option, Some, None}
 use Rattle.std.specs.Prelude.{if◌then◌else◌, filter, not, ◌||◌}
 use Rattle.std.specs.List.{find, list_any}
 use Rattle.reserving.specs.Rows.{EachIn, AreApart}
-use Rattle.reserving.proofs.Lists.{not_both, no_some, some_of, find-passes}
+use Rattle.reserving.proofs.Lists.{not_both, no_some, find-passes}
 use Rattle.reserving.specs.Left.{only, differing, first_of}
 
 -- ---- each row

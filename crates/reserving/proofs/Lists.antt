@@ -1,7 +1,8 @@
 -- Rows that are found by a key, put in the place of another, or changed all alike.
 use Rattle.std.proofs.Common.{◌≡◌, ℕ, ◌+◌, ◌<◌, Bool, true, false, cond, List, [], ◌∷◌, ◌++◌, map, length, get_or, set, refl, sym, ap, ◌∙◌, arith, Some, None}
 use Prim.Native.Nat.{suc}
-use Rattle.std.specs.Prelude.{if◌then◌else◌, option_map}
+use Rattle.std.specs.Prelude.{if◌then◌else◌, ◌==◌, option_map}
+use Rattle.std.proofs.lemmas.Bool.Decides.{nat_tests}
 use Rattle.std.specs.List.{find, position_from}
 use Rattle.reserving.specs.Keyed.{put}
 use Rattle.reserving.specs.Rows.{EachIn, AreApart}
@@ -102,3 +103,12 @@ EachIn-put P p x (y ∷ ys) px e = elim (p y) as (λ t. EachIn P (if t then x �
 pub AreApart-map : {A : Type 0} (same : A → A → Bool) (f : A → A) (xs : List A) → ((x y : A) → same (f x) (f y) ≡ same x y) → AreApart same xs → AreApart same (map f xs)
 AreApart-map same f [] k h = tt
 AreApart-map same f (x ∷ xs) k h = (EachIn-map (λ y. same x y ≡ false) (λ y. same (f x) y ≡ false) f xs (λ y e. k x y ∙ e) h.0, AreApart-map same f xs k h.1)
+
+-- ---- a list of no length
+
+pub is_nothing : {A : Type 0} → (xs : List A) → (length xs == 0) ≡ true → xs ≡ []
+is_nothing [] h = refl
+is_nothing (x ∷ xs) h = absurd (let none : length (x ∷ xs) ≡ 0 = grind (arith, nat_tests) in omega arith)
+
+pub is_something : {A : Type 0} → (xs : List A) → (length xs == 0) ≡ false → xs ≡ [] → ⊥
+is_something xs h e = let some : (length xs == 0) ≡ true = ap (λ ys. length ys == 0) e in cc

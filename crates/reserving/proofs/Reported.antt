@@ -9,7 +9,7 @@ use Rattle.reserving.specs.Pricing.{is_change, units_of}
 use Rattle.reserving.specs.Settlement.{reported}
 
 abbrev in_class : Option TariffChangeUsage → Option TariffChangeUsage → ℕ → ℕ
-in_class change own units = if is_change change own then units else 0
+in_class change own units = if is_change own change then units else 0
 
 one_class : (own : Option TariffChangeUsage) (n : ℕ) →
     in_class None own n + in_class (Some UnitBeforeTariffChange) own n + in_class (Some UnitIndeterminate) own n + in_class (Some UnitAfterTariffChange) own n ≡ n

@@ -1,6 +1,6 @@
 -- A grant's call, from any ledger whose rows the account is before it.
-use Rattle.std.proofs.Common.{◌≡◌, ℕ, ◌+◌, ◌<◌, ◌≤◌, Bool, true, false, List, map, refl, sym, ap, subst, ◌∙◌, arith, Option, Some, None}
-use Rattle.std.specs.Prelude.{◌*◌, if◌then◌else◌, is_some, unwrap_or, option_map, not, nat_lt, min}
+use Rattle.std.proofs.Common.{◌≡◌, ℕ, ◌<◌, ◌≤◌, Bool, true, false, List, map, refl, sym, ap, subst, ◌∙◌, arith, Option, Some, None}
+use Rattle.std.specs.Prelude.{if◌then◌else◌, is_some, unwrap_or, option_map, not, nat_lt}
 use Rattle.units.specs.Blocks.{started}
 use Rattle.buckets.specs.declared.holds.Hold.{Hold}
 use Rattle.buckets.specs.Row.{Row, with_release, with_end}
@@ -27,8 +27,8 @@ use Rattle.reserving.proofs.Lists.{find-map, some_of, no_some}
 use Rattle.reserving.proofs.Advancing.{is_live_in-is, IsRowsOf-advanced}
 use Rattle.reserving.proofs.Advanced.{IsAccount-advanced}
 use Rattle.reserving.proofs.SettledRows.{used_in_is, count_in_is}
-use Rattle.reserving.proofs.SettledParts.{or_new_later, group_later, put_later, key_kept, held_by-with_group}
-use Rattle.reserving.proofs.Reserved.{IsRowsOf-reserved}
+use Rattle.reserving.proofs.calls.RowParts.{or_new_later, group_later, put_later, key_kept, held_by-with_group}
+use Rattle.reserving.proofs.rows.Reserved.{IsRowsOf-reserved}
 
 pub reserved_parts : (a : AccountRows) (s : List ℕ) (g amount : ℕ) (periods : Periods) (holds : List Hold) (buckets : List Row) (groups : List SessionGroup) →
     periods ≡ periods_at a.book a.as_of → buckets ≡ held_rows g a.as_of amount a.buckets → holds ≡ holds_of g a.as_of amount a.buckets → groups ≡ with_reservation s g periods holds a.groups →

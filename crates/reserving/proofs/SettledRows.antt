@@ -1,6 +1,7 @@
 -- What a settlement makes of an account's rows: those of the ledger with the settlement.
 use Rattle.std.proofs.Common.{◌≡◌, ℕ, ◌+◌, ◌-◌, ◌<◌, ◌≤◌, Bool, true, false, List, [], ◌∷◌, ◌++◌, map, refl, sym, ap, subst, ◌∙◌, arith, Option, Some, None}
 use Rattle.std.specs.Prelude.{if◌then◌else◌, ◌==◌, ◌&&◌, ◌||◌, not, unwrap_or, option_map}
+use Rattle.std.proofs.lemmas.Bool.{or_parts}
 use Rattle.std.proofs.lemmas.Bool.Decides.{nat_tests}
 use Rattle.units.specs.declared.blocks.UsedPart.{UsedPart}
 use Rattle.buckets.specs.declared.holds.Hold.{Hold}
@@ -28,8 +29,8 @@ use Rattle.reserving.proofs.Lists.{find-put, find-put_other, find-map}
 use Rattle.reserving.proofs.Keys.{is_key, own_key, key_session, key_group, key_of, other_row, is_cycle, own_cycle, cycle_group, cycle_cycle, other_counter, same_tests, not_true}
 use Rattle.reserving.proofs.Holds.{one_if, held_split, held_same}
 use Rattle.reserving.proofs.SettledFacts.{is_barred-front, total-front, newest-front, any-front, any_dated-front, each_charge, held-charge_facts, charged-charge_facts, IsMoved, SameSessions, SameGroup, same_session, same_touched, same_group}
-use Rattle.reserving.proofs.SettledBuckets.{with_end, buckets_at-settled, buckets_at-ended, same_sessions-settled, same_sessions-ended}
-use Rattle.reserving.proofs.SettledComplete.{reserved_in_is}
+use Rattle.reserving.proofs.ledger.SettledBuckets.{with_end, buckets_at-settled, buckets_at-ended, same_sessions-settled, same_sessions-ended}
+use Rattle.reserving.proofs.rows.Complete.{reserved_in_is}
 
 -- ---- what wasn't named is 0
 
@@ -45,18 +46,10 @@ none_units s g (Close a) h = refl
 none_units s g (Recorded a b) h = refl
 none_units s g (Barred a) h = refl
 
-first_false : (a b : Bool) → (a || b) ≡ false → a ≡ false
-first_false true b h = h
-first_false false b h = refl
-
-second_false : (a b : Bool) → (a || b) ≡ false → b ≡ false
-second_false true b h = cc
-second_false false b h = h
-
 used_none : (s : List ℕ) (g : ℕ) (ledger : Ledger) → has_group s g ledger ≡ false → used s g ledger ≡ 0
 used_none s g [] h = refl
 used_none s g (d ∷ older) h =
-    omega (arith, none_units s g d.fact (first_false (names_group s g d.fact) (has_group s g older) h), used_none s g older (second_false (names_group s g d.fact) (has_group s g older) h))
+    omega (arith, none_units s g d.fact (or_parts (names_group s g d.fact) (has_group s g older) h).0, used_none s g older (or_parts (names_group s g d.fact) (has_group s g older) h).1)
 
 either_used : (h : Bool) (x : SessionGroup) (s : List ℕ) (g : ℕ) → (h ≡ false → x.used ≡ 0) → (unwrap_or (if h then Some x else None) (new_group s g)).used ≡ x.used
 either_used true x s g k = refl
@@ -75,7 +68,7 @@ grant_ended false o h = h
 
 pub open_none : (s : List ℕ) (g : ℕ) (ledger : Ledger) → has_group s g ledger ≡ false → open_grant s g ledger ≡ None
 open_none s g [] h = refl
-open_none s g (d ∷ older) h = by_fact d.at d.fact (first_false (names_group s g d.fact) (has_group s g older) h) (open_none s g older (second_false (names_group s g d.fact) (has_group s g older) h))
+open_none s g (d ∷ older) h = by_fact d.at d.fact (or_parts (names_group s g d.fact) (has_group s g older) h).0 (open_none s g older (or_parts (names_group s g d.fact) (has_group s g older) h).1)
   where
     by_fact : (at : ℕ) (fact : Fact) → names_group s g fact ≡ false → inner (newest (grant_in s g) older) ≡ None → inner (or_else (grant_in s g (record { at = at; fact = fact })) (newest (grant_in s g) older)) ≡ None
     by_fact at (Grant a b p c e) k r = (λ i. inner (or_else (if k i then Some (Some p) else None) (newest (grant_in s g) older))) ∙ r
@@ -130,7 +123,7 @@ none_blocks f g c d h = by_fact d.at d.fact h
 counter_none : (f : ℕ → ℕ) (g c : ℕ) (ledger : Ledger) → has_counter f g c ledger ≡ false → counter f g c ledger ≡ 0
 counter_none f g c [] h = refl
 counter_none f g c (d ∷ older) h =
-    omega (arith, none_blocks f g c d (first_false (counts_group f g c d) (has_counter f g c older) h), counter_none f g c older (second_false (counts_group f g c d) (has_counter f g c older) h))
+    omega (arith, none_blocks f g c d (or_parts (counts_group f g c d) (has_counter f g c older) h).0, counter_none f g c older (or_parts (counts_group f g c d) (has_counter f g c older) h).1)
 
 either_count : (h : Bool) (x : Counter) → (h ≡ false → x.blocks ≡ 0) → unwrap_or (option_map (λ (r : Counter). r.blocks) (if h then Some x else None)) 0 ≡ x.blocks
 either_count true x k = refl
@@ -166,10 +159,10 @@ and_not : (x : Bool) → (x && not x) ≡ false
 and_not true = refl
 and_not false = refl
 
-abbrev parts_paid : ℕ → ℕ → List ℕ → ℕ → ℕ → Ledger → List Hold
+abbrev pub parts_paid : ℕ → ℕ → List ℕ → ℕ → ℕ → Ledger → List Hold
 parts_paid v t session group rated ledger = parts (paid (holds_at v t session group ledger) group t rated (buckets_at v t ledger)) (buckets_at v t ledger)
 
-other_settled : (v t : ℕ) (session : List ℕ) (group units blocks rated : ℕ) (ledger : Ledger) (s : List ℕ) (g : ℕ) → is_key session group s g ≡ false → SameGroup s g ledger (settled v t session group units blocks rated ledger)
+pub other_settled : (v t : ℕ) (session : List ℕ) (group units blocks rated : ℕ) (ledger : Ledger) (s : List ℕ) (g : ℕ) → is_key session group s g ≡ false → SameGroup s g ledger (settled v t session group units blocks rated ledger)
 other_settled v t session group units blocks rated ledger s g h =
     let hs : List Hold = parts_paid v t session group rated ledger in
     let none : (if is_same session s && group == g then units else 0) ≡ 0 = rw h refl in
@@ -242,7 +235,7 @@ counted_once true false n e = cc
 counted_once false true n e = cc
 counted_once false false n e = cc
 
-counter-settled : (f : ℕ → ℕ) (g c v t : ℕ) (session : List ℕ) (group units blocks rated : ℕ) (ledger : Ledger) → counter f g c (settled v t session group units blocks rated ledger) ≡ counter f g c ledger + (if f t == c then (if group == g then blocks else 0) else 0)
+pub counter-settled : (f : ℕ → ℕ) (g c v t : ℕ) (session : List ℕ) (group units blocks rated : ℕ) (ledger : Ledger) → counter f g c (settled v t session group units blocks rated ledger) ≡ counter f g c ledger + (if f t == c then (if group == g then blocks else 0) else 0)
 counter-settled f g c v t session group units blocks rated ledger =
     omega (arith, if_none (f t == c), total-front (λ d. if f d.at == c then blocks_in g d.fact else 0) (charge_facts t (parts_paid v t session group rated ledger)) ledger (each_charge _ t (parts_paid v t session group rated ledger) (λ b n. if_none (f t == c))))
 

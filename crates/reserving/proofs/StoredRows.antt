@@ -1,5 +1,5 @@
 -- What an account keeps, with and without the tariff book that prices it.
-use Rattle.std.proofs.Common.{◌≡◌, ℕ}
+use Rattle.std.proofs.Common.{ℕ}
 use Rattle.tariffs.specs.Books.{Book, IsBook}
 use Rattle.reserving.specs.Rows.{AccountRows, IsAccount}
 use Rattle.reserving.specs.Changes.{advanced}
@@ -20,6 +20,7 @@ IsAccount-priced book r ranges is = record {
   counted = is.counted;
   held = is.held;
   named = is.named;
+  order = is.order;
 }
 
 pub IsStored-stored : (a : AccountRows) → IsAccount a → IsStored (stored a)
@@ -35,6 +36,7 @@ IsStored-stored a is = record {
   counted = is.counted;
   held = is.held;
   named = is.named;
+  order = is.order;
 }
 
 pub IsStored-advanced : (book : Book) (t : ℕ) (r : StoredRows) → IsBook book → IsStored r → IsStored (advanced_stored book t r)

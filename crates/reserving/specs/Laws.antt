@@ -7,6 +7,8 @@ use Rattle.buckets.specs.Spend.{Each, AreDistinct}
 use Rattle.reserving.specs.Balance.{bucket_at, buckets_at}
 use Rattle.reserving.specs.Settlement.{settled}
 use Rattle.reserving.specs.Left.{IsDead}
+use Rattle.reserving.specs.Rows.{AccountRows}
+use Rattle.reserving.specs.Changes.{advanced}
 
 -- the reservations of sessions that ended between two moments
 abbrev pub ended_between : ℕ → ℕ → ℕ → Ledger → List ℕ → ℕ → Bool
@@ -26,6 +28,11 @@ abbrev pub IsBroughtAlike : Type 0
 IsBroughtAlike =
     (v t1 t2 t3 : ℕ) (ledger : Ledger) (c : Row) → t1 ≤ t2 → t2 ≤ t3 → IsBalanced (bucket_at v t1 ledger c) →
     brought v t2 t3 ledger (brought v t1 t2 ledger (bucket_at v t1 ledger c)) ≡ brought v t1 t3 ledger (bucket_at v t1 ledger c)
+
+-- the whole account, whatever its rows: brought to a moment and then to a later one it is as `advance` to the later
+-- one alone makes it
+abbrev pub IsAdvancedAlike : Type 0
+IsAdvancedAlike = (a : AccountRows) (t u : ℕ) → t ≤ u → advanced u (advanced t a) ≡ advanced u a
 
 -- ---- a dead bucket never changes again: a law of the ledger
 

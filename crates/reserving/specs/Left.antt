@@ -1,6 +1,6 @@
 -- What of an account's rows isn't loaded: it is left in the keeper.
 -- Source: profile.
-use Rattle.std.specs.Prelude.{◌≡◌, ℕ, Bool, true, false, not, ◌==◌, ◌&&◌, if◌then◌else◌, List, [], ◌∷◌, ◌++◌, Option, Some, None, filter}
+use Rattle.std.specs.Prelude.{◌≡◌, ℕ, Bool, false, not, ◌==◌, ◌&&◌, if◌then◌else◌, List, [], ◌∷◌, ◌++◌, Option, Some, None, filter}
 use Rattle.std.specs.List.{find, list_any}
 use Rattle.buckets.specs.Row.{Row, precedes}
 use Rattle.buckets.specs.Spend.{Each}

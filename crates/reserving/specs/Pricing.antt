@@ -1,7 +1,8 @@
 -- What a tariff book says of a rating group at a moment: its tariff, the cycle of its counter, the tariff switch within
 -- the validity, the periods of a grant, and what a report costs.
 -- Source: RFC 8506 sections 8.19, 8.20, 8.27 and 8.33; TS 32.296, rating function.
-use Rattle.std.specs.Prelude.{ℕ, ◌-◌, ◌==◌, Bool, true, false, if◌then◌else◌, List, [], ◌∷◌, Option, Some, None, find, min, sum_by, unwrap_or}
+use Rattle.std.specs.Prelude.{ℕ, ◌-◌, ◌==◌, Bool, if◌then◌else◌, List, [], ◌∷◌, Option, Some, None, find, min, sum_by, unwrap_or}
+use Rattle.std.specs.Option.{option_eq}
 use Rattle.calendar.specs.Clock.{ZoneRule}
 use Rattle.calendar.specs.Timetable.{Timetable, period_at, switch_within, validity_from, cycle_of}
 use Rattle.calendar.specs.declared.week.Period.{Period}
@@ -9,6 +10,7 @@ use Rattle.tariffs.specs.Books.{Book}
 use Rattle.tariffs.specs.Tariffs.{GroupTariff}
 use Rattle.units.specs.declared.blocks.TariffChangeUsage.{TariffChangeUsage}
 use Rattle.units.specs.declared.blocks.TariffChangeUsage.TheVariants.{UnitBeforeTariffChange, UnitAfterTariffChange, UnitIndeterminate}
+use Rattle.units.specs.contracts.blocks.TariffChangeUsagePartialEq.TheImpl.{ghosts as usage}
 use Rattle.units.specs.declared.blocks.UsedPart.{UsedPart}
 use Rattle.rating.specs.declared.grant.Grant.{Grant}
 use Rattle.rating.specs.declared.grant.Periods.{Periods}
@@ -57,16 +59,13 @@ periods_at b t = record { before = period_at b.calendar t; after = period_after 
 abbrev pub one_period : Period → Periods
 one_period p = record { before = p; after = p }
 
+-- two values of Tariff-Change-Usage, or their absences, are the same
 abbrev pub is_change : Option TariffChangeUsage → Option TariffChangeUsage → Bool
-is_change None None = true
-is_change (Some UnitBeforeTariffChange) (Some UnitBeforeTariffChange) = true
-is_change (Some UnitIndeterminate) (Some UnitIndeterminate) = true
-is_change (Some UnitAfterTariffChange) (Some UnitAfterTariffChange) = true
-is_change a b = false
+is_change = option_eq usage.eq
 
 -- the units of the parts with this Tariff-Change-Usage
 abbrev pub units_of : Option TariffChangeUsage → List UsedPart → ℕ
-units_of change parts = sum_by (λ p. if is_change change p.change then p.units.0 else 0) parts
+units_of change parts = sum_by (λ p. if is_change p.change change then p.units.0 else 0) parts
 
 abbrev pub four_parts : Periods → ℕ → ℕ → ℕ → ℕ → List Part
 four_parts p untagged before indeterminate after =

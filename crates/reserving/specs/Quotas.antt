@@ -3,7 +3,7 @@
 use Rattle.std.specs.Prelude.{◌≡◌, ℕ, ◌≤◌, Option, Some}
 use Rattle.units.specs.Blocks.{started}
 use Rattle.tariffs.specs.Books.{Book}
-use Rattle.tariffs.specs.Tariffs.{GroupTariff, IsTariff, tiers_at}
+use Rattle.tariffs.specs.Tariffs.{GroupTariff, tiers_at}
 use Rattle.rating.specs.declared.grant.Grant.{Grant}
 use Rattle.rating.specs.declared.grant.Periods.{Periods}
 use Rattle.rating.specs.Granted.{IsGreatest}

@@ -1,7 +1,10 @@
 -- An account's rows, and the ledger that they are the sums of.
 -- Source: profile.
 use Rattle.std.specs.Prelude.{◌≡◌, ℕ, ◌≤◌, List, [], ◌∷◌, Bool, true, false, Some, None, option_map}
+use Rattle.buckets.specs.declared.holds.Hold.{Hold}
 use Rattle.buckets.specs.Row.{Row}
+use Rattle.buckets.specs.Share.{parts}
+use Rattle.buckets.specs.Holding.{held_in}
 use Rattle.buckets.specs.Spend.{Each, IsSound, IsBelow}
 use Rattle.reserving.specs.declared.session.Session.{Session}
 use Rattle.reserving.specs.declared.session.SessionGroup.{SessionGroup}
@@ -10,7 +13,7 @@ use Rattle.reserving.specs.Ledger.{Ledger, is_barred, charged, held, is_same, is
 use Rattle.tariffs.specs.Books.{Book, IsBook}
 use Rattle.reserving.specs.Pricing.{cycle_at}
 use Rattle.reserving.specs.Balance.{buckets_at}
-use Rattle.reserving.specs.Sessions.{is_session, session_in, session_at, is_of, group_in, group_at, is_counter, counter_in, counter_at, held_by}
+use Rattle.reserving.specs.Sessions.{is_session, session_in, session_at, is_of, group_in, group_at, is_counter, counter_in, counter_at, holds_in, held_by}
 
 pub record AccountRows : Type 0 where
   pub book : Book
@@ -34,6 +37,14 @@ abbrev pub AreApart : {A : Type 0} → (A → A → Bool) → List A → Type 0
 AreApart same [] = Unit {0}
 AreApart same (x ∷ xs) = EachIn (λ y. same x y ≡ false) xs × AreApart same xs
 
+-- each hold is what its bucket is held for, in the order of the buckets
+abbrev pub IsInOrderOf : List Row → List Hold → Type 0
+IsInOrderOf buckets holds = holds ≡ parts (held_in holds) buckets
+
+-- so is what each reservation holds
+abbrev pub AreInOrderOf : List Row → List SessionGroup → Type 0
+AreInOrderOf buckets groups = EachIn (λ r. IsInOrderOf buckets (holds_in r.reservation)) groups
+
 pub record IsAccount (a : AccountRows) : Type 0 where
   pub book : IsBook a.book
   pub sound : IsSound a.buckets
@@ -49,6 +60,8 @@ pub record IsAccount (a : AccountRows) : Type 0 where
   pub held : Each (λ b. held_by (λ s. true) a.groups b ≡ b.reserved) a.buckets
   -- and nothing is held of a bucket that isn't there
   pub named : (b : Row) → a.next_bucket ≤ b.number → held_by (λ s. true) a.groups b ≡ 0
+  -- a reservation's holds stand in the order of the buckets
+  pub order : AreInOrderOf a.buckets a.groups
 
 -- ---- the ledger's rows
 

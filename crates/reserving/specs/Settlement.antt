@@ -69,3 +69,15 @@ abbrev pub passes_limit : Book → ℕ → List ℕ → ℕ → List UsedPart �
 passes_limit b t session group [] ledger = false
 passes_limit b t session group (p ∷ ps) ledger =
     passes (used session group ledger) (reported (p ∷ ps)) (counter (cycle_at b group) group (cycle_at b group t) ledger) (report_price b t session group (p ∷ ps) ledger).blocks (next_charge ledger)
+
+-- the same, where so many charges are numbered before the report's own
+abbrev pub passes_after : ℕ → Book → ℕ → List ℕ → ℕ → List UsedPart → Ledger → Bool
+passes_after charges b t session group [] ledger = false
+passes_after charges b t session group (p ∷ ps) ledger =
+    passes (used session group ledger) (reported (p ∷ ps)) (counter (cycle_at b group) group (cycle_at b group t) ledger) (report_price b t session group (p ∷ ps) ledger).blocks
+    (next_charge ledger + charges)
+
+-- the charges of a report: one where it has parts
+abbrev pub charge_count : List UsedPart → ℕ
+charge_count [] = 0
+charge_count (p ∷ ps) = 1

@@ -1,6 +1,6 @@
 -- An account's rows as they are kept: without the tariff book that prices them.
 -- Source: profile.
-use Rattle.std.specs.Prelude.{◌≡◌, ℕ, ◌≤◌, List, Bool, true, false}
+use Rattle.std.specs.Prelude.{◌≡◌, ℕ, ◌≤◌, List, Bool, true}
 use Rattle.buckets.specs.Row.{Row}
 use Rattle.buckets.specs.Spend.{Each, IsSound, IsBelow}
 use Rattle.reserving.specs.declared.session.Session.{Session}
@@ -8,7 +8,7 @@ use Rattle.reserving.specs.declared.session.SessionGroup.{SessionGroup}
 use Rattle.reserving.specs.declared.session.Counter.{Counter}
 use Rattle.tariffs.specs.Books.{Book}
 use Rattle.reserving.specs.Sessions.{is_session, is_of, is_counter, held_by}
-use Rattle.reserving.specs.Rows.{AccountRows, EachIn, AreApart}
+use Rattle.reserving.specs.Rows.{AccountRows, EachIn, AreApart, AreInOrderOf}
 use Rattle.reserving.specs.Changes.{advanced}
 
 pub record StoredRows : Type 0 where
@@ -67,3 +67,5 @@ pub record IsStored (r : StoredRows) : Type 0 where
   pub held : Each (λ b. held_by (λ s. true) r.groups b ≡ b.reserved) r.buckets
   -- and nothing is held of a bucket that isn't there
   pub named : (b : Row) → r.next_bucket ≤ b.number → held_by (λ s. true) r.groups b ≡ 0
+  -- a reservation's holds stand in the order of the buckets
+  pub order : AreInOrderOf r.buckets r.groups

@@ -5,6 +5,7 @@ ghost use Rattle.reserving.specs.Rows.{AccountRows, IsAccount, IsRowsOf};
 ghost use Rattle.reserving.specs.Left.{LeftRows, IsWith};
 
 use crate::advance::is_live;
+use crate::kept_rows::KeptRows;
 use crate::session::{Counter, Session, SessionGroup};
 use buckets::Purse;
 use identifiers::SessionId;
@@ -18,15 +19,7 @@ use units::Moment;
 #[derive(Drop)]
 pub struct Account<'b> {
     pub(crate) book: &'b TariffBook,
-    pub(crate) as_of: Moment,
-    pub(crate) barred: bool,
-    pub(crate) purse: Purse,
-    pub(crate) counters: Vec<Counter>,
-    pub(crate) sessions: Vec<Session>,
-    pub(crate) groups: Vec<SessionGroup>,
-    pub(crate) next_bucket: u64,
-    pub(crate) next_charge: u64,
-    pub(crate) alloc: Global,
+    pub(crate) rows: KeptRows,
 }
 
 impl<'b> Model for Account<'b> {
@@ -58,8 +51,7 @@ impl<'b> Account<'b> {
         } }
     {
         let _ranges = book.validity();
-        Account {
-            book,
+        let rows = KeptRows {
             as_of: Moment::first(),
             barred: false,
             purse: Purse::new(alloc),
@@ -69,7 +61,8 @@ impl<'b> Account<'b> {
             next_bucket: 1,
             next_charge: 1,
             alloc,
-        }
+        };
+        Account { book, rows }
     }
 
     /// The tariff book that prices it.
@@ -89,35 +82,35 @@ impl<'b> Account<'b> {
         ensures left { (ledger : Ledger) (left : LeftRows) → IsWith ledger left moment self.now → self.now.as_of ≤ moment →
             result ≡ is_live_at self.now.book.validity moment ledger session.now }
     {
-        is_live(&self.sessions, session, self.book.validity(), moment)
+        is_live(&self.rows.sessions, session, self.book.validity(), moment)
     }
 
     /// Its purse.
     pub fn purse(&self) -> &Purse
         ensures { result.now ≡ self.now.buckets }
     {
-        &self.purse
+        &self.rows.purse
     }
 
     /// Its sessions and recorded events.
     pub fn sessions(&self) -> &[Session]
         ensures { result.now ≡ self.now.sessions }
     {
-        self.sessions.as_slice()
+        self.rows.sessions.as_slice()
     }
 
     /// What its sessions have of rating groups.
     pub fn groups(&self) -> &[SessionGroup]
         ensures { result.now ≡ self.now.groups }
     {
-        self.groups.as_slice()
+        self.rows.groups.as_slice()
     }
 
     /// Its counters.
     pub fn counters(&self) -> &[Counter]
         ensures { result.now ≡ self.now.counters }
     {
-        self.counters.as_slice()
+        self.rows.counters.as_slice()
     }
 
     /// The moment of its last change.
@@ -125,7 +118,7 @@ impl<'b> Account<'b> {
         ensures value { result ≡ self.now.as_of }
         ensures kept { IsAccount self.now }
     {
-        self.as_of
+        self.rows.as_of
     }
 
     /// Whether it is barred (profile).
@@ -134,13 +127,13 @@ impl<'b> Account<'b> {
         ensures ledger { (ledger : Ledger) → IsRowsOf ledger self.now → result ≡ is_barred ledger }
         ensures left { (ledger : Ledger) (left : LeftRows) (t : ℕ) → IsWith ledger left t self.now → result ≡ is_barred ledger }
     {
-        self.barred
+        self.rows.barred
     }
 
     /// The number of its next charge: one more than the greatest number where there can be none.
     pub fn next_charge(&self) -> u64
         ensures { result ≡ self.now.next_charge }
     {
-        self.next_charge
+        self.rows.next_charge
     }
 }

@@ -1,15 +1,20 @@
-ghost use Rattle.std.specs.Prelude.{◌≡◌, ◌≤◌, ◌+◌, ◌*◌, ◌&&◌, nat_lt, map, not, false, None, if◌then◌else◌};
+ghost use Rattle.std.specs.Prelude.{◌≡◌, ◌≤◌, ◌+◌, ◌*◌, ◌&&◌, nat_lt, map, not, true, false, None, if◌then◌else◌};
 ghost use Rattle.reserving.specs.Ledger.{Ledger};
-ghost use Rattle.reserving.specs.Sessions.{is_live_in, holds_in, is_open};
+ghost use Rattle.reserving.specs.Sessions.{is_live_in, holds_in, held_by, is_open};
 ghost use Rattle.reserving.specs.Rows.{IsRowsOf};
 ghost use Rattle.reserving.specs.Left.{LeftRows, IsWith};
 ghost use Rattle.reserving.specs.Changes.{advanced, lapse, lapse_group, lapse_from, lapsed_rows, AreLapsable};
+ghost use Rattle.reserving.specs.Stored.{advanced_stored};
+ghost use Rattle.tariffs.specs.Books.{IsBook};
+ghost use Rattle.buckets.specs.Spend.{Each};
 ghost use Rattle.buckets.specs.Holding.{IsWithin};
 
 use crate::account::Account;
+use crate::kept_rows::KeptRows;
 use crate::session::{Session, SessionGroup, SessionState};
 use buckets::Purse;
 use identifiers::SessionId;
+use tariffs::TariffBook;
 use units::Moment;
 
 impl<'b> Account<'b> {
@@ -22,7 +27,20 @@ impl<'b> Account<'b> {
         ensures ledger { (ledger : Ledger) → IsRowsOf ledger self.old → IsRowsOf ledger self.new }
         ensures left { (ledger : Ledger) (left : LeftRows) → IsWith ledger left moment self.old → IsWith ledger left moment self.new }
     {
-        let validity = self.book.validity();
+        self.rows.advance(self.book, moment);
+    }
+}
+
+impl KeptRows {
+    ghost use Rattle.reserving.specs.Inside.{stored_of};
+
+    /// Brings the rows to a moment.
+    pub(crate) fn advance(&mut self, book: &TariffBook, moment: Moment)
+        requires { Each (λ b. held_by (λ s. true) self.old.groups.items b ≡ b.reserved) self.old.purse }
+        ensures book { IsBook book.now }
+        ensures rows { stored_of self.new ≡ advanced_stored book.now moment (stored_of self.old) }
+    {
+        let validity = book.validity();
         lapse_groups(
             &mut self.purse,
             &mut self.groups,

@@ -18,6 +18,6 @@ impl<'b> Account<'b> {
             IsWith (with_bar moment barred ledger) left moment self.new }
     {
         self.advance(moment);
-        self.barred = barred;
+        self.rows.barred = barred;
     }
 }

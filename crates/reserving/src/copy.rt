@@ -1,6 +1,7 @@
 ghost use Rattle.std.specs.Prelude.{◌≡◌, IfOk};
 
 use crate::account::Account;
+use crate::kept_rows::KeptRows;
 use crate::session::{Counter, Session, SessionGroup};
 use buckets::Purse;
 use std::alloc::AllocError;
@@ -11,8 +12,22 @@ impl<'b> Account<'b> {
     pub fn copy(&self) -> Result<Account<'b>, AllocError>
         ensures { IfOk result (λ copy. copy ≡ self.now) }
     {
+        let rows = self.rows.copy()?;
         Ok(Account {
             book: self.book,
+            rows,
+        })
+    }
+}
+
+impl KeptRows {
+    ghost use Rattle.reserving.specs.Inside.{stored_of};
+
+    /// The same rows once more.
+    pub(crate) fn copy(&self) -> Result<KeptRows, AllocError>
+        ensures { IfOk result (λ copy. stored_of copy ≡ stored_of self.now) }
+    {
+        Ok(KeptRows {
             as_of: self.as_of,
             barred: self.barred,
             purse: copy_of_purse(&self.purse)?,

@@ -49,13 +49,13 @@ impl<'b> Account<'b> {
         ensures err { OnErr result (self.new ≡ self.old) }
     {
         let _in_range = amount.micros();
-        let Ok(number) = u32::try_from(self.next_bucket) else {
+        let Ok(number) = u32::try_from(self.rows.next_bucket) else {
             return Err(AccountFault::Limit);
         };
-        let Ok(()) = self.purse.credit(number, from, until, scope, amount) else {
+        let Ok(()) = self.rows.purse.credit(number, from, until, scope, amount) else {
             return Err(AccountFault::Memory);
         };
-        self.next_bucket += 1;
+        self.rows.next_bucket += 1;
         Ok(number)
     }
 }

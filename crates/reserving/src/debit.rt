@@ -123,13 +123,14 @@ impl<'b> Account<'b> {
         ensures uncollected { result.uncollected.0 ≡ uncollected [] group self.old.as_of rated.amount.0 self.old.buckets }
         ensures collected { result.collected.0 + result.uncollected.0 ≡ rated.amount.0 }
     {
-        grouping::count_units(&mut self.groups, session, group, rated.units.0);
-        let none_held = Holds::none(self.alloc);
+        grouping::count_units(&mut self.rows.groups, session, group, rated.units.0);
+        let none_held = Holds::none(self.rows.alloc);
         let charged = self
+            .rows
             .purse
-            .settle(none_held, group, self.as_of, rated.amount);
-        grouping::count_blocks(&mut self.counters, group, cycle, rated.blocks.0);
-        self.next_charge += 1;
+            .settle(none_held, group, self.rows.as_of, rated.amount);
+        grouping::count_blocks(&mut self.rows.counters, group, cycle, rated.blocks.0);
+        self.rows.next_charge += 1;
         charged
     }
 }

@@ -10,6 +10,7 @@ ghost use Rattle.reserving.specs.Changes.{advanced, lapsed_in, amount_later};
 
 use crate::account::Account;
 use crate::advance::is_live;
+use crate::kept_rows::KeptRows;
 use crate::session::{Session, SessionGroup};
 use buckets::Bucket;
 use units::{Amount, Moment};
@@ -27,59 +28,41 @@ impl<'b> Account<'b> {
     {
         let validity = self.book.validity();
         let mut total = 0;
-        for bucket in self.purse.buckets() {
-            total += available_later(
-                bucket,
-                group,
-                &self.groups,
-                &self.sessions,
-                validity,
-                moment,
-            );
+        for bucket in self.rows.purse.buckets() {
+            total += self.rows.available_later(bucket, group, validity, moment);
         }
         Amount(total)
     }
 }
 
-/// What an eligible bucket has available at a later moment: also what ended sessions held of it.
-fn available_later(
-    bucket: &Bucket,
-    group: u32,
-    groups: &[SessionGroup],
-    sessions: &[Session],
-    validity: u32,
-    at: Moment,
-) -> u128
-    requires { held_by (λ s. true) groups.now bucket.now ≡ bucket.now.reserved }
-    ensures value { result ≡ amount_later group validity at sessions.now groups.now bucket.now }
-    ensures most { result ≤ 2_000_000_000_000_000 }
-{
-    let _reserved = bucket.reserved();
-    if bucket.is_eligible(group, at) {
-        bucket.available() as u128 + lapsed_part(bucket, groups, sessions, validity, at)
-    } else {
-        0
+impl KeptRows {
+    /// What an eligible bucket has available at a later moment: also what ended sessions held of it.
+    fn available_later(&self, bucket: &Bucket, group: u32, validity: u32, at: Moment) -> u128
+        requires { held_by (λ s. true) self.now.groups.items bucket.now ≡ bucket.now.reserved }
+        ensures value { result ≡ amount_later group validity at self.now.sessions.items self.now.groups.items bucket.now }
+        ensures most { result ≤ 2_000_000_000_000_000 }
+    {
+        let _reserved = bucket.reserved();
+        if bucket.is_eligible(group, at) {
+            bucket.available() as u128 + self.lapsed_part(bucket, validity, at)
+        } else {
+            0
+        }
     }
-}
 
-/// What the reservations of sessions that have ended by the moment hold of a bucket. Where nothing of it is reserved
-/// they hold nothing of it, and no group is asked.
-fn lapsed_part(
-    bucket: &Bucket,
-    groups: &[SessionGroup],
-    sessions: &[Session],
-    validity: u32,
-    at: Moment,
-) -> u128
-    requires { held_by (λ s. true) groups.now bucket.now ≡ bucket.now.reserved }
-    ensures value { result ≡ lapsed_in (is_live_in validity at sessions.now) groups.now bucket.now }
-    ensures most { result ≤ 1_000_000_000_000_000 }
-{
-    let reserved = bucket.reserved();
-    if reserved == 0 {
-        return 0;
+    /// What the reservations of sessions that have ended by the moment hold of a bucket. Where nothing of it is
+    /// reserved they hold nothing of it, and no group is asked.
+    fn lapsed_part(&self, bucket: &Bucket, validity: u32, at: Moment) -> u128
+        requires { held_by (λ s. true) self.now.groups.items bucket.now ≡ bucket.now.reserved }
+        ensures value { result ≡ lapsed_in (is_live_in validity at self.now.sessions.items) self.now.groups.items bucket.now }
+        ensures most { result ≤ 1_000_000_000_000_000 }
+    {
+        let reserved = bucket.reserved();
+        if reserved == 0 {
+            return 0;
+        }
+        lapsed(bucket, &self.groups, &self.sessions, validity, at)
     }
-    lapsed(bucket, groups, sessions, validity, at)
 }
 
 /// The same, by a walk over the groups.

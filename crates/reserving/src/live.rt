@@ -10,6 +10,7 @@ ghost use Rattle.reserving.specs.Live.{is_live_group, live_part, with_counters};
 
 use crate::account::Account;
 use crate::copy::{copy_of_groups, copy_of_purse, copy_of_sessions};
+use crate::kept_rows::KeptRows;
 use crate::session::{Counter, Session, SessionGroup, SessionState};
 use crate::stored::StoredAccount;
 use identifiers::SessionId;
@@ -34,20 +35,20 @@ impl StoredAccount {
             IsWith ledger (left_of moment (with_counters book.now others.now self.now)) moment account) }
     {
         let _ranges = book.validity();
-        let mut purse = copy_of_purse(&self.purse)?;
+        let mut purse = copy_of_purse(&self.rows.purse)?;
         purse.drop_dead();
-        Ok(Account {
-            book,
-            as_of: self.as_of,
-            barred: self.barred,
+        let rows = KeptRows {
+            as_of: self.rows.as_of,
+            barred: self.rows.barred,
             purse,
-            counters: live_counters(self.alloc, book, moment, &self.counters, others)?,
-            sessions: open_sessions(&self.sessions)?,
-            groups: live_groups(&self.groups, &self.sessions)?,
-            next_bucket: self.next_bucket,
-            next_charge: self.next_charge,
-            alloc: self.alloc,
-        })
+            counters: live_counters(self.rows.alloc, book, moment, &self.rows.counters, others)?,
+            sessions: open_sessions(&self.rows.sessions)?,
+            groups: live_groups(&self.rows.groups, &self.rows.sessions)?,
+            next_bucket: self.rows.next_bucket,
+            next_charge: self.rows.next_charge,
+            alloc: self.rows.alloc,
+        };
+        Ok(Account { book, rows })
     }
 }
 

@@ -139,37 +139,12 @@ fn units_of(parts: &[UsedPart], change: Option<TariffChangeUsage>) -> u128
 }
 
 fn units_in(part: &UsedPart, change: Option<TariffChangeUsage>) -> u64
-    ensures { result ≡ if is_change change part.now.change then part.now.units.0 else 0 }
+    ensures { result ≡ if is_change part.now.change change then part.now.units.0 else 0 }
 {
-    if is_change(change, part.change) {
+    if part.change == change {
         part.units.0
     } else {
         0
-    }
-}
-
-/// Whether two values of Tariff-Change-Usage, or their absences, are the same.
-fn is_change(one: Option<TariffChangeUsage>, other: Option<TariffChangeUsage>) -> bool
-    ensures { result ≡ is_change one other }
-{
-    match (one, other) {
-        (None, None) => true,
-        (Some(one), Some(other)) => is_usage(one, other),
-        _ => false,
-    }
-}
-
-fn is_usage(one: TariffChangeUsage, other: TariffChangeUsage) -> bool
-    ensures { result ≡ is_change (Some one) (Some other) }
-{
-    match (one, other) {
-        (TariffChangeUsage::UnitBeforeTariffChange, TariffChangeUsage::UnitBeforeTariffChange) =>
-            true,
-        (TariffChangeUsage::UnitIndeterminate, TariffChangeUsage::UnitIndeterminate) => true,
-        (TariffChangeUsage::UnitAfterTariffChange, TariffChangeUsage::UnitAfterTariffChange) => {
-            true
-        }
-        _ => false,
     }
 }
 

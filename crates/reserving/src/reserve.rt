@@ -123,7 +123,7 @@ impl<'b> Account<'b> {
         ensures quota { IsQuota self.now.book (used_in session.now group self.now.groups) group (option_map (λ u. u.0) requested) periods
             (count_in group (cycle_at self.now.book group moment) self.now.counters) (funds group moment (advanced moment self.now).buckets) result.wanted result.grant }
     {
-        let used = grouping::used_of(&self.groups, session, group);
+        let used = grouping::used_of(&self.rows.groups, session, group);
         self.quota_after(used, group, requested, periods, moment)
     }
 
@@ -162,8 +162,8 @@ impl<'b> Account<'b> {
         ensures err { OnErr result (self.new ≡ self.old) }
         ensures memory { OnErr result (result ≡ Err AccountFault.Memory) }
     {
-        let room = self.purse.room(group, moment)?;
-        grouping::add_group(&mut self.groups, session, group)?;
+        let room = self.rows.purse.room(group, moment)?;
+        grouping::add_group(&mut self.rows.groups, session, group)?;
         Ok(room)
     }
 
@@ -183,8 +183,11 @@ impl<'b> Account<'b> {
         requires covered { amount.0 ≤ funds group self.old.as_of self.old.buckets }
         ensures { self.new ≡ reserved_account session.now group amount.0 self.old }
     {
-        let holds = self.purse.hold_in(room, group, self.as_of, amount);
-        grouping::reserve_group(&mut self.groups, session, group, periods, holds);
+        let holds = self
+            .rows
+            .purse
+            .hold_in(room, group, self.rows.as_of, amount);
+        grouping::reserve_group(&mut self.rows.groups, session, group, periods, holds);
     }
 }
 

@@ -73,7 +73,7 @@ impl<'b> Account<'b> {
             IsWith (touched moment session.now number ledger) left moment self.new }
     {
         self.advance(moment);
-        touch_session(&mut self.sessions, session, number, moment);
+        touch_session(&mut self.rows.sessions, session, number, moment);
     }
 
     /// Closes a live session: its reservations are over, and what they held is given up (RFC 8506 section 5.4). It
@@ -87,8 +87,8 @@ impl<'b> Account<'b> {
             IsWith (closed moment session.now ledger) left moment self.new }
     {
         self.advance(moment);
-        close_groups(&mut self.purse, &mut self.groups, session, moment);
-        close_session(&mut self.sessions, session);
+        close_groups(&mut self.rows.purse, &mut self.rows.groups, session, moment);
+        close_session(&mut self.rows.sessions, session);
     }
 
     fn record_new(
@@ -104,8 +104,8 @@ impl<'b> Account<'b> {
         ensures err { OnErr result (self.new ≡ self.old) }
     {
         let id = copy_of(session)?;
-        self.sessions.reserve(1)?;
-        self.sessions.push_reserved(Session {
+        self.rows.sessions.reserve(1)?;
+        self.rows.sessions.push_reserved(Session {
             id,
             last_number: number,
             touched: moment,

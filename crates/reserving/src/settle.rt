@@ -1,7 +1,7 @@
 ghost use Rattle.std.specs.Prelude.{◌≡◌, ℕ, [], ◌+◌, ◌≤◌, ◌<◌, ◌^◌, true, false, None, is_some, OnOk, OnErr, IsOk, IfOk, IfSome, List, Some, unwrap_or};
 ghost use Rattle.reserving.specs.Ledger.{Ledger};
 ghost use Rattle.reserving.specs.Sessions.{is_live_in};
-ghost use Rattle.reserving.specs.Settlement.{reported, price_of, passes, passes_limit, settled_by};
+ghost use Rattle.reserving.specs.Settlement.{reported, price_of, passes, passes_limit, passes_after, settled_by};
 ghost use Rattle.reserving.specs.Rows.{IsAccount, IsRowsOf};
 ghost use Rattle.reserving.specs.Left.{LeftRows, IsWith};
 ghost use Rattle.reserving.specs.Results.{IsSettlementOf};
@@ -120,6 +120,30 @@ impl<'b> Account<'b> {
         })
     }
 
+    /// Whether `settle` would answer `Limit` to a report, after so many other settlements with a charge, of other groups
+    /// of the session. It takes no memory and changes nothing.
+    pub fn would_pass(
+        &self,
+        session: &SessionId,
+        group: u32,
+        parts: &[UsedPart],
+        charges: u64,
+        moment: Moment,
+    ) -> bool
+        requires later { self.now.as_of ≤ moment }
+        requires live { is_live_in self.now.book.validity moment self.now.sessions session.now ≡ true }
+        ensures { (ledger : Ledger) (left : LeftRows) → IsWith ledger left moment self.now →
+            result ≡ passes_after charges self.now.book moment session.now group parts.now ledger }
+    {
+        if parts.is_empty() {
+            return false;
+        }
+        let Some(_) = self.rate(session, group, parts, moment) else {
+            return true;
+        };
+        (LAST_CHARGE as u128) < self.next_charge() as u128 + charges as u128
+    }
+
     /// Makes the rows that a settlement writes to. At a fault, which is want of memory, nothing has changed.
     pub(crate) fn make_rows(
         &mut self,
@@ -131,9 +155,9 @@ impl<'b> Account<'b> {
         ensures err { OnErr result (self.new ≡ self.old) }
         ensures memory { OnErr result (result ≡ Err AccountFault.Memory) }
     {
-        self.counters.reserve(1)?;
-        grouping::add_group(&mut self.groups, session, group)?;
-        grouping::add_counter(&mut self.counters, group, cycle);
+        self.rows.counters.reserve(1)?;
+        grouping::add_group(&mut self.rows.groups, session, group)?;
+        grouping::add_counter(&mut self.rows.counters, group, cycle);
         Ok(())
     }
 
@@ -152,7 +176,7 @@ impl<'b> Account<'b> {
         ensures { result ≡ count_in group (cycle_at self.now.book group moment) self.now.counters }
     {
         let cycle = self.cycle_at(group, moment);
-        grouping::count_of(&self.counters, group, cycle)
+        grouping::count_of(&self.rows.counters, group, cycle)
     }
 
     /// Rates a report; None where a stored number would pass its limit.
@@ -170,7 +194,7 @@ impl<'b> Account<'b> {
         ensures blocks { IfSome result (λ r. r.blocks.0 ≡ (price_in session.now group moment parts.now self.now).blocks) }
         ensures amount { IfSome result (λ r. r.amount.0 ≡ (price_in session.now group moment parts.now self.now).amount.0) }
     {
-        let used = grouping::used_of(&self.groups, session, group);
+        let used = grouping::used_of(&self.rows.groups, session, group);
         let units = reported_units(parts);
         if MOST_USED < used as u128 + units {
             return None;
@@ -197,10 +221,10 @@ impl<'b> Account<'b> {
         ensures blocks { IfSome result (λ r. r.blocks.0 ≡ rated.blocks) }
         ensures amount { IfSome result (λ r. r.amount ≡ rated.amount) }
     {
-        let used = grouping::used_of(&self.groups, session, group) as u128 + units.0 as u128;
+        let used = grouping::used_of(&self.rows.groups, session, group) as u128 + units.0 as u128;
         let place = self.place_at(group, moment);
         let counted = rated.blocks <= MOST_COUNTED && place as u128 + rated.blocks <= MOST_COUNTED;
-        if MOST_USED < used || !counted || LAST_CHARGE < self.next_charge {
+        if MOST_USED < used || !counted || LAST_CHARGE < self.rows.next_charge {
             return None;
         }
         Some(RatedUse {
@@ -241,7 +265,7 @@ impl<'b> Account<'b> {
     fn periods(&self, session: &SessionId, group: u32, moment: Moment) -> Periods
         ensures { result ≡ unwrap_or (periods_in session.now group self.now.groups) (one_period (period_at self.now.book.calendar moment)) }
     {
-        match grouping::periods_of(&self.groups, session, group) {
+        match grouping::periods_of(&self.rows.groups, session, group) {
             Some(periods) => periods,
             None => {
                 let period = self.book.period_at(moment);
@@ -272,15 +296,18 @@ impl<'b> Account<'b> {
         ensures collected { result.collected.0 + result.uncollected.0 ≡ rated.amount.0 }
     {
         let holds = grouping::use_group(
-            self.alloc,
-            &mut self.groups,
+            self.rows.alloc,
+            &mut self.rows.groups,
             session,
             group,
             rated.units.0,
         );
-        let charged = self.purse.settle(holds, group, self.as_of, rated.amount);
-        grouping::count_blocks(&mut self.counters, group, cycle, rated.blocks.0);
-        self.next_charge += 1;
+        let charged = self
+            .rows
+            .purse
+            .settle(holds, group, self.rows.as_of, rated.amount);
+        grouping::count_blocks(&mut self.rows.counters, group, cycle, rated.blocks.0);
+        self.rows.next_charge += 1;
         charged
     }
 
@@ -289,7 +316,7 @@ impl<'b> Account<'b> {
         ensures account { IsAccount self.old }
         ensures rows { self.new ≡ ended_rows session.now group self.old }
     {
-        let holds = grouping::end_group(self.alloc, &mut self.groups, session, group);
-        self.purse.release(holds, self.as_of);
+        let holds = grouping::end_group(self.rows.alloc, &mut self.rows.groups, session, group);
+        self.rows.purse.release(holds, self.rows.as_of);
     }
 }

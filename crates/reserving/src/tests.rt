@@ -11,6 +11,7 @@ ghost use Rattle.reserving.specs.Sessions.{session_in};
 ghost use Rattle.reserving.specs.Prepared.{reservation_in};
 
 use crate::{Account, Granted, Session, SessionGroup, Settled};
+use buckets::Bucket;
 use identifiers::SessionId;
 use std::alloc::Global;
 use std::process::Abort;
@@ -18,59 +19,8 @@ use std::test::Fail;
 use tariffs::TariffBook;
 use units::{Moment, Money, TariffChangeUsage, Units, UsedPart};
 
-const BOOK: &str = r#"zone = "+00:00"
-currency = 978
-validity = 3600
-periods = ["off", "peak"]
-[[week]]
-period = "peak"
-days = [1, 2, 3, 4, 5]
-from = "08:00"
-to = "20:00"
-[[week]]
-period = "off"
-days = [1, 2, 3, 4, 5]
-from = "00:00"
-to = "08:00"
-[[week]]
-period = "off"
-days = [1, 2, 3, 4, 5]
-from = "20:00"
-to = "24:00"
-[[week]]
-period = "off"
-days = [6, 7]
-from = "00:00"
-to = "24:00"
-[[group]]
-id = 10
-unit = "time"
-block = 60
-slice = 600
-max_grant = 3600
-cycle = "none"
-final = "terminate"
-price = [{period = "off", tiers = [{price = 50000}]}, {period = "peak", tiers = [{price = 100000}]}]
-[[group]]
-id = 20
-unit = "octets"
-block = 1048576
-slice = 10485760
-max_grant = 1048576000
-cycle = "month"
-final = "redirect"
-redirect = "http://topup.example/"
-price = [{period = "off", tiers = [{upto = 100, price = 0}, {price = 10000}]}, {period = "peak", tiers = [{upto = 100, price = 0}, {price = 10000}]}]
-[[group]]
-id = 30
-unit = "events"
-block = 1
-slice = 1
-max_grant = 100
-cycle = "none"
-final = "terminate"
-price = [{period = "off", tiers = [{price = 90000}]}, {period = "peak", tiers = [{price = 90000}]}]
-"#;
+/// What a call gives, as text.
+type Told = Result<String, Fail>;
 
 fn moment(word: &str) -> Result<Moment, Fail> {
     Ok(Moment::new(word.parse::<u64>()?).ok_or("a moment")?)
@@ -135,13 +85,7 @@ fn report(alloc: Global, words: &str) -> Result<Vec<UsedPart>, Fail> {
 }
 
 /// `credit UNTIL AMOUNT`: the bucket's number.
-fn credit(
-    rt: &impl Abort,
-    alloc: Global,
-    account: &mut Account,
-    words: &str,
-    at: Moment,
-) -> Result<String, Fail> {
+fn credit(rt: &impl Abort, alloc: Global, account: &mut Account, words: &str, at: Moment) -> Told {
     let (until, amount) = words.split_once(" ").ok_or("an end and an amount")?;
     let amount = Money::new(amount.parse::<u64>()?).ok_or("an amount")?;
     assert!(rt; account.as_of() <= at);
@@ -150,13 +94,7 @@ fn credit(
 }
 
 /// `open SESSION`.
-fn open(
-    rt: &impl Abort,
-    alloc: Global,
-    account: &mut Account,
-    word: &str,
-    at: Moment,
-) -> Result<String, Fail> {
+fn open(rt: &impl Abort, alloc: Global, account: &mut Account, word: &str, at: Moment) -> Told {
     let id = session(alloc, word)?;
     assert!(rt; account.as_of() <= at && is_new(account.sessions(), &id));
     account.open(&id, 0, at)?;
@@ -164,13 +102,7 @@ fn open(
 }
 
 /// `deny SESSION`.
-fn deny(
-    rt: &impl Abort,
-    alloc: Global,
-    account: &mut Account,
-    word: &str,
-    at: Moment,
-) -> Result<String, Fail> {
+fn deny(rt: &impl Abort, alloc: Global, account: &mut Account, word: &str, at: Moment) -> Told {
     let id = session(alloc, word)?;
     assert!(rt; account.as_of() <= at && is_new(account.sessions(), &id));
     account.deny(&id, 0, at)?;
@@ -178,13 +110,7 @@ fn deny(
 }
 
 /// `touch SESSION NUMBER`.
-fn touch(
-    rt: &impl Abort,
-    alloc: Global,
-    account: &mut Account,
-    words: &str,
-    at: Moment,
-) -> Result<String, Fail> {
+fn touch(rt: &impl Abort, alloc: Global, account: &mut Account, words: &str, at: Moment) -> Told {
     let (id, number) = words.split_once(" ").ok_or("a session and a number")?;
     let (id, number) = (session(alloc, id)?, number.parse::<u32>()?);
     assert!(rt; account.as_of() <= at && account.is_live(&id, at));
@@ -193,20 +119,14 @@ fn touch(
 }
 
 /// `close SESSION`.
-fn close(
-    rt: &impl Abort,
-    alloc: Global,
-    account: &mut Account,
-    word: &str,
-    at: Moment,
-) -> Result<String, Fail> {
+fn close(rt: &impl Abort, alloc: Global, account: &mut Account, word: &str, at: Moment) -> Told {
     let id = session(alloc, word)?;
     assert!(rt; account.as_of() <= at && account.is_live(&id, at));
     account.close(&id, at);
     Ok(String::from_str(alloc, "closed")?)
 }
 
-fn described(alloc: Global, granted: Granted) -> Result<String, Fail> {
+fn described(alloc: Global, granted: Granted) -> Told {
     match granted {
         Granted::Nothing => Ok(String::from_str(alloc, "nothing")?),
         Granted::Units {
@@ -223,13 +143,7 @@ fn described(alloc: Global, granted: Granted) -> Result<String, Fail> {
 }
 
 /// `reserve SESSION GROUP UNITS`: the units granted, the switch, the validity, and whether they are fewer than wanted.
-fn reserve(
-    rt: &impl Abort,
-    alloc: Global,
-    account: &mut Account,
-    words: &str,
-    at: Moment,
-) -> Result<String, Fail> {
+fn reserve(rt: &impl Abort, alloc: Global, account: &mut Account, words: &str, at: Moment) -> Told {
     let (id, words) = words.split_once(" ").ok_or("a session")?;
     let (group, units) = words.split_once(" ").ok_or("a group and units")?;
     let (id, group) = (session(alloc, id)?, group.parse::<u32>()?);
@@ -240,20 +154,14 @@ fn reserve(
 }
 
 /// The blocks, their price, and what of it is collected and isn't.
-fn charged(alloc: Global, settled: Settled) -> Result<String, Fail> {
+fn charged(alloc: Global, settled: Settled) -> Told {
     let price = format!(in alloc; "{} {}", settled.blocks.0, settled.rated.0)?;
     let (collected, uncollected) = (settled.collected.0, settled.uncollected.0);
     Ok(format!(in alloc; "{} {} {}", price, collected, uncollected)?)
 }
 
 /// `settle SESSION GROUP PARTS`: what is charged.
-fn settle(
-    rt: &impl Abort,
-    alloc: Global,
-    account: &mut Account,
-    words: &str,
-    at: Moment,
-) -> Result<String, Fail> {
+fn settle(rt: &impl Abort, alloc: Global, account: &mut Account, words: &str, at: Moment) -> Told {
     let (id, words) = words.split_once(" ").ok_or("a session")?;
     let (group, words) = words.split_once(" ").ok_or("a group and parts")?;
     let (id, group) = (session(alloc, id)?, group.parse::<u32>()?);
@@ -262,14 +170,20 @@ fn settle(
     charged(alloc, account.settle(&id, group, &parts, at)?)
 }
 
+/// `limit SESSION GROUP CHARGES PARTS`: whether a report would pass a limit after so many charges.
+fn limit(rt: &impl Abort, alloc: Global, account: &Account, words: &str, at: Moment) -> Told {
+    let (id, words) = words.split_once(" ").ok_or("a session")?;
+    let (group, words) = words.split_once(" ").ok_or("a group")?;
+    let (charges, words) = words.split_once(" ").ok_or("charges and parts")?;
+    let (id, group) = (session(alloc, id)?, group.parse::<u32>()?);
+    let (charges, parts) = (charges.parse::<u64>()?, report(alloc, words)?);
+    assert!(rt; account.as_of() <= at && account.is_live(&id, at));
+    let passes = account.would_pass(&id, group, &parts, charges, at);
+    Ok(format!(in alloc; "{passes}")?)
+}
+
 /// `debit SESSION GROUP UNITS`: what is charged, if the funds cover it.
-fn debit(
-    rt: &impl Abort,
-    alloc: Global,
-    account: &mut Account,
-    words: &str,
-    at: Moment,
-) -> Result<String, Fail> {
+fn debit(rt: &impl Abort, alloc: Global, account: &mut Account, words: &str, at: Moment) -> Told {
     let (id, words) = words.split_once(" ").ok_or("a session")?;
     let (group, units) = words.split_once(" ").ok_or("a group and units")?;
     let (id, group) = (session(alloc, id)?, group.parse::<u32>()?);
@@ -282,7 +196,7 @@ fn debit(
 }
 
 /// `quote GROUP UNITS`: what they would cost as an event.
-fn quote(alloc: Global, account: &Account, words: &str, at: Moment) -> Result<String, Fail> {
+fn quote(alloc: Global, account: &Account, words: &str, at: Moment) -> Told {
     let (group, units) = words.split_once(" ").ok_or("a group and units")?;
     let units = Units(units.parse::<u64>()?);
     let price = account.quote(group.parse::<u32>()?, units, at);
@@ -290,13 +204,7 @@ fn quote(alloc: Global, account: &Account, words: &str, at: Moment) -> Result<St
 }
 
 /// `funds GROUP`, and whether 600 units of it would be granted.
-fn funds(
-    rt: &impl Abort,
-    alloc: Global,
-    account: &Account,
-    word: &str,
-    at: Moment,
-) -> Result<String, Fail> {
+fn funds(rt: &impl Abort, alloc: Global, account: &Account, word: &str, at: Moment) -> Told {
     let group = word.parse::<u32>()?;
     assert!(rt; account.as_of() <= at);
     let grants = account.would_grant(group, Some(Units(600)), at);
@@ -304,7 +212,7 @@ fn funds(
 }
 
 /// `session SESSION`: its last number, its state, and whether it is live at the moment.
-fn told(alloc: Global, account: &Account, word: &str, at: Moment) -> Result<String, Fail> {
+fn told(alloc: Global, account: &Account, word: &str, at: Moment) -> Told {
     let id = session(alloc, word)?;
     let live = account.is_live(&id, at);
     for row in account.sessions() {
@@ -316,7 +224,7 @@ fn told(alloc: Global, account: &Account, word: &str, at: Moment) -> Result<Stri
 }
 
 /// `counters of all`: each counter's group, cycle and blocks.
-fn counters(alloc: Global, account: &Account) -> Result<String, Fail> {
+fn counters(alloc: Global, account: &Account) -> Told {
     let mut text = String::new(alloc);
     for counter in account.counters() {
         let line = format!(in alloc; "{} {} {};", counter.group, counter.cycle, counter.blocks)?;
@@ -326,39 +234,22 @@ fn counters(alloc: Global, account: &Account) -> Result<String, Fail> {
 }
 
 /// `advance to it`.
-fn advance(
-    rt: &impl Abort,
-    alloc: Global,
-    account: &mut Account,
-    at: Moment,
-) -> Result<String, Fail> {
+fn advance(rt: &impl Abort, alloc: Global, account: &mut Account, at: Moment) -> Told {
     assert!(rt; account.as_of() <= at);
     account.advance(at);
     Ok(String::from_str(alloc, "advanced")?)
 }
 
 /// `bar on` or `bar off`: whether the account is barred then.
-fn bar(
-    rt: &impl Abort,
-    alloc: Global,
-    account: &mut Account,
-    word: &str,
-    at: Moment,
-) -> Result<String, Fail> {
+fn bar(rt: &impl Abort, alloc: Global, account: &mut Account, word: &str, at: Moment) -> Told {
     assert!(rt; account.as_of() <= at);
     account.set_barred(word == "on", at);
     Ok(format!(in alloc; "{}", account.is_barred())?)
 }
 
 /// What a call gives.
-fn outcome(
-    rt: &impl Abort,
-    alloc: Global,
-    account: &mut Account,
-    call: &str,
-    words: &str,
-    at: Moment,
-) -> Result<String, Fail> {
+fn outcome(rt: &impl Abort, alloc: Global, account: &mut Account, line: &str, at: Moment) -> Told {
+    let (call, words) = line.split_once(" ").ok_or("a call and its words")?;
     match call {
         "credit" => credit(rt, alloc, account, words, at),
         "open" => open(rt, alloc, account, words, at),
@@ -367,6 +258,7 @@ fn outcome(
         "close" => close(rt, alloc, account, words, at),
         "reserve" => reserve(rt, alloc, account, words, at),
         "settle" => settle(rt, alloc, account, words, at),
+        "limit" => limit(rt, alloc, account, words, at),
         "debit" => debit(rt, alloc, account, words, at),
         "quote" => quote(alloc, account, words, at),
         "bar" => bar(rt, alloc, account, words, at),
@@ -377,30 +269,32 @@ fn outcome(
     }
 }
 
+/// A bucket: its credited amount, and what of it is available, reserved, charged and expired.
+fn columns(alloc: Global, bucket: &Bucket) -> Told {
+    let used = format!(in alloc; "{}, {}", bucket.reserved(), bucket.charged())?;
+    let (credited, available, expired) = (bucket.credited(), bucket.available(), bucket.expired());
+    Ok(format!(in alloc;
+        " ({}; {}, {}, {})",
+        credited,
+        available,
+        used.as_str(),
+        expired
+    )?)
+}
+
 /// The account's buckets.
-fn buckets(alloc: Global, account: &Account) -> Result<String, Fail> {
+fn buckets(alloc: Global, account: &Account) -> Told {
     let mut text = String::new(alloc);
     for bucket in account.purse().buckets() {
-        let (credited, available) = (bucket.credited(), bucket.available());
-        let first = format!(in alloc; " ({}; {}", credited, available)?;
-        let (reserved, charged) = (bucket.reserved(), bucket.charged());
-        let rest = format!(in alloc; ", {}, {}, {})", reserved, charged, bucket.expired())?;
-        text.push_str(first.as_str())?;
-        text.push_str(rest.as_str())?;
+        text.push_str(columns(alloc, bucket)?.as_str())?;
     }
     Ok(text)
 }
 
 /// What a line's call gives, and the buckets of the account and of its copy after it.
-fn given(
-    rt: &impl Abort,
-    alloc: Global,
-    account: &mut Account,
-    line: &str,
-) -> Result<String, Fail> {
+fn given(rt: &impl Abort, alloc: Global, account: &mut Account, line: &str) -> Told {
     let (at, line) = line.split_once(" ").ok_or("a moment")?;
-    let (call, words) = line.split_once(" ").ok_or("a call and its words")?;
-    let outcome = outcome(rt, alloc, account, call, words, moment(at)?)?;
+    let outcome = outcome(rt, alloc, account, line, moment(at)?)?;
     let copy = account.copy()?;
     let buckets = buckets(alloc, &copy)?;
     Ok(format!(in alloc; "{}{}", outcome.as_str(), buckets.as_str())?)
@@ -408,7 +302,7 @@ fn given(
 
 /// Tries the lines of a scenario on an account that begins empty.
 fn try_all(rt: &impl Abort, alloc: Global, lines: &str) -> Result<(), Fail> {
-    let book = TariffBook::read(alloc, BOOK.as_bytes())?;
+    let book = TariffBook::read(alloc, worked_book::BOOK.as_bytes())?;
     let mut account = Account::new(alloc, &book);
     for line in lines.lines() {
         let (call, expected) = line.split_once(" -> ").ok_or("a line")?;
@@ -569,4 +463,21 @@ const BESIDE: &str = "1767607200 credit 4102444800 350000 -> 1 (350000; 350000, 
 #[test]
 fn events_beside_a_reservation(rt: HostRuntime) -> Result<(), Fail> {
     try_all(&rt, rt.alloc(), BESIDE)
+}
+
+/// A session uses at most 10^18 units of a group, and the greatest number of a charge is 4,294,967,295.
+const LIMITS: &str = "1767607200 open s22 -> opened
+1767607200 limit s22 10 0 1000000000000000000 -> false
+1767607200 limit s22 10 0 1000000000000000001 -> true
+1767607200 limit s22 10 4294967294 1 -> false
+1767607200 limit s22 10 4294967295 1 -> true
+1767607200 settle s22 30 999999999999999999 -> 999999999999999999 89999999999999999910000 0 89999999999999999910000
+1767607200 limit s22 30 0 1 -> false
+1767607200 limit s22 30 0 2 -> true
+1767607200 limit s22 10 4294967293 1 -> false
+1767607200 limit s22 10 4294967294 1 -> true";
+
+#[test]
+fn limits_of_stored_numbers(rt: HostRuntime) -> Result<(), Fail> {
+    try_all(&rt, rt.alloc(), LIMITS)
 }

@@ -3,3 +3,4 @@ pub mod PriceFacts
 pub mod NameFacts
 pub mod WeekFacts
 pub mod GroupFacts
+pub mod PricedOnce

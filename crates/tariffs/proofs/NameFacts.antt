@@ -8,7 +8,7 @@ use Rattle.std.proofs.lemmas.Bool.Decides.{nat_tests}
 use Rattle.calendar.specs.declared.week.Period.{Period}
 use Rattle.tariffs.specs.Names.{same_text, is_name, period_from, period_named, AreDistinct}
 
-same_itself : (text : List ℕ) → same_text text text ≡ true
+pub same_itself : (text : List ℕ) → same_text text text ≡ true
 same_itself [] = refl
 same_itself (b ∷ text) =
     let here : nat_eq b b ≡ true = grind (arith, nat_tests) in
@@ -52,7 +52,7 @@ distinct_push names last new distinct = λ place name at.
       | inr end ↦ rw (end.0, end.1) (rw (zero-add (length names)) at (new_found 0 names last (is_new names last new)))
     ]
 
-same_is : (a b : List ℕ) → same_text a b ≡ true → a ≡ b
+pub same_is : (a b : List ℕ) → same_text a b ≡ true → a ≡ b
 same_is [] [] h = refl
 same_is [] (y ∷ b) h = absurd (cc)
 same_is (x ∷ a) [] h = absurd (cc)

@@ -3,5 +3,8 @@ pub mod Tariffs
 pub mod Names
 pub mod WeekFields
 pub mod PriceFields
+pub mod PricedOnce
 pub mod GroupFields
 pub mod Books
+pub mod TariffInside
+pub mod BookInside

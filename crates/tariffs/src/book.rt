@@ -34,28 +34,14 @@ pub struct TariffBook {
 }
 
 impl Model for TariffBook {
-    ghost use Rattle.std.specs.Prelude.{string_bytes};
     ghost use Rattle.tariffs.specs.Books.{Book, IsBook};
+    ghost use Rattle.tariffs.specs.BookInside.{book_in};
 
     ghost Value = { Book };
 
-    ghost view = { λ b. record {
-      zone_text = string_bytes b.zone_text;
-      calendar = b.calendar;
-      currency = b.currency;
-      validity = b.validity;
-      periods = b.periods;
-      tariffs = b.tariffs.items;
-    } };
+    ghost view = { book_in };
 
-    ghost invariant = { λ b. IsBook (record {
-      zone_text = string_bytes b.zone_text;
-      calendar = b.calendar;
-      currency = b.currency;
-      validity = b.validity;
-      periods = b.periods;
-      tariffs = b.tariffs.items;
-    }) };
+    ghost invariant = { λ b. IsBook (book_in b) };
 }
 
 #[tactic(auto, unfolding(crate::specs::Books::book_of))]

@@ -12,6 +12,7 @@ mod week_fields;
 
 pub use crate::book::TariffBook;
 pub use crate::final_action::FinalAction;
+pub use crate::price_fields::priced_once;
 pub use crate::tariff::Tariff;
 pub use crate::tiers::Tier;
 pub use book_fields::BookFault;

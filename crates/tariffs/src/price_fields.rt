@@ -4,6 +4,7 @@ ghost use Rattle.toml.specs.View.{view, table_view, items_view};
 ghost use Rattle.book_fields.specs.Faults.{Gives};
 ghost use Rattle.book_fields.specs.Fields.{each, collected};
 ghost use Rattle.tariffs.specs.Prices.{AreTiers, IsBoundAfter, IsPriceOrNone, has_tiers, tier_lists};
+ghost use Rattle.tariffs.specs.PricedOnce.{PricesAreOnce};
 ghost use Rattle.tariffs.specs.PriceFields.{last_bound, bound_of, tier_of, next_tier, tiers_of, price_of, with_price, prices_of};
 
 use crate::names::PeriodNames;
@@ -154,3 +155,8 @@ pub(crate) fn prices(
         Err(BookFault::Missing)
     }
 }
+
+/// Of the entries of a group's `price` exactly one names each period of the book, and its tiers are the period's.
+pub fn priced_once()
+    ensures { PricesAreOnce }
+{}

@@ -22,32 +22,14 @@ pub struct Tariff {
 }
 
 impl Model for Tariff {
-    ghost use Rattle.std.specs.Prelude.{map};
     ghost use Rattle.tariffs.specs.Tariffs.{GroupTariff, IsTariff};
+    ghost use Rattle.tariffs.specs.TariffInside.{tariff_of};
 
     ghost Value = { GroupTariff };
 
-    ghost view = { λ t. record {
-      group = t.group;
-      unit = t.unit;
-      block = t.block;
-      slice = t.slice;
-      max_grant = t.max_grant;
-      cycle = t.cycle;
-      final_action = t.final_action;
-      prices = map (λ v. v.items) t.prices.items;
-    } };
+    ghost view = { tariff_of };
 
-    ghost invariant = { λ t. IsTariff (record {
-      group = t.group;
-      unit = t.unit;
-      block = t.block;
-      slice = t.slice;
-      max_grant = t.max_grant;
-      cycle = t.cycle;
-      final_action = t.final_action;
-      prices = map (λ v. v.items) t.prices.items;
-    }) };
+    ghost invariant = { λ t. IsTariff (tariff_of t) };
 }
 
 impl Tariff {

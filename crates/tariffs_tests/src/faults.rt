@@ -238,6 +238,8 @@ const PRICES: &str = r##"2: "terminate", price -> "terminate", prices
 4: price = [{period = "off", tiers -> price = [{period = "peak", tiers
 2: 3}]}, {period = "peak", tiers = [{price = 4}]} -> 3}]}
 4: {period = "peak", tiers = [{price = 4}]} -> {period = "off"}
+4: {period = "peak", tiers = [{price = 4}]} -> {period = "off", tiers = 4}
+4: {period = "peak", tiers = [{price = 4}]} -> {period = "off", tiers = [{upto = 2, price = 1}, {upto = 2, price = 1}, {price = 1}]}
 2: {period = "peak", tiers = [{price = 4}]} -> {period = "peak"}"##;
 
 #[test]

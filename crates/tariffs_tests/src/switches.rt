@@ -1,4 +1,4 @@
-//! Switches and validity times beside a search over each minute.
+//! Switches and validity times beside a search over each minute, and those of a book as Python's `datetime` has them.
 
 use crate::documents::{sliced, whole_week};
 use std::alloc::Global;
@@ -6,6 +6,7 @@ use std::process::Abort;
 use std::test::Fail;
 use tariffs::TariffBook;
 use units::Moment;
+use worked_book::BOOK;
 
 /// The first whole minute of another period, by a look at each minute.
 fn searched(book: &TariffBook, moment: Moment, seconds: u32) -> Option<u64> {
@@ -101,4 +102,61 @@ fn sixty_four_entries(rt: HostRuntime) -> Result<(), Fail> {
     let alloc = rt.alloc();
     let text = sliced(alloc, "+05:45", 32, 32)?;
     try_book(&rt, alloc, text.as_str())
+}
+
+/// The switch within so many seconds of a moment, and these seconds cut at the change after it.
+fn window(alloc: Global, book: &TariffBook, start: u64, seconds: u32) -> Result<String, Fail> {
+    let moment = Moment::of_command(start).ok_or("a moment")?;
+    let window = book.window_from(moment, seconds);
+    Ok(format!(in alloc; "{:?} {}", window.switch, window.validity)?)
+}
+
+/// A zone, a moment and a length, the switch and the seconds: of a Friday's evening and its last second before 20:00, a
+/// Saturday's noon, a Sunday's last second, other zones' Sunday to Monday, and the last moment of commands.
+const WINDOWS: &str = "+00:00 1767985200 0 -> None 0
++00:00 1767985200 1 -> None 1
++00:00 1767985200 3600 -> None 3600
++00:00 1767985200 3601 -> Some(1767988800) 3601
++00:00 1767985200 43200 -> Some(1767988800) 18000
++00:00 1767988799 0 -> None 0
++00:00 1767988799 1 -> None 1
++00:00 1767988799 2 -> Some(1767988800) 2
++00:00 1767988799 60 -> Some(1767988800) 60
++00:00 1768046400 60 -> None 60
++00:00 1768046400 3600 -> None 3600
++00:00 1768046400 43200 -> None 43200
++00:00 1768175999 0 -> None 0
++00:00 1768175999 1 -> None 1
++00:00 1768175999 2 -> Some(1768176000) 2
++00:00 1768175999 28801 -> Some(1768176000) 28801
++00:00 1768175999 28802 -> Some(1768176000) 28801
++00:00 1768175999 43200 -> Some(1768176000) 28801
++05:45 1768153500 1800 -> None 1800
++05:45 1768153500 1801 -> Some(1768155300) 1801
++05:45 1768153500 43200 -> Some(1768155300) 30600
+-14:00 1768183200 43200 -> None 43200
++00:00 4102444799 0 -> None 0
++00:00 4102444799 1 -> None 1
++00:00 4102444799 60 -> None 60
++00:00 4102444799 28801 -> None 28801
++00:00 4102444799 28802 -> Some(4102473600) 28802
++00:00 4102444799 43200 -> Some(4102473600) 43200
++14:00 4102444799 60 -> None 60
++14:00 4102444799 43200 -> Some(4102466400) 36001";
+
+/// The worked book with weekends of the weekdays' dear period, so that it changes at two midnights of a week.
+#[test]
+fn windows(rt: HostRuntime) -> Result<(), Fail> {
+    let alloc = rt.alloc();
+    let weekend = BOOK.replace(alloc, "\"off\"\ndays = [6, 7]", "\"peak\"\ndays = [6, 7]")?;
+    for line in WINDOWS.lines() {
+        let (at, expected) = line.split_once(" -> ").ok_or("a case")?;
+        let (zone, at) = at.split_once(" ").ok_or("a zone and a moment")?;
+        let (start, seconds) = at.split_once(" ").ok_or("a moment and a length")?;
+        let text = weekend.as_str().replace(alloc, "+00:00", zone)?;
+        let book = TariffBook::read(alloc, text.as_str().as_bytes())?;
+        let found = window(alloc, &book, start.parse::<u64>()?, seconds.parse::<u32>()?)?;
+        assert_eq!(rt; found.as_str(), expected, "{line}");
+    }
+    Ok(())
 }

@@ -1,6 +1,5 @@
 -- What is kept of a command is read as that content.
 use Rattle.std.proofs.Common.{nat_eq, sym, subst, ◌≡◌, ℕ, ◌≤◌, ◌<◌, lit≤, List, length, Bool, true, ◌&&◌, Option, Some, None, option_map, IfSome, Result, Ok, Err, refl, ap, ◌∙◌, arith, nat_le}
-use Rattle.std.specs.Prelude.{codes}
 use Rattle.std.specs.List.{list_all}
 use Rattle.std.specs.Str.{IsUtf8}
 use Rattle.std.specs.Ordering.{nat_cmp, is_eq}
@@ -33,27 +32,27 @@ use Rattle.wire.specs.Credits.{reference_at, credit_at, credit_data, credit_text
 use Rattle.wire.specs.Contents.{content_text, content_of, request_content_in, credit_content_in, content_when, account_of, IsContent, ContentsReadAgain, ReadsWritten, CreditsAreInOrder}
 
 abbrev credit_members : ℕ → Option Data → List ℕ → Option Data → Option Data → Members
-credit_members amount from reference scope until = member (codes "Amount") (whole amount)
-    (perhaps (codes "From") from
-    (member (codes "Reference") (string reference)
-    (perhaps (codes "Scope") scope
-    (perhaps (codes "Until") until no_members))))
+credit_members amount from reference scope until = member (name_of avp.Amount) (whole amount)
+    (perhaps (name_of avp.From) from
+    (member (name_of avp.Reference) (string reference)
+    (perhaps (name_of avp.Scope) scope
+    (perhaps (name_of avp.Until) until no_members))))
 
 module _ (amount : ℕ) (from : Option Data) (reference : List ℕ) (scope until : Option Data) where
   from_is : get (name_of avp.From) (object (credit_members amount from reference scope until)) ≡ from
-  from_is = get_here (codes "From") from _ refl (get_skip (codes "From") (codes "Scope") scope _ refl ∙ get_skip (codes "From") (codes "Until") until no_members refl)
+  from_is = get_here (name_of avp.From) from _ refl (get_skip (name_of avp.From) (name_of avp.Scope) scope _ refl ∙ get_skip (name_of avp.From) (name_of avp.Until) until no_members refl)
 
   until_is : get (name_of avp.Until) (object (credit_members amount from reference scope until)) ≡ until
-  until_is = get_skip (codes "Until") (codes "From") from _ refl ∙ get_skip (codes "Until") (codes "Scope") scope _ refl ∙ get_here (codes "Until") until no_members refl refl
+  until_is = get_skip (name_of avp.Until) (name_of avp.From) from _ refl ∙ get_skip (name_of avp.Until) (name_of avp.Scope) scope _ refl ∙ get_here (name_of avp.Until) until no_members refl refl
 
   scope_is : get (name_of avp.Scope) (object (credit_members amount from reference scope until)) ≡ scope
-  scope_is = get_skip (codes "Scope") (codes "From") from _ refl ∙ get_here (codes "Scope") scope _ refl (get_skip (codes "Scope") (codes "Until") until no_members refl)
+  scope_is = get_skip (name_of avp.Scope) (name_of avp.From) from _ refl ∙ get_here (name_of avp.Scope) scope _ refl (get_skip (name_of avp.Scope) (name_of avp.Until) until no_members refl)
 
   reference_is : get (name_of avp.Reference) (object (credit_members amount from reference scope until)) ≡ Some (string reference)
-  reference_is = get_skip (codes "Reference") (codes "From") from _ refl
+  reference_is = get_skip (name_of avp.Reference) (name_of avp.From) from _ refl
 
   no_session : get (name_of avp.SessionId) (object (credit_members amount from reference scope until)) ≡ None
-  no_session = get_skip (codes "Session-Id") (codes "From") from _ refl ∙ get_skip (codes "Session-Id") (codes "Scope") scope _ refl ∙ get_skip (codes "Session-Id") (codes "Until") until no_members refl
+  no_session = get_skip (name_of avp.SessionId) (name_of avp.From) from _ refl ∙ get_skip (name_of avp.SessionId) (name_of avp.Scope) scope _ refl ∙ get_skip (name_of avp.SessionId) (name_of avp.Until) until no_members refl
 
 from_zero : (most : ℕ) (o : Option ℕ) → IfSome o (λ n. n ≤ most) → IfSome o (λ n. (0 ≤ n) × (n ≤ most))
 from_zero most None h = tt
@@ -94,12 +93,12 @@ credit_fit c is =
     let from = option_map whole c.from in
     let scope = option_map whole c.scope in
     let until = option_map whole c.until in
-    let u : FitMembers 0 (perhaps (codes "Until") until no_members) = fit_perhaps 0 _ until no_members refl (number_fit 4_102_444_800 c.until (lit≤ tt) (at_most 1 4_102_444_800 c.until is.until)) tt (fit_none 0) in
-    let s : FitMembers 0 (perhaps (codes "Scope") scope (perhaps (codes "Until") until no_members)) =
+    let u : FitMembers 0 (perhaps (name_of avp.Until) until no_members) = fit_perhaps 0 _ until no_members refl (number_fit 4_102_444_800 c.until (lit≤ tt) (at_most 1 4_102_444_800 c.until is.until)) tt (fit_none 0) in
+    let s : FitMembers 0 (perhaps (name_of avp.Scope) scope (perhaps (name_of avp.Until) until no_members)) =
     fit_perhaps 0 _ scope _ refl (number_fit 4_294_967_295 c.scope (lit≤ tt) is.scope) (above_perhaps _ _ until no_members refl tt) u in
-    let r : FitMembers 0 (member (codes "Reference") (string c.reference) (perhaps (codes "Scope") scope (perhaps (codes "Until") until no_members))) =
+    let r : FitMembers 0 (member (name_of avp.Reference) (string c.reference) (perhaps (name_of avp.Scope) scope (perhaps (name_of avp.Until) until no_members))) =
     fit_member 0 _ (string c.reference) _ refl (fit_text 0 c.reference (reference_utf8 c.reference is.reference)) (above_perhaps _ _ scope _ refl (above_perhaps _ _ until no_members refl tt)) s in
-    let f = fit_perhaps 0 (codes "From") from _ refl (number_fit 4_102_444_799 c.from (lit≤ tt) is.from) (refl, above_perhaps _ _ scope _ refl (above_perhaps _ _ until no_members refl tt)) r in
+    let f = fit_perhaps 0 (name_of avp.From) from _ refl (number_fit 4_102_444_799 c.from (lit≤ tt) is.from) (refl, above_perhaps _ _ scope _ refl (above_perhaps _ _ until no_members refl tt)) r in
     fit_deeper 1 127 _ (lit≤ tt) (fit_object 0 _ (fit_member 0 _ (whole c.amount) _ refl (fit_whole 0 c.amount (omega (arith, is.amount))) (above_perhaps _ _ from _ refl (refl, above_perhaps _ _ scope _ refl (above_perhaps _ _ until no_members refl tt))) f))
 
 pub credit_content_again : (c : Credit) → IsCredit c → content_of c.account (credit_text c) ≡ Ok (content.Credit c)

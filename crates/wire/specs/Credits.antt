@@ -1,8 +1,9 @@
 -- The body of a credit, and a credit as it is kept.
-use Rattle.std.specs.Prelude.{◌≡◌, ℕ, ◌≤◌, ◌&&◌, List, true, codes, Option, Some, None, option_map, IfSome, Result, Ok, Err, nat_le, if◌then◌else◌}
+use Rattle.std.specs.Prelude.{◌≡◌, ℕ, ◌≤◌, ◌&&◌, List, true, Option, Some, None, option_map, IfSome, Result, Ok, Err, nat_le, if◌then◌else◌}
 use Rattle.serde_json.specs.Data.{Data, string, object, no_members, member}
 use Rattle.serde_json.specs.Written.{compact_text}
 use Rattle.identifiers.specs.Texts.{is_account_number, is_reference}
+use Rattle.commands.specs.Names.{name_of}
 use Rattle.commands.specs.declared.avp.Avp.TheVariants as avp
 use Rattle.commands.specs.declared.command.Credit.{Credit}
 use Rattle.json_fields.specs.declared.fault.WireFault.{WireFault}
@@ -37,11 +38,11 @@ credit_of account bytes = do
 
 unfoldable pub credit_data : Credit → Data
 credit_data c = object
-    (member (codes "Amount") (whole c.amount)
-    (perhaps (codes "From") (option_map whole c.from)
-    (member (codes "Reference") (string c.reference)
-    (perhaps (codes "Scope") (option_map whole c.scope)
-    (perhaps (codes "Until") (option_map whole c.until) no_members)))))
+    (member (name_of avp.Amount) (whole c.amount)
+    (perhaps (name_of avp.From) (option_map whole c.from)
+    (member (name_of avp.Reference) (string c.reference)
+    (perhaps (name_of avp.Scope) (option_map whole c.scope)
+    (perhaps (name_of avp.Until) (option_map whole c.until) no_members)))))
 
 unfoldable pub credit_text : Credit → List ℕ
 credit_text c = compact_text (credit_data c)

@@ -20,10 +20,7 @@ fn reference(alloc: Global, parent: &Value) -> Result<Reference, WireFault>
     ensures { Gives (λ r. r) result (reference_at (view parent.now)) }
 {
     let text = text(parent, Avp::Reference)?;
-    match Reference::new(alloc, text)? {
-        Some(reference) => Ok(reference),
-        None => Err(WireFault::Invalid(Avp::Reference)),
-    }
+    Reference::new(alloc, text)?.ok_or(WireFault::Invalid(Avp::Reference))
 }
 
 fn moment(seconds: Option<u64>) -> Option<Moment>
@@ -51,10 +48,7 @@ fn amount(parent: &Value) -> Result<Money, WireFault>
     ensures { Says (λ m. m) result (number_at Avp.Amount 1 1_000_000_000_000_000 (view parent.now)) }
 {
     let micros = number(parent, Avp::Amount, 1, 1_000_000_000_000_000)?;
-    match Money::new(micros) {
-        Some(money) => Ok(money),
-        None => Err(WireFault::Invalid(Avp::Amount)),
-    }
+    Money::new(micros).ok_or(WireFault::Invalid(Avp::Amount))
 }
 
 fn moment_at(parent: &Value, name: Avp, low: u64, high: u64) -> Result<Option<Moment>, WireFault>
@@ -105,19 +99,13 @@ pub fn read_credit(alloc: Global, account: AccountNumber, bytes: &[u8]) -> Resul
 fn seconds_of(moment: Option<Moment>) -> Option<u64>
     ensures { result ≡ moment }
 {
-    match moment {
-        None => None,
-        Some(moment) => Some(moment.seconds()),
-    }
+    moment.map(|moment| moment.seconds())
 }
 
 fn group_of(scope: Option<u32>) -> Option<u64>
     ensures { result ≡ scope }
 {
-    match scope {
-        None => None,
-        Some(group) => Some(group as u64),
-    }
+    scope.map(|group| group as u64)
 }
 
 #[tactic(auto, using(json_fields::proofs::Tokens::perhaps_front), unfolding(crate::specs::Credits::credit_data))]
@@ -125,11 +113,11 @@ fn put_credit(out: &mut Writer, credit: &Credit) -> Result<(), AllocError>
     ensures { Adds result out.old out.new (tokens_of (credit_data credit.now)) }
 {
     out.begin_object()?;
-    put_number(out, "Amount", credit.amount.micros())?;
-    put_perhaps(out, "From", seconds_of(credit.from))?;
-    put_text(out, "Reference", credit.reference.as_str())?;
-    put_perhaps(out, "Scope", group_of(credit.scope))?;
-    put_perhaps(out, "Until", seconds_of(credit.until))?;
+    put_number(out, Avp::Amount.name(), credit.amount.micros())?;
+    put_perhaps(out, Avp::From.name(), seconds_of(credit.from))?;
+    put_text(out, Avp::Reference.name(), credit.reference.as_str())?;
+    put_perhaps(out, Avp::Scope.name(), group_of(credit.scope))?;
+    put_perhaps(out, Avp::Until.name(), seconds_of(credit.until))?;
     out.end_object()?;
     Ok(())
 }

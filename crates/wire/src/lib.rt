@@ -3,9 +3,13 @@
 
 mod contents;
 mod credits;
+mod requests;
 
 pub use crate::contents::{content_again, credit_in_order, read_content, write_content};
 pub use crate::credits::read_credit;
+pub use crate::requests::read_request;
 pub use json_fields::WireFault;
 pub use wire_answers::{answer_again, answer_in_order, read_answer, write_answer, write_fault};
-pub use wire_requests::{read_request, request_again, request_in_order, write_request};
+pub use wire_requests::{
+    request_again, request_fault_is_told, request_in_order, request_is_said, write_request,
+};

@@ -1,6 +1,6 @@
 -- What is written for an answer is read as that answer.
 use Rattle.std.proofs.Common.{subst, ◌≡◌, ℕ, suc, ◌≤◌, ◌<◌, ◌^◌, lit<, lit≤, List, [], ◌∷◌, ◌++◌, length, Bool, true, false, ◌&&◌, Option, Some, None, option_map, IfSome, Result, Ok, Err, refl, sym, ap, ◌∙◌, arith, append_assoc, append-nil, leb-true, le-leb, nat_le}
-use Rattle.std.specs.Prelude.{codes, ◌==◌, nat_eq}
+use Rattle.std.specs.Prelude.{◌==◌, nat_eq}
 use Rattle.std.specs.List.{AllByRecursion, list_all, find}
 use Rattle.std.specs.Str.{IsUtf8}
 use Rattle.std.specs.Ordering.{nat_cmp, is_eq}
@@ -16,7 +16,7 @@ use Rattle.units.specs.declared.blocks.UnitKind.TheVariants as unit
 use Rattle.identifiers.specs.Texts.{is_visible, is_session_id, is_redirect_address}
 use Rattle.commands.specs.declared.avp.Avp.{Avp}
 use Rattle.commands.specs.declared.avp.Avp.TheVariants as avp
-use Rattle.commands.specs.Names.{name_of}
+use Rattle.commands.specs.Names.{name_of, cost_information, validity_time, final_unit, refusal, tariff_time_change, granted_unit, failed_avp, check_balance_result, bucket, accounts, result_code, final_unit_action, redirect_server, redirect_server_address}
 use Rattle.commands.specs.Quantities.{most_units, is_quantity}
 use Rattle.commands.specs.Measured.{Measured}
 use Rattle.commands.specs.Codes.{kind_number, service_failure_number, failure_number, balance_number, refusal_name}
@@ -43,27 +43,43 @@ use Rattle.commands.specs.declared.answer.Refusal.TheVariants.{AccountExists, Ac
 use Rattle.commands.specs.declared.answer.Answer.{Answer}
 use Rattle.commands.specs.declared.answer.Answer.TheVariants as answer
 use Rattle.json_fields.specs.declared.fault.WireFault.{WireFault}
-use Rattle.json_fields.specs.declared.fault.WireFault.TheVariants.{Invalid}
+use Rattle.json_fields.specs.declared.fault.WireFault.TheVariants.{NotRequest, Memory}
 use Rattle.first_fault.specs.Steps.{each}
 use Rattle.json_fields.specs.Gives.{◌>>=◌, or_fault, where_holds, read_each, Gives}
 use Rattle.json_fields.proofs.Kept.{same_value}
 use Rattle.json_fields.proofs.Order.{in_order}
-use Rattle.json_fields.specs.Fields.{member_at, number_at, optional_at, text_at, object_at, array_of, document_at}
+use Rattle.json_fields.specs.Fields.{whole_in, number_at, optional_in, object_at, array_of, document_at}
 use Rattle.json_fields.specs.Unit.{name_of_unit, lacks_others, kind_told, units_at}
 use Rattle.json_fields.specs.Spelling.{whole, perhaps, value_data, money_data}
 use Rattle.json_fields.proofs.Compact.{Above}
-use Rattle.json_fields.proofs.Found.{get_skip, get_here, number_found, optional_found, text_found, object_found, units_found}
+use Rattle.json_fields.proofs.Found.{get_skip, get_here, number_found, optional_in_found, text_found, object_found, units_found}
 use Rattle.json_fields.proofs.Fit.{Fit, FitItems, FitMembers, fit_whole, fit_text, fit_object, fit_array, fit_no_items, fit_item, fit_none, fit_member, fit_perhaps, fit_deeper, fit_money, above_perhaps, document_again, ascii_text}
 use Rattle.wire_requests.specs.Reading.{session_at, kind_at}
 use Rattle.wire_requests.proofs.RequestsAgain.{and_three, session_utf8, visible_small, quantity_low, quantity_high, most_small, session_again, kind_again, kind_small}
+use Rattle.commands.proofs.Inverses.{are_tables}
+use Rattle.wire_answers.specs.Members.{number_in, text_in, object_in}
 use Rattle.wire_answers.specs.Spelled.{granted_data, server_data, final_data, final_of, granted_of, validity_of, service_code, service_data, service_items, failure_members, outcome_members, outcome_code, request_answer_data, code_member, answer_data, answer_text}
 use Rattle.wire_answers.specs.Rules.{IsFinal, IsGrant, IsServiceOutcome, IsServiceAnswer, IsCost, IsOutcome, IsRequestAnswer, IsAnswer}
-use Rattle.wire_answers.specs.ReadingAnswers.{redirect_at, final_told, final_in, final_when, final_at, quantity_in, granted_when, granted_in, service_failure_of, success_when, service_told, service_answer_at, services_from, services_in, all_avps, avp_named, failed_at, failure_told, balance_of, cost_in, priced_when, checked_when, served_when, outcome_told, request_answer_at, all_refusals, refusal_at, swept_when, bucket_when, done_at, refused_when, answer_when, answer_of, AnswersReadAgain, ReadsWritten, AnswersAreInOrder}
+use Rattle.wire_answers.specs.ReadingAnswers.{redirect_at, final_told, final_in, final_when, final_at, quantity_in, granted_when, session_grant_in, granted_in, success_when, service_told, service_answer_at, services_from, services_in, failed_at, failure_told, cost_in, priced_when, checked_when, unserved_in, served_when, outcome_told, request_answer_at, refusal_at, swept_when, bucket_when, done_at, refused_when, answer_when, answer_of, AnswersReadAgain, ReadsWritten, AnswersAreInOrder}
+
+-- ---- members
+
+number_in_found : (name : List ℕ) (low high : ℕ) (d : Data) (n : ℕ) → get name d ≡ Some (whole n) → low ≤ n → n ≤ high → number_in name low high d ≡ Ok n
+unfolding number_in
+number_in_found name low high d n e l h = rw (e, le-leb low n l, le-leb n high h) refl
+
+text_in_found : (name : List ℕ) (d : Data) (s : List ℕ) → get name d ≡ Some (string s) → text_in name d ≡ Ok s
+unfolding text_in
+text_in_found name d s e = rw e refl
+
+object_in_found : (name : List ℕ) (d : Data) (ms : Members) → get name d ≡ Some (object ms) → object_in name d ≡ Ok (object ms)
+unfolding object_in
+object_in_found name d ms e = rw e refl
 
 -- ---- a grant
 
 abbrev unit_members : UnitKind → ℕ → Option ℕ → Data
-unit_members k n switch = object (member (name_of_unit k) (whole n) (perhaps (codes "Tariff-Time-Change") (option_map whole switch) no_members))
+unit_members k n switch = object (member (name_of_unit k) (whole n) (perhaps tariff_time_change (option_map whole switch) no_members))
 
 kind_told_again : (k : UnitKind) (n : ℕ) (switch : Option ℕ) → kind_told (unit_members k n switch) ≡ Some k
 unfolding kind_told
@@ -74,15 +90,15 @@ kind_told_again unit.TotalOctets n (Some s) = refl
 kind_told_again unit.ServiceSpecific n None = refl
 kind_told_again unit.ServiceSpecific n (Some s) = refl
 
-units_again : (k : UnitKind) (n : ℕ) (switch : Option ℕ) → 1 ≤ n → n ≤ most_units k → units_at avp.GrantedUnit 1 k (unit_members k n switch) ≡ Ok n
-units_again unit.Time n None l h = units_found avp.GrantedUnit 1 unit.Time _ n refl refl l h
-units_again unit.Time n (Some s) l h = units_found avp.GrantedUnit 1 unit.Time _ n refl refl l h
-units_again unit.TotalOctets n None l h = units_found avp.GrantedUnit 1 unit.TotalOctets _ n refl refl l h
-units_again unit.TotalOctets n (Some s) l h = units_found avp.GrantedUnit 1 unit.TotalOctets _ n refl refl l h
-units_again unit.ServiceSpecific n None l h = units_found avp.GrantedUnit 1 unit.ServiceSpecific _ n refl refl l h
-units_again unit.ServiceSpecific n (Some s) l h = units_found avp.GrantedUnit 1 unit.ServiceSpecific _ n refl refl l h
+units_again : (k : UnitKind) (n : ℕ) (switch : Option ℕ) → 1 ≤ n → n ≤ most_units k → units_at NotRequest 1 k (unit_members k n switch) ≡ Ok n
+units_again unit.Time n None l h = units_found NotRequest 1 unit.Time _ n refl refl l h
+units_again unit.Time n (Some s) l h = units_found NotRequest 1 unit.Time _ n refl refl l h
+units_again unit.TotalOctets n None l h = units_found NotRequest 1 unit.TotalOctets _ n refl refl l h
+units_again unit.TotalOctets n (Some s) l h = units_found NotRequest 1 unit.TotalOctets _ n refl refl l h
+units_again unit.ServiceSpecific n None l h = units_found NotRequest 1 unit.ServiceSpecific _ n refl refl l h
+units_again unit.ServiceSpecific n (Some s) l h = units_found NotRequest 1 unit.ServiceSpecific _ n refl refl l h
 
-switch_found : (k : UnitKind) (n : ℕ) (switch : Option ℕ) → get (name_of avp.TariffTimeChange) (unit_members k n switch) ≡ option_map whole switch
+switch_found : (k : UnitKind) (n : ℕ) (switch : Option ℕ) → get (tariff_time_change) (unit_members k n switch) ≡ option_map whole switch
 switch_found unit.Time n None = refl
 switch_found unit.Time n (Some s) = refl
 switch_found unit.TotalOctets n None = refl
@@ -94,9 +110,9 @@ from_zero : (most : ℕ) (o : Option ℕ) → IfSome o (λ n. n ≤ most) → If
 from_zero most None h = tt
 from_zero most (Some n) h = (omega arith, h)
 
-switch_again : (q : Measured) (switch : Option ℕ) → IfSome switch (λ m. m ≤ 4102488000) → optional_at avp.TariffTimeChange 0 4102488000 (granted_data q switch) ≡ Ok switch
+switch_again : (q : Measured) (switch : Option ℕ) → IfSome switch (λ m. m ≤ 4102488000) → optional_in tariff_time_change NotRequest 0 4102488000 (granted_data q switch) ≡ Ok switch
 unfolding granted_data
-switch_again q switch h = optional_found avp.TariffTimeChange 0 4102488000 (unit_members q.kind q.units switch) switch (switch_found q.kind q.units switch) (from_zero 4102488000 switch h)
+switch_again q switch h = optional_in_found tariff_time_change NotRequest 0 4102488000 (unit_members q.kind q.units switch) switch (switch_found q.kind q.units switch) (from_zero 4102488000 switch h)
 
 quantity_again : (q : Measured) (switch : Option ℕ) → is_quantity q.kind q.units ≡ true → quantity_in (granted_data q switch) ≡ Ok q
 unfolding quantity_in granted_data
@@ -107,12 +123,12 @@ unfolding redirect_at server_data
 redirect_again address h =
     let d = final_data (Redirect address) in
     let s = server_data address in
-    rw (object_found avp.RedirectServer d _ refl, text_found avp.RedirectServerAddress s address refl, h) refl
+    rw (object_in_found redirect_server d _ refl, text_in_found redirect_server_address s address refl, h) refl
 
 final_again : (f : FinalUnit) → IsFinal f → final_in (final_data f) ≡ Ok f
 unfolding final_in final_told
-final_again Terminate is = rw (number_found avp.FinalUnitAction 0 1 (final_data Terminate) 0 refl (omega arith) (omega arith)) refl
-final_again (Redirect address) is = rw (number_found avp.FinalUnitAction 0 1 (final_data (Redirect address)) 1 refl (omega arith) (omega arith), redirect_again address is) refl
+final_again Terminate is = rw (number_in_found final_unit_action 0 1 (final_data Terminate) 0 refl (omega arith) (omega arith)) refl
+final_again (Redirect address) is = rw (number_in_found final_unit_action 0 1 (final_data (Redirect address)) 1 refl (omega arith) (omega arith), redirect_again address is) refl
 
 final_when_again : (o : Option FinalUnit) → IfSome o IsFinal → final_when (option_map final_data o) ≡ Ok o
 final_when_again None is = refl
@@ -122,30 +138,30 @@ final_when_again (Some f) is = rw (final_again f is) refl
 
 abbrev service_members : ℕ → ℕ → Option Data → Option Data → Option Data → Data
 service_members g code last grant validity = object
-    (perhaps (codes "Final-Unit-Indication") last
-    (perhaps (codes "Granted-Service-Unit") grant
-    (member (codes "Rating-Group") (whole g)
-    (member (codes "Result-Code") (whole code)
-    (perhaps (codes "Validity-Time") validity no_members)))))
+    (perhaps final_unit last
+    (perhaps granted_unit grant
+    (member (name_of avp.RatingGroup) (whole g)
+    (member result_code (whole code)
+    (perhaps validity_time validity no_members)))))
 
 module _ (g code : ℕ) (last grant validity : Option Data) where
   group_is : get (name_of avp.RatingGroup) (service_members g code last grant validity) ≡ Some (whole g)
-  group_is = get_skip (codes "Rating-Group") (codes "Final-Unit-Indication") last _ refl ∙ get_skip (codes "Rating-Group") (codes "Granted-Service-Unit") grant _ refl
+  group_is = get_skip (name_of avp.RatingGroup) final_unit last _ refl ∙ get_skip (name_of avp.RatingGroup) granted_unit grant _ refl
 
-  code_is : get (name_of avp.ResultCode) (service_members g code last grant validity) ≡ Some (whole code)
-  code_is = get_skip (codes "Result-Code") (codes "Final-Unit-Indication") last _ refl ∙ get_skip (codes "Result-Code") (codes "Granted-Service-Unit") grant _ refl
+  code_is : get (result_code) (service_members g code last grant validity) ≡ Some (whole code)
+  code_is = get_skip result_code final_unit last _ refl ∙ get_skip result_code granted_unit grant _ refl
 
-  validity_is : get (name_of avp.ValidityTime) (service_members g code last grant validity) ≡ validity
-  validity_is = get_skip (codes "Validity-Time") (codes "Final-Unit-Indication") last _ refl ∙ get_skip (codes "Validity-Time") (codes "Granted-Service-Unit") grant _ refl ∙ get_here (codes "Validity-Time") validity no_members refl refl
+  validity_is : get (validity_time) (service_members g code last grant validity) ≡ validity
+  validity_is = get_skip validity_time final_unit last _ refl ∙ get_skip validity_time granted_unit grant _ refl ∙ get_here validity_time validity no_members refl refl
 
-  last_is : get (name_of avp.FinalUnit) (service_members g code last grant validity) ≡ last
-  last_is = get_here (codes "Final-Unit-Indication") last _ refl (get_skip (codes "Final-Unit-Indication") (codes "Granted-Service-Unit") grant _ refl ∙ get_skip (codes "Final-Unit-Indication") (codes "Validity-Time") validity no_members refl)
+  last_is : get (final_unit) (service_members g code last grant validity) ≡ last
+  last_is = get_here final_unit last _ refl (get_skip final_unit granted_unit grant _ refl ∙ get_skip final_unit validity_time validity no_members refl)
 
-  grant_is : get (name_of avp.GrantedUnit) (service_members g code last grant validity) ≡ grant
-  grant_is = get_skip (codes "Granted-Service-Unit") (codes "Final-Unit-Indication") last _ refl ∙ get_here (codes "Granted-Service-Unit") grant _ refl (get_skip (codes "Granted-Service-Unit") (codes "Validity-Time") validity no_members refl)
+  grant_is : get (granted_unit) (service_members g code last grant validity) ≡ grant
+  grant_is = get_skip granted_unit final_unit last _ refl ∙ get_here granted_unit grant _ refl (get_skip granted_unit validity_time validity no_members refl)
 
 granted_again : (n : ℕ) (g : Granted) → IsGrant g → g.validity ≤ 4294967295 → granted_in (service_members n 2001 (option_map final_data g.last) (Some (granted_data g.quantity g.switch)) (Some (whole g.validity))) (granted_data g.quantity g.switch) ≡ Ok (service.Granted g)
-unfolding granted_in final_at
+unfolding granted_in session_grant_in final_at
 granted_again n g is v =
     let last = option_map final_data g.last in
     let grant = Some (granted_data g.quantity g.switch) in
@@ -153,7 +169,7 @@ granted_again n g is v =
     let d = service_members n 2001 last grant validity in
     rw (
       quantity_again g.quantity g.switch is.quantity,
-      optional_found avp.ValidityTime 0 4294967295 d (Some g.validity) (validity_is n 2001 last grant validity) (omega arith, v),
+      optional_in_found validity_time NotRequest 0 4294967295 d (Some g.validity) (validity_is n 2001 last grant validity) (omega arith, v),
       switch_again g.quantity g.switch is.switch,
       last_is n 2001 last grant validity,
       final_when_again g.last is.last,
@@ -163,7 +179,7 @@ debited_again : (n : ℕ) (q : Measured) → is_quantity q.kind q.units ≡ true
 unfolding granted_in
 debited_again n q is =
     let d = service_members n 2001 None (Some (granted_data q None)) None in
-    rw (quantity_again q None is, optional_found avp.ValidityTime 0 4294967295 d None refl tt) refl
+    rw (quantity_again q None is, optional_in_found validity_time NotRequest 0 4294967295 d None refl tt) refl
 
 failure_small : (f : ServiceFailure) → service_failure_number f ≤ 9999
 failure_small EndUserServiceDenied = lit≤ tt
@@ -171,7 +187,7 @@ failure_small CreditLimitReached = lit≤ tt
 failure_small RatingFailed = lit≤ tt
 
 failed_again : (f : ServiceFailure) (d : Data) → service_told (service_failure_number f) d ≡ Ok (service.Failed f)
-unfolding service_told service_failure_of
+unfolding service_told
 failed_again EndUserServiceDenied d = refl
 failed_again CreditLimitReached d = refl
 failed_again RatingFailed d = refl
@@ -203,7 +219,7 @@ service_again s is =
     let d = data_of s.group o in
     rw (
       number_found avp.RatingGroup 0 4294967295 d s.group (group_is s.group (service_code o) last grant validity) (omega arith) is.group,
-      number_found avp.ResultCode 0 9999 d (service_code o) (code_is s.group (service_code o) last grant validity) (omega arith) (code_low o),
+      number_in_found result_code 0 9999 d (service_code o) (code_is s.group (service_code o) last grant validity) (omega arith) (code_low o),
       told_again s.group o is.validity is.outcome,
     ) refl
 
@@ -214,54 +230,13 @@ each_again done (s ∷ ss) is = rw (service_again s is.0) (each_again (done ++ s
 
 -- ---- a request
 
-avp_again : (a : Avp) → avp_named (name_of a) ≡ Ok a
-unfolding avp_named
-avp_again avp.SessionId = refl
-avp_again avp.RequestType = refl
-avp_again avp.RequestNumber = refl
-avp_again avp.SubscriptionId = refl
-avp_again avp.SubscriptionIdType = refl
-avp_again avp.SubscriptionIdData = refl
-avp_again avp.RequestedAction = refl
-avp_again avp.Services = refl
-avp_again avp.RatingGroup = refl
-avp_again avp.RequestedUnit = refl
-avp_again avp.UsedUnit = refl
-avp_again avp.Money = refl
-avp_again avp.UnitValue = refl
-avp_again avp.ValueDigits = refl
-avp_again avp.Exponent = refl
-avp_again avp.CurrencyCode = refl
-avp_again avp.ResultCode = refl
-avp_again avp.FailedAvp = refl
-avp_again avp.GrantedUnit = refl
-avp_again avp.TariffTimeChange = refl
-avp_again avp.ValidityTime = refl
-avp_again avp.FinalUnit = refl
-avp_again avp.FinalUnitAction = refl
-avp_again avp.RedirectServer = refl
-avp_again avp.RedirectAddressType = refl
-avp_again avp.RedirectServerAddress = refl
-avp_again avp.CheckBalanceResult = refl
-avp_again avp.CostInformation = refl
-avp_again avp.Amount = refl
-avp_again avp.From = refl
-avp_again avp.Until = refl
-avp_again avp.Scope = refl
-avp_again avp.Reference = refl
-avp_again avp.VoucherCode = refl
-avp_again avp.Month = refl
-avp_again avp.Bucket = refl
-avp_again avp.Accounts = refl
-avp_again avp.Refusal = refl
-
 -- the members from the Result-Code on
 abbrev end_members : ℕ → List ℕ → Members
-end_members code session = member (codes "Result-Code") (whole code) (member (codes "Session-Id") (string session) no_members)
+end_members code session = member result_code (whole code) (member (name_of avp.SessionId) (string session) no_members)
 
 abbrev request_members : ℕ → ℕ → Outcome → List ℕ → Members
-request_members n k o session = member (codes "CC-Request-Number") (whole n)
-    (member (codes "CC-Request-Type") (whole k) (outcome_members o (end_members (outcome_code o) session)))
+request_members n k o session = member (name_of avp.RequestNumber) (whole n)
+    (member (name_of avp.RequestType) (whole k) (outcome_members o (end_members (outcome_code o) session)))
 
 session_found : (n k : ℕ) (o : Outcome) (session : List ℕ) → get (name_of avp.SessionId) (object (request_members n k o session)) ≡ Some (string session)
 session_found n k (outcome.Services ss) session = refl
@@ -274,7 +249,7 @@ session_found n k (outcome.Failed (InvalidAvpValue a)) session = refl
 session_found n k (outcome.Failed UnableToComply) session = refl
 session_found n k (outcome.Failed UserUnknown) session = refl
 
-code_found : (n k : ℕ) (o : Outcome) (session : List ℕ) → get (name_of avp.ResultCode) (object (request_members n k o session)) ≡ Some (whole (outcome_code o))
+code_found : (n k : ℕ) (o : Outcome) (session : List ℕ) → get (result_code) (object (request_members n k o session)) ≡ Some (whole (outcome_code o))
 code_found n k (outcome.Services ss) session = refl
 code_found n k outcome.Refunded session = refl
 code_found n k (outcome.Checked b) session = refl
@@ -303,21 +278,21 @@ cost_again c is =
     rw (object_found avp.UnitValue d _ refl, number_found avp.ValueDigits 0 18446744073709551615 (value_data c.micros) c.micros refl (omega arith) is.micros, number_found avp.CurrencyCode 0 65535 d c.currency refl (omega arith) is.currency) refl
 
 denied_again : (f : ServiceFailure) (d : Data) → outcome_told (service_failure_number f) d ≡ Ok (outcome.Failed (Denied f))
-unfolding outcome_told failure_told service_failure_of
+unfolding outcome_told failure_told
 denied_again EndUserServiceDenied d = refl
 denied_again CreditLimitReached d = refl
 denied_again RatingFailed d = refl
 
 outcome_again : (n k : ℕ) (o : Outcome) (session : List ℕ) → IsOutcome o → outcome_told (outcome_code o) (object (request_members n k o session)) ≡ Ok o
-unfolding outcome_told services_in array_of failure_told failed_at balance_of
+unfolding outcome_told unserved_in services_in array_of failure_told failed_at
 outcome_again n k (outcome.Services ss) session is = rw (each_again [] ss is) refl
-outcome_again n k outcome.Refunded session is = rw (optional_found avp.CheckBalanceResult 0 1 (object (request_members n k outcome.Refunded session)) None refl tt) refl
-outcome_again n k (outcome.Checked EnoughCredit) session is = rw (optional_found avp.CheckBalanceResult 0 1 (object (request_members n k (outcome.Checked EnoughCredit) session)) (Some 0) refl (omega arith, omega arith)) refl
-outcome_again n k (outcome.Checked NoCredit) session is = rw (optional_found avp.CheckBalanceResult 0 1 (object (request_members n k (outcome.Checked NoCredit) session)) (Some 1) refl (omega arith, omega arith)) refl
-outcome_again n k (outcome.Priced c) session is = rw (optional_found avp.CheckBalanceResult 0 1 (object (request_members n k (outcome.Priced c) session)) None refl tt, cost_again c is) refl
+outcome_again n k outcome.Refunded session is = rw (optional_in_found check_balance_result NotRequest 0 1 (object (request_members n k outcome.Refunded session)) None refl tt) refl
+outcome_again n k (outcome.Checked EnoughCredit) session is = rw (optional_in_found check_balance_result NotRequest 0 1 (object (request_members n k (outcome.Checked EnoughCredit) session)) (Some 0) refl (omega arith, omega arith)) refl
+outcome_again n k (outcome.Checked NoCredit) session is = rw (optional_in_found check_balance_result NotRequest 0 1 (object (request_members n k (outcome.Checked NoCredit) session)) (Some 1) refl (omega arith, omega arith)) refl
+outcome_again n k (outcome.Priced c) session is = rw (optional_in_found check_balance_result NotRequest 0 1 (object (request_members n k (outcome.Priced c) session)) None refl tt, cost_again c is) refl
 outcome_again n k (outcome.Failed (Denied f)) session is = denied_again f (object (request_members n k (outcome.Failed (Denied f)) session))
 outcome_again n k (outcome.Failed UnknownSessionId) session is = refl
-outcome_again n k (outcome.Failed (InvalidAvpValue a)) session is = rw (text_found avp.FailedAvp (object (request_members n k (outcome.Failed (InvalidAvpValue a)) session)) (name_of a) refl, avp_again a) refl
+outcome_again n k (outcome.Failed (InvalidAvpValue a)) session is = rw (text_in_found failed_avp (object (request_members n k (outcome.Failed (InvalidAvpValue a)) session)) (name_of a) refl, are_tables.avps.there a) refl
 outcome_again n k (outcome.Failed UnableToComply) session is = refl
 outcome_again n k (outcome.Failed UserUnknown) session is = refl
 
@@ -329,7 +304,7 @@ request_again a is =
       session_again d a.session (session_found a.number (kind_number a.kind) a.outcome a.session) is.session,
       kind_again a.kind d refl,
       number_found avp.RequestNumber 0 4294967295 d a.number refl (omega arith) is.number,
-      number_found avp.ResultCode 0 9999 d (outcome_code a.outcome) (code_found a.number (kind_number a.kind) a.outcome a.session) (omega arith) (code_small a.outcome),
+      number_in_found result_code 0 9999 d (outcome_code a.outcome) (code_found a.number (kind_number a.kind) a.outcome a.session) (omega arith) (code_small a.outcome),
       outcome_again a.number (kind_number a.kind) a.outcome a.session is.outcome,
     ) refl
 
@@ -343,7 +318,7 @@ unit_ascii unit.Time = refl
 unit_ascii unit.TotalOctets = refl
 unit_ascii unit.ServiceSpecific = refl
 
-unit_above : (k : UnitKind) → slice_cmp nat_cmp (codes "Tariff-Time-Change") (name_of_unit k) ≡ Greater
+unit_above : (k : UnitKind) → slice_cmp nat_cmp tariff_time_change (name_of_unit k) ≡ Greater
 unit_above unit.Time = refl
 unit_above unit.TotalOctets = refl
 unit_above unit.ServiceSpecific = refl
@@ -357,9 +332,9 @@ unfolding granted_data
 granted_fit q switch is s =
     let told = option_map whole switch in
     let small : q.units ≤ 18446744073709551615 = omega (arith, quantity_high q is, most_small q.kind) in
-    fit_object 0 _ (fit_member 0 (name_of_unit q.kind) (whole q.units) (perhaps (codes "Tariff-Time-Change") told no_members) (unit_ascii q.kind) (fit_whole 0 q.units small)
-    (above_perhaps (name_of_unit q.kind) (codes "Tariff-Time-Change") told no_members (unit_above q.kind) tt)
-    (fit_perhaps 0 (codes "Tariff-Time-Change") told no_members refl (number_fit 0 4102488000 switch (lit≤ tt) s) tt (fit_none 0)))
+    fit_object 0 _ (fit_member 0 (name_of_unit q.kind) (whole q.units) (perhaps tariff_time_change told no_members) (unit_ascii q.kind) (fit_whole 0 q.units small)
+    (above_perhaps (name_of_unit q.kind) tariff_time_change told no_members (unit_above q.kind) tt)
+    (fit_perhaps 0 tariff_time_change told no_members refl (number_fit 0 4102488000 switch (lit≤ tt) s) tt (fit_none 0)))
 
 address_utf8 : (s : List ℕ) → is_redirect_address s ≡ true → IsUtf8 s
 address_utf8 s h = name s (ascii_text is_visible visible_small s (and_three (nat_le 1 (length s)) (nat_le (length s) 200) (list_all is_visible s) h).2)
@@ -390,14 +365,14 @@ grants_fit (service.Failed f) is = tt
 
 members_fit : (g code : ℕ) (last grant validity : Option Data) → g ≤ 4294967295 → code ≤ 9999 → IfSome last (Fit 2) → IfSome grant (Fit 2) → IfSome validity (Fit 2) → Fit 3 (service_members g code last grant validity)
 members_fit g code last grant validity gs cs l u v =
-    let end : FitMembers 2 (perhaps (codes "Validity-Time") validity no_members) = fit_perhaps 2 _ validity no_members refl v tt (fit_none 2) in
-    let coded : FitMembers 2 (member (codes "Result-Code") (whole code) (perhaps (codes "Validity-Time") validity no_members)) =
+    let end : FitMembers 2 (perhaps validity_time validity no_members) = fit_perhaps 2 _ validity no_members refl v tt (fit_none 2) in
+    let coded : FitMembers 2 (member result_code (whole code) (perhaps validity_time validity no_members)) =
     fit_member 2 _ (whole code) _ refl (fit_whole 2 code (omega arith)) (above_perhaps _ _ validity no_members refl tt) end in
-    let group : FitMembers 2 (member (codes "Rating-Group") (whole g) (member (codes "Result-Code") (whole code) (perhaps (codes "Validity-Time") validity no_members))) =
+    let group : FitMembers 2 (member (name_of avp.RatingGroup) (whole g) (member result_code (whole code) (perhaps validity_time validity no_members))) =
     fit_member 2 _ (whole g) _ refl (fit_whole 2 g (omega arith)) (refl, above_perhaps _ _ validity no_members refl tt) coded in
-    fit_object 2 _ (fit_perhaps 2 (codes "Final-Unit-Indication") last _ refl l
-    (above_perhaps _ (codes "Granted-Service-Unit") grant _ refl (refl, (refl, above_perhaps _ _ validity no_members refl tt)))
-    (fit_perhaps 2 (codes "Granted-Service-Unit") grant _ refl u (refl, (refl, above_perhaps _ _ validity no_members refl tt)) group))
+    fit_object 2 _ (fit_perhaps 2 final_unit last _ refl l
+    (above_perhaps _ granted_unit grant _ refl (refl, (refl, above_perhaps _ _ validity no_members refl tt)))
+    (fit_perhaps 2 granted_unit grant _ refl u (refl, (refl, above_perhaps _ _ validity no_members refl tt)) group))
 
 service_fit : (s : ServiceAnswer) → IsServiceAnswer s → Fit 3 (service_data s)
 unfolding service_data
@@ -424,18 +399,6 @@ avp_ascii avp.UnitValue = refl
 avp_ascii avp.ValueDigits = refl
 avp_ascii avp.Exponent = refl
 avp_ascii avp.CurrencyCode = refl
-avp_ascii avp.ResultCode = refl
-avp_ascii avp.FailedAvp = refl
-avp_ascii avp.GrantedUnit = refl
-avp_ascii avp.TariffTimeChange = refl
-avp_ascii avp.ValidityTime = refl
-avp_ascii avp.FinalUnit = refl
-avp_ascii avp.FinalUnitAction = refl
-avp_ascii avp.RedirectServer = refl
-avp_ascii avp.RedirectAddressType = refl
-avp_ascii avp.RedirectServerAddress = refl
-avp_ascii avp.CheckBalanceResult = refl
-avp_ascii avp.CostInformation = refl
 avp_ascii avp.Amount = refl
 avp_ascii avp.From = refl
 avp_ascii avp.Until = refl
@@ -443,15 +406,12 @@ avp_ascii avp.Scope = refl
 avp_ascii avp.Reference = refl
 avp_ascii avp.VoucherCode = refl
 avp_ascii avp.Month = refl
-avp_ascii avp.Bucket = refl
-avp_ascii avp.Accounts = refl
-avp_ascii avp.Refusal = refl
 
 balance_fit : (b : Balance) → Fit 4 (whole (balance_number b))
 balance_fit EnoughCredit = fit_whole 4 0 (lit≤ tt)
 balance_fit NoCredit = fit_whole 4 1 (lit≤ tt)
 
-failure_fit : (f : Failure) (ms : Members) → FitMembers 4 ms → Above (codes "Failed-AVP") ms → FitMembers 4 (failure_members f ms)
+failure_fit : (f : Failure) (ms : Members) → FitMembers 4 ms → Above failed_avp ms → FitMembers 4 (failure_members f ms)
 failure_fit (Denied f) ms h above = h
 failure_fit UnknownSessionId ms h above = h
 failure_fit (InvalidAvpValue a) ms h above = fit_member 4 _ (string (name_of a)) ms refl (fit_text 4 (name_of a) (name (name_of a) (avp_ascii a))) above h
@@ -465,14 +425,14 @@ outcome_fit (outcome.Checked b) code session is h = fit_member 4 _ (whole (balan
 outcome_fit (outcome.Priced c) code session is h = fit_member 4 _ (money_data c.micros c.currency) _ refl (fit_deeper 2 4 _ (lit≤ tt) (fit_money 0 c.micros c.currency is.micros is.currency)) (refl, (refl, tt)) h
 outcome_fit (outcome.Failed f) code session is h = failure_fit f (end_members code session) h (refl, (refl, tt))
 
-failure_above : (k : List ℕ) (f : Failure) (ms : Members) → slice_cmp nat_cmp (codes "Failed-AVP") k ≡ Greater → Above k ms → Above k (failure_members f ms)
+failure_above : (k : List ℕ) (f : Failure) (ms : Members) → slice_cmp nat_cmp failed_avp k ≡ Greater → Above k ms → Above k (failure_members f ms)
 failure_above k (Denied f) ms g h = h
 failure_above k UnknownSessionId ms g h = h
 failure_above k (InvalidAvpValue a) ms g h = (g, h)
 failure_above k UnableToComply ms g h = h
 failure_above k UserUnknown ms g h = h
 
-outcome_above : (k : List ℕ) (o : Outcome) (ms : Members) → slice_cmp nat_cmp (codes "Multiple-Services-Credit-Control") k ≡ Greater → slice_cmp nat_cmp (codes "Check-Balance-Result") k ≡ Greater → slice_cmp nat_cmp (codes "Cost-Information") k ≡ Greater → slice_cmp nat_cmp (codes "Failed-AVP") k ≡ Greater → Above k ms → Above k (outcome_members o ms)
+outcome_above : (k : List ℕ) (o : Outcome) (ms : Members) → slice_cmp nat_cmp (name_of avp.Services) k ≡ Greater → slice_cmp nat_cmp check_balance_result k ≡ Greater → slice_cmp nat_cmp cost_information k ≡ Greater → slice_cmp nat_cmp failed_avp k ≡ Greater → Above k ms → Above k (outcome_members o ms)
 outcome_above k (outcome.Services ss) ms s b c f h = (s, h)
 outcome_above k outcome.Refunded ms s b c f h = h
 outcome_above k (outcome.Checked x) ms s b c f h = (b, h)
@@ -487,8 +447,8 @@ request_fit : (a : RequestAnswer) → IsRequestAnswer a → Fit 127 (object (req
 request_fit a is =
     let code = outcome_code a.outcome in
     let told = outcome_fit a.outcome code a.session is.outcome (end_fit a.outcome a.session is.session) in
-    let above_type = outcome_above (codes "CC-Request-Type") a.outcome (end_members code a.session) refl refl refl refl (refl, (refl, tt)) in
-    let above_number = outcome_above (codes "CC-Request-Number") a.outcome (end_members code a.session) refl refl refl refl (refl, (refl, tt)) in
+    let above_type = outcome_above (name_of avp.RequestType) a.outcome (end_members code a.session) refl refl refl refl (refl, (refl, tt)) in
+    let above_number = outcome_above (name_of avp.RequestNumber) a.outcome (end_members code a.session) refl refl refl refl (refl, (refl, tt)) in
     fit_deeper 5 127 _ (lit≤ tt) (fit_object 4 _ (fit_member 4 _ (whole a.number) _ refl (fit_whole 4 a.number (omega (arith, is.number))) (refl, above_number)
     (fit_member 4 _ (whole (kind_number a.kind)) _ refl (fit_whole 4 (kind_number a.kind) (kind_small a.kind)) above_type told)))
 
@@ -500,8 +460,8 @@ flat ms h = fit_deeper 1 127 _ (lit≤ tt) (fit_object 0 ms h)
 
 -- ---- the answer
 
-done_found : (d : Data) → get (name_of avp.ResultCode) d ≡ Some (whole 2001) → number_at avp.ResultCode 2001 2001 d ≡ Ok 2001
-done_found d e = number_found avp.ResultCode 2001 2001 d 2001 e (lit≤ tt) (lit≤ tt)
+done_found : (d : Data) → get (result_code) d ≡ Some (whole 2001) → number_in result_code 2001 2001 d ≡ Ok 2001
+done_found d e = number_in_found result_code 2001 2001 d 2001 e (lit≤ tt) (lit≤ tt)
 
 refusal_ascii : (r : Refusal) → are_ascii (refusal_name r) ≡ true
 refusal_ascii AccountExists = refl
@@ -512,15 +472,9 @@ refusal_ascii ContentDiffers = refl
 refusal_ascii OutOfRange = refl
 refusal_ascii ScopeUnknown = refl
 
-refusal_again : (r : Refusal) → refusal_at (object (member (codes "Refusal") (string (refusal_name r)) no_members)) ≡ Ok (answer.Refused r)
+refusal_again : (r : Refusal) → refusal_at (object (member refusal (string (refusal_name r)) no_members)) ≡ Ok (answer.Refused r)
 unfolding refusal_at
-refusal_again AccountExists = rw (text_found avp.Refusal (object (member (codes "Refusal") (string (refusal_name AccountExists)) no_members)) (refusal_name AccountExists) refl) refl
-refusal_again AccountUnknown = rw (text_found avp.Refusal (object (member (codes "Refusal") (string (refusal_name AccountUnknown)) no_members)) (refusal_name AccountUnknown) refl) refl
-refusal_again VoucherUnknown = rw (text_found avp.Refusal (object (member (codes "Refusal") (string (refusal_name VoucherUnknown)) no_members)) (refusal_name VoucherUnknown) refl) refl
-refusal_again VoucherSpent = rw (text_found avp.Refusal (object (member (codes "Refusal") (string (refusal_name VoucherSpent)) no_members)) (refusal_name VoucherSpent) refl) refl
-refusal_again ContentDiffers = rw (text_found avp.Refusal (object (member (codes "Refusal") (string (refusal_name ContentDiffers)) no_members)) (refusal_name ContentDiffers) refl) refl
-refusal_again OutOfRange = rw (text_found avp.Refusal (object (member (codes "Refusal") (string (refusal_name OutOfRange)) no_members)) (refusal_name OutOfRange) refl) refl
-refusal_again ScopeUnknown = rw (text_found avp.Refusal (object (member (codes "Refusal") (string (refusal_name ScopeUnknown)) no_members)) (refusal_name ScopeUnknown) refl) refl
+refusal_again r = rw (text_in_found refusal (object (member refusal (string (refusal_name r)) no_members)) (refusal_name r) refl, are_tables.refusals.there r) refl
 
 pub answers_again : AnswersReadAgain answer_text
 unfolding answer_of answer_text answer_data request_answer_data done_at
@@ -530,17 +484,17 @@ answers_again (answer.Request a) is =
 answers_again answer.Done is =
     let ms = code_member 2001 in
     let d = object ms in
-    rw (document_again ms (flat ms code_fit), done_found d refl, optional_found avp.Bucket 0 4294967295 d None refl tt, optional_found avp.Accounts 0 18446744073709551615 d None refl tt) refl
+    rw (document_again ms (flat ms code_fit), done_found d refl, optional_in_found bucket NotRequest 0 4294967295 d None refl tt, optional_in_found accounts NotRequest 0 18446744073709551615 d None refl tt) refl
 answers_again (answer.Bucket n) is =
-    let ms = member (codes "Bucket") (whole n) (code_member 2001) in
+    let ms = member bucket (whole n) (code_member 2001) in
     let d = object ms in
-    rw (document_again ms (flat ms (fit_member 0 _ (whole n) _ refl (fit_whole 0 n (omega (arith, is))) (refl, tt) code_fit)), done_found d refl, optional_found avp.Bucket 0 4294967295 d (Some n) refl (omega arith, is)) refl
+    rw (document_again ms (flat ms (fit_member 0 _ (whole n) _ refl (fit_whole 0 n (omega (arith, is))) (refl, tt) code_fit)), done_found d refl, optional_in_found bucket NotRequest 0 4294967295 d (Some n) refl (omega arith, is)) refl
 answers_again (answer.Swept n) is =
-    let ms = member (codes "Accounts") (whole n) (code_member 2001) in
+    let ms = member accounts (whole n) (code_member 2001) in
     let d = object ms in
-    rw (document_again ms (flat ms (fit_member 0 _ (whole n) _ refl (fit_whole 0 n is) (refl, tt) code_fit)), done_found d refl, optional_found avp.Bucket 0 4294967295 d None refl tt, optional_found avp.Accounts 0 18446744073709551615 d (Some n) refl (omega arith, is)) refl
+    rw (document_again ms (flat ms (fit_member 0 _ (whole n) _ refl (fit_whole 0 n is) (refl, tt) code_fit)), done_found d refl, optional_in_found bucket NotRequest 0 4294967295 d None refl tt, optional_in_found accounts NotRequest 0 18446744073709551615 d (Some n) refl (omega arith, is)) refl
 answers_again (answer.Refused r) is =
-    let ms = member (codes "Refusal") (string (refusal_name r)) no_members in
+    let ms = member refusal (string (refusal_name r)) no_members in
     rw (document_again ms (flat ms (fit_member 0 _ (string (refusal_name r)) no_members refl (fit_text 0 (refusal_name r) (name (refusal_name r) (refusal_ascii r))) tt (fit_none 0))), refusal_again r) refl
 
 -- ---- what is read is what was written
@@ -552,6 +506,12 @@ says_written bytes a is text = subst (λ (b : List ℕ). answer_of b ≡ Ok a) t
 pub reads_written : (bytes : List ℕ) (returned : Result Answer WireFault) → Gives (λ a. a) returned (answer_of bytes) → ReadsWritten bytes returned
 reads_written bytes returned given a is text =
     subst (λ (r : Result Answer WireFault). Gives (λ x. x) returned r) (says_written bytes a is text) given
+
+-- bytes that say no answer were not written
+pub never_said : (bytes : List ℕ) (fault told : WireFault) → Gives (λ (a : Answer). a) (Err fault) (answer_of bytes) → (fault ≡ Memory → told ≡ Memory) → ReadsWritten bytes (Err told)
+never_said bytes fault told given keeps a is text other =
+    let clash : Ok a ≡ Err fault = sym (says_written bytes a is text) ∙ given (λ e. other (keeps e)) in
+    absurd (cc)
 
 -- bytes that say an answer and aren't its text were not written
 pub never_written : (bytes : List ℕ) (a : Answer) (returned : Result Answer WireFault) → answer_of bytes ≡ Ok a → (answer_text a ≡ bytes → ⊥) → ReadsWritten bytes returned

@@ -1,4 +1,5 @@
 pub mod Spelled
 pub mod Rules
 pub mod Written
+pub mod Members
 pub mod ReadingAnswers

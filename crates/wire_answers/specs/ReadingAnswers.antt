@@ -1,44 +1,38 @@
 -- Reading an answer that was written.
 use Rattle.std.specs.Prelude.{◌≡◌, ℕ, ◌==◌, ◌&&◌, List, [], ◌∷◌, Bool, true, Option, Some, None, Result, Ok, Err, nat_le, nat_eq, if◌then◌else◌}
-use Rattle.std.specs.List.{find}
-use Rattle.std.specs.Cmp.Lexicographic.{pointwise}
 use Rattle.serde_json.specs.Data.{Data, Items}
 use Rattle.serde_json.specs.Find.{get}
 use Rattle.identifiers.specs.Texts.{is_redirect_address}
 use Rattle.units.specs.declared.blocks.UnitKind.{UnitKind}
-use Rattle.commands.specs.declared.avp.Avp.{Avp}
 use Rattle.commands.specs.declared.avp.Avp.TheVariants as avp
-use Rattle.commands.specs.Names.{name_of}
-use Rattle.commands.specs.Codes.{refusal_name}
+use Rattle.commands.specs.Names.{name_of, accounts, bucket, check_balance_result, cost_information, failed_avp, final_unit, final_unit_action, granted_unit, redirect_server, redirect_server_address, refusal, result_code, tariff_time_change, validity_time, avp_named}
+use Rattle.commands.specs.Codes.{service_failure_numbered, balance_numbered, refusal_named}
 use Rattle.commands.specs.Measured.{Measured}
 use Rattle.commands.specs.declared.request.RequestKind.{RequestKind}
 use Rattle.commands.specs.declared.answer.FinalUnit.{FinalUnit}
 use Rattle.commands.specs.declared.answer.FinalUnit.TheVariants.{Terminate, Redirect}
 use Rattle.commands.specs.declared.answer.Granted.{Granted}
 use Rattle.commands.specs.declared.answer.ServiceFailure.{ServiceFailure}
-use Rattle.commands.specs.declared.answer.ServiceFailure.TheVariants.{EndUserServiceDenied, CreditLimitReached, RatingFailed}
 use Rattle.commands.specs.declared.answer.ServiceOutcome.{ServiceOutcome}
 use Rattle.commands.specs.declared.answer.ServiceOutcome.TheVariants as service
 use Rattle.commands.specs.declared.answer.ServiceAnswer.{ServiceAnswer}
 use Rattle.commands.specs.declared.answer.Balance.{Balance}
-use Rattle.commands.specs.declared.answer.Balance.TheVariants.{EnoughCredit, NoCredit}
 use Rattle.commands.specs.declared.answer.Cost.{Cost}
 use Rattle.commands.specs.declared.answer.Failure.{Failure}
 use Rattle.commands.specs.declared.answer.Failure.TheVariants.{Denied, UnknownSessionId, InvalidAvpValue, UnableToComply, UserUnknown}
 use Rattle.commands.specs.declared.answer.Outcome.{Outcome}
 use Rattle.commands.specs.declared.answer.Outcome.TheVariants as outcome
 use Rattle.commands.specs.declared.answer.RequestAnswer.{RequestAnswer}
-use Rattle.commands.specs.declared.answer.Refusal.{Refusal}
-use Rattle.commands.specs.declared.answer.Refusal.TheVariants.{AccountExists, AccountUnknown, VoucherUnknown, VoucherSpent, ContentDiffers, OutOfRange, ScopeUnknown}
 use Rattle.commands.specs.declared.answer.Answer.{Answer}
 use Rattle.commands.specs.declared.answer.Answer.TheVariants as answer
 use Rattle.json_fields.specs.declared.fault.WireFault.{WireFault}
-use Rattle.json_fields.specs.declared.fault.WireFault.TheVariants.{Invalid}
+use Rattle.json_fields.specs.declared.fault.WireFault.TheVariants.{NotRequest}
 use Rattle.json_fields.specs.Gives.{◌>>=◌, or_fault, where_holds, read_each, Gives}
-use Rattle.json_fields.specs.Fields.{member_at, number_at, optional_at, text_at, object_at, array_of, document_at}
+use Rattle.json_fields.specs.Fields.{number_at, optional_in, object_at, array_of, document_at}
 use Rattle.json_fields.specs.Unit.{kind_told, units_at}
 use Rattle.json_fields.specs.Order.{AreInByteOrder}
 use Rattle.wire_requests.specs.Reading.{session_at, kind_at}
+use Rattle.wire_answers.specs.Members.{number_in, text_in, object_in}
 use Rattle.wire_answers.specs.Rules.{IsAnswer}
 use Rattle.wire_answers.specs.Spelled.{answer_text}
 
@@ -47,16 +41,16 @@ use Rattle.wire_answers.specs.Spelled.{answer_text}
 -- the address of a Final-Unit-Indication that redirects
 unfoldable pub redirect_at : Data → Result (List ℕ) WireFault
 redirect_at d = do
-  s ← object_at avp.RedirectServer d
-  t ← text_at avp.RedirectServerAddress s
-  where_holds (is_redirect_address t) (Invalid avp.RedirectServerAddress) t
+  s ← object_in redirect_server d
+  t ← text_in redirect_server_address s
+  where_holds (is_redirect_address t) NotRequest t
 
 unfoldable pub final_told : ℕ → Data → Result FinalUnit WireFault
 final_told n d = if n == 0 then Ok Terminate else (redirect_at d >>= λ a. Ok (Redirect a))
 
 unfoldable pub final_in : Data → Result FinalUnit WireFault
 final_in d = do
-  n ← number_at avp.FinalUnitAction 0 1 d
+  n ← number_in final_unit_action 0 1 d
   final_told n d
 
 abbrev pub final_when : Option Data → Result (Option FinalUnit) WireFault
@@ -64,45 +58,45 @@ final_when None = Ok None
 final_when (Some v) = final_in v >>= λ f. Ok (Some f)
 
 unfoldable pub final_at : Data → Result (Option FinalUnit) WireFault
-final_at d = final_when (get (name_of avp.FinalUnit) d)
+final_at d = final_when (get final_unit d)
 
 -- the units that a Granted-Service-Unit holds
 unfoldable pub quantity_in : Data → Result Measured WireFault
 quantity_in g = do
-  kind ← or_fault (Invalid avp.GrantedUnit) (kind_told g)
-  n ← units_at avp.GrantedUnit 1 kind g
+  kind ← or_fault NotRequest (kind_told g)
+  n ← units_at NotRequest 1 kind g
   Ok (record { kind = kind; units = n })
+
+unfoldable pub session_grant_in : Measured → ℕ → Data → Data → Result ServiceOutcome WireFault
+session_grant_in quantity validity d g = do
+  switch ← optional_in tariff_time_change NotRequest 0 4102488000 g
+  last ← final_at d
+  Ok (service.Granted (record { quantity = quantity; switch = switch; validity = validity; last = last }))
 
 abbrev pub granted_when : Data → Data → Measured → Option ℕ → Result ServiceOutcome WireFault
 granted_when d g quantity None = Ok (service.Debited quantity)
-granted_when d g quantity (Some validity) = do
-  switch ← optional_at avp.TariffTimeChange 0 4102488000 g
-  last ← final_at d
-  Ok (service.Granted (record { quantity = quantity; switch = switch; validity = validity; last = last }))
+granted_when d g quantity (Some validity) = session_grant_in quantity validity d g
 
 -- the grant g of the service d: a session's has a validity time
 unfoldable pub granted_in : Data → Data → Result ServiceOutcome WireFault
 granted_in d g = do
   quantity ← quantity_in g
-  validity ← optional_at avp.ValidityTime 0 4294967295 d
+  validity ← optional_in validity_time NotRequest 0 4294967295 d
   granted_when d g quantity validity
 
 -- ---- services
-
-unfoldable pub service_failure_of : ℕ → Result ServiceFailure WireFault
-service_failure_of n = if n == 4010 then Ok EndUserServiceDenied else (if n == 4012 then Ok CreditLimitReached else (if n == 5031 then Ok RatingFailed else Err (Invalid avp.ResultCode)))
 
 abbrev pub success_when : Data → Option Data → Result ServiceOutcome WireFault
 success_when d None = Ok service.Settled
 success_when d (Some g) = granted_in d g
 
 unfoldable pub service_told : ℕ → Data → Result ServiceOutcome WireFault
-service_told n d = if n == 2001 then success_when d (get (name_of avp.GrantedUnit) d) else (service_failure_of n >>= λ f. Ok (service.Failed f))
+service_told n d = if n == 2001 then success_when d (get (granted_unit) d) else (or_fault NotRequest (service_failure_numbered n) >>= λ f. Ok (service.Failed f))
 
 unfoldable pub service_answer_at : Data → Result ServiceAnswer WireFault
 service_answer_at d = do
   g ← number_at avp.RatingGroup 0 4294967295 d
-  n ← number_at avp.ResultCode 0 9999 d
+  n ← number_in result_code 0 9999 d
   o ← service_told n d
   Ok (record { group = g; outcome = o })
 
@@ -116,25 +110,14 @@ services_in v = do
 
 -- ---- requests
 
--- each member by its name
-abbrev pub all_avps : List Avp
-all_avps = avp.SessionId ∷ avp.RequestType ∷ avp.RequestNumber ∷ avp.SubscriptionId ∷ avp.SubscriptionIdType ∷ avp.SubscriptionIdData ∷ avp.RequestedAction ∷ avp.Services ∷ avp.RatingGroup ∷ avp.RequestedUnit ∷ avp.UsedUnit ∷ avp.Money ∷ avp.UnitValue ∷ avp.ValueDigits ∷ avp.Exponent ∷ avp.CurrencyCode ∷ avp.ResultCode ∷ avp.FailedAvp ∷ avp.GrantedUnit ∷ avp.TariffTimeChange ∷ avp.ValidityTime ∷ avp.FinalUnit ∷ avp.FinalUnitAction ∷ avp.RedirectServer ∷ avp.RedirectAddressType ∷ avp.RedirectServerAddress ∷ avp.CheckBalanceResult ∷ avp.CostInformation ∷ avp.Amount ∷ avp.From ∷ avp.Until ∷ avp.Scope ∷ avp.Reference ∷ avp.VoucherCode ∷ avp.Month ∷ avp.Bucket ∷ avp.Accounts ∷ avp.Refusal ∷ []
-
--- the AVP of this name
-unfoldable pub avp_named : List ℕ → Result Avp WireFault
-avp_named s = or_fault (Invalid avp.FailedAvp) (find (λ a. pointwise nat_eq (name_of a) s) all_avps)
-
 unfoldable pub failed_at : Data → Result Failure WireFault
 failed_at d = do
-  s ← text_at avp.FailedAvp d
-  a ← avp_named s
+  s ← text_in failed_avp d
+  a ← or_fault NotRequest (avp_named s)
   Ok (InvalidAvpValue a)
 
 unfoldable pub failure_told : ℕ → Data → Result Failure WireFault
-failure_told n d = if n == 5002 then Ok UnknownSessionId else (if n == 5004 then failed_at d else (if n == 5012 then Ok UnableToComply else (if n == 5030 then Ok UserUnknown else (service_failure_of n >>= λ f. Ok (Denied f)))))
-
-unfoldable pub balance_of : ℕ → Balance
-balance_of n = if n == 0 then EnoughCredit else NoCredit
+failure_told n d = if n == 5002 then Ok UnknownSessionId else (if n == 5004 then failed_at d else (if n == 5012 then Ok UnableToComply else (if n == 5030 then Ok UserUnknown else (or_fault NotRequest (service_failure_numbered n) >>= λ f. Ok (Denied f)))))
 
 unfoldable pub cost_in : Data → Result Cost WireFault
 cost_in d = do
@@ -148,14 +131,18 @@ priced_when None = Ok outcome.Refunded
 priced_when (Some v) = cost_in v >>= λ c. Ok (outcome.Priced c)
 
 abbrev pub checked_when : Data → Option ℕ → Result Outcome WireFault
-checked_when d (Some n) = Ok (outcome.Checked (balance_of n))
-checked_when d None = priced_when (get (name_of avp.CostInformation) d)
+checked_when d (Some n) = or_fault NotRequest (balance_numbered n) >>= λ b. Ok (outcome.Checked b)
+checked_when d None = priced_when (get (cost_information) d)
+
+-- an answer without services
+unfoldable pub unserved_in : Data → Result Outcome WireFault
+unserved_in d = do
+  balance ← optional_in check_balance_result NotRequest 0 1 d
+  checked_when d balance
 
 abbrev pub served_when : Data → Option Data → Result Outcome WireFault
 served_when d (Some v) = services_in v >>= λ ss. Ok (outcome.Services ss)
-served_when d None = do
-  balance ← optional_at avp.CheckBalanceResult 0 1 d
-  checked_when d balance
+served_when d None = unserved_in d
 
 unfoldable pub outcome_told : ℕ → Data → Result Outcome WireFault
 outcome_told n d = if n == 2001 then served_when d (get (name_of avp.Services) d) else (failure_told n d >>= λ f. Ok (outcome.Failed f))
@@ -165,19 +152,16 @@ request_answer_at d = do
   session ← session_at d
   kind ← kind_at d
   number ← number_at avp.RequestNumber 0 4294967295 d
-  n ← number_at avp.ResultCode 0 9999 d
+  n ← number_in result_code 0 9999 d
   outcome ← outcome_told n d
   Ok (record { session = session; kind = kind; number = number; outcome = outcome })
 
 -- ---- all answers
 
-abbrev pub all_refusals : List Refusal
-all_refusals = AccountExists ∷ AccountUnknown ∷ VoucherUnknown ∷ VoucherSpent ∷ ContentDiffers ∷ OutOfRange ∷ ScopeUnknown ∷ []
-
 unfoldable pub refusal_at : Data → Result Answer WireFault
 refusal_at d = do
-  s ← text_at avp.Refusal d
-  r ← or_fault (Invalid avp.Refusal) (find (λ r. pointwise nat_eq (refusal_name r) s) all_refusals)
+  s ← text_in refusal d
+  r ← or_fault NotRequest (refusal_named s)
   Ok (answer.Refused r)
 
 abbrev pub swept_when : Option ℕ → Answer
@@ -187,15 +171,15 @@ swept_when (Some n) = answer.Swept n
 abbrev pub bucket_when : Data → Option ℕ → Result Answer WireFault
 bucket_when d (Some n) = Ok (answer.Bucket n)
 bucket_when d None = do
-  accounts ← optional_at avp.Accounts 0 18446744073709551615 d
-  Ok (swept_when accounts)
+  count ← optional_in accounts NotRequest 0 18446744073709551615 d
+  Ok (swept_when count)
 
 -- an answer with a Result-Code and no Session-Id
 unfoldable pub done_at : Data → Result Answer WireFault
 done_at d = do
-  code ← number_at avp.ResultCode 2001 2001 d
-  bucket ← optional_at avp.Bucket 0 4294967295 d
-  bucket_when d bucket
+  code ← number_in result_code 2001 2001 d
+  number ← optional_in bucket NotRequest 0 4294967295 d
+  bucket_when d number
 
 abbrev pub refused_when : Data → Option Data → Result Answer WireFault
 refused_when d None = done_at d
@@ -203,7 +187,7 @@ refused_when d (Some v) = refusal_at d
 
 abbrev pub answer_when : Data → Option Data → Result Answer WireFault
 answer_when d (Some v) = request_answer_at d >>= λ a. Ok (answer.Request a)
-answer_when d None = refused_when d (get (name_of avp.Refusal) d)
+answer_when d None = refused_when d (get (refusal) d)
 
 -- the answer that the bytes are
 unfoldable pub answer_of : List ℕ → Result Answer WireFault

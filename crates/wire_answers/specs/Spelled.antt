@@ -1,8 +1,9 @@
 -- How an answer is spelled: compact JSON, with the members in the byte order of their names.
-use Rattle.std.specs.Prelude.{ℕ, negsuc, List, [], ◌∷◌, codes, Option, Some, None, option_map}
+use Rattle.std.specs.Prelude.{ℕ, negsuc, List, [], ◌∷◌, Option, Some, None, option_map}
 use Rattle.serde_json.specs.Data.{Data, number, negative, string, array, object, Items, no_items, item, Members, no_members, member}
 use Rattle.serde_json.specs.Written.{compact_text}
-use Rattle.commands.specs.Names.{name_of}
+use Rattle.commands.specs.declared.avp.Avp.TheVariants as avp
+use Rattle.commands.specs.Names.{name_of, cost_information, validity_time, final_unit, redirect_server_address, final_unit_action, refusal, tariff_time_change, granted_unit, failed_avp, redirect_address_type, check_balance_result, bucket, accounts, redirect_server, result_code}
 use Rattle.commands.specs.Measured.{Measured}
 use Rattle.commands.specs.Codes.{kind_number, service_failure_number, failure_number, balance_number, refusal_name}
 use Rattle.commands.specs.declared.answer.FinalUnit.{FinalUnit}
@@ -30,20 +31,20 @@ use Rattle.json_fields.specs.Unit.{name_of_unit}
 unfoldable pub granted_data : Measured → Option ℕ → Data
 granted_data quantity switch = object
     (member (name_of_unit quantity.kind) (whole quantity.units)
-    (perhaps (codes "Tariff-Time-Change") (option_map whole switch) no_members))
+    (perhaps tariff_time_change (option_map whole switch) no_members))
 
 -- a URL (RFC 8506 section 8.38)
 unfoldable pub server_data : List ℕ → Data
 server_data address = object
-    (member (codes "Redirect-Address-Type") (whole 2)
-    (member (codes "Redirect-Server-Address") (string address) no_members))
+    (member redirect_address_type (whole 2)
+    (member redirect_server_address (string address) no_members))
 
 -- Final-Unit-Indication (RFC 8506 section 8.34): 0 is TERMINATE, 1 is REDIRECT
 abbrev pub final_data : FinalUnit → Data
-final_data Terminate = object (member (codes "Final-Unit-Action") (whole 0) no_members)
+final_data Terminate = object (member final_unit_action (whole 0) no_members)
 final_data (Redirect address) = object
-    (member (codes "Final-Unit-Action") (whole 1)
-    (member (codes "Redirect-Server") (server_data address) no_members))
+    (member final_unit_action (whole 1)
+    (member redirect_server (server_data address) no_members))
 
 abbrev pub final_of : ServiceOutcome → Option Data
 final_of service.Settled = None
@@ -72,11 +73,11 @@ service_code (service.Failed failure) = service_failure_number failure
 
 unfoldable pub service_data : ServiceAnswer → Data
 service_data s = object
-    (perhaps (codes "Final-Unit-Indication") (final_of s.outcome)
-    (perhaps (codes "Granted-Service-Unit") (granted_of s.outcome)
-    (member (codes "Rating-Group") (whole s.group)
-    (member (codes "Result-Code") (whole (service_code s.outcome))
-    (perhaps (codes "Validity-Time") (option_map whole (validity_of s.outcome)) no_members)))))
+    (perhaps final_unit (final_of s.outcome)
+    (perhaps granted_unit (granted_of s.outcome)
+    (member (name_of avp.RatingGroup) (whole s.group)
+    (member result_code (whole (service_code s.outcome))
+    (perhaps validity_time (option_map whole (validity_of s.outcome)) no_members)))))
 
 abbrev pub service_items : List ServiceAnswer → Items
 service_items [] = no_items
@@ -87,16 +88,16 @@ service_items (s ∷ ss) = item (service_data s) (service_items ss)
 abbrev pub failure_members : Failure → Members → Members
 failure_members (Denied failure) ms = ms
 failure_members UnknownSessionId ms = ms
-failure_members (InvalidAvpValue avp) ms = member (codes "Failed-AVP") (string (name_of avp)) ms
+failure_members (InvalidAvpValue avp) ms = member failed_avp (string (name_of avp)) ms
 failure_members UnableToComply ms = ms
 failure_members UserUnknown ms = ms
 
 -- what stands between the type and the Result-Code
 abbrev pub outcome_members : Outcome → Members → Members
-outcome_members (outcome.Services ss) ms = member (codes "Multiple-Services-Credit-Control") (array (service_items ss)) ms
+outcome_members (outcome.Services ss) ms = member (name_of avp.Services) (array (service_items ss)) ms
 outcome_members outcome.Refunded ms = ms
-outcome_members (outcome.Checked balance) ms = member (codes "Check-Balance-Result") (whole (balance_number balance)) ms
-outcome_members (outcome.Priced cost) ms = member (codes "Cost-Information") (money_data cost.micros cost.currency) ms
+outcome_members (outcome.Checked balance) ms = member check_balance_result (whole (balance_number balance)) ms
+outcome_members (outcome.Priced cost) ms = member cost_information (money_data cost.micros cost.currency) ms
 outcome_members (outcome.Failed failure) ms = failure_members failure ms
 
 abbrev pub outcome_code : Outcome → ℕ
@@ -108,23 +109,23 @@ outcome_code (outcome.Failed failure) = failure_number failure
 
 unfoldable pub request_answer_data : RequestAnswer → Data
 request_answer_data a = object
-    (member (codes "CC-Request-Number") (whole a.number)
-    (member (codes "CC-Request-Type") (whole (kind_number a.kind))
+    (member (name_of avp.RequestNumber) (whole a.number)
+    (member (name_of avp.RequestType) (whole (kind_number a.kind))
     (outcome_members a.outcome
-    (member (codes "Result-Code") (whole (outcome_code a.outcome))
-    (member (codes "Session-Id") (string a.session) no_members)))))
+    (member result_code (whole (outcome_code a.outcome))
+    (member (name_of avp.SessionId) (string a.session) no_members)))))
 
 -- ---- all answers
 
 abbrev pub code_member : ℕ → Members
-code_member code = member (codes "Result-Code") (whole code) no_members
+code_member code = member result_code (whole code) no_members
 
 unfoldable pub answer_data : Answer → Data
 answer_data (answer.Request a) = request_answer_data a
 answer_data answer.Done = object (code_member 2001)
-answer_data (answer.Bucket n) = object (member (codes "Bucket") (whole n) (code_member 2001))
-answer_data (answer.Swept accounts) = object (member (codes "Accounts") (whole accounts) (code_member 2001))
-answer_data (answer.Refused refusal) = object (member (codes "Refusal") (string (refusal_name refusal)) no_members)
+answer_data (answer.Bucket n) = object (member bucket (whole n) (code_member 2001))
+answer_data (answer.Swept count) = object (member accounts (whole count) (code_member 2001))
+answer_data (answer.Refused reason) = object (member refusal (string (refusal_name reason)) no_members)
 
 -- the text of an answer
 unfoldable pub answer_text : Answer → List ℕ
@@ -134,8 +135,8 @@ answer_text a = compact_text (answer_data a)
 -- DIAMETER_INVALID_AVP_VALUE
 unfoldable pub fault_data : WireFault → Data
 fault_data NotRequest = object (code_member 5012)
-fault_data (Missing avp) = object (member (codes "Failed-AVP") (string (name_of avp)) (code_member 5005))
-fault_data (Invalid avp) = object (member (codes "Failed-AVP") (string (name_of avp)) (code_member 5004))
+fault_data (Missing avp) = object (member failed_avp (string (name_of avp)) (code_member 5005))
+fault_data (Invalid avp) = object (member failed_avp (string (name_of avp)) (code_member 5004))
 fault_data Memory = object (code_member 5012)
 
 unfoldable pub fault_text : WireFault → List ℕ

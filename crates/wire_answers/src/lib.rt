@@ -1,7 +1,7 @@
 //! Answers as JSON.
 #![tactic(auto)]
 
-mod names;
+mod members;
 mod reading;
 mod reading_services;
 mod services;

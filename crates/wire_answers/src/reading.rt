@@ -1,36 +1,32 @@
-ghost use Rattle.std.specs.Prelude.{◌≡◌, ◌≤◌, IfOk};
+ghost use Rattle.std.specs.Prelude.{◌≡◌, ◌≤◌, ◌⊎◌, IfOk};
 ghost use Rattle.serde_json.specs.View.{view};
 ghost use Rattle.serde_json.specs.Find.{get};
-ghost use Rattle.commands.specs.Names.{name_of};
+ghost use Rattle.commands.specs.Names.{name_of, cost_information, refusal};
 ghost use Rattle.json_fields.specs.Gives.{Gives, Says};
 ghost use Rattle.wire_answers.specs.Spelled.{answer_data, answer_text};
-ghost use Rattle.wire_answers.specs.ReadingAnswers.{avp_named, failed_at, failure_told, balance_of, cost_in, priced_when, checked_when, served_when, outcome_told, request_answer_at, refusal_at, done_at, answer_when, refused_when, answer_of, AnswersReadAgain, ReadsWritten, AnswersAreInOrder};
+ghost use Rattle.wire_answers.specs.ReadingAnswers.{failed_at, failure_told, cost_in, priced_when, checked_when, unserved_in, served_when, outcome_told, request_answer_at, refusal_at, done_at, answer_when, refused_when, answer_of, AnswersReadAgain, ReadsWritten, AnswersAreInOrder};
 
-use crate::names::{avp_named, refusal_named};
-use crate::reading_services::{service_failure, services_in};
+use crate::members;
+use crate::reading_services::services_in;
 use crate::writing::write_answer;
-use commands::{Answer, Avp, Balance, Cost, Failure, Outcome, RequestAnswer};
-use json_fields::{WireFault, document, is_text, number, object, optional_number, text};
+use commands::names::{
+    ACCOUNTS, BUCKET, CHECK_BALANCE_RESULT, COST_INFORMATION, FAILED_AVP, REFUSAL, RESULT_CODE,
+};
+use commands::{
+    Answer, Avp, Balance, Cost, Failure, Outcome, Refusal, RequestAnswer, ServiceFailure,
+};
+use json_fields::{WireFault, document, is_text, number, object};
 use serde_json::Value;
 use std::alloc::Global;
 use wire_requests::{request_kind, session_id};
-
-#[tactic(auto, unfolding(crate::specs::ReadingAnswers::avp_named))]
-fn avp(name: &str) -> Result<Avp, WireFault>
-    ensures { Says (λ a. a) result (avp_named name.now) }
-{
-    match avp_named(name) {
-        Some(avp) => Ok(avp),
-        None => Err(WireFault::Invalid(Avp::FailedAvp)),
-    }
-}
 
 #[tactic(auto, unfolding(crate::specs::ReadingAnswers::failed_at))]
 fn failed(parent: &Value) -> Result<Failure, WireFault>
     ensures { Says (λ f. f) result (failed_at (view parent.now)) }
 {
-    let name = text(parent, Avp::FailedAvp)?;
-    Ok(Failure::InvalidAvpValue(avp(name)?))
+    let name = members::text(parent, FAILED_AVP)?;
+    let avp = Avp::named(name).ok_or(WireFault::NotRequest)?;
+    Ok(Failure::InvalidAvpValue(avp))
 }
 
 #[tactic(auto, unfolding(crate::specs::ReadingAnswers::failure_told))]
@@ -42,18 +38,10 @@ fn failure(code: u64, parent: &Value) -> Result<Failure, WireFault>
         5004 => failed(parent),
         5012 => Ok(Failure::UnableToComply),
         5030 => Ok(Failure::UserUnknown),
-        _ => Ok(Failure::Denied(service_failure(code)?)),
-    }
-}
-
-#[tactic(auto, unfolding(crate::specs::ReadingAnswers::balance_of))]
-fn balance(number: u64) -> Balance
-    ensures { result ≡ balance_of number }
-{
-    if number == 0 {
-        Balance::EnoughCredit
-    } else {
-        Balance::NoCredit
+        _ => {
+            let failure = ServiceFailure::numbered(code).ok_or(WireFault::NotRequest)?;
+            Ok(Failure::Denied(failure))
+        }
     }
 }
 
@@ -68,9 +56,9 @@ fn cost(value: &Value) -> Result<Cost, WireFault>
 }
 
 fn priced(parent: &Value) -> Result<Outcome, WireFault>
-    ensures { Says (λ o. o) result (priced_when (get (name_of Avp.CostInformation) (view parent.now))) }
+    ensures { Says (λ o. o) result (priced_when (get cost_information (view parent.now))) }
 {
-    match parent.get(Avp::CostInformation.name()) {
+    match parent.get(COST_INFORMATION) {
         None => Ok(Outcome::Refunded),
         Some(value) => Ok(Outcome::Priced(cost(value)?)),
     }
@@ -80,9 +68,20 @@ fn checked(told: Option<u64>, parent: &Value) -> Result<Outcome, WireFault>
     ensures { Says (λ o. o) result (checked_when (view parent.now) told) }
 {
     match told {
-        Some(number) => Ok(Outcome::Checked(balance(number))),
+        Some(number) => {
+            let balance = Balance::numbered(number).ok_or(WireFault::NotRequest)?;
+            Ok(Outcome::Checked(balance))
+        }
         None => priced(parent),
     }
+}
+
+#[tactic(auto, unfolding(crate::specs::ReadingAnswers::unserved_in))]
+fn unserved(parent: &Value) -> Result<Outcome, WireFault>
+    ensures { Says (λ o. o) result (unserved_in (view parent.now)) }
+{
+    let balance = members::optional(parent, CHECK_BALANCE_RESULT, 0, 1)?;
+    checked(balance, parent)
 }
 
 fn served(alloc: Global, parent: &Value) -> Result<Outcome, WireFault>
@@ -90,10 +89,7 @@ fn served(alloc: Global, parent: &Value) -> Result<Outcome, WireFault>
 {
     match parent.get(Avp::Services.name()) {
         Some(value) => Ok(Outcome::Services(services_in(alloc, value)?)),
-        None => checked(
-            optional_number(parent, Avp::CheckBalanceResult, 0, 1)?,
-            parent,
-        ),
+        None => unserved(parent),
     }
 }
 
@@ -115,7 +111,7 @@ fn request_answer(alloc: Global, parent: &Value) -> Result<RequestAnswer, WireFa
     let session = session_id(alloc, parent)?;
     let kind = request_kind(parent)?;
     let number_told = number(parent, Avp::RequestNumber, 0, 4_294_967_295)? as u32;
-    let code = number(parent, Avp::ResultCode, 0, 9999)?;
+    let code = members::number(parent, RESULT_CODE, 0, 9999)?;
     let outcome = outcome(alloc, code, parent)?;
     Ok(RequestAnswer {
         session,
@@ -129,30 +125,29 @@ fn request_answer(alloc: Global, parent: &Value) -> Result<RequestAnswer, WireFa
 fn refusal(parent: &Value) -> Result<Answer, WireFault>
     ensures { Says (λ a. a) result (refusal_at (view parent.now)) }
 {
-    match refusal_named(text(parent, Avp::Refusal)?) {
-        Some(refusal) => Ok(Answer::Refused(refusal)),
-        None => Err(WireFault::Invalid(Avp::Refusal)),
-    }
+    let name = members::text(parent, REFUSAL)?;
+    let refusal = Refusal::named(name).ok_or(WireFault::NotRequest)?;
+    Ok(Answer::Refused(refusal))
 }
 
 #[tactic(auto, unfolding(crate::specs::ReadingAnswers::done_at))]
 fn done(parent: &Value) -> Result<Answer, WireFault>
     ensures { Says (λ a. a) result (done_at (view parent.now)) }
 {
-    number(parent, Avp::ResultCode, 2001, 2001)?;
-    if let Some(bucket) = optional_number(parent, Avp::Bucket, 0, 4_294_967_295)? {
+    members::number(parent, RESULT_CODE, 2001, 2001)?;
+    if let Some(bucket) = members::optional(parent, BUCKET, 0, 4_294_967_295)? {
         return Ok(Answer::Bucket(bucket as u32));
     }
-    match optional_number(parent, Avp::Accounts, 0, u64::MAX)? {
+    match members::optional(parent, ACCOUNTS, 0, u64::MAX)? {
         None => Ok(Answer::Done),
         Some(accounts) => Ok(Answer::Swept(accounts)),
     }
 }
 
 fn refused(parent: &Value) -> Result<Answer, WireFault>
-    ensures { Says (λ a. a) result (refused_when (view parent.now) (get (name_of Avp.Refusal) (view parent.now))) }
+    ensures { Says (λ a. a) result (refused_when (view parent.now) (get refusal (view parent.now))) }
 {
-    match parent.get(Avp::Refusal.name()) {
+    match parent.get(REFUSAL) {
         None => done(parent),
         Some(_) => refusal(parent),
     }
@@ -175,16 +170,29 @@ fn answer(alloc: Global, bytes: &[u8]) -> Result<Answer, WireFault>
     answered(alloc, &parent)
 }
 
+/// Want of memory is told, and no other fault of a text.
+fn told(fault: WireFault) -> WireFault
+    ensures memory { fault ≡ WireFault.Memory → result ≡ WireFault.Memory }
+    ensures other { (result ≡ WireFault.Memory) ⊎ (result ≡ WireFault.NotRequest) }
+{
+    match fault {
+        WireFault::Memory => WireFault::Memory,
+        _ => WireFault::NotRequest,
+    }
+}
+
 /// The answer whose text the bytes are, as `write_answer` writes it.
 ///
 /// # Errors
-/// `NotRequest` where the bytes are no JSON object, or say an answer and aren't its text; `Missing` and `Invalid` with
-/// the first member at fault, `Memory` where memory ran out.
+/// `NotRequest` where the bytes are no answer's text, `Memory` where memory ran out.
 pub fn read_answer(alloc: Global, bytes: &[u8]) -> Result<Answer, WireFault>
     ensures text { IfOk result (λ a. answer_text a ≡ bytes.now) }
     ensures written { ReadsWritten bytes.now result }
 {
-    let answer = answer(alloc, bytes)?;
+    let answer = match answer(alloc, bytes) {
+        Ok(answer) => answer,
+        Err(fault) => return Err(told(fault)),
+    };
     let text = write_answer(alloc, &answer)?;
     if is_text(&text, bytes) {
         Ok(answer)

@@ -1,16 +1,21 @@
 ghost use Rattle.std.specs.Prelude.{◌≡◌, ◌≤◌, IfSome};
 ghost use Rattle.serde_json.specs.Find.{get};
 ghost use Rattle.serde_json.specs.View.{view, items_view};
-ghost use Rattle.commands.specs.Names.{name_of};
+ghost use Rattle.commands.specs.Names.{name_of, granted_unit};
 ghost use Rattle.json_fields.specs.Gives.{Gives, Says};
-ghost use Rattle.wire_answers.specs.ReadingAnswers.{redirect_at, final_told, final_in, final_at, quantity_in, granted_in, service_failure_of, success_when, service_told, service_answer_at, services_from, services_in};
+ghost use Rattle.wire_answers.specs.ReadingAnswers.{redirect_at, final_told, final_in, final_at, quantity_in, session_grant_in, granted_in, success_when, service_told, service_answer_at, services_from, services_in};
 
+use crate::members;
+use commands::names::{
+    FINAL_UNIT, FINAL_UNIT_ACTION, GRANTED_UNIT, REDIRECT_SERVER, REDIRECT_SERVER_ADDRESS,
+    RESULT_CODE, TARIFF_TIME_CHANGE, VALIDITY_TIME,
+};
 use commands::{
     Avp, FinalUnit, Granted, Quantity, ServiceAnswer, ServiceAnswers, ServiceFailure,
     ServiceOutcome,
 };
 use identifiers::RedirectAddress;
-use json_fields::{WireFault, array, number, object, optional_number, text, unit_told, units_in};
+use json_fields::{WireFault, array, number, unit_told, units_in};
 use serde_json::Value;
 use std::alloc::Global;
 use units::Moment;
@@ -19,12 +24,9 @@ use units::Moment;
 fn redirect(alloc: Global, parent: &Value) -> Result<RedirectAddress, WireFault>
     ensures { Gives (λ a. a) result (redirect_at (view parent.now)) }
 {
-    let server = object(parent, Avp::RedirectServer)?;
-    let text = text(server, Avp::RedirectServerAddress)?;
-    match RedirectAddress::new(alloc, text)? {
-        Some(address) => Ok(address),
-        None => Err(WireFault::Invalid(Avp::RedirectServerAddress)),
-    }
+    let server = members::object(parent, REDIRECT_SERVER)?;
+    let text = members::text(server, REDIRECT_SERVER_ADDRESS)?;
+    RedirectAddress::new(alloc, text)?.ok_or(WireFault::NotRequest)
 }
 
 #[tactic(auto, unfolding(crate::specs::ReadingAnswers::final_told))]
@@ -42,14 +44,18 @@ fn final_told(alloc: Global, action: u64, value: &Value) -> Result<FinalUnit, Wi
 fn final_in(alloc: Global, value: &Value) -> Result<FinalUnit, WireFault>
     ensures { Gives (λ f. f) result (final_in (view value.now)) }
 {
-    final_told(alloc, number(value, Avp::FinalUnitAction, 0, 1)?, value)
+    final_told(
+        alloc,
+        members::number(value, FINAL_UNIT_ACTION, 0, 1)?,
+        value,
+    )
 }
 
 #[tactic(auto, unfolding(crate::specs::ReadingAnswers::final_at))]
 fn final_unit(alloc: Global, parent: &Value) -> Result<Option<FinalUnit>, WireFault>
     ensures { Gives (λ f. f) result (final_at (view parent.now)) }
 {
-    match parent.get(Avp::FinalUnit.name()) {
+    match parent.get(FINAL_UNIT) {
         None => Ok(None),
         Some(value) => Ok(Some(final_in(alloc, value)?)),
     }
@@ -59,10 +65,8 @@ fn final_unit(alloc: Global, parent: &Value) -> Result<Option<FinalUnit>, WireFa
 fn quantity(value: &Value) -> Result<Quantity, WireFault>
     ensures { Says (λ q. q) result (quantity_in (view value.now)) }
 {
-    let Some(kind) = unit_told(value) else {
-        return Err(WireFault::Invalid(Avp::GrantedUnit));
-    };
-    let units = units_in(value, Avp::GrantedUnit, 1, kind)?;
+    let kind = unit_told(value).ok_or(WireFault::NotRequest)?;
+    let units = units_in(value, WireFault::NotRequest, 1, kind)?;
     Ok(Quantity::new(kind, units))
 }
 
@@ -76,41 +80,42 @@ fn moment(seconds: Option<u64>) -> Option<Moment>
     }
 }
 
+#[tactic(auto, unfolding(crate::specs::ReadingAnswers::session_grant_in))]
+fn session_grant(
+    alloc: Global,
+    quantity: Quantity,
+    validity: u32,
+    parent: &Value,
+    value: &Value,
+) -> Result<ServiceOutcome, WireFault>
+    ensures { Gives (λ o. o) result (session_grant_in quantity validity (view parent.now) (view value.now)) }
+{
+    let seconds = members::optional(value, TARIFF_TIME_CHANGE, 0, 4_102_488_000)?;
+    let switch = moment(seconds);
+    let last = final_unit(alloc, parent)?;
+    Ok(ServiceOutcome::Granted(Granted {
+        quantity,
+        switch,
+        validity,
+        last,
+    }))
+}
+
 #[tactic(auto, unfolding(crate::specs::ReadingAnswers::granted_in))]
 fn granted_in(alloc: Global, parent: &Value, value: &Value) -> Result<ServiceOutcome, WireFault>
     ensures { Gives (λ o. o) result (granted_in (view parent.now) (view value.now)) }
 {
     let quantity = quantity(value)?;
-    let Some(validity) = optional_number(parent, Avp::ValidityTime, 0, 4_294_967_295)? else {
+    let Some(validity) = members::optional(parent, VALIDITY_TIME, 0, 4_294_967_295)? else {
         return Ok(ServiceOutcome::Debited(quantity));
     };
-    let switch = moment(optional_number(value, Avp::TariffTimeChange, 0, 4_102_488_000)?);
-    let last = final_unit(alloc, parent)?;
-    Ok(ServiceOutcome::Granted(Granted {
-        quantity,
-        switch,
-        validity: validity as u32,
-        last,
-    }))
-}
-
-/// The failure of this Result-Code.
-#[tactic(auto, unfolding(crate::specs::ReadingAnswers::service_failure_of))]
-pub(crate) fn service_failure(code: u64) -> Result<ServiceFailure, WireFault>
-    ensures { Says (λ f. f) result (service_failure_of code) }
-{
-    match code {
-        4010 => Ok(ServiceFailure::EndUserServiceDenied),
-        4012 => Ok(ServiceFailure::CreditLimitReached),
-        5031 => Ok(ServiceFailure::RatingFailed),
-        _ => Err(WireFault::Invalid(Avp::ResultCode)),
-    }
+    session_grant(alloc, quantity, validity as u32, parent, value)
 }
 
 fn success(alloc: Global, parent: &Value) -> Result<ServiceOutcome, WireFault>
-    ensures { Gives (λ o. o) result (success_when (view parent.now) (get (name_of Avp.GrantedUnit) (view parent.now))) }
+    ensures { Gives (λ o. o) result (success_when (view parent.now) (get granted_unit (view parent.now))) }
 {
-    match parent.get(Avp::GrantedUnit.name()) {
+    match parent.get(GRANTED_UNIT) {
         None => Ok(ServiceOutcome::Settled),
         Some(value) => granted_in(alloc, parent, value),
     }
@@ -123,7 +128,8 @@ fn service_told(alloc: Global, code: u64, parent: &Value) -> Result<ServiceOutco
     if code == 2001 {
         success(alloc, parent)
     } else {
-        Ok(ServiceOutcome::Failed(service_failure(code)?))
+        let failure = ServiceFailure::numbered(code).ok_or(WireFault::NotRequest)?;
+        Ok(ServiceOutcome::Failed(failure))
     }
 }
 
@@ -132,7 +138,7 @@ fn service_answer(alloc: Global, value: &Value) -> Result<ServiceAnswer, WireFau
     ensures { Gives (λ s. s) result (service_answer_at (view value.now)) }
 {
     let group = number(value, Avp::RatingGroup, 0, 4_294_967_295)? as u32;
-    let code = number(value, Avp::ResultCode, 0, 9999)?;
+    let code = members::number(value, RESULT_CODE, 0, 9999)?;
     let outcome = service_told(alloc, code, value)?;
     Ok(ServiceAnswer { group, outcome })
 }

@@ -1,13 +1,18 @@
-ghost use Rattle.std.specs.Prelude.{◌≡◌, ◌++◌, ◌≤◌, IfSome, OnOk, codes, option_map, true};
+ghost use Rattle.std.specs.Prelude.{◌≡◌, ◌++◌, ◌≤◌, IfSome, OnOk, option_map, true};
 ghost use Rattle.std.specs.List.{AllByRecursion};
 ghost use Rattle.identifiers.specs.Texts.{is_redirect_address};
 ghost use Rattle.commands.specs.Quantities.{is_quantity};
 ghost use Rattle.json_fields.specs.Spelling.{whole};
 ghost use Rattle.json_fields.specs.Tokens.{Adds, tokens_of, member_tokens, perhaps_tokens, item_tokens};
 ghost use Rattle.wire_answers.specs.Spelled.{granted_data, server_data, final_data, final_of, granted_of, validity_of, service_code, service_data, service_items};
+ghost use Rattle.commands.specs.Names.{final_unit, granted_unit};
 ghost use Rattle.wire_answers.specs.Rules.{IsFinal, IsGrant, IsServiceOutcome, IsServiceAnswer};
 
-use commands::{FinalUnit, Granted, Quantity, ServiceAnswer, ServiceOutcome};
+use commands::names::{
+    FINAL_UNIT, FINAL_UNIT_ACTION, GRANTED_UNIT, REDIRECT_ADDRESS_TYPE, REDIRECT_SERVER,
+    REDIRECT_SERVER_ADDRESS, RESULT_CODE, TARIFF_TIME_CHANGE, VALIDITY_TIME,
+};
+use commands::{Avp, FinalUnit, Granted, Quantity, ServiceAnswer, ServiceOutcome};
 use identifiers::RedirectAddress;
 use json::Writer;
 use json_fields::{put_number, put_perhaps, put_text, unit_name};
@@ -36,7 +41,7 @@ fn put_granted(
 {
     out.begin_object()?;
     put_number(out, unit_name(quantity.kind()), quantity.units())?;
-    put_perhaps(out, "Tariff-Time-Change", seconds_of(switch))?;
+    put_perhaps(out, TARIFF_TIME_CHANGE, seconds_of(switch))?;
     out.end_object()?;
     Ok(())
 }
@@ -47,8 +52,8 @@ fn put_server(out: &mut Writer, address: &RedirectAddress) -> Result<(), AllocEr
     ensures rule { OnOk result (is_redirect_address address.now ≡ true) }
 {
     out.begin_object()?;
-    put_number(out, "Redirect-Address-Type", 2)?;
-    put_text(out, "Redirect-Server-Address", address.as_str())?;
+    put_number(out, REDIRECT_ADDRESS_TYPE, 2)?;
+    put_text(out, REDIRECT_SERVER_ADDRESS, address.as_str())?;
     out.end_object()?;
     Ok(())
 }
@@ -58,8 +63,8 @@ fn put_redirect(out: &mut Writer, address: &RedirectAddress) -> Result<(), Alloc
     ensures rule { OnOk result (is_redirect_address address.now ≡ true) }
 {
     out.begin_object()?;
-    put_number(out, "Final-Unit-Action", 1)?;
-    out.key("Redirect-Server")?;
+    put_number(out, FINAL_UNIT_ACTION, 1)?;
+    out.key(REDIRECT_SERVER)?;
     put_server(out, address)?;
     out.end_object()?;
     Ok(())
@@ -69,7 +74,7 @@ fn put_terminate(out: &mut Writer) -> Result<(), AllocError>
     ensures { Adds result out.old out.new (tokens_of (final_data FinalUnit.Terminate)) }
 {
     out.begin_object()?;
-    put_number(out, "Final-Unit-Action", 0)?;
+    put_number(out, FINAL_UNIT_ACTION, 0)?;
     out.end_object()?;
     Ok(())
 }
@@ -86,13 +91,13 @@ fn put_final(out: &mut Writer, last: &FinalUnit) -> Result<(), AllocError>
 
 fn put_last(out: &mut Writer, last: &Option<FinalUnit>) -> Result<(), AllocError>
     ensures adds { Adds result out.old out.new
-        (perhaps_tokens (codes "Final-Unit-Indication") (option_map final_data last.now)) }
+        (perhaps_tokens final_unit (option_map final_data last.now)) }
     ensures rule { OnOk result (IfSome last.now IsFinal) }
 {
     match last {
         None => Ok(()),
         Some(last) => {
-            out.key("Final-Unit-Indication")?;
+            out.key(FINAL_UNIT)?;
             put_final(out, last)?;
             Ok(())
         }
@@ -101,19 +106,19 @@ fn put_last(out: &mut Writer, last: &Option<FinalUnit>) -> Result<(), AllocError
 
 fn put_units(out: &mut Writer, quantity: Quantity, switch: Option<Moment>) -> Result<(), AllocError>
     ensures adds { Adds result out.old out.new
-        (member_tokens (codes "Granted-Service-Unit") (granted_data quantity switch)) }
+        (member_tokens granted_unit (granted_data quantity switch)) }
     ensures rule { OnOk result (is_quantity quantity.kind quantity.units ≡ true) }
     ensures switch { OnOk result (IfSome switch (λ m. m ≤ 4102488000)) }
 {
-    out.key("Granted-Service-Unit")?;
+    out.key(GRANTED_UNIT)?;
     put_granted(out, quantity, switch)?;
     Ok(())
 }
 
 fn put_session_grant(out: &mut Writer, granted: &Granted) -> Result<(), AllocError>
     ensures adds { Adds result out.old out.new
-        (perhaps_tokens (codes "Final-Unit-Indication") (option_map final_data granted.now.last)
-        ++ member_tokens (codes "Granted-Service-Unit") (granted_data granted.now.quantity granted.now.switch)) }
+        (perhaps_tokens final_unit (option_map final_data granted.now.last)
+        ++ member_tokens granted_unit (granted_data granted.now.quantity granted.now.switch)) }
     ensures rule { OnOk result (IsGrant granted.now) }
 {
     put_last(out, &granted.last)?;
@@ -124,8 +129,8 @@ fn put_session_grant(out: &mut Writer, granted: &Granted) -> Result<(), AllocErr
 /// The members that stand before the rating group.
 fn put_grant(out: &mut Writer, outcome: &ServiceOutcome) -> Result<(), AllocError>
     ensures adds { Adds result out.old out.new
-        (perhaps_tokens (codes "Final-Unit-Indication") (final_of outcome.now)
-        ++ perhaps_tokens (codes "Granted-Service-Unit") (granted_of outcome.now)) }
+        (perhaps_tokens final_unit (final_of outcome.now)
+        ++ perhaps_tokens granted_unit (granted_of outcome.now)) }
     ensures rule { OnOk result (IsServiceOutcome outcome.now) }
 {
     match outcome {
@@ -161,9 +166,9 @@ fn put_service(out: &mut Writer, service: &ServiceAnswer) -> Result<(), AllocErr
 {
     out.begin_object()?;
     put_grant(out, &service.outcome)?;
-    put_number(out, "Rating-Group", service.group as u64)?;
-    put_number(out, "Result-Code", service_code(&service.outcome))?;
-    put_perhaps(out, "Validity-Time", validity_of(&service.outcome))?;
+    put_number(out, Avp::RatingGroup.name(), service.group as u64)?;
+    put_number(out, RESULT_CODE, service_code(&service.outcome))?;
+    put_perhaps(out, VALIDITY_TIME, validity_of(&service.outcome))?;
     out.end_object()?;
     Ok(())
 }

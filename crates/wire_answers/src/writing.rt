@@ -1,7 +1,7 @@
-ghost use Rattle.std.specs.Prelude.{◌≡◌, ◌≤◌, IfOk, OnOk, Ok, string_bytes, codes};
+ghost use Rattle.std.specs.Prelude.{◌≡◌, ◌≤◌, IfOk, OnOk, Ok, string_bytes};
 ghost use Rattle.std.specs.List.{AllByRecursion};
 ghost use Rattle.serde_json.specs.Data.{string, object, array, member, no_members};
-ghost use Rattle.commands.specs.Names.{name_of};
+ghost use Rattle.commands.specs.Names.{name_of, cost_information, failed_avp, refusal};
 ghost use Rattle.json_fields.specs.Spelling.{whole, money_data};
 ghost use Rattle.json_fields.specs.Tokens.{Adds, tokens_of, member_tokens};
 ghost use Rattle.wire_answers.specs.Spelled.{service_items, outcome_code, code_member, request_answer_data, answer_data, answer_text, fault_data, fault_text};
@@ -10,6 +10,9 @@ ghost use Rattle.wire_answers.specs.ReadingAnswers.{answer_of};
 ghost use Rattle.wire_answers.specs.Written.{failure_tokens, outcome_tokens};
 
 use crate::services::put_services;
+use commands::names::{
+    ACCOUNTS, BUCKET, CHECK_BALANCE_RESULT, COST_INFORMATION, FAILED_AVP, REFUSAL, RESULT_CODE,
+};
 use commands::{Answer, Avp, Cost, Failure, Outcome, RequestAnswer, ServiceAnswers};
 use json::Writer;
 use json_fields::{WireFault, put_money, put_number, put_text};
@@ -17,10 +20,10 @@ use std::alloc::{AllocError, Global};
 
 fn put_array(out: &mut Writer, services: &ServiceAnswers) -> Result<(), AllocError>
     ensures adds { Adds result out.old out.new
-        (member_tokens (codes "Multiple-Services-Credit-Control") (array (service_items services.now))) }
+        (member_tokens (name_of Avp.Services) (array (service_items services.now))) }
     ensures rule { OnOk result (AllByRecursion IsServiceAnswer services.now) }
 {
-    out.key("Multiple-Services-Credit-Control")?;
+    out.key(Avp::Services.name())?;
     out.begin_array()?;
     put_services(out, services.as_slice())?;
     out.end_array()?;
@@ -31,17 +34,17 @@ fn put_failure(out: &mut Writer, failure: Failure) -> Result<(), AllocError>
     ensures { Adds result out.old out.new (failure_tokens failure) }
 {
     match failure {
-        Failure::InvalidAvpValue(avp) => put_text(out, "Failed-AVP", avp.name()),
+        Failure::InvalidAvpValue(avp) => put_text(out, FAILED_AVP, avp.name()),
         _ => Ok(()),
     }
 }
 
 fn put_cost(out: &mut Writer, cost: Cost) -> Result<(), AllocError>
     ensures adds { Adds result out.old out.new
-        (member_tokens (codes "Cost-Information") (money_data cost.micros cost.currency)) }
+        (member_tokens cost_information (money_data cost.micros cost.currency)) }
     ensures rule { OnOk result (IsCost cost) }
 {
-    out.key("Cost-Information")?;
+    out.key(COST_INFORMATION)?;
     put_money(out, cost.micros, cost.currency)?;
     Ok(())
 }
@@ -53,7 +56,7 @@ fn put_outcome(out: &mut Writer, outcome: &Outcome) -> Result<(), AllocError>
     match outcome {
         Outcome::Services(services) => put_array(out, services),
         Outcome::Refunded => Ok(()),
-        Outcome::Checked(balance) => put_number(out, "Check-Balance-Result", balance.number()),
+        Outcome::Checked(balance) => put_number(out, CHECK_BALANCE_RESULT, balance.number()),
         Outcome::Priced(cost) => put_cost(out, *cost),
         Outcome::Failed(failure) => put_failure(out, *failure),
     }
@@ -74,11 +77,11 @@ fn put_request_answer(out: &mut Writer, answer: &RequestAnswer) -> Result<(), Al
     ensures rule { OnOk result (IsRequestAnswer answer.now) }
 {
     out.begin_object()?;
-    put_number(out, "CC-Request-Number", answer.number as u64)?;
-    put_number(out, "CC-Request-Type", answer.kind.number())?;
+    put_number(out, Avp::RequestNumber.name(), answer.number as u64)?;
+    put_number(out, Avp::RequestType.name(), answer.kind.number())?;
     put_outcome(out, &answer.outcome)?;
-    put_number(out, "Result-Code", outcome_code(&answer.outcome))?;
-    put_text(out, "Session-Id", answer.session.as_str())?;
+    put_number(out, RESULT_CODE, outcome_code(&answer.outcome))?;
+    put_text(out, Avp::SessionId.name(), answer.session.as_str())?;
     out.end_object()?;
     Ok(())
 }
@@ -88,7 +91,7 @@ fn put_counted(out: &mut Writer, name: &str, n: u64) -> Result<(), AllocError>
 {
     out.begin_object()?;
     put_number(out, name, n)?;
-    put_number(out, "Result-Code", 2001)?;
+    put_number(out, RESULT_CODE, 2001)?;
     out.end_object()?;
     Ok(())
 }
@@ -97,16 +100,16 @@ fn put_code(out: &mut Writer, code: u64) -> Result<(), AllocError>
     ensures { Adds result out.old out.new (tokens_of (object (code_member code))) }
 {
     out.begin_object()?;
-    put_number(out, "Result-Code", code)?;
+    put_number(out, RESULT_CODE, code)?;
     out.end_object()?;
     Ok(())
 }
 
 fn put_refusal(out: &mut Writer, name: &str) -> Result<(), AllocError>
-    ensures { Adds result out.old out.new (tokens_of (object (member (codes "Refusal") (string name.now) no_members))) }
+    ensures { Adds result out.old out.new (tokens_of (object (member refusal (string name.now) no_members))) }
 {
     out.begin_object()?;
-    put_text(out, "Refusal", name)?;
+    put_text(out, REFUSAL, name)?;
     out.end_object()?;
     Ok(())
 }
@@ -119,8 +122,8 @@ fn put_answer(out: &mut Writer, answer: &Answer) -> Result<(), AllocError>
     match answer {
         Answer::Request(answer) => put_request_answer(out, answer),
         Answer::Done => put_code(out, 2001),
-        Answer::Bucket(number) => put_counted(out, "Bucket", *number as u64),
-        Answer::Swept(accounts) => put_counted(out, "Accounts", *accounts),
+        Answer::Bucket(number) => put_counted(out, BUCKET, *number as u64),
+        Answer::Swept(accounts) => put_counted(out, ACCOUNTS, *accounts),
         Answer::Refused(refusal) => put_refusal(out, refusal.name()),
     }
 }
@@ -148,11 +151,11 @@ pub fn write_answer(alloc: Global, answer: &Answer) -> Result<String, AllocError
 
 fn put_failed(out: &mut Writer, avp: Avp, code: u64) -> Result<(), AllocError>
     ensures { Adds result out.old out.new
-        (tokens_of (object (member (codes "Failed-AVP") (string (name_of avp)) (code_member code)))) }
+        (tokens_of (object (member failed_avp (string (name_of avp)) (code_member code)))) }
 {
     out.begin_object()?;
-    put_text(out, "Failed-AVP", avp.name())?;
-    put_number(out, "Result-Code", code)?;
+    put_text(out, FAILED_AVP, avp.name())?;
+    put_number(out, RESULT_CODE, code)?;
     out.end_object()?;
     Ok(())
 }

@@ -1,7 +1,7 @@
 -- The lists that are read keep the rules of their types.
-use Rattle.std.proofs.Common.{◌≡◌, ℕ, ◌≤◌, List, [], ◌∷◌, ◌++◌, length, Bool, true, false, ◌&&◌, Option, Some, None, is_some, is_none, Result, Ok, Err, refl, sym, ap, ◌∙◌, subst, arith, le-leb, nat_le}
+use Rattle.std.proofs.Common.{◌≡◌, ℕ, ◌≤◌, List, [], ◌∷◌, ◌++◌, length, Bool, true, false, ◌&&◌, Option, Some, None, is_some, is_none, Ok, refl, ◌∙◌, subst, arith, le-leb, nat_le}
 use Rattle.std.specs.Prelude.{not, ◌==◌, option_and_then}
-use Rattle.std.specs.List.{list_all, list_any}
+use Rattle.std.specs.List.{list_all}
 use Rattle.std.specs.Option.{option_eq}
 use Rattle.std.proofs.lemmas.Bool.{and_parts}
 use Rattle.serde_json.specs.Data.{Data, Items}
@@ -11,18 +11,17 @@ use Rattle.units.specs.declared.blocks.UnitKind.{UnitKind}
 use Rattle.commands.specs.declared.avp.Avp.{Avp}
 use Rattle.commands.specs.declared.avp.Avp.TheVariants as avp
 use Rattle.commands.specs.declared.service.Requested.{Requested}
-use Rattle.commands.specs.declared.used.UsedPart.{UsedPart}
+use Rattle.units.specs.declared.blocks.UsedPart.{UsedPart}
 use Rattle.commands.specs.Names.{name_of}
 use Rattle.commands.specs.Used.{Used}
 use Rattle.commands.specs.declared.service.Service.{Service}
-use Rattle.commands.specs.Differ.{all_differ}
 use Rattle.commands.specs.Quantities.{most_units}
 use Rattle.commands.specs.Reports.{same_usage, tags_differ, is_report}
 use Rattle.commands.specs.Services.{groups_differ, are_initial, are_update, are_termination}
 use Rattle.commands.proofs.Differing.{all-append, differ-append}
 use Rattle.json_fields.specs.declared.fault.WireFault.{WireFault}
 use Rattle.json_fields.specs.declared.fault.WireFault.TheVariants.{Invalid}
-use Rattle.json_fields.specs.Gives.{◌>>=◌, or_fault, where_holds, read_each}
+use Rattle.json_fields.specs.Gives.{or_fault, where_holds}
 use Rattle.json_fields.specs.Fields.{array_of, number_at, whole_in}
 use Rattle.json_fields.specs.Unit.{name_of_unit, units_at, lacks_others}
 use Rattle.json_fields.proofs.Kept.{same_value, bind_ok, where_ok, kept, counted}
@@ -41,38 +40,38 @@ not_taken false h = refl
 -- ---- reports
 
 -- units that are read are within their range
-units_ok : (told : Avp) (low : ℕ) (kind : UnitKind) (d : Data) (n : ℕ) → units_at told low kind d ≡ Ok n → nat_le n (most_units kind) ≡ true
+units_ok : (fault : WireFault) (low : ℕ) (kind : UnitKind) (d : Data) (n : ℕ) → units_at fault low kind d ≡ Ok n → nat_le n (most_units kind) ≡ true
 unfolding units_at
-units_ok told low kind d n h =
-    let a = bind_ok (or_fault (Invalid told) (get (name_of_unit kind) d)) _ n h in
-    let c = bind_ok (whole_in told low (most_units kind) a.0) _ n a.2 in
-    let b = bind_ok (or_fault (Invalid told) (option_and_then as_u64 (as_number a.0))) _ c.0 c.1 in
-    let within = where_ok (nat_le low b.0 && nat_le b.0 (most_units kind)) (Invalid told) b.0 c.0 b.2 in
-    let alone = where_ok (lacks_others kind d) (Invalid told) c.0 n c.2 in
+units_ok fault low kind d n h =
+    let a = bind_ok (or_fault fault (get (name_of_unit kind) d)) _ n h in
+    let c = bind_ok (whole_in fault low (most_units kind) a.0) _ n a.2 in
+    let b = bind_ok (or_fault fault (option_and_then as_u64 (as_number a.0))) _ c.0 c.1 in
+    let within = where_ok (nat_le low b.0 && nat_le b.0 (most_units kind)) fault b.0 c.0 b.2 in
+    let alone = where_ok (lacks_others kind d) fault c.0 n c.2 in
     subst (λ k. nat_le k (most_units kind) ≡ true) (within.1 ∙ alone.1) (and_parts (nat_le low b.0) (nat_le b.0 (most_units kind)) within.0).1
 
 -- a part that is read has units within their range, and a tag of its own
-part_ok : (kind : UnitKind) (done : List UsedPart) (d : Data) (p : UsedPart) → part_at kind done d ≡ Ok p → (nat_le p.units (most_units kind) ≡ true) × (tag_is_taken done p.tag ≡ false)
+part_ok : (kind : UnitKind) (done : List UsedPart) (d : Data) (p : UsedPart) → part_at kind done d ≡ Ok p → (nat_le p.units.0 (most_units kind) ≡ true) × (tag_is_taken done p.change ≡ false)
 unfolding part_at
 part_ok kind done d p h =
     let a = bind_ok (or_fault (Invalid avp.UsedUnit) (as_object d)) _ p h in
-    let n = bind_ok (units_at avp.UsedUnit 0 kind d) _ p a.2 in
+    let n = bind_ok (units_at (Invalid avp.UsedUnit) 0 kind d) _ p a.2 in
     let tag = bind_ok (usage_at d) _ p n.2 in
     let free = bind_ok (where_holds (not (tag_is_taken done tag.0)) (Invalid avp.UsedUnit) tag.0) _ p tag.2 in
     let test = where_ok (not (tag_is_taken done tag.0)) (Invalid avp.UsedUnit) tag.0 free.0 free.1 in
     let is = same_value _ p free.2 in (
-      subst (λ (q : UsedPart). nat_le q.units (most_units kind) ≡ true) is (units_ok avp.UsedUnit 0 kind d n.0 n.1),
-      subst (λ (q : UsedPart). tag_is_taken done q.tag ≡ false) is (not_taken (tag_is_taken done tag.0) test.0),
+      subst (λ (q : UsedPart). nat_le q.units.0 (most_units kind) ≡ true) is (units_ok (Invalid avp.UsedUnit) 0 kind d n.0 n.1),
+      subst (λ (q : UsedPart). tag_is_taken done q.change ≡ false) is (not_taken (tag_is_taken done tag.0) test.0),
     )
 
 abbrev IsPartsSoFar : UnitKind → List UsedPart → Type 0
-IsPartsSoFar kind ps = (list_all (λ (p : UsedPart). nat_le p.units (most_units kind)) ps ≡ true) × (tags_differ ps ≡ true)
+IsPartsSoFar kind ps = (list_all (λ (p : UsedPart). nat_le p.units.0 (most_units kind)) ps ≡ true) × (tags_differ ps ≡ true)
 
 one_more_part : (kind : UnitKind) (done : List UsedPart) (d : Data) (p : UsedPart) → IsPartsSoFar kind done → part_at kind done d ≡ Ok p → IsPartsSoFar kind (done ++ p ∷ [])
 one_more_part kind done d p h is =
     let ok = part_ok kind done d p is in (
-      all-append (λ (q : UsedPart). nat_le q.units (most_units kind)) done p h.0 ok.0,
-      differ-append (λ (q r : UsedPart). option_eq same_usage q.tag r.tag) done p h.1 ok.1,
+      all-append (λ (q : UsedPart). nat_le q.units.0 (most_units kind)) done p h.0 ok.0,
+      differ-append (λ (q r : UsedPart). option_eq same_usage q.change r.change) done p h.1 ok.1,
     )
 
 -- 1 to 4 parts that are read are a report

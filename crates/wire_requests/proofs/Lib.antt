@@ -4,3 +4,5 @@ pub mod Micros
 pub mod Fronts
 pub mod RequestsAgain
 pub mod Said
+pub mod SaidServices
+pub mod Told

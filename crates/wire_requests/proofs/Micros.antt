@@ -1,5 +1,5 @@
 -- The money of a refund, from its digits and its exponent.
-use Rattle.std.proofs.Common.{◌≡◌, ℕ, zero, ◌*◌, ◌^◌, ◌<◌, ◌≤◌, ◌&&◌, ℤ, pos, negsuc, Bool, true, false, Result, Ok, Err, refl, sym, ap, ◌∙◌, subst, arith, rules, le-leb, leb-true, nat_le, lit<, w64}
+use Rattle.std.proofs.Common.{◌≡◌, ℕ, ◌<◌, ◌≤◌, ◌&&◌, ℤ, pos, Bool, true, false, Ok, refl, subst, arith, rules, le-leb, leb-true, nat_le, lit<, w64}
 use Rattle.std.specs.Prelude.{unsigned_abs, ◌+ℤ◌, FitsSigned, option_and_then}
 use Rattle.std.proofs.Math.Nat.{one-le-pow, le-mul_of_pos_right}
 use Rattle.std.proofs.lemmas.Bool.{and_parts, lt-leb}
@@ -8,9 +8,8 @@ use Rattle.serde_json.specs.Find.{as_number, as_u64}
 use Rattle.commands.specs.declared.avp.Avp.{Avp}
 use Rattle.commands.specs.declared.avp.Avp.TheVariants as avp
 use Rattle.commands.specs.Refunds.{is_refund}
-use Rattle.json_fields.specs.declared.fault.WireFault.{WireFault}
 use Rattle.json_fields.specs.declared.fault.WireFault.TheVariants.{Invalid}
-use Rattle.json_fields.specs.Gives.{◌>>=◌, or_fault, where_holds}
+use Rattle.json_fields.specs.Gives.{or_fault}
 use Rattle.json_fields.specs.Fields.{member_at, number_at}
 use Rattle.json_fields.proofs.Kept.{bind_ok, where_ok}
 use Rattle.wire_requests.specs.Refunds.{exponent_at, micros_told, money_at}

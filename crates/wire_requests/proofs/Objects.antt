@@ -1,5 +1,5 @@
 -- The items of an array, seen as values.
-use Rattle.std.proofs.Common.{◌≡◌, List, [], ◌∷◌, Bool, true, false, is_some, ◌&&◌, length, Option, Some, None, refl, sym, ap, ◌∙◌}
+use Rattle.std.proofs.Common.{◌≡◌, List, [], ◌∷◌, is_some, ◌&&◌, length, None, refl, ap}
 use Rattle.std.specs.List.{list_all}
 use Rattle.serde_json.specs.declared.value.Value.{Value}
 use Rattle.serde_json.specs.View.{view, items_view}

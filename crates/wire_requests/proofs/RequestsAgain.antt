@@ -1,23 +1,22 @@
 -- What is written for a request is read as that request.
-use Rattle.std.proofs.Common.{◌≡◌, ℕ, suc, ◌≤◌, ◌<◌, ◌^◌, ◌*◌, lit<, lit≤, pos, negsuc, List, [], ◌∷◌, ◌++◌, length, codes, Bool, true, false, ◌&&◌, ◌||◌, Option, Some, None, option_map, IfSome, is_some, is_none, Result, Ok, Err, refl, sym, ap, ◌∙◌, subst, arith, append_assoc, append-nil, leb-true, le-leb, nat_le}
-use Rattle.std.specs.Prelude.{not, ◌==◌, codes}
+use Rattle.std.proofs.Common.{◌≡◌, ℕ, suc, ◌≤◌, ◌<◌, lit≤, negsuc, List, [], ◌∷◌, ◌++◌, length, Bool, true, false, ◌&&◌, Option, Some, None, option_map, IfSome, is_some, is_none, Ok, refl, sym, ap, ◌∙◌, arith, append_assoc, append-nil, leb-true, le-leb, nat_le}
+use Rattle.std.specs.Prelude.{not, ◌==◌}
 use Rattle.std.specs.List.{AllByRecursion, list_all, list_any}
 use Rattle.std.specs.Option.{option_eq}
 use Rattle.std.specs.Str.{IsUtf8}
-use Rattle.std.specs.Ordering.{nat_cmp, is_eq}
+use Rattle.std.specs.Ordering.{nat_cmp}
 use Rattle.std.specs.declared.cmp.Ordering.TheVariants.{Greater}
 use Rattle.std.specs.Cmp.Lexicographic.{slice_cmp}
 use Rattle.std.proofs.lemmas.Bool.{and_parts}
 use Rattle.json.proofs.Printed.Utf8.{are_ascii, IsUtf8-are_ascii}
-use Rattle.serde_json.specs.Data.{Data, string, array, object, Items, no_items, item, Members, no_members, member}
+use Rattle.serde_json.specs.Data.{Data, string, array, object, no_items, item, Members, no_members, member}
 use Rattle.serde_json.specs.Events.{items_len}
-use Rattle.serde_json.specs.Find.{get, get_member, as_object}
-use Rattle.serde_json.specs.Written.{compact_text}
+use Rattle.serde_json.specs.Find.{get}
 use Rattle.units.specs.declared.blocks.UnitKind.{UnitKind}
 use Rattle.units.specs.declared.blocks.UnitKind.TheVariants as unit
 use Rattle.identifiers.specs.Texts.{is_visible, is_digit, is_session_id, is_account_number}
 use Rattle.commands.specs.declared.avp.Avp.TheVariants as avp
-use Rattle.commands.specs.Names.{name_of}
+use Rattle.commands.specs.Names.{name_of, tariff_change_usage}
 use Rattle.commands.specs.Quantities.{most_units, is_quantity}
 use Rattle.commands.specs.Measured.{Measured}
 use Rattle.commands.specs.Used.{Used}
@@ -25,9 +24,9 @@ use Rattle.commands.specs.Differ.{all_differ}
 use Rattle.commands.specs.Reports.{usage_number, same_usage, tags_differ, is_report}
 use Rattle.commands.specs.Services.{groups_differ, are_initial, are_update, are_termination}
 use Rattle.commands.specs.Refunds.{Refunded, is_refund}
-use Rattle.commands.specs.declared.used.TariffChangeUsage.{TariffChangeUsage}
-use Rattle.commands.specs.declared.used.TariffChangeUsage.TheVariants as usage
-use Rattle.commands.specs.declared.used.UsedPart.{UsedPart}
+use Rattle.units.specs.declared.blocks.TariffChangeUsage.{TariffChangeUsage}
+use Rattle.units.specs.declared.blocks.TariffChangeUsage.TheVariants as usage
+use Rattle.units.specs.declared.blocks.UsedPart.{UsedPart}
 use Rattle.commands.specs.declared.service.Requested.{Requested}
 use Rattle.commands.specs.declared.service.Requested.TheVariants.{Slice, Units}
 use Rattle.commands.specs.declared.service.Service.{Service}
@@ -40,12 +39,11 @@ use Rattle.commands.specs.declared.request.Ask.{Ask}
 use Rattle.commands.specs.declared.request.Ask.TheVariants as ask
 use Rattle.commands.specs.declared.request.Request.{Request}
 use Rattle.commands.specs.Codes.{kind_number, kind_of_ask, action_number}
-use Rattle.json_fields.specs.declared.fault.WireFault.{WireFault}
-use Rattle.json_fields.specs.declared.fault.WireFault.TheVariants.{Invalid}
 use Rattle.first_fault.specs.Steps.{each}
-use Rattle.json_fields.specs.Gives.{◌>>=◌, or_fault, where_holds, read_each}
-use Rattle.json_fields.specs.Fields.{member_at, number_at, text_at, object_at, array_of, document_at}
-use Rattle.json_fields.specs.Unit.{name_of_unit, lacks_others, kind_told, units_at}
+use Rattle.json_fields.specs.declared.fault.WireFault.TheVariants.{Invalid}
+use Rattle.json_fields.specs.Gives.{read_each}
+use Rattle.json_fields.specs.Fields.{member_at, array_of}
+use Rattle.json_fields.specs.Unit.{name_of_unit, kind_told, units_at}
 use Rattle.json_fields.specs.Spelling.{whole, perhaps, value_data, money_data}
 use Rattle.json_fields.proofs.Compact.{Above}
 use Rattle.json_fields.proofs.Found.{get_skip, get_here, number_found, text_found, object_found, units_found}
@@ -53,10 +51,10 @@ use Rattle.json_fields.proofs.Fit.{Fit, FitItems, FitMembers, fit_whole, fit_tex
 use Rattle.json_fields.proofs.Order.{members_in_order}
 use Rattle.wire_requests.specs.declared.phase.Phase.{Phase}
 use Rattle.wire_requests.specs.declared.phase.Phase.TheVariants.{Initial, Update, Termination}
-use Rattle.wire_requests.specs.Reports.{wanted_in, requested_of, required_at, usage_of, usage_at, tag_is_taken, part_at, kind_of_first, parts_from, used_of}
-use Rattle.wire_requests.specs.Phases.{asked_when, requested_at, reported_when, used_at, group_is_taken, service_at, are_objects, services_from, fewest, services_of, services_at}
+use Rattle.wire_requests.specs.Reports.{wanted_in, requested_of, required_at, usage_at, tag_is_taken, part_at, kind_of_first, used_of}
+use Rattle.wire_requests.specs.Phases.{requested_at, used_at, group_is_taken, service_at, are_objects, fewest, services_of, services_at}
 use Rattle.wire_requests.specs.Refunds.{exponent_at, micros_told, money_at, refund_at}
-use Rattle.wire_requests.specs.Reading.{session_at, kind_of, kind_at, account_at, only_item, event_of, event_at, action_at, ask_at, request_in, request_of}
+use Rattle.wire_requests.specs.Reading.{session_at, kind_at, account_at, event_of, event_at, action_at, ask_at, request_in, request_of}
 use Rattle.wire_requests.specs.Spelled.{requested_data, tag_of, part_data, part_items, used_data, service_data, service_items, event_data, refund_data, ask_members, subscription_data, request_data, request_text}
 use Rattle.wire_requests.specs.Rules.{IsRequested, IsUsed, IsService, IsEvent, IsAsk, IsRequest, RequestsReadAgain, RequestsAreInOrder}
 use Rattle.wire_requests.proofs.Kept.{fits}
@@ -89,9 +87,9 @@ quantity_high q h = leb-true q.units (most_units q.kind) (and_parts (nat_le 1 q.
 
 wanted_again : (k : UnitKind) (n : ℕ) → 1 ≤ n → n ≤ most_units k → requested_of (requested_data (Units (record { kind = k; units = n }))) ≡ Ok (Units (record { kind = k; units = n }))
 unfolding requested_of wanted_in kind_told
-wanted_again unit.Time n l h = rw (units_found avp.RequestedUnit 1 unit.Time _ n refl refl l h) refl
-wanted_again unit.TotalOctets n l h = rw (units_found avp.RequestedUnit 1 unit.TotalOctets _ n refl refl l h) refl
-wanted_again unit.ServiceSpecific n l h = rw (units_found avp.RequestedUnit 1 unit.ServiceSpecific _ n refl refl l h) refl
+wanted_again unit.Time n l h = rw (units_found (Invalid avp.RequestedUnit) 1 unit.Time _ n refl refl l h) refl
+wanted_again unit.TotalOctets n l h = rw (units_found (Invalid avp.RequestedUnit) 1 unit.TotalOctets _ n refl refl l h) refl
+wanted_again unit.ServiceSpecific n l h = rw (units_found (Invalid avp.RequestedUnit) 1 unit.ServiceSpecific _ n refl refl l h) refl
 
 requested_again : (r : Requested) → IsRequested r → requested_of (requested_data r) ≡ Ok r
 unfolding requested_of wanted_in kind_told
@@ -101,17 +99,17 @@ requested_again (Units q) is = wanted_again q.kind q.units (quantity_low q is) (
 -- ---- what was used
 
 abbrev part_members : UnitKind → ℕ → Option ℕ → Data
-part_members kind n tag = object (member (name_of_unit kind) (whole n) (perhaps (codes "Tariff-Change-Usage") (option_map whole tag) no_members))
+part_members kind n tag = object (member (name_of_unit kind) (whole n) (perhaps tariff_change_usage (option_map whole tag) no_members))
 
-part_units : (kind : UnitKind) (n : ℕ) (tag : Option ℕ) → n ≤ most_units kind → units_at avp.UsedUnit 0 kind (part_members kind n tag) ≡ Ok n
-part_units unit.Time n None h = units_found avp.UsedUnit 0 unit.Time _ n refl refl (omega arith) h
-part_units unit.Time n (Some t) h = units_found avp.UsedUnit 0 unit.Time _ n refl refl (omega arith) h
-part_units unit.TotalOctets n None h = units_found avp.UsedUnit 0 unit.TotalOctets _ n refl refl (omega arith) h
-part_units unit.TotalOctets n (Some t) h = units_found avp.UsedUnit 0 unit.TotalOctets _ n refl refl (omega arith) h
-part_units unit.ServiceSpecific n None h = units_found avp.UsedUnit 0 unit.ServiceSpecific _ n refl refl (omega arith) h
-part_units unit.ServiceSpecific n (Some t) h = units_found avp.UsedUnit 0 unit.ServiceSpecific _ n refl refl (omega arith) h
+part_units : (kind : UnitKind) (n : ℕ) (tag : Option ℕ) → n ≤ most_units kind → units_at (Invalid avp.UsedUnit) 0 kind (part_members kind n tag) ≡ Ok n
+part_units unit.Time n None h = units_found (Invalid avp.UsedUnit) 0 unit.Time _ n refl refl (omega arith) h
+part_units unit.Time n (Some t) h = units_found (Invalid avp.UsedUnit) 0 unit.Time _ n refl refl (omega arith) h
+part_units unit.TotalOctets n None h = units_found (Invalid avp.UsedUnit) 0 unit.TotalOctets _ n refl refl (omega arith) h
+part_units unit.TotalOctets n (Some t) h = units_found (Invalid avp.UsedUnit) 0 unit.TotalOctets _ n refl refl (omega arith) h
+part_units unit.ServiceSpecific n None h = units_found (Invalid avp.UsedUnit) 0 unit.ServiceSpecific _ n refl refl (omega arith) h
+part_units unit.ServiceSpecific n (Some t) h = units_found (Invalid avp.UsedUnit) 0 unit.ServiceSpecific _ n refl refl (omega arith) h
 
-tag_found : (kind : UnitKind) (n : ℕ) (tag : Option ℕ) → get (codes "Tariff-Change-Usage") (part_members kind n tag) ≡ option_map whole tag
+tag_found : (kind : UnitKind) (n : ℕ) (tag : Option ℕ) → get tariff_change_usage (part_members kind n tag) ≡ option_map whole tag
 tag_found unit.Time n None = refl
 tag_found unit.Time n (Some t) = refl
 tag_found unit.TotalOctets n None = refl
@@ -120,24 +118,24 @@ tag_found unit.ServiceSpecific n None = refl
 tag_found unit.ServiceSpecific n (Some t) = refl
 
 usage_again : (kind : UnitKind) (n : ℕ) (tag : Option TariffChangeUsage) → usage_at (part_members kind n (option_map usage_number tag)) ≡ Ok tag
-unfolding usage_at usage_of
+unfolding usage_at
 usage_again kind n None = rw (tag_found kind n None) refl
 usage_again kind n (Some usage.UnitBeforeTariffChange) = rw (tag_found kind n (Some 0)) refl
 usage_again kind n (Some usage.UnitAfterTariffChange) = rw (tag_found kind n (Some 1)) refl
 usage_again kind n (Some usage.UnitIndeterminate) = rw (tag_found kind n (Some 2)) refl
 
-part_again : (kind : UnitKind) (done : List UsedPart) (p : UsedPart) → p.units ≤ most_units kind → tag_is_taken done p.tag ≡ false → part_at kind done (part_data kind p) ≡ Ok p
+part_again : (kind : UnitKind) (done : List UsedPart) (p : UsedPart) → p.units.0 ≤ most_units kind → tag_is_taken done p.change ≡ false → part_at kind done (part_data kind p) ≡ Ok p
 unfolding part_at part_data
-part_again kind done p h free = rw (part_units kind p.units (tag_of p) h, usage_again kind p.units p.tag, free) refl
+part_again kind done p h free = rw (part_units kind p.units.0 (tag_of p) h, usage_again kind p.units.0 p.change, free) refl
 
-parts_again : (kind : UnitKind) (done ps : List UsedPart) → list_all (λ (p : UsedPart). nat_le p.units (most_units kind)) ps ≡ true → tags_differ (done ++ ps) ≡ true → read_each (part_at kind) done (part_items kind ps) ≡ Ok (done ++ ps)
+parts_again : (kind : UnitKind) (done ps : List UsedPart) → list_all (λ (p : UsedPart). nat_le p.units.0 (most_units kind)) ps ≡ true → tags_differ (done ++ ps) ≡ true → read_each (part_at kind) done (part_items kind ps) ≡ Ok (done ++ ps)
 unfolding each
 parts_again kind done [] h d = ap Ok (sym (append-nil done))
 parts_again kind done (p ∷ ps) h d =
-    let q = and_parts (nat_le p.units (most_units kind)) (list_all (λ (x : UsedPart). nat_le x.units (most_units kind)) ps) h in
-    let free = differ_front (λ (x y : UsedPart). option_eq same_usage x.tag y.tag) done ps p d in
+    let q = and_parts (nat_le p.units.0 (most_units kind)) (list_all (λ (x : UsedPart). nat_le x.units.0 (most_units kind)) ps) h in
+    let free = differ_front (λ (x y : UsedPart). option_eq same_usage x.change y.change) done ps p d in
     let next : tags_differ ((done ++ p ∷ []) ++ ps) ≡ true = rw (append_assoc done (p ∷ []) ps) d in
-    rw (part_again kind done p (leb-true p.units (most_units kind) q.0) free) (parts_again kind (done ++ p ∷ []) ps q.1 next ∙ ap Ok (append_assoc done (p ∷ []) ps))
+    rw (part_again kind done p (leb-true p.units.0 (most_units kind) q.0) free) (parts_again kind (done ++ p ∷ []) ps q.1 next ∙ ap Ok (append_assoc done (p ∷ []) ps))
 
 part_items-len : (kind : UnitKind) (ps : List UsedPart) → items_len (part_items kind ps) ≡ length ps
 part_items-len kind [] = refl
@@ -155,12 +153,12 @@ told_again unit.ServiceSpecific n (Some t) = refl
 first_again : (kind : UnitKind) (ps : List UsedPart) → 1 ≤ length ps → kind_of_first (part_items kind ps) ≡ kind
 unfolding kind_of_first part_data
 first_again kind [] h = absurd (omega arith)
-first_again kind (p ∷ ps) h = rw (told_again kind p.units (tag_of p)) refl
+first_again kind (p ∷ ps) h = rw (told_again kind p.units.0 (tag_of p)) refl
 
 record ReportParts (kind : UnitKind) (ps : List UsedPart) : Type 0 where
   low : nat_le 1 (length ps) ≡ true
   high : nat_le (length ps) 4 ≡ true
-  most : list_all (λ (p : UsedPart). nat_le p.units (most_units kind)) ps ≡ true
+  most : list_all (λ (p : UsedPart). nat_le p.units.0 (most_units kind)) ps ≡ true
   differ : tags_differ ps ≡ true
 
 and_four : (a b c d : Bool) → (a && b && c && d) ≡ true → (a ≡ true) × (b ≡ true) × (c ≡ true) × (d ≡ true)
@@ -172,7 +170,7 @@ and_four false b c d h = no h
 
 report_parts : (kind : UnitKind) (ps : List UsedPart) → is_report kind ps ≡ true → ReportParts kind ps
 report_parts kind ps h =
-    let p = and_four (nat_le 1 (length ps)) (nat_le (length ps) 4) (list_all (λ (x : UsedPart). nat_le x.units (most_units kind)) ps) (tags_differ ps) h in
+    let p = and_four (nat_le 1 (length ps)) (nat_le (length ps) 4) (list_all (λ (x : UsedPart). nat_le x.units.0 (most_units kind)) ps) (tags_differ ps) h in
     record { low = p.0; high = p.1; most = p.2; differ = p.3 }
 
 used_again : (u : Used) → IsUsed u → used_of (used_data u) ≡ Ok u
@@ -186,15 +184,15 @@ used_again u is =
 
 abbrev service_members : ℕ → Option Data → Option Data → Data
 service_members g requested used = object
-    (member (codes "Rating-Group") (whole g)
-    (perhaps (codes "Requested-Service-Unit") requested
-    (perhaps (codes "Used-Service-Unit") used no_members)))
+    (member (name_of avp.RatingGroup) (whole g)
+    (perhaps (name_of avp.RequestedUnit) requested
+    (perhaps (name_of avp.UsedUnit) used no_members)))
 
 requested_found : (g : ℕ) (requested used : Option Data) → get (name_of avp.RequestedUnit) (service_members g requested used) ≡ requested
-requested_found g requested used = get_here (codes "Requested-Service-Unit") requested _ refl (get_skip (codes "Requested-Service-Unit") (codes "Used-Service-Unit") used no_members refl)
+requested_found g requested used = get_here (name_of avp.RequestedUnit) requested _ refl (get_skip (name_of avp.RequestedUnit) (name_of avp.UsedUnit) used no_members refl)
 
 used_found : (g : ℕ) (requested used : Option Data) → get (name_of avp.UsedUnit) (service_members g requested used) ≡ used
-used_found g requested used = get_skip (codes "Used-Service-Unit") (codes "Requested-Service-Unit") requested _ refl ∙ get_here (codes "Used-Service-Unit") used no_members refl refl
+used_found g requested used = get_skip (name_of avp.UsedUnit) (name_of avp.RequestedUnit) requested _ refl ∙ get_here (name_of avp.UsedUnit) used no_members refl refl
 
 required_again : (g : ℕ) (r : Requested) (used : Option Data) → IsRequested r → required_at (service_members g (Some (requested_data r)) used) ≡ Ok r
 unfolding required_at member_at
@@ -279,11 +277,11 @@ termination_again ss h is =
 
 abbrev ask_data : Ask → ℕ → List ℕ → List ℕ → Data
 ask_data a number session account = object
-    (member (codes "CC-Request-Number") (whole number)
-    (member (codes "CC-Request-Type") (whole (kind_number (kind_of_ask a)))
+    (member (name_of avp.RequestNumber) (whole number)
+    (member (name_of avp.RequestType) (whole (kind_number (kind_of_ask a)))
     (ask_members a
-    (member (codes "Session-Id") (string session)
-    (member (codes "Subscription-Id") (subscription_data account) no_members)))))
+    (member (name_of avp.SessionId) (string session)
+    (member (name_of avp.SubscriptionId) (subscription_data account) no_members)))))
 
 event_again : (e : Event) → IsEvent e → event_of e.action (array (item (event_data e) no_items)) ≡ Ok e
 unfolding event_of array_of service_data
@@ -364,7 +362,7 @@ subscription_found (ask.Event e) n session account = refl
 subscription_found (ask.Refund r) n session account = refl
 
 pub kind_again : (k : RequestKind) (d : Data) → get (name_of avp.RequestType) d ≡ Some (whole (kind_number k)) → kind_at d ≡ Ok k
-unfolding kind_at kind_of
+unfolding kind_at
 kind_again kind.Initial d e = rw (number_found avp.RequestType 1 4 d 1 e (omega arith) (omega arith)) refl
 kind_again kind.Update d e = rw (number_found avp.RequestType 1 4 d 2 e (omega arith) (omega arith)) refl
 kind_again kind.Termination d e = rw (number_found avp.RequestType 1 4 d 3 e (omega arith) (omega arith)) refl
@@ -399,7 +397,7 @@ unit_ascii unit.Time = refl
 unit_ascii unit.TotalOctets = refl
 unit_ascii unit.ServiceSpecific = refl
 
-unit_above : (k : UnitKind) → slice_cmp nat_cmp (codes "Tariff-Change-Usage") (name_of_unit k) ≡ Greater
+unit_above : (k : UnitKind) → slice_cmp nat_cmp tariff_change_usage (name_of_unit k) ≡ Greater
 unit_above unit.Time = refl
 unit_above unit.TotalOctets = refl
 unit_above unit.ServiceSpecific = refl
@@ -425,20 +423,20 @@ tag_fit (Some usage.UnitBeforeTariffChange) = fit_whole 0 0 (lit≤ tt)
 tag_fit (Some usage.UnitAfterTariffChange) = fit_whole 0 1 (lit≤ tt)
 tag_fit (Some usage.UnitIndeterminate) = fit_whole 0 2 (lit≤ tt)
 
-part_fit : (kind : UnitKind) (p : UsedPart) → p.units ≤ most_units kind → Fit 1 (part_data kind p)
+part_fit : (kind : UnitKind) (p : UsedPart) → p.units.0 ≤ most_units kind → Fit 1 (part_data kind p)
 unfolding part_data
 part_fit kind p h =
     let tag = option_map whole (tag_of p) in
-    let small : p.units ≤ 18446744073709551615 = omega (arith, h, most_small kind) in
-    fit_object 0 _ (fit_member 0 (name_of_unit kind) (whole p.units) (perhaps (codes "Tariff-Change-Usage") tag no_members) (unit_ascii kind) (fit_whole 0 p.units small)
-    (above_perhaps (name_of_unit kind) (codes "Tariff-Change-Usage") tag no_members (unit_above kind) tt)
-    (fit_perhaps 0 (codes "Tariff-Change-Usage") tag no_members refl (tag_fit p.tag) tt (fit_none 0)))
+    let small : p.units.0 ≤ 18446744073709551615 = omega (arith, h, most_small kind) in
+    fit_object 0 _ (fit_member 0 (name_of_unit kind) (whole p.units.0) (perhaps tariff_change_usage tag no_members) (unit_ascii kind) (fit_whole 0 p.units.0 small)
+    (above_perhaps (name_of_unit kind) tariff_change_usage tag no_members (unit_above kind) tt)
+    (fit_perhaps 0 tariff_change_usage tag no_members refl (tag_fit p.change) tt (fit_none 0)))
 
-parts_fit : (kind : UnitKind) (ps : List UsedPart) → list_all (λ (p : UsedPart). nat_le p.units (most_units kind)) ps ≡ true → FitItems 1 (part_items kind ps)
+parts_fit : (kind : UnitKind) (ps : List UsedPart) → list_all (λ (p : UsedPart). nat_le p.units.0 (most_units kind)) ps ≡ true → FitItems 1 (part_items kind ps)
 parts_fit kind [] h = fit_no_items 1
 parts_fit kind (p ∷ ps) h =
-    let q = and_parts (nat_le p.units (most_units kind)) (list_all (λ (x : UsedPart). nat_le x.units (most_units kind)) ps) h in
-    fit_item 1 (part_data kind p) (part_items kind ps) (part_fit kind p (leb-true p.units (most_units kind) q.0)) (parts_fit kind ps q.1)
+    let q = and_parts (nat_le p.units.0 (most_units kind)) (list_all (λ (x : UsedPart). nat_le x.units.0 (most_units kind)) ps) h in
+    fit_item 1 (part_data kind p) (part_items kind ps) (part_fit kind p (leb-true p.units.0 (most_units kind) q.0)) (parts_fit kind ps q.1)
 
 used_fit : (o : Option Used) → IfSome o IsUsed → IfSome (option_map used_data o) (Fit 3)
 used_fit None is = tt
@@ -446,11 +444,11 @@ used_fit (Some u) is = fit_deeper 2 3 (used_data u) (lit≤ tt) (fit_array 1 (pa
 
 members_fit : (g : ℕ) (requested used : Option Data) → g ≤ 4294967295 → IfSome requested (Fit 3) → IfSome used (Fit 3) → Fit 4 (service_members g requested used)
 members_fit g requested used h r u =
-    let reported : FitMembers 3 (perhaps (codes "Used-Service-Unit") used no_members) = fit_perhaps 3 _ used no_members refl u tt (fit_none 3) in
-    let asked : FitMembers 3 (perhaps (codes "Requested-Service-Unit") requested (perhaps (codes "Used-Service-Unit") used no_members)) =
-    fit_perhaps 3 _ requested _ refl r (above_perhaps _ (codes "Used-Service-Unit") used no_members refl tt) reported in
+    let reported : FitMembers 3 (perhaps (name_of avp.UsedUnit) used no_members) = fit_perhaps 3 _ used no_members refl u tt (fit_none 3) in
+    let asked : FitMembers 3 (perhaps (name_of avp.RequestedUnit) requested (perhaps (name_of avp.UsedUnit) used no_members)) =
+    fit_perhaps 3 _ requested _ refl r (above_perhaps _ (name_of avp.UsedUnit) used no_members refl tt) reported in
     fit_object 3 _ (fit_member 3 _ (whole g) _ refl (fit_whole 3 g (omega arith))
-    (above_perhaps _ (codes "Requested-Service-Unit") requested _ refl (above_perhaps _ (codes "Used-Service-Unit") used no_members refl tt)) asked)
+    (above_perhaps _ (name_of avp.RequestedUnit) requested _ refl (above_perhaps _ (name_of avp.UsedUnit) used no_members refl tt)) asked)
 
 service_fit : (s : Service) → IsService s → Fit 4 (service_data s)
 unfolding service_data
@@ -473,7 +471,7 @@ refund_fit r is =
 
 -- the members from the Session-Id on
 abbrev end_members : List ℕ → List ℕ → Members
-end_members session account = member (codes "Session-Id") (string session) (member (codes "Subscription-Id") (subscription_data account) no_members)
+end_members session account = member (name_of avp.SessionId) (string session) (member (name_of avp.SubscriptionId) (subscription_data account) no_members)
 
 subscription_fit : (account : List ℕ) → is_account_number account ≡ true → Fit 5 (subscription_data account)
 unfolding subscription_data
@@ -497,8 +495,8 @@ ask_fit (ask.Event e) session account is end =
 ask_fit (ask.Refund r) session account is end =
     fit_member 5 _ (whole 1) _ refl (fit_whole 5 1 (lit≤ tt)) (refl, (refl, (refl, tt))) (fit_member 5 _ (refund_data r) _ refl (refund_fit r is) (refl, (refl, tt)) end)
 
-ask_above : (k : List ℕ) (a : Ask) (session account : List ℕ) → slice_cmp nat_cmp (codes "Multiple-Services-Credit-Control") k ≡ Greater → slice_cmp nat_cmp (codes "Requested-Action") k ≡ Greater → slice_cmp nat_cmp (codes "Requested-Service-Unit") k ≡ Greater
-    → slice_cmp nat_cmp (codes "Session-Id") k ≡ Greater → slice_cmp nat_cmp (codes "Subscription-Id") k ≡ Greater → Above k (ask_members a (end_members session account))
+ask_above : (k : List ℕ) (a : Ask) (session account : List ℕ) → slice_cmp nat_cmp (name_of avp.Services) k ≡ Greater → slice_cmp nat_cmp (name_of avp.RequestedAction) k ≡ Greater → slice_cmp nat_cmp (name_of avp.RequestedUnit) k ≡ Greater
+    → slice_cmp nat_cmp (name_of avp.SessionId) k ≡ Greater → slice_cmp nat_cmp (name_of avp.SubscriptionId) k ≡ Greater → Above k (ask_members a (end_members session account))
 ask_above k (ask.Initial ss) session account m a u s d = (m, (s, (d, tt)))
 ask_above k (ask.Update ss) session account m a u s d = (m, (s, (d, tt)))
 ask_above k (ask.Termination ss) session account m a u s d = (m, (s, (d, tt)))
@@ -512,15 +510,15 @@ kind_small kind.Termination = lit≤ tt
 kind_small kind.Event = lit≤ tt
 
 abbrev request_members : Request → Members
-request_members r = member (codes "CC-Request-Number") (whole r.number)
-    (member (codes "CC-Request-Type") (whole (kind_number (kind_of_ask r.ask)))
+request_members r = member (name_of avp.RequestNumber) (whole r.number)
+    (member (name_of avp.RequestType) (whole (kind_number (kind_of_ask r.ask)))
     (ask_members r.ask (end_members r.session r.account)))
 
 request_fit : (r : Request) → IsRequest r → FitMembers 5 (request_members r)
 request_fit r is =
     let asked = ask_fit r.ask r.session r.account is.ask (end_fit r.session r.account is.session is.account) in
-    let above_type = ask_above (codes "CC-Request-Type") r.ask r.session r.account refl refl refl refl refl in
-    let above_number = ask_above (codes "CC-Request-Number") r.ask r.session r.account refl refl refl refl refl in
+    let above_type = ask_above (name_of avp.RequestType) r.ask r.session r.account refl refl refl refl refl in
+    let above_number = ask_above (name_of avp.RequestNumber) r.ask r.session r.account refl refl refl refl refl in
     fit_member 5 _ (whole r.number) _ refl (fit_whole 5 r.number (omega (arith, is.number))) (refl, above_number)
     (fit_member 5 _ (whole (kind_number (kind_of_ask r.ask))) _ refl (fit_whole 5 (kind_number (kind_of_ask r.ask)) (kind_small (kind_of_ask r.ask))) above_type asked)
 

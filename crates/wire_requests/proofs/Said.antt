@@ -1,9 +1,9 @@
 -- What is read of a request is said by its members.
-use Rattle.std.proofs.Common.{◌≡◌, ℕ, List, Bool, true, false, Option, Some, None, ◌&&◌, Result, Ok, Err, refl, sym, ap, ◌∙◌, subst, cond, nat_le, nat_eq, leb-true, ◌≤◌, arith}
+use Rattle.std.proofs.Common.{◌≡◌, ℕ, List, Bool, true, false, Option, Some, None, ◌&&◌, Result, Ok, refl, sym, ap, ◌∙◌, subst, nat_le, leb-true, ◌≤◌, arith}
 use Rattle.std.proofs.lemmas.Bool.{and_parts}
 use Rattle.std.specs.Prelude.{option_and_then, ◌==◌, if◌then◌else◌}
 use Rattle.std.specs.Cmp.{unsigned_Decides}
-use Rattle.serde_json.specs.Data.{Data, Items}
+use Rattle.serde_json.specs.Data.{Data}
 use Rattle.serde_json.specs.Find.{get, as_number, as_u64, as_str, as_object}
 use Rattle.identifiers.specs.Texts.{is_session_id, is_account_number}
 use Rattle.commands.specs.declared.avp.Avp.{Avp}
@@ -16,29 +16,30 @@ use Rattle.commands.specs.declared.request.Ask.{Ask}
 use Rattle.commands.specs.declared.request.Ask.TheVariants as ask
 use Rattle.commands.specs.declared.request.Request.{Request}
 use Rattle.commands.specs.Names.{name_of}
-use Rattle.commands.specs.Codes.{kind_number, kind_of_ask}
+use Rattle.commands.specs.Codes.{kind_number, kind_numbered, kind_of_ask, action_numbered}
+use Rattle.commands.proofs.Inverses.{are_tables}
 use Rattle.json_fields.specs.declared.fault.WireFault.{WireFault}
 use Rattle.json_fields.specs.declared.fault.WireFault.TheVariants.{Missing, Invalid}
-use Rattle.json_fields.specs.Gives.{◌>>=◌, or_fault, where_holds}
-use Rattle.json_fields.specs.Fields.{member_at, whole_in, number_at, text_at, object_at}
+use Rattle.json_fields.specs.Gives.{◌>>=◌, or_fault}
+use Rattle.json_fields.specs.Fields.{member_at, number_at, text_at, object_at}
 use Rattle.json_fields.proofs.Kept.{same_value, bind_ok, where_ok}
 use Rattle.wire_requests.specs.declared.phase.Phase.TheVariants.{Initial, Update, Termination}
 use Rattle.wire_requests.specs.Refunds.{refund_at}
 use Rattle.wire_requests.specs.Phases.{services_at}
-use Rattle.wire_requests.specs.Reading.{session_at, kind_of, kind_at, account_at, event_of, event_at, action_at, ask_at, request_in}
-use Rattle.wire_requests.specs.Said.{SaysText, SaysNumber, SaysAccount, SaysHead, ReadsWhatIsSaid}
+use Rattle.wire_requests.specs.Reading.{session_at, kind_at, account_at, event_of, event_at, action_at, ask_at, request_in}
+use Rattle.wire_requests.specs.Said.{SaysText, SaysNumber, SaysAccount, SaysHead}
 
-or_found : {A : Type 0} (e : WireFault) (o : Option A) (v : A) → or_fault e o ≡ Ok v → o ≡ Some v
+pub or_found : {A : Type 0} (e : WireFault) (o : Option A) (v : A) → or_fault e o ≡ Ok v → o ≡ Some v
 or_found e None v h = absurd (cc)
 or_found e (Some x) v h = ap Some (same_value x v h)
 
-text_said : (a : Avp) (d : Data) (s : List ℕ) → text_at a d ≡ Ok s → SaysText a s d
+pub text_said : (a : Avp) (d : Data) (s : List ℕ) → text_at a d ≡ Ok s → SaysText a s d
 unfolding text_at member_at
 text_said a d s h =
     let v = bind_ok (member_at a d) _ s h in
     record { value = v.0; stands = or_found (Missing a) (get (name_of a) d) v.0 v.1; is = or_found (Invalid a) (as_str v.0) s v.2 }
 
-number_said : (a : Avp) (low high : ℕ) (d : Data) (n : ℕ) → number_at a low high d ≡ Ok n → SaysNumber a n d
+pub number_said : (a : Avp) (low high : ℕ) (d : Data) (n : ℕ) → number_at a low high d ≡ Ok n → SaysNumber a n d
 unfolding number_at member_at
 number_said a low high d n h =
     let v = bind_ok (member_at a d) _ n h in
@@ -79,20 +80,15 @@ account_said d n h =
 
 -- ---- the type
 
-either : {A : Type 0} (P : Type 0) (b : Bool) (x y : Result A WireFault) (a : A) → (b ≡ true → x ≡ Ok a → P) → (y ≡ Ok a → P) → (if b then x else y) ≡ Ok a → P
+pub either : {A : Type 0} (P : Type 0) (b : Bool) (x y : Result A WireFault) (a : A) → (b ≡ true → x ≡ Ok a → P) → (y ≡ Ok a → P) → (if b then x else y) ≡ Ok a → P
 either P true x y a f g h = f refl h
 either P false x y a f g h = g h
 
-equal : (n m : ℕ) → (n == m) ≡ true → m ≡ n
+pub equal : (n m : ℕ) → (n == m) ≡ true → m ≡ n
 equal n m h = sym ((unsigned_Decides n m).0 h)
 
-kind_said : (n : ℕ) (k : RequestKind) → kind_of n ≡ Ok k → n ≡ kind_number k
-unfolding kind_of
-kind_said n k h =
-    either (n ≡ kind_number k) (n == 1) _ _ k (λ t e. sym (equal n 1 t) ∙ ap kind_number (same_value kind.Initial k e))
-    (λ h2. either (n ≡ kind_number k) (n == 2) _ _ k (λ t e. sym (equal n 2 t) ∙ ap kind_number (same_value kind.Update k e))
-    (λ h3. either (n ≡ kind_number k) (n == 3) _ _ k (λ t e. sym (equal n 3 t) ∙ ap kind_number (same_value kind.Termination k e))
-    (λ h4. either (n ≡ kind_number k) (n == 4) _ _ k (λ t e. sym (equal n 4 t) ∙ ap kind_number (same_value kind.Event k e)) (λ h5. absurd (cc)) h4) h3) h2) h
+kind_said : (n : ℕ) (k : RequestKind) → or_fault (Invalid avp.RequestType) (kind_numbered n) ≡ Ok k → n ≡ kind_number k
+kind_said n k h = sym (are_tables.kinds.back n k (or_found (Invalid avp.RequestType) (kind_numbered n) k h))
 
 event_kind : (action : EventAction) (d : Data) (a : Ask) → event_at action d ≡ Ok a → kind_of_ask a ≡ kind.Event
 unfolding event_at
@@ -109,9 +105,10 @@ refund_kind d a h =
 action_kind : (n : ℕ) (d : Data) (a : Ask) → action_at n d ≡ Ok a → kind_of_ask a ≡ kind.Event
 unfolding action_at
 action_kind n d a h =
-    either (kind_of_ask a ≡ kind.Event) (n == 0) _ _ a (λ t e. event_kind DirectDebiting d a e)
-    (λ h2. either (kind_of_ask a ≡ kind.Event) (n == 1) _ _ a (λ t e. refund_kind d a e)
-    (λ h3. either (kind_of_ask a ≡ kind.Event) (n == 2) _ _ a (λ t e. event_kind CheckBalance d a e) (event_kind PriceEnquiry d a) h3) h2) h
+    either (kind_of_ask a ≡ kind.Event) (n == 1) _ _ a (λ t e. refund_kind d a e)
+    (λ e.
+    let action = bind_ok (or_fault (Invalid avp.RequestedAction) (action_numbered n)) _ a e in
+    event_kind action.0 d a action.2) h
 
 ask_kind : (k : RequestKind) (d : Data) (a : Ask) → ask_at k d ≡ Ok a → kind_of_ask a ≡ k
 unfolding ask_at
@@ -120,7 +117,7 @@ ask_kind kind.Update d a h = let s = bind_ok (services_at Update d) _ a h in sym
 ask_kind kind.Termination d a h = let s = bind_ok (services_at Termination d) _ a h in sym (ap kind_of_ask (same_value (ask.Termination s.0) a s.2))
 ask_kind kind.Event d a h = let n = bind_ok (number_at avp.RequestedAction 0 3 d) _ a h in action_kind n.0 d a n.2
 
-kind_at_said : (d : Data) (k : RequestKind) → kind_at d ≡ Ok k → SaysNumber avp.RequestType (kind_number k) d
+pub kind_at_said : (d : Data) (k : RequestKind) → kind_at d ≡ Ok k → SaysNumber avp.RequestType (kind_number k) d
 unfolding kind_at
 kind_at_said d k h =
     let n = bind_ok (number_at avp.RequestType 1 4 d) _ k h in
@@ -128,7 +125,7 @@ kind_at_said d k h =
 
 -- ---- the request
 
-pub head_said : ReadsWhatIsSaid
+pub head_said : (d : Data) (r : Request) → request_in d ≡ Ok r → SaysHead r d
 unfolding request_in
 head_said d r h =
     let session = bind_ok (session_at d) _ r h in

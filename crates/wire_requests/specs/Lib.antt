@@ -6,3 +6,4 @@ pub mod Spelled
 pub mod Rules
 pub mod Written
 pub mod Said
+pub mod Told

@@ -1,5 +1,5 @@
 -- The services of a session's request, by where it stands in its session.
-use Rattle.std.specs.Prelude.{ℕ, ◌&&◌, ◌==◌, List, [], Bool, true, not, Option, Some, None, is_some, is_none, Result, Ok, Err, nat_le, if◌then◌else◌}
+use Rattle.std.specs.Prelude.{ℕ, ◌&&◌, ◌==◌, List, [], Bool, true, not, Option, Some, None, is_some, is_none, Result, Ok, Err, nat_le}
 use Rattle.std.specs.List.{list_any}
 use Rattle.serde_json.specs.Data.{Data, Items, no_items, item}
 use Rattle.serde_json.specs.Events.{items_len}
@@ -11,7 +11,7 @@ use Rattle.commands.specs.Names.{name_of}
 use Rattle.commands.specs.Used.{Used}
 use Rattle.json_fields.specs.declared.fault.WireFault.{WireFault}
 use Rattle.json_fields.specs.declared.fault.WireFault.TheVariants.{Missing, Invalid}
-use Rattle.json_fields.specs.Gives.{◌>>=◌, or_fault, where_holds, read_each}
+use Rattle.json_fields.specs.Gives.{◌>>=◌, where_holds, read_each}
 use Rattle.json_fields.specs.Fields.{number_at, array_of}
 use Rattle.wire_requests.specs.declared.phase.Phase.{Phase}
 use Rattle.wire_requests.specs.declared.phase.Phase.TheVariants.{Initial, Update, Termination}

@@ -7,12 +7,12 @@ use Rattle.commands.specs.declared.avp.Avp.TheVariants as avp
 use Rattle.commands.specs.declared.request.RequestKind.{RequestKind}
 use Rattle.commands.specs.declared.request.RequestKind.TheVariants as kind
 use Rattle.commands.specs.declared.request.EventAction.{EventAction}
-use Rattle.commands.specs.declared.request.EventAction.TheVariants.{DirectDebiting, CheckBalance, PriceEnquiry}
 use Rattle.commands.specs.declared.request.Event.{Event}
 use Rattle.commands.specs.declared.request.Ask.{Ask}
 use Rattle.commands.specs.declared.request.Ask.TheVariants as ask
 use Rattle.commands.specs.declared.request.Request.{Request}
 use Rattle.commands.specs.Names.{name_of}
+use Rattle.commands.specs.Codes.{kind_numbered, action_numbered}
 use Rattle.json_fields.specs.declared.fault.WireFault.{WireFault}
 use Rattle.json_fields.specs.declared.fault.WireFault.TheVariants.{Invalid}
 use Rattle.json_fields.specs.Gives.{◌>>=◌, or_fault, where_holds}
@@ -29,13 +29,10 @@ session_at d = do
   where_holds (is_session_id s) (Invalid avp.SessionId) s
 
 -- CC-Request-Type (RFC 8506 section 8.3)
-unfoldable pub kind_of : ℕ → Result RequestKind WireFault
-kind_of n = if n == 1 then Ok kind.Initial else (if n == 2 then Ok kind.Update else (if n == 3 then Ok kind.Termination else (if n == 4 then Ok kind.Event else Err (Invalid avp.RequestType))))
-
 unfoldable pub kind_at : Data → Result RequestKind WireFault
 kind_at d = do
   n ← number_at avp.RequestType 1 4 d
-  kind_of n
+  or_fault (Invalid avp.RequestType) (kind_numbered n)
 
 -- the account is an E.164 number (Subscription-Id, RFC 8506 section 8.46)
 unfoldable pub account_at : Data → Result (List ℕ) WireFault
@@ -69,9 +66,9 @@ event_at action d = do
   e ← event_of action v
   Ok (ask.Event e)
 
--- Requested-Action (RFC 8506 section 8.41)
+-- Requested-Action (RFC 8506 section 8.41); 1 is REFUND_ACCOUNT
 unfoldable pub action_at : ℕ → Data → Result Ask WireFault
-action_at n d = if n == 0 then event_at DirectDebiting d else (if n == 1 then (refund_at d >>= λ r. Ok (ask.Refund r)) else (if n == 2 then event_at CheckBalance d else event_at PriceEnquiry d))
+action_at n d = if n == 1 then (refund_at d >>= λ r. Ok (ask.Refund r)) else (or_fault (Invalid avp.RequestedAction) (action_numbered n) >>= λ action. event_at action d)
 
 unfoldable pub ask_at : RequestKind → Data → Result Ask WireFault
 ask_at kind.Initial d = services_at Initial d >>= λ ss. Ok (ask.Initial ss)

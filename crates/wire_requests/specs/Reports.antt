@@ -1,22 +1,20 @@
 -- How a request asks for units and reports those used. Each fault inside is one of the whole member.
-use Rattle.std.specs.Prelude.{ℕ, ◌&&◌, ◌==◌, List, [], Bool, not, Option, Some, None, is_none, Result, Ok, Err, nat_le, if◌then◌else◌, option_and_then, unwrap_or}
+use Rattle.std.specs.Prelude.{ℕ, ◌&&◌, List, [], Bool, not, Option, Some, None, is_none, Result, Ok, Err, nat_le, option_and_then, unwrap_or}
 use Rattle.std.specs.List.{list_any}
 use Rattle.std.specs.Option.{option_eq}
-use Rattle.std.specs.Prelude.{codes}
 use Rattle.serde_json.specs.Data.{Data, Items, no_items, item}
 use Rattle.serde_json.specs.Events.{items_len}
 use Rattle.serde_json.specs.Find.{get, as_number, as_u64, as_object}
 use Rattle.units.specs.declared.blocks.UnitKind.{UnitKind}
-use Rattle.units.specs.declared.blocks.UnitKind.TheVariants.{Time, TotalOctets, ServiceSpecific}
+use Rattle.units.specs.declared.blocks.UnitKind.TheVariants.{ServiceSpecific}
 use Rattle.commands.specs.declared.avp.Avp.TheVariants as avp
 use Rattle.commands.specs.declared.service.Requested.{Requested}
 use Rattle.commands.specs.declared.service.Requested.TheVariants.{Slice, Units}
-use Rattle.commands.specs.declared.used.TariffChangeUsage.{TariffChangeUsage}
-use Rattle.commands.specs.declared.used.TariffChangeUsage.TheVariants.{UnitBeforeTariffChange, UnitAfterTariffChange, UnitIndeterminate}
-use Rattle.commands.specs.declared.used.UsedPart.{UsedPart}
-use Rattle.commands.specs.Names.{name_of}
+use Rattle.units.specs.declared.blocks.TariffChangeUsage.{TariffChangeUsage}
+use Rattle.units.specs.declared.blocks.UsedPart.{UsedPart}
+use Rattle.commands.specs.Names.{name_of, tariff_change_usage}
 use Rattle.commands.specs.Used.{Used}
-use Rattle.commands.specs.Reports.{same_usage}
+use Rattle.commands.specs.Reports.{same_usage, usage_numbered}
 use Rattle.json_fields.specs.declared.fault.WireFault.{WireFault}
 use Rattle.json_fields.specs.declared.fault.WireFault.TheVariants.{Invalid}
 use Rattle.json_fields.specs.Gives.{◌>>=◌, or_fault, where_holds, read_each}
@@ -27,7 +25,7 @@ use Rattle.json_fields.specs.Unit.{kind_told, units_at}
 unfoldable pub wanted_in : Option UnitKind → Data → Result Requested WireFault
 wanted_in None d = Ok Slice
 wanted_in (Some kind) d = do
-  n ← units_at avp.RequestedUnit 1 kind d
+  n ← units_at (Invalid avp.RequestedUnit) 1 kind d
   Ok (Units (record { kind = kind; units = n }))
 
 -- what a Requested-Service-Unit wants: units of one kind, and no money
@@ -46,31 +44,28 @@ required_at d = do
 -- ---- what was used
 
 -- Tariff-Change-Usage (RFC 8506 section 8.27)
-unfoldable pub usage_of : ℕ → Result TariffChangeUsage WireFault
-usage_of n = if n == 0 then Ok UnitBeforeTariffChange else (if n == 1 then Ok UnitAfterTariffChange else (if n == 2 then Ok UnitIndeterminate else Err (Invalid avp.UsedUnit)))
-
 abbrev pub usage_when : Option Data → Result (Option TariffChangeUsage) WireFault
 usage_when None = Ok None
 usage_when (Some v) = do
   n ← or_fault (Invalid avp.UsedUnit) (option_and_then as_u64 (as_number v))
-  u ← usage_of n
+  u ← or_fault (Invalid avp.UsedUnit) (usage_numbered n)
   Ok (Some u)
 
 unfoldable pub usage_at : Data → Result (Option TariffChangeUsage) WireFault
-usage_at d = usage_when (get (codes "Tariff-Change-Usage") d)
+usage_at d = usage_when (get tariff_change_usage d)
 
 -- a part with this tag, or one without where this is none, is there
 abbrev pub tag_is_taken : List UsedPart → Option TariffChangeUsage → Bool
-tag_is_taken parts tag = list_any (λ (p : UsedPart). option_eq same_usage p.tag tag) parts
+tag_is_taken parts tag = list_any (λ (p : UsedPart). option_eq same_usage p.change tag) parts
 
 -- a part in units of this kind, behind those before it
 unfoldable pub part_at : UnitKind → List UsedPart → Data → Result UsedPart WireFault
 part_at kind done d = do
   m ← or_fault (Invalid avp.UsedUnit) (as_object d)
-  n ← units_at avp.UsedUnit 0 kind d
+  n ← units_at (Invalid avp.UsedUnit) 0 kind d
   tag ← usage_at d
   free ← where_holds (not (tag_is_taken done tag)) (Invalid avp.UsedUnit) tag
-  Ok (record { units = n; tag = tag })
+  Ok (record { units = record { 0 = n }; change = tag })
 
 -- all parts have the unit member of the first
 unfoldable pub kind_of_first : Items → UnitKind

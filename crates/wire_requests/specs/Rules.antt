@@ -1,5 +1,5 @@
 -- What the types of a request's parts keep: each value of the program keeps it.
-use Rattle.std.specs.Prelude.{◌≡◌, ℕ, ◌≤◌, List, true, Result, Ok, IfSome, ⊤}
+use Rattle.std.specs.Prelude.{◌≡◌, ℕ, ◌≤◌, List, true, Ok, IfSome, ⊤}
 use Rattle.std.specs.List.{AllByRecursion}
 use Rattle.identifiers.specs.Texts.{is_session_id, is_account_number}
 use Rattle.commands.specs.Quantities.{is_quantity}

@@ -1,14 +1,15 @@
 -- How a request is spelled where it is kept: compact JSON, with the members in the byte order of their names.
-use Rattle.std.specs.Prelude.{ℕ, List, [], ◌∷◌, codes, Option, Some, None, option_map}
+use Rattle.std.specs.Prelude.{ℕ, List, [], ◌∷◌, Option, Some, None, option_map}
 use Rattle.serde_json.specs.Data.{Data, string, array, object, Items, no_items, item, Members, no_members, member}
 use Rattle.serde_json.specs.Written.{compact_text}
 use Rattle.units.specs.declared.blocks.UnitKind.{UnitKind}
+use Rattle.commands.specs.declared.avp.Avp.TheVariants as avp
+use Rattle.commands.specs.Names.{name_of, tariff_change_usage}
 use Rattle.commands.specs.Used.{Used}
 use Rattle.commands.specs.Reports.{usage_number}
 use Rattle.commands.specs.Refunds.{Refunded}
 use Rattle.commands.specs.Codes.{kind_number, kind_of_ask, action_number}
-use Rattle.commands.specs.declared.used.TariffChangeUsage.{TariffChangeUsage}
-use Rattle.commands.specs.declared.used.UsedPart.{UsedPart}
+use Rattle.units.specs.declared.blocks.UsedPart.{UsedPart}
 use Rattle.commands.specs.declared.service.Requested.{Requested}
 use Rattle.commands.specs.declared.service.Requested.TheVariants.{Slice, Units}
 use Rattle.commands.specs.declared.service.Service.{Service}
@@ -25,12 +26,12 @@ requested_data Slice = object no_members
 requested_data (Units quantity) = object (member (name_of_unit quantity.kind) (whole quantity.units) no_members)
 
 abbrev pub tag_of : UsedPart → Option ℕ
-tag_of p = option_map usage_number p.tag
+tag_of p = option_map usage_number p.change
 
 unfoldable pub part_data : UnitKind → UsedPart → Data
 part_data kind p = object
-    (member (name_of_unit kind) (whole p.units)
-    (perhaps (codes "Tariff-Change-Usage") (option_map whole (tag_of p)) no_members))
+    (member (name_of_unit kind) (whole p.units.0)
+    (perhaps tariff_change_usage (option_map whole (tag_of p)) no_members))
 
 abbrev pub part_items : UnitKind → List UsedPart → Items
 part_items kind [] = no_items
@@ -41,9 +42,9 @@ used_data u = array (part_items u.kind u.parts)
 
 unfoldable pub service_data : Service → Data
 service_data s = object
-    (member (codes "Rating-Group") (whole s.group)
-    (perhaps (codes "Requested-Service-Unit") (option_map requested_data s.requested)
-    (perhaps (codes "Used-Service-Unit") (option_map used_data s.used) no_members)))
+    (member (name_of avp.RatingGroup) (whole s.group)
+    (perhaps (name_of avp.RequestedUnit) (option_map requested_data s.requested)
+    (perhaps (name_of avp.UsedUnit) (option_map used_data s.used) no_members)))
 
 abbrev pub service_items : List Service → Items
 service_items [] = no_items
@@ -54,32 +55,32 @@ abbrev pub event_data : Event → Data
 event_data e = service_data (record { group = e.group; requested = Some e.requested; used = None })
 
 unfoldable pub refund_data : Refunded → Data
-refund_data r = object (member (codes "CC-Money") (money_data r.micros r.currency) no_members)
+refund_data r = object (member (name_of avp.Money) (money_data r.micros r.currency) no_members)
 
 -- what stands between the type and the Session-Id; the Requested-Action 1 is REFUND_ACCOUNT
 abbrev pub ask_members : Ask → Members → Members
-ask_members (ask.Initial ss) ms = member (codes "Multiple-Services-Credit-Control") (array (service_items ss)) ms
-ask_members (ask.Update ss) ms = member (codes "Multiple-Services-Credit-Control") (array (service_items ss)) ms
-ask_members (ask.Termination ss) ms = member (codes "Multiple-Services-Credit-Control") (array (service_items ss)) ms
+ask_members (ask.Initial ss) ms = member (name_of avp.Services) (array (service_items ss)) ms
+ask_members (ask.Update ss) ms = member (name_of avp.Services) (array (service_items ss)) ms
+ask_members (ask.Termination ss) ms = member (name_of avp.Services) (array (service_items ss)) ms
 ask_members (ask.Event e) ms =
-    member (codes "Multiple-Services-Credit-Control") (array (item (event_data e) no_items))
-    (member (codes "Requested-Action") (whole (action_number e.action)) ms)
+    member (name_of avp.Services) (array (item (event_data e) no_items))
+    (member (name_of avp.RequestedAction) (whole (action_number e.action)) ms)
 ask_members (ask.Refund r) ms =
-    member (codes "Requested-Action") (whole 1)
-    (member (codes "Requested-Service-Unit") (refund_data r) ms)
+    member (name_of avp.RequestedAction) (whole 1)
+    (member (name_of avp.RequestedUnit) (refund_data r) ms)
 
 unfoldable pub subscription_data : List ℕ → Data
 subscription_data account = object
-    (member (codes "Subscription-Id-Data") (string account)
-    (member (codes "Subscription-Id-Type") (whole 0) no_members))
+    (member (name_of avp.SubscriptionIdData) (string account)
+    (member (name_of avp.SubscriptionIdType) (whole 0) no_members))
 
 unfoldable pub request_data : Request → Data
 request_data r = object
-    (member (codes "CC-Request-Number") (whole r.number)
-    (member (codes "CC-Request-Type") (whole (kind_number (kind_of_ask r.ask)))
+    (member (name_of avp.RequestNumber) (whole r.number)
+    (member (name_of avp.RequestType) (whole (kind_number (kind_of_ask r.ask)))
     (ask_members r.ask
-    (member (codes "Session-Id") (string r.session)
-    (member (codes "Subscription-Id") (subscription_data r.account) no_members)))))
+    (member (name_of avp.SessionId) (string r.session)
+    (member (name_of avp.SubscriptionId) (subscription_data r.account) no_members)))))
 
 -- the text of a request
 unfoldable pub request_text : Request → List ℕ

@@ -1,8 +1,9 @@
 ghost use Rattle.std.specs.Prelude.{◌≡◌, IfOk, IsTrue};
 ghost use Rattle.serde_json.specs.View.{view, items_view};
 ghost use Rattle.json_fields.specs.Gives.{Gives, Says, or_fault};
-ghost use Rattle.wire_requests.specs.Reading.{session_at, kind_of, kind_at, account_at, only_item, event_of, event_at, action_at, ask_at, request_in, request_of};
+ghost use Rattle.wire_requests.specs.Reading.{session_at, kind_at, account_at, only_item, event_of, event_at, action_at, ask_at, request_in, request_of};
 ghost use Rattle.wire_requests.specs.Said.{ReadsWhatIsSaid};
+ghost use Rattle.wire_requests.specs.Told.{FaultsAreTold};
 
 use crate::phase::Phase;
 use crate::refund::refund;
@@ -17,29 +18,16 @@ use json_fields::{WireFault, array, document, member, number, object, text};
 use serde_json::Value;
 use std::alloc::Global;
 
+/// The Requested-Action that is no event's (RFC 8506 section 8.41).
+const REFUND_ACCOUNT: u64 = 1;
+
 /// The Session-Id of a request or an answer.
 #[tactic(auto, unfolding(crate::specs::Reading::session_at))]
 pub fn session_id(alloc: Global, parent: &Value) -> Result<SessionId, WireFault>
     ensures { Gives (λ s. s) result (session_at (view parent.now)) }
 {
     let text = text(parent, Avp::SessionId)?;
-    match SessionId::new(alloc, text)? {
-        Some(session) => Ok(session),
-        None => Err(WireFault::Invalid(Avp::SessionId)),
-    }
-}
-
-#[tactic(auto, unfolding(crate::specs::Reading::kind_of))]
-fn kind_of(number: u64) -> Result<RequestKind, WireFault>
-    ensures { Says (λ k. k) result (kind_of number) }
-{
-    match number {
-        1 => Ok(RequestKind::Initial),
-        2 => Ok(RequestKind::Update),
-        3 => Ok(RequestKind::Termination),
-        4 => Ok(RequestKind::Event),
-        _ => Err(WireFault::Invalid(Avp::RequestType)),
-    }
+    SessionId::new(alloc, text)?.ok_or(WireFault::Invalid(Avp::SessionId))
 }
 
 /// The CC-Request-Type of a request or an answer.
@@ -47,7 +35,8 @@ fn kind_of(number: u64) -> Result<RequestKind, WireFault>
 pub fn request_kind(parent: &Value) -> Result<RequestKind, WireFault>
     ensures { Says (λ k. k) result (kind_at (view parent.now)) }
 {
-    kind_of(number(parent, Avp::RequestType, 1, 4)?)
+    let number = number(parent, Avp::RequestType, 1, 4)?;
+    RequestKind::numbered(number).ok_or(WireFault::Invalid(Avp::RequestType))
 }
 
 /// The account that the Subscription-Id of a request names.
@@ -58,10 +47,7 @@ pub fn account_number(alloc: Global, parent: &Value) -> Result<AccountNumber, Wi
     let subscription = object(parent, Avp::SubscriptionId)?;
     number(subscription, Avp::SubscriptionIdType, 0, 0)?;
     let text = text(subscription, Avp::SubscriptionIdData)?;
-    match AccountNumber::new(alloc, text)? {
-        Some(account) => Ok(account),
-        None => Err(WireFault::Invalid(Avp::SubscriptionIdData)),
-    }
+    AccountNumber::new(alloc, text)?.ok_or(WireFault::Invalid(Avp::SubscriptionIdData))
 }
 
 #[tactic(auto, using(crate::proofs::Objects::not_one))]
@@ -109,12 +95,11 @@ fn event(action: EventAction, parent: &Value) -> Result<Ask, WireFault>
 fn action(number: u64, parent: &Value) -> Result<Ask, WireFault>
     ensures { Says (λ a. a) result (action_at number (view parent.now)) }
 {
-    match number {
-        0 => event(EventAction::DirectDebiting, parent),
-        1 => Ok(Ask::Refund(refund(parent)?)),
-        2 => event(EventAction::CheckBalance, parent),
-        _ => event(EventAction::PriceEnquiry, parent),
+    if number == REFUND_ACCOUNT {
+        return Ok(Ask::Refund(refund(parent)?));
     }
+    let action = EventAction::numbered(number).ok_or(WireFault::Invalid(Avp::RequestedAction))?;
+    event(action, parent)
 }
 
 #[tactic(auto, using(crate::proofs::Kept::initial, crate::proofs::Kept::update, crate::proofs::Kept::termination), unfolding(crate::specs::Reading::ask_at))]
@@ -176,7 +161,13 @@ pub fn read_request(alloc: Global, bytes: &[u8]) -> Result<Request, WireFault>
 }
 
 /// What is read of a request is said by its members, whatever their order: its session, its type, its number and its
-/// account.
+/// account, and each service, the event or the refund that it asks.
 pub fn request_is_said()
     ensures { ReadsWhatIsSaid }
+{}
+
+/// A fault of a request is told of a member: missing only where the object that has to hold it has none of that name,
+/// invalid only where it has one.
+pub fn request_fault_is_told()
+    ensures { FaultsAreTold }
 {}

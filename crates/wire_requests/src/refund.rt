@@ -16,14 +16,11 @@ fn exponent(parent: &Value) -> Result<i32, WireFault>
     let Some(value) = parent.get(Avp::Exponent.name()) else {
         return Ok(0);
     };
-    let Some(exponent) = value.as_i64() else {
+    let exponent = value.as_i64().ok_or(WireFault::Invalid(Avp::Exponent))?;
+    if !(-6..=0).contains(&exponent) {
         return Err(WireFault::Invalid(Avp::Exponent));
-    };
-    if -6 <= exponent && exponent <= 0 {
-        Ok(exponent as i32)
-    } else {
-        Err(WireFault::Invalid(Avp::Exponent))
     }
+    Ok(exponent as i32)
 }
 
 #[tactic(auto, using(crate::proofs::Micros::too_many), unfolding(crate::specs::Refunds::money_at))]

@@ -1,15 +1,17 @@
 ghost use Rattle.std.specs.Prelude.{◌≡◌, ◌≤◌, []};
 ghost use Rattle.serde_json.specs.View.{view, items_view};
-ghost use Rattle.std.specs.Option.{option_eq};
-ghost use Rattle.commands.specs.Reports.{same_usage};
 ghost use Rattle.json_fields.specs.Gives.{Gives, Says};
-ghost use Rattle.wire_requests.specs.Reports.{wanted_in, requested_of, required_at, usage_of, usage_at, tag_is_taken, part_at, kind_of_first, parts_from, used_of};
+ghost use Rattle.wire_requests.specs.Reports.{wanted_in, requested_of, required_at, usage_at, tag_is_taken, part_at, kind_of_first, parts_from, used_of};
 
-use commands::{Avp, Quantity, Requested, TariffChangeUsage, UsedPart, UsedParts};
+use commands::names::TARIFF_CHANGE_USAGE;
+use commands::{Avp, Quantity, Requested, UsedParts, usage_numbered};
 use json_fields::{WireFault, array, member, unit_told, units_in};
 use serde_json::Value;
 use std::alloc::Global;
-use units::UnitKind;
+use units::{TariffChangeUsage, UnitKind, Units, UsedPart};
+
+/// The most parts that a report has.
+const MOST_PARTS: usize = 4;
 
 #[tactic(auto, unfolding(crate::specs::Reports::wanted_in))]
 fn wanted_in(told: Option<UnitKind>, value: &Value) -> Result<Requested, WireFault>
@@ -18,7 +20,7 @@ fn wanted_in(told: Option<UnitKind>, value: &Value) -> Result<Requested, WireFau
     let Some(kind) = told else {
         return Ok(Requested::Slice);
     };
-    let units = units_in(value, Avp::RequestedUnit, 1, kind)?;
+    let units = units_in(value, WireFault::Invalid(Avp::RequestedUnit), 1, kind)?;
     Ok(Requested::Units(Quantity::new(kind, units)))
 }
 
@@ -42,45 +44,21 @@ pub(crate) fn required(parent: &Value) -> Result<Requested, WireFault>
     requested_in(member(parent, Avp::RequestedUnit)?)
 }
 
-#[tactic(auto, unfolding(crate::specs::Reports::usage_of))]
-fn usage_of(number: u64) -> Result<TariffChangeUsage, WireFault>
-    ensures { Says (λ u. u) result (usage_of number) }
-{
-    match number {
-        0 => Ok(TariffChangeUsage::UnitBeforeTariffChange),
-        1 => Ok(TariffChangeUsage::UnitAfterTariffChange),
-        2 => Ok(TariffChangeUsage::UnitIndeterminate),
-        _ => Err(WireFault::Invalid(Avp::UsedUnit)),
-    }
-}
-
 #[tactic(auto, unfolding(crate::specs::Reports::usage_at))]
 fn usage(parent: &Value) -> Result<Option<TariffChangeUsage>, WireFault>
     ensures { Says (λ u. u) result (usage_at (view parent.now)) }
 {
-    let Some(value) = parent.get("Tariff-Change-Usage") else {
+    let Some(value) = parent.get(TARIFF_CHANGE_USAGE) else {
         return Ok(None);
     };
-    let Some(number) = value.as_u64() else {
-        return Err(WireFault::Invalid(Avp::UsedUnit));
-    };
-    Ok(Some(usage_of(number)?))
-}
-
-fn same_tag(a: Option<TariffChangeUsage>, b: Option<TariffChangeUsage>) -> bool
-    ensures { result ≡ option_eq same_usage a b }
-{
-    match (a, b) {
-        (None, None) => true,
-        (Some(a), Some(b)) => a.number() == b.number(),
-        _ => false,
-    }
+    let number = value.as_u64().ok_or(WireFault::Invalid(Avp::UsedUnit))?;
+    Ok(Some(usage_numbered(number).ok_or(WireFault::Invalid(Avp::UsedUnit))?))
 }
 
 fn is_taken(done: &[UsedPart], tag: Option<TariffChangeUsage>) -> bool
     ensures { result ≡ tag_is_taken done.now tag }
 {
-    done.iter().any(|p| same_tag(p.tag, tag))
+    done.iter().any(|p| p.change == tag)
 }
 
 #[tactic(auto, unfolding(crate::specs::Reports::part_at))]
@@ -90,12 +68,15 @@ fn part(kind: UnitKind, done: &[UsedPart], value: &Value) -> Result<UsedPart, Wi
     if !value.is_object() {
         return Err(WireFault::Invalid(Avp::UsedUnit));
     }
-    let units = units_in(value, Avp::UsedUnit, 0, kind)?;
+    let units = units_in(value, WireFault::Invalid(Avp::UsedUnit), 0, kind)?;
     let tag = usage(value)?;
     if is_taken(done, tag) {
         return Err(WireFault::Invalid(Avp::UsedUnit));
     }
-    Ok(UsedPart { units, tag })
+    Ok(UsedPart {
+        units: Units(units),
+        change: tag,
+    })
 }
 
 #[tactic(auto, unfolding(crate::specs::Reports::kind_of_first))]
@@ -124,7 +105,7 @@ pub(crate) fn used_in(alloc: Global, value: &Value) -> Result<UsedParts, WireFau
     ensures { Gives (λ u. u) result (used_of (view value.now)) }
 {
     let list = array(value, Avp::UsedUnit)?;
-    if !(1 <= list.len() && list.len() <= 4) {
+    if !(1 <= list.len() && list.len() <= MOST_PARTS) {
         return Err(WireFault::Invalid(Avp::UsedUnit));
     }
     let kind = kind_of_first(list);

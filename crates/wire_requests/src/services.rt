@@ -12,6 +12,9 @@ use json_fields::{WireFault, array, number};
 use serde_json::Value;
 use std::alloc::Global;
 
+/// The most services that a request has.
+const MOST_SERVICES: usize = 16;
+
 #[tactic(auto, unfolding(crate::specs::Phases::requested_at))]
 fn requested(phase: Phase, parent: &Value) -> Result<Option<Requested>, WireFault>
     ensures { Says (λ r. r) result (requested_at phase (view parent.now)) }
@@ -88,8 +91,8 @@ fn count_fits(phase: Phase, count: usize) -> bool
     ensures { result ≡ (nat_le (fewest phase) count && nat_le count 16) }
 {
     match phase {
-        Phase::Termination => count <= 16,
-        Phase::Initial | Phase::Update => 1 <= count && count <= 16,
+        Phase::Termination => count <= MOST_SERVICES,
+        Phase::Initial | Phase::Update => (1..=MOST_SERVICES).contains(&count),
     }
 }
 

@@ -1,4 +1,4 @@
-ghost use Rattle.std.specs.Prelude.{◌≡◌, ◌++◌, IfOk, OnOk, string_bytes, codes, Ok, true};
+ghost use Rattle.std.specs.Prelude.{◌≡◌, ◌++◌, IfOk, OnOk, string_bytes, Ok, true};
 ghost use Rattle.serde_json.specs.Data.{array, no_items, item};
 ghost use Rattle.commands.specs.Codes.{action_number};
 ghost use Rattle.json_fields.specs.Spelling.{whole};
@@ -8,10 +8,11 @@ ghost use Rattle.wire_requests.specs.Spelled.{event_data, refund_data, subscript
 ghost use Rattle.wire_requests.specs.Rules.{IsEvent, IsAsk, IsRequest, RequestsReadAgain, RequestsAreInOrder};
 ghost use Rattle.wire_requests.specs.Written.{ask_tokens};
 ghost use Rattle.commands.specs.Refunds.{is_refund};
+ghost use Rattle.commands.specs.Names.{name_of};
 ghost use Rattle.identifiers.specs.Texts.{is_account_number};
 
 use crate::written_services::{put_service, put_services};
-use commands::{Ask, Event, Refund, Request};
+use commands::{Ask, Avp, Event, Refund, Request};
 use identifiers::AccountNumber;
 use json::Writer;
 use json_fields::{put_money, put_number, put_text};
@@ -19,10 +20,10 @@ use std::alloc::{AllocError, Global};
 
 fn put_event_service(out: &mut Writer, event: &Event) -> Result<(), AllocError>
     ensures adds { Adds result out.old out.new
-        (member_tokens (codes "Multiple-Services-Credit-Control") (array (item (event_data event.now) no_items))) }
+        (member_tokens (name_of Avp.Services) (array (item (event_data event.now) no_items))) }
     ensures rule { OnOk result (IsEvent event.now) }
 {
-    out.key("Multiple-Services-Credit-Control")?;
+    out.key(Avp::Services.name())?;
     out.begin_array()?;
     put_service(out, event.group, Some(event.requested), &None)?;
     out.end_array()?;
@@ -31,12 +32,12 @@ fn put_event_service(out: &mut Writer, event: &Event) -> Result<(), AllocError>
 
 fn put_event(out: &mut Writer, event: &Event) -> Result<(), AllocError>
     ensures adds { Adds result out.old out.new
-        (member_tokens (codes "Multiple-Services-Credit-Control") (array (item (event_data event.now) no_items))
-        ++ member_tokens (codes "Requested-Action") (whole (action_number event.now.action))) }
+        (member_tokens (name_of Avp.Services) (array (item (event_data event.now) no_items))
+        ++ member_tokens (name_of Avp.RequestedAction) (whole (action_number event.now.action))) }
     ensures rule { OnOk result (IsEvent event.now) }
 {
     put_event_service(out, event)?;
-    put_number(out, "Requested-Action", event.action.number())?;
+    put_number(out, Avp::RequestedAction.name(), event.action.number())?;
     Ok(())
 }
 
@@ -46,7 +47,7 @@ fn put_refund_money(out: &mut Writer, refund: Refund) -> Result<(), AllocError>
     ensures rule { OnOk result (is_refund refund.micros refund.currency ≡ true) }
 {
     out.begin_object()?;
-    out.key("CC-Money")?;
+    out.key(Avp::Money.name())?;
     put_money(out, refund.money().micros(), refund.currency())?;
     out.end_object()?;
     Ok(())
@@ -54,12 +55,12 @@ fn put_refund_money(out: &mut Writer, refund: Refund) -> Result<(), AllocError>
 
 fn put_refund(out: &mut Writer, refund: Refund) -> Result<(), AllocError>
     ensures adds { Adds result out.old out.new
-        (member_tokens (codes "Requested-Action") (whole 1)
-        ++ member_tokens (codes "Requested-Service-Unit") (refund_data refund)) }
+        (member_tokens (name_of Avp.RequestedAction) (whole 1)
+        ++ member_tokens (name_of Avp.RequestedUnit) (refund_data refund)) }
     ensures rule { OnOk result (is_refund refund.micros refund.currency ≡ true) }
 {
-    put_number(out, "Requested-Action", 1)?;
-    out.key("Requested-Service-Unit")?;
+    put_number(out, Avp::RequestedAction.name(), 1)?;
+    out.key(Avp::RequestedUnit.name())?;
     put_refund_money(out, refund)?;
     Ok(())
 }
@@ -83,8 +84,8 @@ fn put_subscription(out: &mut Writer, account: &AccountNumber) -> Result<(), All
     ensures rule { OnOk result (is_account_number account.now ≡ true) }
 {
     out.begin_object()?;
-    put_text(out, "Subscription-Id-Data", account.as_str())?;
-    put_number(out, "Subscription-Id-Type", 0)?;
+    put_text(out, Avp::SubscriptionIdData.name(), account.as_str())?;
+    put_number(out, Avp::SubscriptionIdType.name(), 0)?;
     out.end_object()?;
     Ok(())
 }
@@ -95,11 +96,11 @@ fn put_request(out: &mut Writer, request: &Request) -> Result<(), AllocError>
     ensures rule { OnOk result (IsRequest request.now) }
 {
     out.begin_object()?;
-    put_number(out, "CC-Request-Number", request.number as u64)?;
-    put_number(out, "CC-Request-Type", request.kind().number())?;
+    put_number(out, Avp::RequestNumber.name(), request.number as u64)?;
+    put_number(out, Avp::RequestType.name(), request.kind().number())?;
     put_ask(out, &request.ask)?;
-    put_text(out, "Session-Id", request.session.as_str())?;
-    out.key("Subscription-Id")?;
+    put_text(out, Avp::SessionId.name(), request.session.as_str())?;
+    out.key(Avp::SubscriptionId.name())?;
     put_subscription(out, &request.account)?;
     out.end_object()?;
     Ok(())

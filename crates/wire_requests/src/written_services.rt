@@ -1,16 +1,18 @@
-ghost use Rattle.std.specs.Prelude.{◌≡◌, ◌≤◌, IfSome, OnOk, codes, option_map, true};
+ghost use Rattle.std.specs.Prelude.{◌≡◌, ◌≤◌, IfSome, OnOk, option_map, true};
 ghost use Rattle.std.specs.List.{AllByRecursion};
 ghost use Rattle.serde_json.specs.Data.{array};
 ghost use Rattle.commands.specs.Quantities.{is_quantity};
 ghost use Rattle.json_fields.specs.Tokens.{Adds, tokens_of, member_tokens, perhaps_tokens, item_tokens};
 ghost use Rattle.wire_requests.specs.Spelled.{requested_data, tag_of, part_data, part_items, used_data, service_data, service_items};
+ghost use Rattle.commands.specs.Names.{name_of};
 ghost use Rattle.wire_requests.specs.Rules.{IsRequested, IsUsed, IsService};
 
-use commands::{Quantity, Requested, Service, UsedPart, UsedParts};
+use commands::names::TARIFF_CHANGE_USAGE;
+use commands::{Avp, Quantity, Requested, Service, UsedParts, usage_number};
 use json::Writer;
 use json_fields::{put_number, put_perhaps, unit_name};
 use std::alloc::AllocError;
-use units::UnitKind;
+use units::{UnitKind, UsedPart};
 
 fn put_slice(out: &mut Writer) -> Result<(), AllocError>
     ensures { Adds result out.old out.new (tokens_of (requested_data Requested.Slice)) }
@@ -42,13 +44,13 @@ fn put_requested(out: &mut Writer, requested: Requested) -> Result<(), AllocErro
 
 fn put_asked(out: &mut Writer, requested: Option<Requested>) -> Result<(), AllocError>
     ensures adds { Adds result out.old out.new
-        (perhaps_tokens (codes "Requested-Service-Unit") (option_map requested_data requested)) }
+        (perhaps_tokens (name_of Avp.RequestedUnit) (option_map requested_data requested)) }
     ensures rule { OnOk result (IfSome requested IsRequested) }
 {
     match requested {
         None => Ok(()),
         Some(requested) => {
-            out.key("Requested-Service-Unit")?;
+            out.key(Avp::RequestedUnit.name())?;
             put_requested(out, requested)?;
             Ok(())
         }
@@ -58,10 +60,7 @@ fn put_asked(out: &mut Writer, requested: Option<Requested>) -> Result<(), Alloc
 fn tag_of(part: &UsedPart) -> Option<u64>
     ensures { result ≡ tag_of part.now }
 {
-    match part.tag {
-        None => None,
-        Some(tag) => Some(tag.number()),
-    }
+    part.change.map(|usage| usage_number(usage))
 }
 
 #[tactic(auto, using(json_fields::proofs::Tokens::perhaps_front), unfolding(crate::specs::Spelled::part_data))]
@@ -69,8 +68,8 @@ fn put_part(out: &mut Writer, kind: UnitKind, part: &UsedPart) -> Result<(), All
     ensures { Adds result out.old out.new (tokens_of (part_data kind part.now)) }
 {
     out.begin_object()?;
-    put_number(out, unit_name(kind), part.units)?;
-    put_perhaps(out, "Tariff-Change-Usage", tag_of(part))?;
+    put_number(out, unit_name(kind), part.units.0)?;
+    put_perhaps(out, TARIFF_CHANGE_USAGE, tag_of(part))?;
     out.end_object()?;
     Ok(())
 }
@@ -86,10 +85,10 @@ fn put_parts(out: &mut Writer, kind: UnitKind, parts: &[UsedPart]) -> Result<(),
 
 fn put_report(out: &mut Writer, used: &UsedParts) -> Result<(), AllocError>
     ensures adds { Adds result out.old out.new
-        (member_tokens (codes "Used-Service-Unit") (used_data used.now)) }
+        (member_tokens (name_of Avp.UsedUnit) (used_data used.now)) }
     ensures rule { OnOk result (IsUsed used.now) }
 {
-    out.key("Used-Service-Unit")?;
+    out.key(Avp::UsedUnit.name())?;
     out.begin_array()?;
     put_parts(out, used.kind(), used.parts())?;
     out.end_array()?;
@@ -98,7 +97,7 @@ fn put_report(out: &mut Writer, used: &UsedParts) -> Result<(), AllocError>
 
 fn put_used(out: &mut Writer, used: &Option<UsedParts>) -> Result<(), AllocError>
     ensures adds { Adds result out.old out.new
-        (perhaps_tokens (codes "Used-Service-Unit") (option_map used_data used.now)) }
+        (perhaps_tokens (name_of Avp.UsedUnit) (option_map used_data used.now)) }
     ensures rule { OnOk result (IfSome used.now IsUsed) }
 {
     match used {
@@ -121,7 +120,7 @@ pub(crate) fn put_service(
     ensures used { OnOk result (IfSome used.now IsUsed) }
 {
     out.begin_object()?;
-    put_number(out, "Rating-Group", group as u64)?;
+    put_number(out, Avp::RatingGroup.name(), group as u64)?;
     put_asked(out, requested)?;
     put_used(out, used)?;
     out.end_object()?;
@@ -148,10 +147,10 @@ fn put_items(out: &mut Writer, services: &[Service]) -> Result<(), AllocError>
 /// The services, as an array.
 pub(crate) fn put_services(out: &mut Writer, services: &[Service]) -> Result<(), AllocError>
     ensures adds { Adds result out.old out.new
-        (member_tokens (codes "Multiple-Services-Credit-Control") (array (service_items services.now))) }
+        (member_tokens (name_of Avp.Services) (array (service_items services.now))) }
     ensures rule { OnOk result (AllByRecursion IsService services.now) }
 {
-    out.key("Multiple-Services-Credit-Control")?;
+    out.key(Avp::Services.name())?;
     out.begin_array()?;
     put_items(out, services)?;
     out.end_array()?;

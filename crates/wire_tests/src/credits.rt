@@ -1,5 +1,6 @@
 //! The body of an operator's credit: its members missing, of each wrong kind, and at and past their limits.
 
+use crate::tables::joined;
 use identifiers::AccountNumber;
 use std::alloc::Global;
 use std::process::Abort;
@@ -17,7 +18,8 @@ fn outcome(alloc: Global, body: &[u8]) -> Result<String, Fail> {
 
 /// Tries the cases `OUTCOME: BODY`.
 fn try_credits(rt: &impl Abort, alloc: Global, cases: &str) -> Result<(), Fail> {
-    for line in cases.lines() {
+    let cases = joined(alloc, cases)?;
+    for line in cases.as_str().lines() {
         let (expected, body) = line.split_once(": ").ok_or("a case")?;
         let found = outcome(alloc, body.as_bytes())?;
         assert_eq!(rt; found.as_str(), expected, "{body}");
@@ -109,7 +111,8 @@ Reference is invalid: {"Amount":1,"Reference":"a b"}
 Reference is invalid: {"Amount":1,"Reference":"r\n"}
 Reference is invalid: {"Amount":1,"Reference":"r\u007f"}
 Reference is invalid: {"Amount":1,"Reference":"é"}
-Reference is invalid: {"Amount":1,"Reference":"rrrrrrrrrrrrrrrrrrrrrrrrrrrrrrrrrrrrrrrrrrrrrrrrrrrrrrrrrrrrrrrrr"}
+Reference is invalid: {"Amount":1,
+  "Reference":"rrrrrrrrrrrrrrrrrrrrrrrrrrrrrrrrrrrrrrrrrrrrrrrrrrrrrrrrrrrrrrrrr"}
 Reference is invalid: {"Amount":1,"Reference":"r","Reference":5}
 read: {"Amount":1,"Reference":"!"}
 read: {"Amount":1,"Reference":"~"}

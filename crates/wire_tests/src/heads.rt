@@ -2,11 +2,13 @@
 //!
 //! Expected faults here and in the other tables are those of the table of fields.
 
-use crate::tables::try_texts;
+use crate::tables::{Case, try_cases};
 use std::test::Fail;
 
-const SESSION: &str =
-    r##"{"Session-Id":HERE,"CC-Request-Type":1,"CC-Request-Number":0,"Subscription-Id":{"Subscription-Id-Type":0,"Subscription-Id-Data":"49151"},"Multiple-Services-Credit-Control":[{"Rating-Group":10,"Requested-Service-Unit":{"CC-Time":600}}]}"##;
+const SESSION: &str = r##"{"Session-Id":HERE,"CC-Request-Type":1,"CC-Request-Number":0,
+  "Subscription-Id":{"Subscription-Id-Type":0,"Subscription-Id-Data":"49151"},
+  "Multiple-Services-Credit-Control":[{"Rating-Group":10,
+  "Requested-Service-Unit":{"CC-Time":600}}]}"##;
 
 const SESSIONS: &str = r##"Session-Id is invalid: 1
 Session-Id is invalid: null
@@ -20,22 +22,27 @@ Session-Id is invalid: "s\n"
 Session-Id is invalid: "s\u0000"
 Session-Id is invalid: "s\u007f"
 Session-Id is invalid: "sé"
-Session-Id is invalid: "xxxxxxxxxxxxxxxxxxxxxxxxxxxxxxxxxxxxxxxxxxxxxxxxxxxxxxxxxxxxxxxxxxxxxxxxxxxxxxxxxxxxxxxxxxxxxxxxxxxxxxxxxxxxxxxxxxxxxxxxxxxxxxxxx"
+Session-Id is invalid:
+   "xxxxxxxxxxxxxxxxxxxxxxxxxxxxxxxxxxxxxxxxxxxxxxxxxxxxxxxxxxxxxxxxxxxxxxxxxxxxxxxxxxxxxxxxxxxxxx
+  xxxxxxxxxxxxxxxxxxxxxxxxxxxxxxxxxxx"
 Session-Id is invalid: "s1","Session-Id":5
 Session-Id is invalid: "s1","\u0053ession-Id":null
 read: "!"
 read: "~"
 read: "\u0073\"\\\/"
-read: "xxxxxxxxxxxxxxxxxxxxxxxxxxxxxxxxxxxxxxxxxxxxxxxxxxxxxxxxxxxxxxxxxxxxxxxxxxxxxxxxxxxxxxxxxxxxxxxxxxxxxxxxxxxxxxxxxxxxxxxxxxxxxxxx"
+read: "xxxxxxxxxxxxxxxxxxxxxxxxxxxxxxxxxxxxxxxxxxxxxxxxxxxxxxxxxxxxxxxxxxxxxxxxxxxxxxxxxxxxxxxxxxx
+  xxxxxxxxxxxxxxxxxxxxxxxxxxxxxxxxxxxxx"
 read: 5,"Session-Id":"s1""##;
 
 #[test]
 fn sessions(rt: HostRuntime) -> Result<(), Fail> {
-    try_texts(&rt, rt.alloc(), SESSION, SESSIONS)
+    try_cases(&rt, rt.alloc(), Case::Text, SESSION, SESSIONS)
 }
 
-const TYPE: &str =
-    r##"{"Session-Id":"s1","CC-Request-Type":HERE,"CC-Request-Number":0,"Subscription-Id":{"Subscription-Id-Type":0,"Subscription-Id-Data":"49151"},"Multiple-Services-Credit-Control":[{"Rating-Group":10,"Requested-Service-Unit":{"CC-Time":600}}]}"##;
+const TYPE: &str = r##"{"Session-Id":"s1","CC-Request-Type":HERE,"CC-Request-Number":0,
+  "Subscription-Id":{"Subscription-Id-Type":0,"Subscription-Id-Data":"49151"},
+  "Multiple-Services-Credit-Control":[{"Rating-Group":10,
+  "Requested-Service-Unit":{"CC-Time":600}}]}"##;
 
 const TYPES: &str = r##"CC-Request-Type is invalid: null
 CC-Request-Type is invalid: true
@@ -64,11 +71,13 @@ no JSON object: 0x1"##;
 
 #[test]
 fn types(rt: HostRuntime) -> Result<(), Fail> {
-    try_texts(&rt, rt.alloc(), TYPE, TYPES)
+    try_cases(&rt, rt.alloc(), Case::Text, TYPE, TYPES)
 }
 
-const NUMBER: &str =
-    r##"{"Session-Id":"s1","CC-Request-Type":1,"CC-Request-Number":HERE,"Subscription-Id":{"Subscription-Id-Type":0,"Subscription-Id-Data":"49151"},"Multiple-Services-Credit-Control":[{"Rating-Group":10,"Requested-Service-Unit":{"CC-Time":600}}]}"##;
+const NUMBER: &str = r##"{"Session-Id":"s1","CC-Request-Type":1,"CC-Request-Number":HERE,
+  "Subscription-Id":{"Subscription-Id-Type":0,"Subscription-Id-Data":"49151"},
+  "Multiple-Services-Credit-Control":[{"Rating-Group":10,
+  "Requested-Service-Unit":{"CC-Time":600}}]}"##;
 
 const NUMBERS: &str = r##"CC-Request-Number is invalid: null
 CC-Request-Number is invalid: true
@@ -95,11 +104,13 @@ no JSON object: - 0"##;
 
 #[test]
 fn numbers(rt: HostRuntime) -> Result<(), Fail> {
-    try_texts(&rt, rt.alloc(), NUMBER, NUMBERS)
+    try_cases(&rt, rt.alloc(), Case::Text, NUMBER, NUMBERS)
 }
 
 const SUBSCRIPTION: &str =
-    r##"{"Session-Id":"s1","CC-Request-Type":1,"CC-Request-Number":0,"Subscription-Id":HERE,"Multiple-Services-Credit-Control":[{"Rating-Group":10,"Requested-Service-Unit":{"CC-Time":600}}]}"##;
+    r##"{"Session-Id":"s1","CC-Request-Type":1,"CC-Request-Number":0,"Subscription-Id":HERE,
+  "Multiple-Services-Credit-Control":[{"Rating-Group":10,
+  "Requested-Service-Unit":{"CC-Time":600}}]}"##;
 
 const SUBSCRIPTIONS: &str = r##"Subscription-Id is invalid: null
 Subscription-Id is invalid: true
@@ -107,7 +118,8 @@ Subscription-Id is invalid: 49151
 Subscription-Id is invalid: 1.0
 Subscription-Id is invalid: "49151"
 Subscription-Id is invalid: [{"Subscription-Id-Type":0,"Subscription-Id-Data":"49151"}]
-Subscription-Id is invalid: {"Subscription-Id-Type":0,"Subscription-Id-Data":"49151"},"Subscription-Id":5
+Subscription-Id is invalid: {"Subscription-Id-Type":0,"Subscription-Id-Data":"49151"},
+  "Subscription-Id":5
 Subscription-Id-Type is missing: {}
 Subscription-Id-Type is missing: {"Subscription-Id-Data":"49151"}
 Subscription-Id-Data is missing: {"Subscription-Id-Type":0}
@@ -117,11 +129,13 @@ read: 5,"Subscription-Id":{"Subscription-Id-Type":0,"Subscription-Id-Data":"4915
 
 #[test]
 fn subscriptions(rt: HostRuntime) -> Result<(), Fail> {
-    try_texts(&rt, rt.alloc(), SUBSCRIPTION, SUBSCRIPTIONS)
+    try_cases(&rt, rt.alloc(), Case::Text, SUBSCRIPTION, SUBSCRIPTIONS)
 }
 
-const SUBSCRIPTION_TYPE: &str =
-    r##"{"Session-Id":"s1","CC-Request-Type":1,"CC-Request-Number":0,"Subscription-Id":{"Subscription-Id-Type":HERE,"Subscription-Id-Data":"49151"},"Multiple-Services-Credit-Control":[{"Rating-Group":10,"Requested-Service-Unit":{"CC-Time":600}}]}"##;
+const SUBSCRIPTION_TYPE: &str = r##"{"Session-Id":"s1","CC-Request-Type":1,"CC-Request-Number":0,
+  "Subscription-Id":{"Subscription-Id-Type":HERE,"Subscription-Id-Data":"49151"},
+  "Multiple-Services-Credit-Control":[{"Rating-Group":10,
+  "Requested-Service-Unit":{"CC-Time":600}}]}"##;
 
 const SUBSCRIPTION_TYPES: &str = r##"Subscription-Id-Type is invalid: null
 Subscription-Id-Type is invalid: true
@@ -143,11 +157,19 @@ read: 1,"Subscription-Id-Type":0"##;
 
 #[test]
 fn subscription_types(rt: HostRuntime) -> Result<(), Fail> {
-    try_texts(&rt, rt.alloc(), SUBSCRIPTION_TYPE, SUBSCRIPTION_TYPES)
+    try_cases(
+        &rt,
+        rt.alloc(),
+        Case::Text,
+        SUBSCRIPTION_TYPE,
+        SUBSCRIPTION_TYPES,
+    )
 }
 
-const SUBSCRIBER: &str =
-    r##"{"Session-Id":"s1","CC-Request-Type":1,"CC-Request-Number":0,"Subscription-Id":{"Subscription-Id-Type":0,"Subscription-Id-Data":HERE},"Multiple-Services-Credit-Control":[{"Rating-Group":10,"Requested-Service-Unit":{"CC-Time":600}}]}"##;
+const SUBSCRIBER: &str = r##"{"Session-Id":"s1","CC-Request-Type":1,"CC-Request-Number":0,
+  "Subscription-Id":{"Subscription-Id-Type":0,"Subscription-Id-Data":HERE},
+  "Multiple-Services-Credit-Control":[{"Rating-Group":10,
+  "Requested-Service-Unit":{"CC-Time":600}}]}"##;
 
 const SUBSCRIBERS: &str = r##"Subscription-Id-Data is invalid: 49151
 Subscription-Id-Data is invalid: null
@@ -169,5 +191,5 @@ read: "\u0034""##;
 
 #[test]
 fn subscribers(rt: HostRuntime) -> Result<(), Fail> {
-    try_texts(&rt, rt.alloc(), SUBSCRIBER, SUBSCRIBERS)
+    try_cases(&rt, rt.alloc(), Case::Text, SUBSCRIBER, SUBSCRIBERS)
 }

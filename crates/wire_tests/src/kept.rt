@@ -1,20 +1,30 @@
 //! What is kept of accepted commands, written and read again.
 
+use crate::requests::WRITTEN;
 use crate::tables::{Told, try_told};
 use commands::{Content, Credit, same_content};
 use identifiers::{AccountNumber, Reference};
 use std::alloc::Global;
 use std::test::Fail;
 use units::{Moment, Money};
-use wire::{read_content, read_credit, read_request, write_content};
+use wire::{read_content, read_credit, write_content};
+use wire_requests::read_request;
 
 fn account(alloc: Global) -> Result<AccountNumber, Fail> {
     Ok(AccountNumber::new(alloc, "49151")?.ok_or("an account")?)
 }
 
+/// The account that the content is kept under.
+fn account_of(content: &Content) -> Result<AccountNumber, Fail> {
+    match content {
+        Content::Request(request) => Ok(request.account.clone()?),
+        Content::Credit(credit) => Ok(credit.account.clone()?),
+    }
+}
+
 /// Whether the text is read as this content.
 fn is_read_again(alloc: Global, text: &str, content: &Content) -> Result<bool, Fail> {
-    let account = account(alloc)?;
+    let account = account_of(content)?;
     let again = read_content(alloc, account, text.as_bytes())?;
     Ok(same_content(content, &again))
 }
@@ -46,9 +56,15 @@ pub(crate) fn kept_request(alloc: Global, body: &[u8]) -> Result<String, Fail> {
 
 /// The body of a credit, and what is kept of it.
 const CREDITS: &str = r##"{"Amount":1000000,"Reference":"r1"} -> {"Amount":1000000,"Reference":"r1"}
-{"Amount":1,"From":0,"Until":1,"Scope":0,"Reference":"!"} -> {"Amount":1,"From":0,"Reference":"!","Scope":0,"Until":1}
-{ "Reference" : "a\"b\\c\/d" , "Until" : 4102444800 , "Scope" : 4294967295 , "From" : 4102444799 , "Amount" : 1000000000000000 , "More" : [ ] } -> {"Amount":1000000000000000,"From":4102444799,"Reference":"a\"b\\c/d","Scope":4294967295,"Until":4102444800}
-{"Amount":5,"Until":1767607800,"Reference":"rrrrrrrrrrrrrrrrrrrrrrrrrrrrrrrrrrrrrrrrrrrrrrrrrrrrrrrrrrrrrrrr"} -> {"Amount":5,"Reference":"rrrrrrrrrrrrrrrrrrrrrrrrrrrrrrrrrrrrrrrrrrrrrrrrrrrrrrrrrrrrrrrr","Until":1767607800}
+{"Amount":1,"From":0,"Until":1,"Scope":0,"Reference":"!"} -> {"Amount":1,"From":0,"Reference":"!",
+  "Scope":0,"Until":1}
+{ "Reference" : "a\"b\\c\/d" , "Until" : 4102444800 , "Scope" : 4294967295 , "From" : 4102444799 ,
+   "Amount" : 1000000000000000 , "More" : [ ] } -> {"Amount":1000000000000000,"From":4102444799,
+  "Reference":"a\"b\\c/d","Scope":4294967295,"Until":4102444800}
+{"Amount":5,"Until":1767607800,
+  "Reference":"rrrrrrrrrrrrrrrrrrrrrrrrrrrrrrrrrrrrrrrrrrrrrrrrrrrrrrrrrrrrrrrr"} -> {"Amount":5,
+  "Reference":"rrrrrrrrrrrrrrrrrrrrrrrrrrrrrrrrrrrrrrrrrrrrrrrrrrrrrrrrrrrrrrrr",
+  "Until":1767607800}
 {"Amount":5,"Scope":30,"Reference":"\u0072"} -> {"Amount":5,"Reference":"r","Scope":30}
 {"Amount":5,"From":1767571200,"Reference":"r"} -> {"Amount":5,"From":1767571200,"Reference":"r"}"##;
 
@@ -57,17 +73,9 @@ fn credits(rt: HostRuntime) -> Result<(), Fail> {
     try_told(&rt, rt.alloc(), Told::KeptCredit, CREDITS)
 }
 
-/// A body, and what is kept of the request.
-const REQUESTS: &str =
-    r##"{"Session-Id":"s1","CC-Request-Type":1,"CC-Request-Number":0,"Subscription-Id":{"Subscription-Id-Type":0,"Subscription-Id-Data":"49151"},"Multiple-Services-Credit-Control":[{"Rating-Group":10,"Requested-Service-Unit":{"CC-Time":600}}]} -> {"CC-Request-Number":0,"CC-Request-Type":1,"Multiple-Services-Credit-Control":[{"Rating-Group":10,"Requested-Service-Unit":{"CC-Time":600}}],"Session-Id":"s1","Subscription-Id":{"Subscription-Id-Data":"49151","Subscription-Id-Type":0}}
-{"Session-Id":"s1","CC-Request-Type":2,"CC-Request-Number":3,"Subscription-Id":{"Subscription-Id-Type":0,"Subscription-Id-Data":"49151"},"Multiple-Services-Credit-Control":[{"Used-Service-Unit":[{"CC-Time":4294967295},{"Tariff-Change-Usage":2,"CC-Time":3},{"CC-Time":1,"Tariff-Change-Usage":0,"CC-Money":5},{"CC-Time":0,"Tariff-Change-Usage":1}],"Requested-Service-Unit":{"CC-Time":4294967295},"Rating-Group":10},{"Rating-Group":30,"Requested-Service-Unit":{"CC-Service-Specific-Units":1000000000000000000},"Used-Service-Unit":[{"CC-Service-Specific-Units":1000000000000000000}]},{"Used-Service-Unit":[{"CC-Total-Octets":1000000000000000000,"Tariff-Change-Usage":1},{"CC-Total-Octets":0}],"Rating-Group":20,"Requested-Service-Unit":{"More":1}},{"Rating-Group":40}]} -> {"CC-Request-Number":3,"CC-Request-Type":2,"Multiple-Services-Credit-Control":[{"Rating-Group":10,"Requested-Service-Unit":{"CC-Time":4294967295},"Used-Service-Unit":[{"CC-Time":4294967295},{"CC-Time":3,"Tariff-Change-Usage":2},{"CC-Time":1,"Tariff-Change-Usage":0},{"CC-Time":0,"Tariff-Change-Usage":1}]},{"Rating-Group":30,"Requested-Service-Unit":{"CC-Service-Specific-Units":1000000000000000000},"Used-Service-Unit":[{"CC-Service-Specific-Units":1000000000000000000}]},{"Rating-Group":20,"Requested-Service-Unit":{},"Used-Service-Unit":[{"CC-Total-Octets":1000000000000000000,"Tariff-Change-Usage":1},{"CC-Total-Octets":0}]},{"Rating-Group":40}],"Session-Id":"s1","Subscription-Id":{"Subscription-Id-Data":"49151","Subscription-Id-Type":0}}
-{"Session-Id":"s1","CC-Request-Type":3,"CC-Request-Number":4,"Subscription-Id":{"Subscription-Id-Type":0,"Subscription-Id-Data":"49151"}} -> {"CC-Request-Number":4,"CC-Request-Type":3,"Multiple-Services-Credit-Control":[],"Session-Id":"s1","Subscription-Id":{"Subscription-Id-Data":"49151","Subscription-Id-Type":0}}
-{"Session-Id":"s1","CC-Request-Type":4,"CC-Request-Number":0,"Subscription-Id":{"Subscription-Id-Type":0,"Subscription-Id-Data":"49151"},"Requested-Action":0,"Multiple-Services-Credit-Control":[{"Rating-Group":30,"Requested-Service-Unit":{"CC-Service-Specific-Units":1000000000000000000}}]} -> {"CC-Request-Number":0,"CC-Request-Type":4,"Multiple-Services-Credit-Control":[{"Rating-Group":30,"Requested-Service-Unit":{"CC-Service-Specific-Units":1000000000000000000}}],"Requested-Action":0,"Session-Id":"s1","Subscription-Id":{"Subscription-Id-Data":"49151","Subscription-Id-Type":0}}
-{"Session-Id":"s1","CC-Request-Type":4,"CC-Request-Number":0,"Subscription-Id":{"Subscription-Id-Type":0,"Subscription-Id-Data":"49151"},"Requested-Action":1,"Requested-Service-Unit":{"CC-Money":{"Unit-Value":{"Value-Digits":5,"Exponent":0},"Currency-Code":0}}} -> {"CC-Request-Number":0,"CC-Request-Type":4,"Requested-Action":1,"Requested-Service-Unit":{"CC-Money":{"Currency-Code":0,"Unit-Value":{"Exponent":-6,"Value-Digits":5000000}}},"Session-Id":"s1","Subscription-Id":{"Subscription-Id-Data":"49151","Subscription-Id-Type":0}}"##;
-
 #[test]
 fn requests(rt: HostRuntime) -> Result<(), Fail> {
-    try_told(&rt, rt.alloc(), Told::KeptRequest, REQUESTS)
+    try_told(&rt, rt.alloc(), Told::KeptRequest, WRITTEN)
 }
 
 /// A credit that no body can say: of no money, and past the last moment of a command.
@@ -83,7 +91,8 @@ fn widest(alloc: Global) -> Result<Content, Fail> {
     }))
 }
 
-/// A credit that no body can say is written, and not read: only what is within a body's ranges is ever kept.
+/// A credit that no body can say is written, and not read: only what is within a body's ranges is
+/// ever kept.
 #[test]
 fn widest_credit(rt: HostRuntime) -> Result<(), Fail> {
     let alloc = rt.alloc();
@@ -108,15 +117,26 @@ pub(crate) fn shown(alloc: Global, text: &[u8]) -> Result<String, Fail> {
 }
 
 /// A kept text, and the value that it is read as.
-const SHOWN: &str =
-    r##"{"Amount":1000000,"From":0,"Reference":"r1","Scope":10,"Until":4102444800} -> Credit(Credit { account: AccountNumber { text: "49151" }, amount: Money { micros: 1000000 }, from: Some(Moment { seconds: 0 }), until: Some(Moment { seconds: 4102444800 }), scope: Some(10), reference: Reference { text: "r1" } })
-{"Amount":1,"Reference":"r1"} -> Credit(Credit { account: AccountNumber { text: "49151" }, amount: Money { micros: 1 }, from: None, until: None, scope: None, reference: Reference { text: "r1" } })
-{"CC-Request-Number":4,"CC-Request-Type":3,"Multiple-Services-Credit-Control":[],"Session-Id":"s1","Subscription-Id":{"Subscription-Id-Data":"49151","Subscription-Id-Type":0}} -> Request(Request { session: SessionId { text: "s1" }, number: 4, account: AccountNumber { text: "49151" }, ask: Termination(TerminationServices { list: [] }) })
+const SHOWN: &str = r##"{"Amount":1000000,"From":0,"Reference":"r1","Scope":10,
+  "Until":4102444800} -> Credit(Credit { account: AccountNumber { text: "49151" },
+   amount: Money { micros: 1000000 }, from: Some(Moment { seconds: 0 }),
+   until: Some(Moment { seconds: 4102444800 }), scope: Some(10), reference: Reference { text:
+   "r1" } })
+{"Amount":1,"Reference":"r1"} -> Credit(Credit { account: AccountNumber { text: "49151" },
+   amount: Money { micros: 1 }, from: None, until: None, scope: None,
+   reference: Reference { text: "r1" } })
+{"CC-Request-Number":4,"CC-Request-Type":3,"Multiple-Services-Credit-Control":[],
+  "Session-Id":"s1","Subscription-Id":{"Subscription-Id-Data":"49151","Subscription-Id-Type":0}}
+   -> Request(Request { session: SessionId { text: "s1" }, number: 4,
+   account: AccountNumber { text: "49151" }, ask: Termination(TerminationServices { list: [] }) })
 x -> no JSON object
 {"Amount":1} -> Reference is missing
 {"Session-Id":"s1"} -> CC-Request-Type is missing
-{"CC-Request-Number":4,"CC-Request-Type":3,"Multiple-Services-Credit-Control":[],"Session-Id":"s1","Subscription-Id":{"Subscription-Id-Data":"49152","Subscription-Id-Type":0}} -> Subscription-Id-Data is invalid
-{"CC-Request-Number":4,"CC-Request-Type":3,"Session-Id":"s1","Subscription-Id":{"Subscription-Id-Data":"49151","Subscription-Id-Type":0}} -> no JSON object
+{"CC-Request-Number":4,"CC-Request-Type":3,"Multiple-Services-Credit-Control":[],
+  "Session-Id":"s1","Subscription-Id":{"Subscription-Id-Data":"49152","Subscription-Id-Type":0}}
+   -> Subscription-Id-Data is invalid
+{"CC-Request-Number":4,"CC-Request-Type":3,"Session-Id":"s1",
+  "Subscription-Id":{"Subscription-Id-Data":"49151","Subscription-Id-Type":0}} -> no JSON object
 {"Reference":"r1","Amount":1} -> no JSON object
 {"Amount":1, "Reference":"r1"} -> no JSON object
 {"Amount":1,"More":1,"Reference":"r1"} -> no JSON object
@@ -143,7 +163,8 @@ pub(crate) fn compared(alloc: Global, pair: &str) -> Result<String, Fail> {
 
 /// Whether two credits are the same content: an absent member is other content than its meaning.
 const PAIRS: &str =
-    r##"{"Amount":1,"Scope":5,"Reference":"r"} = {"More":1,"Reference":"r","Scope":5,"Amount":1} -> same
+    r##"{"Amount":1,"Scope":5,"Reference":"r"} = {"More":1,"Reference":"r","Scope":5,
+  "Amount":1} -> same
 {"Amount":1,"Reference":"r"} = {"Amount":2,"Reference":"r"} -> other
 {"Amount":1,"Reference":"r"} = {"Amount":1,"Reference":"R"} -> other
 {"Amount":1,"Reference":"r"} = {"Amount":1,"Until":4102444800,"Reference":"r"} -> other

@@ -1,10 +1,11 @@
 //! Members of objects, each read alone and written alone.
 
+use crate::tables::joined;
 use commands::Avp;
 use json::Writer;
 use json_fields::{
-    array, document, member, number, object, optional_number, put_money, put_number, put_perhaps,
-    put_text, text, unit_name, unit_told, units_in,
+    WireFault, array, document, member, number, object, optional_number, put_money, put_number,
+    put_perhaps, put_text, text, unit_name, unit_told, units_in,
 };
 use serde_json::Value;
 use std::alloc::Global;
@@ -13,7 +14,9 @@ use units::UnitKind;
 use wire_requests::{account_number, request_kind, session_id};
 
 const BODY: &str =
-    r##"{"Session-Id":"s1","CC-Request-Type":2,"Subscription-Id":{"Subscription-Id-Type":0,"Subscription-Id-Data":"49151"},"Until":5,"Multiple-Services-Credit-Control":[{},{}],"CC-Total-Octets":7}"##;
+    r##"{"Session-Id":"s1","CC-Request-Type":2,"Subscription-Id":{"Subscription-Id-Type":0,
+  "Subscription-Id-Data":"49151"},"Until":5,"Multiple-Services-Credit-Control":[{},{}],
+  "CC-Total-Octets":7}"##;
 
 /// What its members say, each read by its kind.
 fn members(alloc: Global, parent: &Value) -> Result<String, Fail> {
@@ -32,7 +35,12 @@ fn members(alloc: Global, parent: &Value) -> Result<String, Fail> {
 /// What its units are, and each kind's name.
 fn counted(alloc: Global, parent: &Value) -> Result<String, Fail> {
     let told = unit_told(parent);
-    let units = units_in(parent, Avp::GrantedUnit, 7, UnitKind::TotalOctets)?;
+    let units = units_in(
+        parent,
+        WireFault::Invalid(Avp::RequestedUnit),
+        7,
+        UnitKind::TotalOctets,
+    )?;
     let first = format!(in alloc; "{told:?} {units}")?;
     let time = unit_name(UnitKind::Time);
     let octets = unit_name(UnitKind::TotalOctets);
@@ -84,8 +92,11 @@ fn put_all(alloc: Global) -> Result<Vec<u8>, Fail> {
 fn members_written(rt: HostRuntime) -> Result<(), Fail> {
     let alloc = rt.alloc();
     let found = put_all(alloc)?;
-    let expected =
-        r#"{"Amount":18446744073709551615,"Reference":"a\"b\\c/d","Until":0,"CC-Money":{"Currency-Code":978,"Unit-Value":{"Exponent":-6,"Value-Digits":1000000}}}"#;
-    assert_eq!(rt; found.as_slice(), expected.as_bytes());
+    let expected = joined(
+        alloc,
+        r#"{"Amount":18446744073709551615,"Reference":"a\"b\\c/d","Until":0,
+  "CC-Money":{"Currency-Code":978,"Unit-Value":{"Exponent":-6,"Value-Digits":1000000}}}"#,
+    )?;
+    assert_eq!(rt; found.as_slice(), expected.as_str().as_bytes());
     Ok(())
 }

@@ -1,10 +1,13 @@
 //! Which of two faults of a request is told: the first in the order of the table of fields.
 
-use crate::tables::try_changes;
+use crate::tables::{Case, try_cases};
 use std::test::Fail;
 
-const UPDATE: &str =
-    r##"{"Multiple-Services-Credit-Control":[{"Used-Service-Unit":[{"CC-Time":60}],"Requested-Service-Unit":{"CC-Time":600},"Rating-Group":10},{"Used-Service-Unit":[{"CC-Time":61}],"Requested-Service-Unit":{},"Rating-Group":11}],"Subscription-Id":{"Subscription-Id-Data":"49151","Subscription-Id-Type":0},"CC-Request-Number":3,"CC-Request-Type":2,"Session-Id":"s1"}"##;
+const UPDATE: &str = r##"{"Multiple-Services-Credit-Control":[{"Used-Service-Unit":[{"CC-Time":60}],
+  "Requested-Service-Unit":{"CC-Time":600},"Rating-Group":10},
+  {"Used-Service-Unit":[{"CC-Time":61}],"Requested-Service-Unit":{},"Rating-Group":11}],
+  "Subscription-Id":{"Subscription-Id-Data":"49151","Subscription-Id-Type":0},
+  "CC-Request-Number":3,"CC-Request-Type":2,"Session-Id":"s1"}"##;
 
 const HEADS: &str = r##"read: "s1" -> "s2"
 no JSON object: "s1" -> 1 & :61 -> :1e999
@@ -24,18 +27,20 @@ CC-Request-Number is invalid: Number":3 -> Number":-1 & "Subscription-Id" -> "s"
 CC-Request-Number is invalid: Number":3 -> Number":3.0 & "49151" -> 49151
 Subscription-Id is missing: "Subscription-Id" -> "s" & "Multiple-Services-Credit-Control" -> "m"
 Subscription-Id is missing: "Subscription-Id" -> "s" & Type":2 -> Type":4
-Subscription-Id is invalid: {"Subscription-Id-Data":"49151","Subscription-Id-Type":0} -> [] & "Rating-Group":10 -> "Rating-Group":-1
+Subscription-Id is invalid: {"Subscription-Id-Data":"49151","Subscription-Id-Type":0} -> [] &
+   "Rating-Group":10 -> "Rating-Group":-1
 Subscription-Id-Type is missing: "Subscription-Id-Type" -> "t" & "49151" -> ""
 Subscription-Id-Type is missing: "Subscription-Id-Type" -> "t" & "Subscription-Id-Data" -> "d"
 Subscription-Id-Type is invalid: Id-Type":0 -> Id-Type":1 & "Subscription-Id-Data" -> "d"
 Subscription-Id-Type is invalid: Id-Type":0 -> Id-Type":null & "49151" -> 5
-Subscription-Id-Data is missing: "Subscription-Id-Data" -> "d" & "Multiple-Services-Credit-Control" -> "m"
+Subscription-Id-Data is missing: "Subscription-Id-Data" -> "d" &
+   "Multiple-Services-Credit-Control" -> "m"
 Subscription-Id-Data is invalid: "49151" -> "x" & Type":2 -> Type":4
 Subscription-Id-Data is invalid: "49151" -> "x" & Type":2 -> Type":1"##;
 
 #[test]
 fn heads(rt: HostRuntime) -> Result<(), Fail> {
-    try_changes(&rt, rt.alloc(), UPDATE, HEADS)
+    try_cases(&rt, rt.alloc(), Case::Changes, UPDATE, HEADS)
 }
 
 const SERVICES: &str =
@@ -59,18 +64,21 @@ Requested-Action is missing: Type":2 -> Type":4 & "Multiple-Services-Credit-Cont
 
 #[test]
 fn services(rt: HostRuntime) -> Result<(), Fail> {
-    try_changes(&rt, rt.alloc(), UPDATE, SERVICES)
+    try_cases(&rt, rt.alloc(), Case::Changes, UPDATE, SERVICES)
 }
 
 const REFUND: &str =
-    r##"{"Requested-Service-Unit":{"CC-Money":{"Currency-Code":978,"Unit-Value":{"Exponent":-6,"Value-Digits":5}}},"Requested-Action":1,"Subscription-Id":{"Subscription-Id-Type":0,"Subscription-Id-Data":"49151"},"CC-Request-Number":3,"CC-Request-Type":4,"Session-Id":"r1"}"##;
+    r##"{"Requested-Service-Unit":{"CC-Money":{"Currency-Code":978,"Unit-Value":{"Exponent":-6,
+  "Value-Digits":5}}},"Requested-Action":1,"Subscription-Id":{"Subscription-Id-Type":0,
+  "Subscription-Id-Data":"49151"},"CC-Request-Number":3,"CC-Request-Type":4,"Session-Id":"r1"}"##;
 
 const REFUNDS: &str = r##"Subscription-Id-Data is invalid: "49151" -> 1 & Action":1 -> Action":9
 Requested-Action is missing: "Requested-Action" -> "a" & "Requested-Service-Unit" -> "u"
 Requested-Action is invalid: Action":1 -> Action":"1" & "Requested-Service-Unit" -> "u"
 Requested-Service-Unit is missing: "Requested-Service-Unit" -> "u" & "CC-Money" -> "m"
 CC-Money is missing: "CC-Money" -> "m" & "Unit-Value" -> "v"
-CC-Money is invalid: {"Currency-Code":978,"Unit-Value":{"Exponent":-6,"Value-Digits":5}} -> 5 & "Session-Id" -> "More":5,"Session-Id"
+CC-Money is invalid: {"Currency-Code":978,"Unit-Value":{"Exponent":-6,
+  "Value-Digits":5}} -> 5 & "Session-Id" -> "More":5,"Session-Id"
 Unit-Value is missing: "Unit-Value" -> "v" & 978 -> 1000
 Unit-Value is invalid: {"Exponent":-6,"Value-Digits":5} -> 5 & "Currency-Code" -> "c"
 Value-Digits is missing: "Value-Digits" -> "d" & -6 -> 1
@@ -87,5 +95,5 @@ CC-Request-Type is missing: "CC-Request-Type" -> "y" & "Requested-Action" -> "a"
 
 #[test]
 fn refunds(rt: HostRuntime) -> Result<(), Fail> {
-    try_changes(&rt, rt.alloc(), REFUND, REFUNDS)
+    try_cases(&rt, rt.alloc(), Case::Changes, REFUND, REFUNDS)
 }

@@ -1,10 +1,11 @@
 //! The money of refunds.
 
-use crate::tables::try_texts;
+use crate::tables::{Case, try_cases};
 use std::test::Fail;
 
-const REFUND: &str =
-    r##"{"Session-Id":"r1","CC-Request-Type":4,"CC-Request-Number":0,"Subscription-Id":{"Subscription-Id-Type":0,"Subscription-Id-Data":"49151"},"Requested-Action":1,"Requested-Service-Unit":HERE}"##;
+const REFUND: &str = r##"{"Session-Id":"r1","CC-Request-Type":4,"CC-Request-Number":0,
+  "Subscription-Id":{"Subscription-Id-Type":0,"Subscription-Id-Data":"49151"},
+  "Requested-Action":1,"Requested-Service-Unit":HERE}"##;
 
 const REFUNDS: &str = r##"Requested-Service-Unit is invalid: null
 Requested-Service-Unit is invalid: true
@@ -19,7 +20,8 @@ CC-Money is invalid: {"CC-Money":true}
 CC-Money is invalid: {"CC-Money":5}
 CC-Money is invalid: {"CC-Money":1.0}
 CC-Money is invalid: {"CC-Money":"x"}
-CC-Money is invalid: {"CC-Money":[{"Unit-Value":{"Value-Digits":1,"Exponent":-6},"Currency-Code":978}]}
+CC-Money is invalid: {"CC-Money":[{"Unit-Value":{"Value-Digits":1,"Exponent":-6},
+  "Currency-Code":978}]}
 Unit-Value is missing: {"CC-Money":{}}
 Unit-Value is missing: {"CC-Money":{"Currency-Code":978}}
 Unit-Value is invalid: {"CC-Money":{"Unit-Value":null}}
@@ -31,31 +33,47 @@ Unit-Value is invalid: {"CC-Money":{"Unit-Value":[{"Value-Digits":1,"Exponent":-
 Value-Digits is missing: {"CC-Money":{"Unit-Value":{}}}
 Value-Digits is missing: {"CC-Money":{"Unit-Value":{"Exponent":1}}}
 Currency-Code is missing: {"CC-Money":{"Unit-Value":{"Value-Digits":1,"Exponent":-6}}}
-Currency-Code is invalid: {"CC-Money":{"Unit-Value":{"Value-Digits":1,"Exponent":-6},"Currency-Code":null}}
-Currency-Code is invalid: {"CC-Money":{"Unit-Value":{"Value-Digits":1,"Exponent":-6},"Currency-Code":true}}
-Currency-Code is invalid: {"CC-Money":{"Unit-Value":{"Value-Digits":1,"Exponent":-6},"Currency-Code":"978"}}
-Currency-Code is invalid: {"CC-Money":{"Unit-Value":{"Value-Digits":1,"Exponent":-6},"Currency-Code":[978]}}
-Currency-Code is invalid: {"CC-Money":{"Unit-Value":{"Value-Digits":1,"Exponent":-6},"Currency-Code":{}}}
-Currency-Code is invalid: {"CC-Money":{"Unit-Value":{"Value-Digits":1,"Exponent":-6},"Currency-Code":978.0}}
-Currency-Code is invalid: {"CC-Money":{"Unit-Value":{"Value-Digits":1,"Exponent":-6},"Currency-Code":978e0}}
-Currency-Code is invalid: {"CC-Money":{"Unit-Value":{"Value-Digits":1,"Exponent":-6},"Currency-Code":-0}}
-Currency-Code is invalid: {"CC-Money":{"Unit-Value":{"Value-Digits":1,"Exponent":-6},"Currency-Code":-1}}
-Currency-Code is invalid: {"CC-Money":{"Unit-Value":{"Value-Digits":1,"Exponent":-6},"Currency-Code":1000}}
-Currency-Code is invalid: {"CC-Money":{"Unit-Value":{"Value-Digits":1,"Exponent":-6},"Currency-Code":18446744073709551616}}
+Currency-Code is invalid: {"CC-Money":{"Unit-Value":{"Value-Digits":1,"Exponent":-6},
+  "Currency-Code":null}}
+Currency-Code is invalid: {"CC-Money":{"Unit-Value":{"Value-Digits":1,"Exponent":-6},
+  "Currency-Code":true}}
+Currency-Code is invalid: {"CC-Money":{"Unit-Value":{"Value-Digits":1,"Exponent":-6},
+  "Currency-Code":"978"}}
+Currency-Code is invalid: {"CC-Money":{"Unit-Value":{"Value-Digits":1,"Exponent":-6},
+  "Currency-Code":[978]}}
+Currency-Code is invalid: {"CC-Money":{"Unit-Value":{"Value-Digits":1,"Exponent":-6},
+  "Currency-Code":{}}}
+Currency-Code is invalid: {"CC-Money":{"Unit-Value":{"Value-Digits":1,"Exponent":-6},
+  "Currency-Code":978.0}}
+Currency-Code is invalid: {"CC-Money":{"Unit-Value":{"Value-Digits":1,"Exponent":-6},
+  "Currency-Code":978e0}}
+Currency-Code is invalid: {"CC-Money":{"Unit-Value":{"Value-Digits":1,"Exponent":-6},
+  "Currency-Code":-0}}
+Currency-Code is invalid: {"CC-Money":{"Unit-Value":{"Value-Digits":1,"Exponent":-6},
+  "Currency-Code":-1}}
+Currency-Code is invalid: {"CC-Money":{"Unit-Value":{"Value-Digits":1,"Exponent":-6},
+  "Currency-Code":1000}}
+Currency-Code is invalid: {"CC-Money":{"Unit-Value":{"Value-Digits":1,"Exponent":-6},
+  "Currency-Code":18446744073709551616}}
 read: {"CC-Money":{"Unit-Value":{"Value-Digits":1,"Exponent":-6},"Currency-Code":0}}
 read: {"CC-Money":{"Unit-Value":{"Value-Digits":1,"Exponent":-6},"Currency-Code":978}}
 read: {"CC-Money":{"Unit-Value":{"Value-Digits":1,"Exponent":-6},"Currency-Code":999}}
-read: {"CC-Time":null,"CC-Money":{"Currency-Code":978,"More":5,"Unit-Value":{"Exponent":-6,"Value-Digits":1}}}
-read: {"CC-Money":{"Unit-Value":{"Value-Digits":1,"Exponent":-6},"Currency-Code":978}},"Multiple-Services-Credit-Control":5
-read: {"CC-Money":{"Unit-Value":{"Value-Digits":1,"Exponent":-6},"Currency-Code":978}},"Used-Service-Unit":5"##;
+read: {"CC-Time":null,"CC-Money":{"Currency-Code":978,"More":5,"Unit-Value":{"Exponent":-6,
+  "Value-Digits":1}}}
+read: {"CC-Money":{"Unit-Value":{"Value-Digits":1,"Exponent":-6},"Currency-Code":978}},
+  "Multiple-Services-Credit-Control":5
+read: {"CC-Money":{"Unit-Value":{"Value-Digits":1,"Exponent":-6},"Currency-Code":978}},
+  "Used-Service-Unit":5"##;
 
 #[test]
 fn refunds(rt: HostRuntime) -> Result<(), Fail> {
-    try_texts(&rt, rt.alloc(), REFUND, REFUNDS)
+    try_cases(&rt, rt.alloc(), Case::Text, REFUND, REFUNDS)
 }
 
-const VALUE: &str =
-    r##"{"Session-Id":"r1","CC-Request-Type":4,"CC-Request-Number":0,"Subscription-Id":{"Subscription-Id-Type":0,"Subscription-Id-Data":"49151"},"Requested-Action":1,"Requested-Service-Unit":{"CC-Money":{"Unit-Value":{HERE},"Currency-Code":978}}}"##;
+const VALUE: &str = r##"{"Session-Id":"r1","CC-Request-Type":4,"CC-Request-Number":0,
+  "Subscription-Id":{"Subscription-Id-Type":0,"Subscription-Id-Data":"49151"},
+  "Requested-Action":1,"Requested-Service-Unit":{"CC-Money":{"Unit-Value":{HERE},
+  "Currency-Code":978}}}"##;
 
 const VALUES: &str = r##"Value-Digits is invalid: "Value-Digits":null,"Exponent":-6
 Value-Digits is invalid: "Value-Digits":true,"Exponent":-6
@@ -120,5 +138,5 @@ read: "Value-Digits":5,"Exponent":5,"Exponent":0"##;
 
 #[test]
 fn values(rt: HostRuntime) -> Result<(), Fail> {
-    try_texts(&rt, rt.alloc(), VALUE, VALUES)
+    try_cases(&rt, rt.alloc(), Case::Text, VALUE, VALUES)
 }

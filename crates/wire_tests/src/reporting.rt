@@ -1,41 +1,47 @@
 //! The services of updates and terminations.
 
-use crate::tables::try_texts;
+use crate::asking::NO_SERVICES;
+use crate::tables::{Case, try_cases};
 use std::test::Fail;
 
-const UPDATE: &str =
-    r##"{"Session-Id":"s1","CC-Request-Type":2,"CC-Request-Number":1,"Subscription-Id":{"Subscription-Id-Type":0,"Subscription-Id-Data":"49151"},"Multiple-Services-Credit-Control":HERE}"##;
+const UPDATE: &str = r##"{"Session-Id":"s1","CC-Request-Type":2,"CC-Request-Number":1,
+  "Subscription-Id":{"Subscription-Id-Type":0,"Subscription-Id-Data":"49151"},
+  "Multiple-Services-Credit-Control":HERE}"##;
 
-const UPDATES: &str = r##"Multiple-Services-Credit-Control is invalid: null
-Multiple-Services-Credit-Control is invalid: true
-Multiple-Services-Credit-Control is invalid: 5
-Multiple-Services-Credit-Control is invalid: 1.0
-Multiple-Services-Credit-Control is invalid: "x"
-Multiple-Services-Credit-Control is invalid: {}
-Multiple-Services-Credit-Control is invalid: []
-Multiple-Services-Credit-Control is invalid: [5]
-Multiple-Services-Credit-Control is invalid: [{},5]
-Multiple-Services-Credit-Control is invalid: [{"Rating-Group":0},{"Rating-Group":1},{"Rating-Group":2},{"Rating-Group":3},{"Rating-Group":4},{"Rating-Group":5},{"Rating-Group":6},{"Rating-Group":7},{"Rating-Group":8},{"Rating-Group":9},{"Rating-Group":10},{"Rating-Group":11},{"Rating-Group":12},{"Rating-Group":13},{"Rating-Group":14},{"Rating-Group":15},{"Rating-Group":16}]
+const UPDATES: &str = r##"Multiple-Services-Credit-Control is invalid: [{},5]
+Multiple-Services-Credit-Control is invalid: [{"Rating-Group":0},{"Rating-Group":1},
+  {"Rating-Group":2},{"Rating-Group":3},{"Rating-Group":4},{"Rating-Group":5},{"Rating-Group":6},
+  {"Rating-Group":7},{"Rating-Group":8},{"Rating-Group":9},{"Rating-Group":10},
+  {"Rating-Group":11},{"Rating-Group":12},{"Rating-Group":13},{"Rating-Group":14},
+  {"Rating-Group":15},{"Rating-Group":16}]
 Rating-Group is missing: [{}]
 Rating-Group is invalid: [{"Rating-Group":10},{"Rating-Group":10}]
 Requested-Service-Unit is invalid: [{"Rating-Group":10,"Requested-Service-Unit":null}]
-Requested-Service-Unit is invalid: [{"Rating-Group":10,"Requested-Service-Unit":{"CC-Time":0},"Used-Service-Unit":[]}]
+Requested-Service-Unit is invalid: [{"Rating-Group":10,"Requested-Service-Unit":{"CC-Time":0},
+  "Used-Service-Unit":[]}]
 Used-Service-Unit is invalid: [{"Rating-Group":10,"Used-Service-Unit":[]},{"Rating-Group":10}]
 read: [{"Rating-Group":10}]
 read: [{"Rating-Group":10},{"Rating-Group":11}]
-read: [{"Rating-Group":0},{"Rating-Group":1},{"Rating-Group":2},{"Rating-Group":3},{"Rating-Group":4},{"Rating-Group":5},{"Rating-Group":6},{"Rating-Group":7},{"Rating-Group":8},{"Rating-Group":9},{"Rating-Group":10},{"Rating-Group":11},{"Rating-Group":12},{"Rating-Group":13},{"Rating-Group":14},{"Rating-Group":15}]
+read: [{"Rating-Group":0},{"Rating-Group":1},{"Rating-Group":2},{"Rating-Group":3},
+  {"Rating-Group":4},{"Rating-Group":5},{"Rating-Group":6},{"Rating-Group":7},{"Rating-Group":8},
+  {"Rating-Group":9},{"Rating-Group":10},{"Rating-Group":11},{"Rating-Group":12},
+  {"Rating-Group":13},{"Rating-Group":14},{"Rating-Group":15}]
 read: [{"Rating-Group":10,"Requested-Service-Unit":{}}]
 read: [{"Rating-Group":10,"Used-Service-Unit":[{"CC-Time":1}]}]
-read: [{"Rating-Group":10,"Requested-Service-Unit":{"CC-Time":1},"Used-Service-Unit":[{"CC-Time":1}]}]
-read: [{"Rating-Group":10,"Requested-Service-Unit":{"CC-Total-Octets":1},"Used-Service-Unit":[{"CC-Time":1}]}]"##;
+read: [{"Rating-Group":10,"Requested-Service-Unit":{"CC-Time":1},
+  "Used-Service-Unit":[{"CC-Time":1}]}]
+read: [{"Rating-Group":10,"Requested-Service-Unit":{"CC-Total-Octets":1},
+  "Used-Service-Unit":[{"CC-Time":1}]}]"##;
 
 #[test]
 fn updates(rt: HostRuntime) -> Result<(), Fail> {
-    try_texts(&rt, rt.alloc(), UPDATE, UPDATES)
+    try_cases(&rt, rt.alloc(), Case::Text, UPDATE, NO_SERVICES)?;
+    try_cases(&rt, rt.alloc(), Case::Text, UPDATE, UPDATES)
 }
 
-const USED: &str =
-    r##"{"Session-Id":"s1","CC-Request-Type":2,"CC-Request-Number":1,"Subscription-Id":{"Subscription-Id-Type":0,"Subscription-Id-Data":"49151"},"Multiple-Services-Credit-Control":[{"Rating-Group":10,"Used-Service-Unit":HERE}]}"##;
+const USED: &str = r##"{"Session-Id":"s1","CC-Request-Type":2,"CC-Request-Number":1,
+  "Subscription-Id":{"Subscription-Id-Type":0,"Subscription-Id-Data":"49151"},
+  "Multiple-Services-Credit-Control":[{"Rating-Group":10,"Used-Service-Unit":HERE}]}"##;
 
 const USED_PARTS: &str = r##"Used-Service-Unit is invalid: null
 Used-Service-Unit is invalid: true
@@ -53,18 +59,26 @@ Used-Service-Unit is invalid: [{"Tariff-Change-Usage":0}]
 Used-Service-Unit is invalid: [{"CC-Time":1},5]
 Used-Service-Unit is invalid: [{"CC-Time":1},{}]
 Used-Service-Unit is invalid: [{"CC-Time":1},{"CC-Time":1}]
-Used-Service-Unit is invalid: [{"CC-Time":1,"Tariff-Change-Usage":0},{"CC-Time":2,"Tariff-Change-Usage":0}]
-Used-Service-Unit is invalid: [{"CC-Time":1},{"CC-Time":1,"Tariff-Change-Usage":1},{"CC-Time":1,"Tariff-Change-Usage":1}]
-Used-Service-Unit is invalid: [{"CC-Time":1,"Tariff-Change-Usage":2},{"CC-Time":1},{"CC-Time":1,"Tariff-Change-Usage":2}]
-Used-Service-Unit is invalid: [{"CC-Time":1},{"CC-Time":1,"Tariff-Change-Usage":0},{"CC-Time":1,"Tariff-Change-Usage":1},{"CC-Time":1,"Tariff-Change-Usage":2},{"CC-Time":1,"Tariff-Change-Usage":3}]
-Used-Service-Unit is invalid: [{"CC-Time":1},{"CC-Time":1,"Tariff-Change-Usage":0},{"CC-Time":1,"Tariff-Change-Usage":1},{"CC-Time":1,"Tariff-Change-Usage":2},{"CC-Time":1}]
+Used-Service-Unit is invalid: [{"CC-Time":1,"Tariff-Change-Usage":0},{"CC-Time":2,
+  "Tariff-Change-Usage":0}]
+Used-Service-Unit is invalid: [{"CC-Time":1},{"CC-Time":1,"Tariff-Change-Usage":1},{"CC-Time":1,
+  "Tariff-Change-Usage":1}]
+Used-Service-Unit is invalid: [{"CC-Time":1,"Tariff-Change-Usage":2},{"CC-Time":1},{"CC-Time":1,
+  "Tariff-Change-Usage":2}]
+Used-Service-Unit is invalid: [{"CC-Time":1},{"CC-Time":1,"Tariff-Change-Usage":0},{"CC-Time":1,
+  "Tariff-Change-Usage":1},{"CC-Time":1,"Tariff-Change-Usage":2},{"CC-Time":1,
+  "Tariff-Change-Usage":3}]
+Used-Service-Unit is invalid: [{"CC-Time":1},{"CC-Time":1,"Tariff-Change-Usage":0},{"CC-Time":1,
+  "Tariff-Change-Usage":1},{"CC-Time":1,"Tariff-Change-Usage":2},{"CC-Time":1}]
 Used-Service-Unit is invalid: [{"CC-Time":1},{"CC-Total-Octets":1,"Tariff-Change-Usage":0}]
-Used-Service-Unit is invalid: [{"CC-Service-Specific-Units":1},{"CC-Time":1,"Tariff-Change-Usage":0}]
+Used-Service-Unit is invalid: [{"CC-Service-Specific-Units":1},{"CC-Time":1,
+  "Tariff-Change-Usage":0}]
 Used-Service-Unit is invalid: [{"CC-Time":1,"CC-Total-Octets":1}]
 Used-Service-Unit is invalid: [{"CC-Time":1,"CC-Service-Specific-Units":1}]
 Used-Service-Unit is invalid: [{"CC-Total-Octets":1,"CC-Service-Specific-Units":1}]
 Used-Service-Unit is invalid: [{"CC-Time":1,"CC-Total-Octets":null}]
-Used-Service-Unit is invalid: [{"CC-Time":1,"Tariff-Change-Usage":0},{"CC-Time":1,"CC-Total-Octets":1}]
+Used-Service-Unit is invalid: [{"CC-Time":1,"Tariff-Change-Usage":0},{"CC-Time":1,
+  "CC-Total-Octets":1}]
 Used-Service-Unit is invalid: [{"CC-Time":1,"Tariff-Change-Usage":null}]
 Used-Service-Unit is invalid: [{"CC-Time":1,"Tariff-Change-Usage":true}]
 Used-Service-Unit is invalid: [{"CC-Time":1,"Tariff-Change-Usage":"0"}]
@@ -81,15 +95,17 @@ read: [{"CC-Time":1,"Tariff-Change-Usage":0}]
 read: [{"CC-Time":1,"Tariff-Change-Usage":1}]
 read: [{"CC-Time":1,"Tariff-Change-Usage":2}]
 read: [{"CC-Time":1,"Tariff-Change-Usage":0},{"CC-Time":1,"Tariff-Change-Usage":1}]
-read: [{"CC-Time":1},{"CC-Time":1,"Tariff-Change-Usage":0},{"CC-Time":1,"Tariff-Change-Usage":1},{"CC-Time":1,"Tariff-Change-Usage":2}]
-read: [{"CC-Time":0,"Tariff-Change-Usage":2},{"CC-Time":0,"Tariff-Change-Usage":1},{"CC-Time":1},{"CC-Time":0,"Tariff-Change-Usage":0}]
+read: [{"CC-Time":1},{"CC-Time":1,"Tariff-Change-Usage":0},{"CC-Time":1,"Tariff-Change-Usage":1},
+  {"CC-Time":1,"Tariff-Change-Usage":2}]
+read: [{"CC-Time":0,"Tariff-Change-Usage":2},{"CC-Time":0,"Tariff-Change-Usage":1},{"CC-Time":1},
+  {"CC-Time":0,"Tariff-Change-Usage":0}]
 read: [{"CC-Time":1,"CC-Money":null}]
 read: [{"More":[],"CC-Total-Octets":1}]
 read: 5,"Used-Service-Unit":[{"CC-Time":1}]"##;
 
 #[test]
 fn used_parts(rt: HostRuntime) -> Result<(), Fail> {
-    try_texts(&rt, rt.alloc(), USED, USED_PARTS)
+    try_cases(&rt, rt.alloc(), Case::Text, USED, USED_PARTS)
 }
 
 const USED_UNITS: &str = r##"Used-Service-Unit is invalid: [{"CC-Time":null}]
@@ -134,17 +150,21 @@ read: [{"CC-Service-Specific-Units":1000000000000000000}]"##;
 
 #[test]
 fn used_units(rt: HostRuntime) -> Result<(), Fail> {
-    try_texts(&rt, rt.alloc(), USED, USED_UNITS)
+    try_cases(&rt, rt.alloc(), Case::Text, USED, USED_UNITS)
 }
 
-const TERMINATION: &str =
-    r##"{"Session-Id":"s1","CC-Request-Type":3,"CC-Request-Number":1,"Subscription-Id":{"Subscription-Id-Type":0,"Subscription-Id-Data":"49151"},HERE}"##;
+const TERMINATION: &str = r##"{"Session-Id":"s1","CC-Request-Type":3,"CC-Request-Number":1,
+  "Subscription-Id":{"Subscription-Id-Type":0,"Subscription-Id-Data":"49151"},HERE}"##;
 
 const TERMINATIONS: &str = r##"read: "More":1
 read: "Multiple-Services-Credit-Control":[]
 read: "Multiple-Services-Credit-Control":[{"Rating-Group":10}]
 read: "Multiple-Services-Credit-Control":[{"Rating-Group":10,"Used-Service-Unit":[{"CC-Time":0}]}]
-read: "Multiple-Services-Credit-Control":[{"Rating-Group":0},{"Rating-Group":1},{"Rating-Group":2},{"Rating-Group":3},{"Rating-Group":4},{"Rating-Group":5},{"Rating-Group":6},{"Rating-Group":7},{"Rating-Group":8},{"Rating-Group":9},{"Rating-Group":10},{"Rating-Group":11},{"Rating-Group":12},{"Rating-Group":13},{"Rating-Group":14},{"Rating-Group":15}]
+read: "Multiple-Services-Credit-Control":[{"Rating-Group":0},{"Rating-Group":1},
+  {"Rating-Group":2},{"Rating-Group":3},{"Rating-Group":4},{"Rating-Group":5},{"Rating-Group":6},
+  {"Rating-Group":7},{"Rating-Group":8},{"Rating-Group":9},{"Rating-Group":10},
+  {"Rating-Group":11},{"Rating-Group":12},{"Rating-Group":13},{"Rating-Group":14},
+  {"Rating-Group":15}]
 read: "Requested-Service-Unit":{},"Used-Service-Unit":5
 read: "Requested-Action":9
 Multiple-Services-Credit-Control is invalid: "Multiple-Services-Credit-Control":null
@@ -154,21 +174,36 @@ Multiple-Services-Credit-Control is invalid: "Multiple-Services-Credit-Control":
 Multiple-Services-Credit-Control is invalid: "Multiple-Services-Credit-Control":"x"
 Multiple-Services-Credit-Control is invalid: "Multiple-Services-Credit-Control":{}
 Multiple-Services-Credit-Control is invalid: "Multiple-Services-Credit-Control":[5]
-Multiple-Services-Credit-Control is invalid: "Multiple-Services-Credit-Control":[{"Rating-Group":10},null]
-Multiple-Services-Credit-Control is invalid: "Multiple-Services-Credit-Control":[{"Rating-Group":0},{"Rating-Group":1},{"Rating-Group":2},{"Rating-Group":3},{"Rating-Group":4},{"Rating-Group":5},{"Rating-Group":6},{"Rating-Group":7},{"Rating-Group":8},{"Rating-Group":9},{"Rating-Group":10},{"Rating-Group":11},{"Rating-Group":12},{"Rating-Group":13},{"Rating-Group":14},{"Rating-Group":15},{"Rating-Group":16}]
+Multiple-Services-Credit-Control is invalid:
+   "Multiple-Services-Credit-Control":[{"Rating-Group":10},null]
+Multiple-Services-Credit-Control is invalid:
+   "Multiple-Services-Credit-Control":[{"Rating-Group":0},{"Rating-Group":1},{"Rating-Group":2},
+  {"Rating-Group":3},{"Rating-Group":4},{"Rating-Group":5},{"Rating-Group":6},{"Rating-Group":7},
+  {"Rating-Group":8},{"Rating-Group":9},{"Rating-Group":10},{"Rating-Group":11},
+  {"Rating-Group":12},{"Rating-Group":13},{"Rating-Group":14},{"Rating-Group":15},
+  {"Rating-Group":16}]
 Rating-Group is missing: "Multiple-Services-Credit-Control":[{}]
 Rating-Group is invalid: "Multiple-Services-Credit-Control":[{"Rating-Group":-1}]
-Rating-Group is invalid: "Multiple-Services-Credit-Control":[{"Rating-Group":10},{"Rating-Group":10}]
-Requested-Service-Unit is invalid: "Multiple-Services-Credit-Control":[{"Rating-Group":10,"Requested-Service-Unit":{}}]
-Requested-Service-Unit is invalid: "Multiple-Services-Credit-Control":[{"Rating-Group":10,"Requested-Service-Unit":{"CC-Time":1}}]
-Requested-Service-Unit is invalid: "Multiple-Services-Credit-Control":[{"Rating-Group":10,"Requested-Service-Unit":null}]
-Requested-Service-Unit is invalid: "Multiple-Services-Credit-Control":[{"Rating-Group":10,"Requested-Service-Unit":5}]
-Requested-Service-Unit is invalid: "Multiple-Services-Credit-Control":[{"Rating-Group":10,"Requested-Service-Unit":{},"Used-Service-Unit":5}]
-Used-Service-Unit is invalid: "Multiple-Services-Credit-Control":[{"Rating-Group":10,"Used-Service-Unit":null}]
-Used-Service-Unit is invalid: "Multiple-Services-Credit-Control":[{"Rating-Group":10,"Used-Service-Unit":[]}]
-Used-Service-Unit is invalid: "Multiple-Services-Credit-Control":[{"Rating-Group":10,"Used-Service-Unit":[{}]}]"##;
+Rating-Group is invalid: "Multiple-Services-Credit-Control":[{"Rating-Group":10},
+  {"Rating-Group":10}]
+Requested-Service-Unit is invalid: "Multiple-Services-Credit-Control":[{"Rating-Group":10,
+  "Requested-Service-Unit":{}}]
+Requested-Service-Unit is invalid: "Multiple-Services-Credit-Control":[{"Rating-Group":10,
+  "Requested-Service-Unit":{"CC-Time":1}}]
+Requested-Service-Unit is invalid: "Multiple-Services-Credit-Control":[{"Rating-Group":10,
+  "Requested-Service-Unit":null}]
+Requested-Service-Unit is invalid: "Multiple-Services-Credit-Control":[{"Rating-Group":10,
+  "Requested-Service-Unit":5}]
+Requested-Service-Unit is invalid: "Multiple-Services-Credit-Control":[{"Rating-Group":10,
+  "Requested-Service-Unit":{},"Used-Service-Unit":5}]
+Used-Service-Unit is invalid: "Multiple-Services-Credit-Control":[{"Rating-Group":10,
+  "Used-Service-Unit":null}]
+Used-Service-Unit is invalid: "Multiple-Services-Credit-Control":[{"Rating-Group":10,
+  "Used-Service-Unit":[]}]
+Used-Service-Unit is invalid: "Multiple-Services-Credit-Control":[{"Rating-Group":10,
+  "Used-Service-Unit":[{}]}]"##;
 
 #[test]
 fn terminations(rt: HostRuntime) -> Result<(), Fail> {
-    try_texts(&rt, rt.alloc(), TERMINATION, TERMINATIONS)
+    try_cases(&rt, rt.alloc(), Case::Text, TERMINATION, TERMINATIONS)
 }

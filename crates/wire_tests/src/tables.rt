@@ -6,6 +6,11 @@ use std::process::Abort;
 use std::test::Fail;
 use wire::read_request;
 
+/// The text on fewer lines: one that begins with two spaces goes on with the one before it.
+pub(crate) fn joined(alloc: Global, text: &str) -> Result<String, Fail> {
+    Ok(text.replace(alloc, "\n  ", "")?)
+}
+
 /// How a request is read: `read`, or the fault.
 pub(crate) fn outcome(alloc: Global, body: &[u8]) -> Result<String, Fail> {
     match read_request(alloc, body) {
@@ -14,25 +19,9 @@ pub(crate) fn outcome(alloc: Global, body: &[u8]) -> Result<String, Fail> {
     }
 }
 
-/// Tries the cases `OUTCOME: TEXT`: the text stands for `HERE` in the document, which is read as a request.
-pub(crate) fn try_texts(
-    rt: &impl Abort,
-    alloc: Global,
-    document: &str,
-    cases: &str,
-) -> Result<(), Fail> {
-    for line in cases.lines() {
-        let (expected, text) = line.split_once(": ").ok_or("a case")?;
-        let body = document.replace(alloc, "HERE", text)?;
-        let found = outcome(alloc, body.as_str().as_bytes())?;
-        assert_eq!(rt; found.as_str(), expected, "{text}");
-    }
-    Ok(())
-}
-
 /// The document with the changes of a case, joined by `&`, each `OLD -> NEW`.
 fn changed(rt: &impl Abort, alloc: Global, document: &str, changes: &str) -> Result<String, Fail> {
-    let mut text = String::from_str(alloc, document)?;
+    let mut text = joined(alloc, document)?;
     for change in changes.split(" & ") {
         let (old, new) = change.split_once(" -> ").ok_or("a change")?;
         assert!(rt; text.as_str().contains(old), "{change}");
@@ -41,18 +30,43 @@ fn changed(rt: &impl Abort, alloc: Global, document: &str, changes: &str) -> Res
     Ok(text)
 }
 
-/// Tries the cases `OUTCOME: CHANGES` of a document that is read as a request.
-pub(crate) fn try_changes(
+/// What the cases of a document say.
+#[derive(Clone, Copy)]
+pub(crate) enum Case {
+    /// `OUTCOME: TEXT`: the text stands for `HERE` in the document.
+    Text,
+    /// `OUTCOME: CHANGES`.
+    Changes,
+}
+
+/// The body of a case.
+fn body_of(
     rt: &impl Abort,
     alloc: Global,
+    what: Case,
+    document: &str,
+    text: &str,
+) -> Result<String, Fail> {
+    match what {
+        Case::Text => Ok(document.replace(alloc, "HERE", text)?),
+        Case::Changes => changed(rt, alloc, document, text),
+    }
+}
+
+/// Tries the cases of a document that is read as a request.
+pub(crate) fn try_cases(
+    rt: &impl Abort,
+    alloc: Global,
+    what: Case,
     document: &str,
     cases: &str,
 ) -> Result<(), Fail> {
-    for line in cases.lines() {
-        let (expected, changes) = line.split_once(": ").ok_or("a case")?;
-        let body = changed(rt, alloc, document, changes)?;
+    let cases = joined(alloc, cases)?;
+    for line in cases.as_str().lines() {
+        let (expected, text) = line.split_once(": ").ok_or("a case")?;
+        let body = body_of(rt, alloc, what, document, text)?;
         let found = outcome(alloc, body.as_str().as_bytes())?;
-        assert_eq!(rt; found.as_str(), expected, "{changes}");
+        assert_eq!(rt; found.as_str(), expected, "{text}");
     }
     Ok(())
 }
@@ -101,7 +115,8 @@ pub(crate) fn try_told(
     what: Told,
     cases: &str,
 ) -> Result<(), Fail> {
-    for line in cases.lines() {
+    let cases = joined(alloc, cases)?;
+    for line in cases.as_str().lines() {
         let (text, expected) = line.split_once(" -> ").ok_or("a case")?;
         let found = tell(alloc, what, text)?;
         assert_eq!(rt; found.as_str(), expected, "{text}");

@@ -1,6 +1,6 @@
 //! Texts that are no JSON, or no object.
 
-use crate::tables::{outcome, try_texts};
+use crate::tables::{Case, outcome, try_cases};
 use std::alloc::Global;
 use std::test::Fail;
 
@@ -69,11 +69,11 @@ no JSON object: {} // x"##;
 
 #[test]
 fn objects(rt: HostRuntime) -> Result<(), Fail> {
-    try_texts(&rt, rt.alloc(), WHOLE, OBJECTS)
+    try_cases(&rt, rt.alloc(), Case::Text, WHOLE, OBJECTS)
 }
 
-const BODY: &str =
-    r##"{"Session-Id":"s1","CC-Request-Type":3,"CC-Request-Number":1,"Subscription-Id":{"Subscription-Id-Type":0,"Subscription-Id-Data":"49151"}}"##;
+const BODY: &str = r##"{"Session-Id":"s1","CC-Request-Type":3,"CC-Request-Number":1,
+  "Subscription-Id":{"Subscription-Id-Type":0,"Subscription-Id-Data":"49151"}}"##;
 
 /// How the body is read with these bytes around it.
 fn around(alloc: Global, before: &[u8], after: &[u8]) -> Result<String, Fail> {

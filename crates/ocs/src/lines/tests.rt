@@ -82,27 +82,23 @@ fn play(alloc: Global, credit: u64, text: &str) -> Result<Played, Fail> {
     })
 }
 
-/// The last bucket of account 49151, with its number: credited, available, reserved, charged, expired. All are 0 where
-/// there is none.
-fn last_bucket(alloc: Global, keeper: &mut MemoryKeeper) -> Result<[u64; 6], Fail> {
-    let book = once_book(alloc, 100_000, 60)?;
+/// The last bucket of account 49151 in the order of use, with its number: credited, available, reserved, charged,
+/// expired. All are 0 where there is none.
+fn last_bucket(alloc: Global, keeper: &MemoryKeeper) -> Result<[u64; 6], Fail> {
     let number = AccountNumber::new(alloc, "49151")?.ok_or("an account number")?;
-    let Some(loaded) = keeper.load(&book, &number)? else {
+    let mut buckets = keeper.whole(&number)?.buckets;
+    buckets.sort_by_key(|bucket| (bucket.until().seconds(), bucket.number()))?;
+    let Some(bucket) = buckets.last() else {
         return Ok([0; 6]);
     };
-    let mut seen = [0; 6];
-    for bucket in loaded.account.purse().buckets() {
-        seen = [
-            u64::from(bucket.number()),
-            bucket.credited(),
-            bucket.available(),
-            bucket.reserved(),
-            bucket.charged(),
-            bucket.expired(),
-        ];
-    }
-    keeper.abandon(loaded);
-    Ok(seen)
+    Ok([
+        u64::from(bucket.number()),
+        bucket.credited(),
+        bucket.available(),
+        bucket.reserved(),
+        bucket.charged(),
+        bucket.expired(),
+    ])
 }
 
 /// A grant of two blocks, of which five are used.
@@ -129,7 +125,7 @@ fn a_session_from_line_to_line(rt: HostRuntime) -> Result<(), Fail> {
     let alloc = rt.alloc();
     let mut played = play(alloc, 250_000, SESSION)?;
     assert_eq!(rt; played.written.as_slice(), played.wanted.as_bytes());
-    let seen = last_bucket(alloc, &mut played.keeper)?;
+    let seen = last_bucket(alloc, &played.keeper)?;
     assert_eq!(rt; seen, [1, 250_000, 0, 0, 250_000, 0]);
     Ok(())
 }
@@ -170,7 +166,7 @@ fn a_repeat_has_the_first_answer(rt: HostRuntime) -> Result<(), Fail> {
     let alloc = rt.alloc();
     let mut played = play(alloc, 1_000_000, REPEATS)?;
     assert_eq!(rt; played.written.as_slice(), played.wanted.as_bytes());
-    let seen = last_bucket(alloc, &mut played.keeper)?;
+    let seen = last_bucket(alloc, &played.keeper)?;
     assert_eq!(rt; seen, [1, 1_000_000, 800_000, 100_000, 100_000, 0]);
     Ok(())
 }
@@ -223,13 +219,13 @@ fn a_session_that_ended_by_itself(rt: HostRuntime) -> Result<(), Fail> {
     let alloc = rt.alloc();
     let mut played = play(alloc, 1_000_000, TOO_LATE)?;
     assert_eq!(rt; played.written.as_slice(), played.wanted.as_bytes());
-    let seen = last_bucket(alloc, &mut played.keeper)?;
+    let seen = last_bucket(alloc, &played.keeper)?;
     assert_eq!(rt; seen, [1, 1_000_000, 0, 1_000_000, 0, 0]);
     let book = once_book(alloc, 100_000, 60)?;
     let moment = Moment::of_command(1_767_614_400).ok_or("a moment")?;
     let count = played.keeper.sweep(&book, moment)?;
     assert_eq!(rt; count, 1);
-    let seen = last_bucket(alloc, &mut played.keeper)?;
+    let seen = last_bucket(alloc, &played.keeper)?;
     assert_eq!(rt; seen, [1, 1_000_000, 1_000_000, 0, 0, 0]);
     Ok(())
 }
@@ -249,7 +245,7 @@ fn lines_that_are_no_requests(rt: HostRuntime) -> Result<(), Fail> {
     let alloc = rt.alloc();
     let mut played = play(alloc, 1, UNREAD)?;
     assert_eq!(rt; played.written.as_slice(), played.wanted.as_bytes());
-    let seen = last_bucket(alloc, &mut played.keeper)?;
+    let seen = last_bucket(alloc, &played.keeper)?;
     assert_eq!(rt; seen, [0; 6]);
     Ok(())
 }
@@ -338,7 +334,7 @@ fn refunds(rt: HostRuntime) -> Result<(), Fail> {
     let alloc = rt.alloc();
     let mut played = play(alloc, 1_000_000, REFUNDS)?;
     assert_eq!(rt; played.written.as_slice(), played.wanted.as_bytes());
-    let seen = last_bucket(alloc, &mut played.keeper)?;
+    let seen = last_bucket(alloc, &played.keeper)?;
     assert_eq!(rt; seen, [2, 1, 1, 0, 0, 0]);
     Ok(())
 }
@@ -371,7 +367,7 @@ fn checks_and_enquiries(rt: HostRuntime) -> Result<(), Fail> {
     let alloc = rt.alloc();
     let mut played = play(alloc, 100_000, ENQUIRIES)?;
     assert_eq!(rt; played.written.as_slice(), played.wanted.as_bytes());
-    let seen = last_bucket(alloc, &mut played.keeper)?;
+    let seen = last_bucket(alloc, &played.keeper)?;
     assert_eq!(rt; seen, [1, 100_000, 100_000, 0, 0, 0]);
     Ok(())
 }
@@ -397,7 +393,7 @@ fn debits(rt: HostRuntime) -> Result<(), Fail> {
     let alloc = rt.alloc();
     let mut played = play(alloc, 100_000, DEBITS)?;
     assert_eq!(rt; played.written.as_slice(), played.wanted.as_bytes());
-    let seen = last_bucket(alloc, &mut played.keeper)?;
+    let seen = last_bucket(alloc, &played.keeper)?;
     assert_eq!(rt; seen, [1, 100_000, 0, 0, 100_000, 0]);
     Ok(())
 }
@@ -432,7 +428,7 @@ fn no_opening(rt: HostRuntime) -> Result<(), Fail> {
 }
 
 /// The calls of a keeper by which an account is opened and credited, and one debit is charged.
-const CALLS_OF_ONE_DEBIT: u64 = 11;
+const CALLS_OF_ONE_DEBIT: u64 = 12;
 
 /// The same where the store fails after the first one.
 const ONE_DEBIT: &str =

@@ -1,4 +1,4 @@
-use Rattle.keepers.proofs.AcceptedTables.{tables_none}
+use Rattle.charging.proofs.AcceptedTables.{tables_none}
 use Rattle.charging.specs.Outcomes.{outcome}
 use Rattle.charging.proofs.laws.beginning.Goals as goal
 

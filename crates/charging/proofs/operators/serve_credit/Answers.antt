@@ -4,7 +4,7 @@ use Rattle.commands.specs.declared.command.Content.TheVariants as content
 use Rattle.keepers.specs.Keys.{key_of}
 use Rattle.keepers.specs.Tables.{Tables}
 use Rattle.charging.specs.Stepping.{ServesAt}
-use Rattle.charging.proofs.Loading.{unknown, is_loaded}
+use Rattle.charging.proofs.Serving.{none_loaded, some_loaded}
 use Rattle.charging.proofs.Operated.{credit-unknown, credit-again}
 use Rattle.charging.proofs.operators.serve_credit.Goals as goal
 
@@ -17,7 +17,7 @@ pub returns-in_default-2-clause-served : goal.returns-in_default-2-clause-served
 returns-in_default-2-clause-served g c = λ clean list time is le.
     let same = c.in_ok-kept.ensures.same (c.in_ok-loaded.ensures.cleanness clean) in
     credit-unknown c.args.book.now list c.args.credit c.args.moment (g.K.Keeper.content c.args.keeper.now) (g.K.Keeper.content c.load.new.self) time le is
-    (unknown c.args.book.now c.args.credit.account (g.K.Keeper.content c.find_credit.new.keeper) (g.K.Keeper.content c.args.keeper.now) c.in_ok-loaded.field-0 same (c.in_ok-loaded.ensures.found clean) c.in_default-2.is)
+    (none_loaded c.args.book.now c.args.moment c.args.credit.account (g.K.Keeper.content c.find_credit.new.keeper) (g.K.Keeper.content c.args.keeper.now) c.in_ok-loaded.field-0 same (c.in_ok-loaded.ensures.found clean) c.in_default-2.is)
     (c.in_ok-loaded.ensures.same clean ∙ same)
 
 pub returns-clause-served : goal.returns-clause-served
@@ -26,7 +26,7 @@ returns-clause-served g c = λ clean.
     let clean_find = c.in_ok-loaded.ensures.cleanness clean_load in
     let same_load = c.in_ok-loaded.ensures.same clean_load in
     let same = c.in_ok-kept.ensures.same clean_find in
-    let loads = is_loaded c.args.book.now c.args.credit.account (g.K.Keeper.content c.find_credit.new.keeper) (g.K.Keeper.content c.load.new.self) c.in_ok-loaded.field-0 c.in-Some-2.loaded (sym same_load) (c.in_ok-loaded.ensures.found clean_load) c.in-Some-2.is in
+    let loads = some_loaded c.args.book.now c.args.moment c.args.credit.account (g.K.Keeper.content c.find_credit.new.keeper) (g.K.Keeper.content c.load.new.self) c.in_ok-loaded.field-0 c.in-Some-2.loaded (sym same_load) (c.in_ok-loaded.ensures.found clean_load) c.in-Some-2.is in
     let fresh = (λ i. ((same_load ∙ same) i).answers c.args.credit.account (key_of (content.Credit c.args.credit))) ∙ sym (c.in_ok-kept.ensures.found clean_find) ∙ c.in_default.is in
     subst (λ (x : Tables). ServesAt c.args.book.now (command.Credit c.args.credit) c.args.moment x (g.K.Keeper.content c.credit_account.new.keeper) c.credit_account.result) (same_load ∙ same)
     (c.credit_account.ensures.served clean c.args.book.now loads fresh)

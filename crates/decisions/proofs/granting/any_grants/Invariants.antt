@@ -1,8 +1,8 @@
 use Rattle.std.proofs.Common.{◌≡◌, drop}
 use Rattle.reserving.specs.Ledger.{Ledger}
-use Rattle.reserving.specs.Rows.{IsRowsOf}
+use Rattle.reserving.specs.Left.{LeftRows, IsWith}
 use Rattle.decisions.specs.Granting.{any_grants}
 use Rattle.decisions.proofs.granting.any_grants.Given as goal
 
 abbrev pub invariant-loop-service : goal.invariant-loop-service
-invariant-loop-service l = (ledger : Ledger) → IsRowsOf ledger l.account → any_grants l.account.book l.moment ledger l.services ≡ any_grants l.account.book l.moment ledger (drop l.service-index l.services)
+invariant-loop-service l = (ledger : Ledger) (left : LeftRows) → IsWith ledger left l.moment l.account → any_grants l.account.book l.moment ledger l.services ≡ any_grants l.account.book l.moment ledger (drop l.service-index l.services)

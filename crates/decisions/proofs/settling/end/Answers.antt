@@ -1,22 +1,12 @@
-use Rattle.std.proofs.Common.{◌≡◌, ◌<◌, true, map, sym, subst, arith}
-use Rattle.reserving.specs.Sessions.{is_live_in}
-use Rattle.tariffs.specs.Books.{Book, IsBook}
 use Rattle.reserving.specs.Requests.{touched}
-use Rattle.reserving.specs.Rows.{AccountRows}
-use Rattle.reserving.specs.Changes.{lapse}
-use Rattle.decisions.proofs.Alive.{live_lapsed, live_touched}
+use Rattle.decisions.proofs.Alive.{some_validity, touched_live}
 use Rattle.decisions.proofs.settling.end.Goals as goal
 
 pub close-requires-clause-live : goal.close-requires-clause-live
 close-requires-clause-live c =
-    let a : AccountRows = c.args.account.now in
-    let ranges : IsBook c.book.result.now = c.validity-ranges.ensures.book in
-    let lower : 0 < c.book.result.now.validity = omega (arith, ranges.some_validity) in
-    let some : 0 < a.book.validity = subst (λ (book : Book). 0 < book.validity) c.book.ensures lower in
-    subst (λ (r : AccountRows). is_live_in r.book.validity c.args.moment r.sessions c.args.request.now.session ≡ true) (sym c.touch.ensures.rows)
-    (live_touched a.book.validity c.args.moment c.args.request.now.number c.args.request.now.session (map (lapse a.book.validity c.args.moment) a.sessions) some
-    (live_lapsed a.book.validity c.args.moment a.sessions c.args.request.now.session c.requires.live))
+    touched_live c.args.account.now c.touch.new.self c.args.moment c.args.request.now.number c.args.request.now.session
+    (some_validity c.book.result.now c.args.account.now c.book.ensures c.validity-ranges.ensures.book) c.touch.ensures.rows c.requires.live
 
-pub returns-clause-ledger : goal.returns-clause-ledger
-returns-clause-ledger c = λ ledger rows.
-    c.close.ensures.ledger (touched c.args.moment c.args.request.now.session c.args.request.now.number ledger) (c.touch.ensures.ledger ledger rows)
+pub returns-clause-left : goal.returns-clause-left
+returns-clause-left c = λ ledger left h.
+    c.close.ensures.left (touched c.args.moment c.args.request.now.session c.args.request.now.number ledger) left (c.touch.ensures.left ledger left h)

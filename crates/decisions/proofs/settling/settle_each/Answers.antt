@@ -1,21 +1,21 @@
 use Rattle.std.proofs.Common.{◌≡◌, ◌+◌, ◌++◌, [], drop, List, ◌∷◌, subst, sym, ap, ◌∙◌, arith}
-use Rattle.std.proofs.lemmas.List.{append-nil, at_drop_more}
+use Rattle.std.proofs.Math.ListN.{drop_of_length-le}
+use Rattle.std.proofs.lemmas.List.{append-nil}
 use Rattle.commands.specs.declared.service.Service.{Service}
 use Rattle.tariffs.specs.Books.{Book}
 use Rattle.reserving.specs.declared.charge.ChargeRow.{ChargeRow}
 use Rattle.decisions.specs.Free.{AreFree}
 use Rattle.decisions.specs.Follows.{charges_of}
-use Rattle.decisions.proofs.Services.{SettlesTo, FreesTo, settles_one, frees_one}
+use Rattle.decisions.proofs.Services.{first_left, SettlesTo, FreesTo, settles_one, settles_all, frees_one}
 use Rattle.decisions.proofs.settling.settle_each.Goals as goal
 use Rattle.decisions.proofs.settling.settle_each.Goals.{in-Some, in_default}
 
 pub loop-service-preserved : goal.loop-service-preserved
 loop-service-preserved c =
-    let book : Book = c.args.account.now.book in
     let x : Service = c.service-item.result in
     let rest : List Service = drop (c.loop-service.service-index + 1) c.args.services.now in
-    let left : drop c.loop-service.service-index c.args.services.now ≡ x ∷ rest =
-    at_drop_more (λ ys. ys) c.args.services.now c.loop-service.service-index x (omega arith) ∙ ap (λ y. y ∷ rest) (sym c.service-item.is) in
+    let left : drop c.loop-service.service-index c.args.services.now ≡ x ∷ rest = first_left c.args.services.now c.loop-service.service-index x (omega arith) c.service-item.is in
+    let book : Book = c.args.account.now.book in
     let so : SettlesTo c.args.account.now c.loop-service.account c.args.moment c.args.session.now c.args.services.now (x ∷ rest) c.loop-service.charges.items =
     subst (λ ys. SettlesTo c.args.account.now c.loop-service.account c.args.moment c.args.session.now c.args.services.now ys c.loop-service.charges.items) left c.loop-service.invariant.settles in
     let frees : FreesTo book c.args.session.now c.args.services.now (x ∷ rest) c.loop-service.account.groups =
@@ -34,3 +34,9 @@ loop-service-preserved c =
       later = c.settle.ensures.later;
       tariff = c.settle.ensures.tariff ∙ c.loop-service.invariant.tariff;
     }
+
+pub returns-clause-settles : goal.returns-clause-settles
+returns-clause-settles c =
+    let ended : drop c.loop-service.service-index c.args.services.now ≡ [] = drop_of_length-le c.args.services.now c.loop-service-test.false in
+    settles_all c.args.account.now c.loop-service.account c.args.moment c.args.session.now c.args.services.now c.loop-service.charges.items
+    (subst (λ ys. SettlesTo c.args.account.now c.loop-service.account c.args.moment c.args.session.now c.args.services.now ys c.loop-service.charges.items) ended c.loop-service.invariant.settles)

@@ -1,19 +1,21 @@
-use Rattle.std.proofs.Common.{◌≡◌, sym, ap, ◌∙◌, Some, rules}
-use Rattle.std.specs.Prelude.{option_map}
-use Rattle.reserving.proofs.KeysFound.{unplaced}
-use Rattle.keepers.specs.Change.{loaded}
-use Rattle.keepers.specs.Memory.{is_entry, rows_of_entry}
-use Rattle.keepers.proofs.Found.{found_at}
+use Rattle.std.proofs.Common.{◌≡◌, sym, ap, ◌∙◌, subst, Some, Option, rules}
+use Rattle.std.specs.Option.{option_copied}
+use Rattle.keepers.specs.declared.entries.Entry.{Entry}
+use Rattle.reserving.specs.Stored.{stored}
+use Rattle.keepers.specs.Change.{IsLoadedFrom}
+use Rattle.keepers.specs.Memory.{rows_of_entry}
 use Rattle.keepers.proofs.entries.load_entry.Goals as goal
 
 pub returns-in_default : goal.returns-in_default
 returns-in_default c =
-    ap (λ o. loaded c.args.book.now c.args.number.now (option_map rows_of_entry o))
-    (sym (unplaced (is_entry c.args.number.now) c.args.entries.now (sym c.place_of.ensures ∙ c.in_default.is)))
+    ap (λ o. (rows_of_entry o).head)
+    (sym c.find.ensures ∙ ap option_copied c.in_default.is)
 
 pub returns : goal.returns
 returns c =
-    let there = found_at c.args.number.now c.in-Some.place c.args.entries.now c.index-entries-place.result (sym c.place_of.ensures ∙ c.in-Some.is) c.index-entries-place.is in
-    let same : c.in_ok-number.number ≡ c.args.number.now = search rules in
-    (λ i. Some (record { number = same i; account = c.in_ok-account.ensures i }))
-    ∙ ap (λ o. loaded c.args.book.now c.args.number.now (option_map rows_of_entry o)) (sym there.found)
+    let there = sym c.find.ensures ∙ ap option_copied c.in-Some.is in
+    let same : c.in_ok-number.number ≡ c.args.number.now = search rules in (
+      same,
+      subst (λ (o : Option Entry). IsLoadedFrom c.args.book.now c.args.moment (rows_of_entry o) c.in_ok-account.account) (sym there) c.in_ok-account.ensures,
+      c.into_stored-before.ensures ∙ ap stored c.in_ok-copy.ensures,
+    )

@@ -1,70 +1,83 @@
-use Rattle.std.proofs.Common.{◌≡◌, length, sym, ap, ◌∙◌, None, refl, rules}
-use Rattle.std.specs.Prelude.{position, option_map}
+use Rattle.std.proofs.Common.{◌≡◌, List, [], ◌∷◌, ◌++◌, length, sym, ap, ◌∙◌, Some, None, refl, rules, subst, Option}
+use Rattle.std.specs.Prelude.{position, if◌then◌else◌}
 use Rattle.std.specs.HashMap.{get}
+use Rattle.identifiers.specs.Texts.{same_name}
 use Rattle.keepers.specs.Keys.{same_key}
 use Rattle.keepers.specs.Change.{kept_after}
+use Rattle.keepers.specs.declared.entries.Entry.{Entry}
+use Rattle.keepers.specs.Change.{over, IsMadeFrom}
+use Rattle.keepers.specs.Parts.{rows_of}
 use Rattle.keepers.specs.Memory.{is_entry, entry_in, rows_of_entry, answer_of_entry, charges_of_entry}
-use Rattle.keepers.proofs.Found.{on_err, rows_written, answers_written, charges_written, count_written, rows_left, answers_left, charges_left, rows_added, answers_added, charges_added, count_added}
+use Rattle.keepers.proofs.Placed.{place_added, place_written, on_err, found_at, seen_written, seen_left, count_written, seen_added, count_added}
 use Rattle.keepers.proofs.entries.put_entry.Goals as goal
 
-pub returns-in_err-write_entry-clause-err_accounts : goal.returns-in_err-write_entry-clause-err_accounts
-returns-in_err-write_entry-clause-err_accounts c =
-    on_err c.from_residual.result (λ a. rows_left c.args.number c.in-Some.place c.args.entries.now.items c.index_mut.result.now c.write_entry.new.entry
-    (ap (position (is_entry c.args.number)) (sym c.deref.ensures.value) ∙ sym c.place_of.ensures ∙ c.in-Some.is) c.index_mut.ensures.value c.write_entry.ensures.number
-    a c.in_err-write_entry.ensures.err_rows)
+pub returns-in_err-write_entry-clause-err_rows : goal.returns-in_err-write_entry-clause-err_rows
+returns-in_err-write_entry-clause-err_rows c =
+    on_err c.from_residual.result (λ a. seen_left rows_of_entry c.args.number c.in-Some.place c.args.entries.now.items c.index_mut.result.now c.write_entry.new.entry
+    (sym (c.requires c.args.number) ∙ sym c.place_of.ensures ∙ c.in-Some.is) c.index_mut.ensures.value c.write_entry.ensures.number a (ap rows_of c.in_err-write_entry.ensures.err_rows))
 
 pub returns-in_err-write_entry-clause-err_answers : goal.returns-in_err-write_entry-clause-err_answers
 returns-in_err-write_entry-clause-err_answers c =
-    on_err c.from_residual.result (λ a k. answers_left c.args.number c.in-Some.place c.args.entries.now.items c.index_mut.result.now c.write_entry.new.entry
-    (ap (position (is_entry c.args.number)) (sym c.deref.ensures.value) ∙ sym c.place_of.ensures ∙ c.in-Some.is) c.index_mut.ensures.value c.write_entry.ensures.number
-    a k c.in_err-write_entry.ensures.err_answers)
+    on_err c.from_residual.result (λ a k. seen_left (answer_of_entry k) c.args.number c.in-Some.place c.args.entries.now.items c.index_mut.result.now c.write_entry.new.entry
+    (sym (c.requires c.args.number) ∙ sym c.place_of.ensures ∙ c.in-Some.is) c.index_mut.ensures.value c.write_entry.ensures.number a (c.in_err-write_entry.ensures.err_answers k))
 
 pub returns-in_err-write_entry-clause-err_charges : goal.returns-in_err-write_entry-clause-err_charges
 returns-in_err-write_entry-clause-err_charges c =
-    on_err c.from_residual.result (λ a. charges_left c.args.number c.in-Some.place c.args.entries.now.items c.index_mut.result.now c.write_entry.new.entry
-    (ap (position (is_entry c.args.number)) (sym c.deref.ensures.value) ∙ sym c.place_of.ensures ∙ c.in-Some.is) c.index_mut.ensures.value c.write_entry.ensures.number
-    a c.in_err-write_entry.ensures.err_charges)
+    on_err c.from_residual.result (λ a. seen_left charges_of_entry c.args.number c.in-Some.place c.args.entries.now.items c.index_mut.result.now c.write_entry.new.entry
+    (sym (c.requires c.args.number) ∙ sym c.place_of.ensures ∙ c.in-Some.is) c.index_mut.ensures.value c.write_entry.ensures.number a c.in_err-write_entry.ensures.err_charges)
 
-pub returns-in-Some-clause-accounts : goal.returns-in-Some-clause-accounts
-returns-in-Some-clause-accounts c = λ a.
-    rows_written c.args.number c.in-Some.place c.args.entries.now.items c.index_mut.result.now c.write_entry.new.entry
-    (ap (position (is_entry c.args.number)) (sym c.deref.ensures.value) ∙ sym c.place_of.ensures ∙ c.in-Some.is) c.index_mut.ensures.value c.write_entry.ensures.number
-    a c.args.rows c.in_ok-write_entry.ensures.rows
+pub returns-in-Some-clause-rows : goal.returns-in-Some-clause-rows
+returns-in-Some-clause-rows c = λ before made a.
+    let there = found_at c.args.number c.in-Some.place c.args.entries.now.items c.index_mut.result.now
+    (sym (c.requires c.args.number) ∙ sym c.place_of.ensures ∙ c.in-Some.is) c.index_mut.ensures.value in
+    seen_written rows_of_entry c.args.number c.in-Some.place c.args.entries.now.items c.index_mut.result.now c.write_entry.new.entry
+    (sym (c.requires c.args.number) ∙ sym c.place_of.ensures ∙ c.in-Some.is) c.index_mut.ensures.value c.write_entry.ensures.number (over c.args.rows) a
+    (c.in_ok-write_entry.ensures.rows before (subst (λ (o : Option Entry). IsMadeFrom before c.args.rows (rows_of_entry o)) there.found made))
 
 pub returns-in-Some-clause-answers : goal.returns-in-Some-clause-answers
-returns-in-Some-clause-answers c = λ a k.
-    answers_written c.args.number c.in-Some.place c.args.entries.now.items c.index_mut.result.now c.write_entry.new.entry
-    (ap (position (is_entry c.args.number)) (sym c.deref.ensures.value) ∙ sym c.place_of.ensures ∙ c.in-Some.is) c.index_mut.ensures.value c.write_entry.ensures.number
-    c.args.kept a k c.in_ok-write_entry.ensures.answers
+returns-in-Some-clause-answers c = λ a k. seen_written (answer_of_entry k) c.args.number c.in-Some.place c.args.entries.now.items c.index_mut.result.now c.write_entry.new.entry
+    (sym (c.requires c.args.number) ∙ sym c.place_of.ensures ∙ c.in-Some.is) c.index_mut.ensures.value c.write_entry.ensures.number (kept_after c.args.kept k) a (c.in_ok-write_entry.ensures.answers k)
 
 pub returns-in-Some-clause-charges : goal.returns-in-Some-clause-charges
-returns-in-Some-clause-charges c = λ a.
-    charges_written c.args.number c.in-Some.place c.args.entries.now.items c.index_mut.result.now c.write_entry.new.entry
-    (ap (position (is_entry c.args.number)) (sym c.deref.ensures.value) ∙ sym c.place_of.ensures ∙ c.in-Some.is) c.index_mut.ensures.value c.write_entry.ensures.number
-    c.args.charges.items a c.in_ok-write_entry.ensures.charges
+returns-in-Some-clause-charges c = λ a. seen_written charges_of_entry c.args.number c.in-Some.place c.args.entries.now.items c.index_mut.result.now c.write_entry.new.entry
+    (sym (c.requires c.args.number) ∙ sym c.place_of.ensures ∙ c.in-Some.is) c.index_mut.ensures.value c.write_entry.ensures.number (λ rows. rows ++ c.args.charges.items) a c.in_ok-write_entry.ensures.charges
 
 pub returns-in-Some-clause-count : goal.returns-in-Some-clause-count
 returns-in-Some-clause-count c =
-    count_written c.args.number c.in-Some.place c.args.entries.now.items c.index_mut.result.now c.write_entry.new.entry
-    (ap (position (is_entry c.args.number)) (sym c.deref.ensures.value) ∙ sym c.place_of.ensures ∙ c.in-Some.is) c.index_mut.ensures.value c.write_entry.ensures.number
+    count_written c.args.number c.in-Some.place c.args.entries.now.items c.write_entry.new.entry
+    (sym (c.requires c.args.number) ∙ sym c.place_of.ensures ∙ c.in-Some.is)
 
-pub returns-clause-accounts : goal.returns-clause-accounts
-returns-clause-accounts c = λ a.
-    ap (λ xs. option_map rows_of_entry (entry_in a xs)) c.in_ok-push.ensures.items
-    ∙ rows_added c.args.number c.args.entries.now.items _ (ap (position (is_entry c.args.number)) (sym c.deref.ensures.value) ∙ sym c.place_of.ensures ∙ c.in_default.is) refl a
+none_there : (c : goal.After-push_reserved) → position (is_entry c.args.number) c.args.entries.now.items ≡ None
+none_there c = sym (c.requires c.args.number) ∙ sym c.place_of.ensures ∙ c.in_default.is
+
+added : (c : goal.After-push_reserved) → c.push_reserved.new.self.items ≡ c.args.entries.now.items ++ c.in_ok-entry.entry ∷ []
+added c = c.push_reserved.ensures.items ∙ ap (λ xs. xs ++ c.in_ok-entry.entry ∷ []) c.in_ok-reserve.ensures.items
+
+pub returns-clause-rows : goal.returns-clause-rows
+returns-clause-rows c = λ before made a.
+    ap (λ xs. rows_of_entry (entry_in a xs)) (added c)
+    ∙ seen_added c.args.number c.args.entries.now.items _ (none_there c) c.in_ok-entry.ensures.number rows_of_entry (over c.args.rows) a c.in_ok-entry.ensures.rows
 
 pub returns-clause-answers : goal.returns-clause-answers
 returns-clause-answers c = λ a k.
-    ap (λ xs. answer_of_entry k (entry_in a xs)) c.in_ok-push.ensures.items
-    ∙ answers_added c.args.number c.args.entries.now.items _ (ap (position (is_entry c.args.number)) (sym c.deref.ensures.value) ∙ sym c.place_of.ensures ∙ c.in_default.is) refl c.args.kept a k
-    (λ q. c.in_ok-keep.ensures.ok q ∙ ap (kept_after c.args.kept q) (let none : get same_key c.new-answers.result q ≡ None = search rules in none))
+    ap (λ xs. answer_of_entry k (entry_in a xs)) (added c)
+    ∙ seen_added c.args.number c.args.entries.now.items _ (none_there c) c.in_ok-entry.ensures.number (answer_of_entry k) (kept_after c.args.kept k) a (c.in_ok-entry.ensures.answers k)
 
 pub returns-clause-charges : goal.returns-clause-charges
 returns-clause-charges c = λ a.
-    ap (λ xs. charges_of_entry (entry_in a xs)) c.in_ok-push.ensures.items
-    ∙ charges_added c.args.number c.args.entries.now.items _ (ap (position (is_entry c.args.number)) (sym c.deref.ensures.value) ∙ sym c.place_of.ensures ∙ c.in_default.is) refl a
+    ap (λ xs. charges_of_entry (entry_in a xs)) (added c)
+    ∙ seen_added c.args.number c.args.entries.now.items _ (none_there c) c.in_ok-entry.ensures.number charges_of_entry (λ rows. rows ++ c.args.charges.items) a c.in_ok-entry.ensures.charges
 
 pub returns-clause-count : goal.returns-clause-count
 returns-clause-count c =
-    ap length c.in_ok-push.ensures.items
-    ∙ count_added c.args.number c.args.entries.now.items _ (ap (position (is_entry c.args.number)) (sym c.deref.ensures.value) ∙ sym c.place_of.ensures ∙ c.in_default.is) refl
+    ap length (added c)
+    ∙ count_added c.args.number c.args.entries.now.items _ (none_there c) c.in_ok-entry.ensures.number
+
+pub returns-clause-places : goal.returns-clause-places
+returns-clause-places c = λ a.
+    let same : c.in_ok-key.key ≡ c.args.number = search rules in
+    let last : c.len.result ≡ length c.args.entries.now.items = search rules in
+    c.in_ok-put_place.ensures.done a
+    ∙ (λ i. if same_name (same i) a then Some (last i) else c.requires a i)
+    ∙ place_added c.args.number a c.args.entries.now.items c.in_ok-entry.entry (none_there c) c.in_ok-entry.ensures.number
+    ∙ ap (position (is_entry a)) (sym (added c))

@@ -1,5 +1,5 @@
 use Rattle.reserving.specs.Sessions.{is_live_in}
-use Rattle.reserving.proofs.Lapsing.{lapse_none}
+use Rattle.reserving.proofs.rows.Lapsing.{lapse_none}
 use Rattle.reserving.proofs.advance.lapse_group.Goals as goal
 
 pub returns-then-is_none-clause-purse : goal.returns-then-is_none-clause-purse

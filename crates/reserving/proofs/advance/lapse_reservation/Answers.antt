@@ -1,5 +1,5 @@
 use Rattle.std.proofs.Common.{sym}
-use Rattle.reserving.proofs.Lapsing.{released_rows-none}
+use Rattle.reserving.proofs.rows.Lapsing.{released_rows-none}
 use Rattle.reserving.proofs.advance.lapse_reservation.Goals as goal
 
 pub returns-in_default-clause-purse : goal.returns-in_default-clause-purse

@@ -1,4 +1,4 @@
-use Rattle.std.proofs.Common.{◌≡◌, ◌+◌, ◌∙◌}
+use Rattle.std.proofs.Common.{◌+◌, ◌∙◌}
 use Rattle.reserving.proofs.Reported.{reported_is}
 use Rattle.reserving.proofs.pricing.tally_of.Goals as goal
 

@@ -3,7 +3,7 @@ use Rattle.std.specs.Prelude.{not}
 use Rattle.std.proofs.lemmas.List.{drop-set-lt}
 use Rattle.std.proofs.lemmas.Grind.{common_steps}
 use Rattle.reserving.specs.Changes.{is_other}
-use Rattle.reserving.proofs.Lapsing.{within_at, lapsed_next, lapsable_next}
+use Rattle.reserving.proofs.rows.Lapsing.{within_at, lapsed_next, lapsable_next}
 use Rattle.reserving.proofs.sessions.close_groups.Goals as goal
 
 pub lapse_reservation-requires : goal.lapse_reservation-requires

@@ -1,5 +1,5 @@
-use Rattle.wire_requests.proofs.Said.{head_said}
+use Rattle.wire_requests.proofs.SaidServices.{request_said}
 use Rattle.wire_requests.proofs.reading.request_is_said.Goals as goal
 
 pub returns : goal.returns
-returns c = head_said
+returns c = request_said

@@ -1,6 +1,6 @@
-use Rattle.std.proofs.Common.{◌≡◌, ◌++◌, ◌∷◌, ◌<◌, ◌≤◌, length, get_or, sym, arith, [], Ok}
+use Rattle.std.proofs.Common.{◌≡◌, ◌<◌, ◌≤◌, length, get_or, Ok}
 use Rattle.std.proofs.lemmas.Result.{err_from_is_err_and}
-use Rattle.serde_json.specs.View.{view, items_view}
+use Rattle.serde_json.specs.View.{view}
 use Rattle.json_fields.specs.Gives.{Fails}
 use Rattle.wire_requests.specs.Phases.{service_at}
 use Rattle.json_fields.proofs.Loop.{goes_on, fails_at, is_done}

@@ -1,18 +1,19 @@
-use Rattle.std.proofs.Common.{refl}
+use Rattle.std.proofs.Common.{refl, true, false}
+use Rattle.calendar.proofs.WeekLemmas.{is_week_for}
 use Rattle.calendar.proofs.calendar.Calendar.new.Goals as goal
 
 pub invariant_of-result : goal.invariant_of-result
 invariant_of-result c =
-    let covers = rw c.deref.ensures.value at c.if-week_covered.ensures.covers in
-    record { zone = c.keeps_near.ensures; few = c.requires.few; covered = covers.0 refl; ends = c.requires.ends }
+    let test = rw c.deref.ensures.value at c.if-is_week.ensures in
+    record { zone = c.keeps_near.ensures; week = (is_week_for c.args.entries.items true test).0 refl }
 
-pub returns-then-week_covered-clause-covered : goal.returns-then-week_covered-clause-covered
-returns-then-week_covered-clause-covered c = rw c.deref.ensures.value at c.if-week_covered.ensures.covers
+pub returns-then-is_week-clause-week : goal.returns-then-is_week-clause-week
+returns-then-is_week-clause-week c = is_week_for c.args.entries.items true (rw c.deref.ensures.value at c.if-is_week.ensures)
 
-pub returns-else-week_covered-clause-covered : goal.returns-else-week_covered-clause-covered
-returns-else-week_covered-clause-covered c = rw c.deref.ensures.value at c.if-week_covered.ensures.covers
+pub returns-else-is_week-clause-week : goal.returns-else-is_week-clause-week
+returns-else-is_week-clause-week c = is_week_for c.args.entries.items false (rw c.deref.ensures.value at c.if-is_week.ensures)
 
-pub returns-then-week_covered-clause-timetable : goal.returns-then-week_covered-clause-timetable
-returns-then-week_covered-clause-timetable c =
-    let covers = rw c.deref.ensures.value at c.if-week_covered.ensures.covers in
-    record { zone = c.keeps_near.ensures; few = c.requires.few; covered = covers.0 refl; ends = c.requires.ends }
+pub returns-then-is_week-clause-timetable : goal.returns-then-is_week-clause-timetable
+returns-then-is_week-clause-timetable c =
+    let test = rw c.deref.ensures.value at c.if-is_week.ensures in
+    record { zone = c.keeps_near.ensures; week = (is_week_for c.args.entries.items true test).0 refl }

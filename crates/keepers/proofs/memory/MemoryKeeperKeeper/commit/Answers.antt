@@ -1,18 +1,17 @@
-use Rattle.std.proofs.Common.{◌+◌, length, refl, ◌∙◌, Some}
-use Rattle.std.specs.Prelude.{if◌then◌else◌, option_map}
-use Rattle.commands.specs.Alike.{same_name}
-use Rattle.keepers.specs.Memory.{entry_in, rows_of_entry}
-use Rattle.keepers.proofs.TableLemmas.{same_tables, is_there}
+use Rattle.std.proofs.Common.{◌≡◌, ◌+◌, length, ◌∙◌}
+use Rattle.std.specs.Prelude.{if◌then◌else◌}
+use Rattle.keepers.specs.Memory.{entry_in}
+use Rattle.keepers.proofs.Placed.{head_there, charge_over}
 use Rattle.keepers.proofs.memory.MemoryKeeperKeeper.commit.Goals as goal
 
 pub returns-clause-done : goal.returns-clause-done
-returns-clause-done c = λ _.
-    let items = c.args.self.now.entries.items in
-    let number = c.args.change.account.number in
-    same_tables _ _ (record {
-      last = refl;
-      accounts = λ a. c.in_ok-put_entry.ensures.accounts a ∙ (λ i. if same_name number a then Some (c.into_stored-rows.ensures i) else option_map rows_of_entry (entry_in a items));
-      answers = λ a k. c.in_ok-put_entry.ensures.answers a k;
-      charges = λ a. c.in_ok-put_entry.ensures.charges a;
-      count = c.in_ok-put_entry.ensures.count ∙ (λ i. if is_there (entry_in number items) i then length items else length items + 1);
+returns-clause-done c = λ _ made.
+    let items = c.args.self.now.accounts.entries.items in
+    let change = c.args.change in
+    (λ i. record {
+      last = change.moment;
+      rows = λ a. c.in_ok-put.ensures.rows change.before made a i;
+      answers = λ a k. c.in_ok-put.ensures.answers a k i;
+      charges = λ a n. charge_over change.number a n items _ change.charges.items (c.in_ok-put.ensures.charges a) i;
+      count = (c.in_ok-put.ensures.count ∙ (λ j. if head_there (entry_in change.number items) j then length items else length items + 1)) i;
     })

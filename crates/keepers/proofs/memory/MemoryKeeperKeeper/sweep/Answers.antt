@@ -1,9 +1,11 @@
-use Rattle.std.proofs.Common.{ap, ◌∙◌}
-use Rattle.keepers.specs.Memory.{memory_tables}
-use Rattle.keepers.proofs.TableLemmas.{swept_entries}
+use Rattle.std.proofs.Common.{◌≡◌, length, sym, ap, ◌∙◌}
+use Rattle.keepers.proofs.SweptEach.{swept_tables, swept_length}
 use Rattle.keepers.proofs.memory.MemoryKeeperKeeper.sweep.Goals as goal
+
+pub returns-clause-count : goal.returns-clause-count
+returns-clause-count c = λ _.
+    c.count.ensures ∙ swept_length c.args.book.now c.args.moment c.args.self.now.accounts.entries.items c.advance.new.self.entries.items c.advance.ensures
 
 pub returns-clause-done : goal.returns-clause-done
 returns-clause-done c = λ _.
-    ap (memory_tables c.args.moment) c.advance_entries.ensures
-    ∙ swept_entries c.args.book.now c.args.moment c.args.self.now.last c.args.self.now.entries.items
+    swept_tables c.args.book.now c.args.moment c.args.self.now.last c.args.self.now.accounts.entries.items c.advance.new.self.entries.items c.advance.ensures

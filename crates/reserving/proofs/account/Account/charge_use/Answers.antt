@@ -1,25 +1,24 @@
-use Rattle.std.proofs.Common.{◌≡◌, ◌≤◌, ◌<◌, ◌+◌, sym, subst}
+use Rattle.std.proofs.Common.{◌≤◌, ◌+◌, sym, ap, subst, ◌∙◌}
 use Rattle.buckets.specs.Holding.{IsWithin}
 use Rattle.reserving.specs.Pricing.{cycle_at}
 use Rattle.reserving.specs.Rows.{AccountRows, IsAccount}
-use Rattle.reserving.specs.Changes.{used_in, count_in}
-use Rattle.reserving.proofs.DebitedKept.{within_none, IsAccount-debited}
-use Rattle.reserving.proofs.Debited.{debited_parts}
+use Rattle.reserving.specs.Changes.{count_in, debited_account}
+use Rattle.reserving.proofs.kept.Debited.{within_none, IsAccount-debited}
+use Rattle.reserving.proofs.calls.Debited.{debited_parts}
 use Rattle.reserving.specs.Inside.{rows_of}
 use Rattle.reserving.proofs.account.Account.charge_use.Goals as goal
 
 pub settle-charged-requires : goal.settle-charged-requires
 settle-charged-requires c =
-    subst (λ h. IsWithin h c.self.inside.purse) (sym c.none-none_held.ensures) (within_none c.self.inside.purse)
+    subst (λ h. IsWithin h c.self.inside.rows.purse) (sym c.none-none_held.ensures) (within_none c.self.inside.rows.purse)
 
 pub invariant_of-self : goal.invariant_of-self
 invariant_of-self c =
     let a : AccountRows = rows_of c.self.inside in
-    let is : a ≡ c.args.self.now = c.self.view_is in
-    let cycle : c.args.cycle ≡ cycle_at a.book c.args.group a.as_of = subst (λ x. c.args.cycle ≡ cycle_at x.book c.args.group x.as_of) (sym is) c.requires.cycle in
-    let used : used_in c.args.session.now c.args.group a.groups + c.args.rated.units.0 ≤ 1000000000000000000 = subst (λ x. used_in c.args.session.now c.args.group x.groups + c.args.rated.units.0 ≤ 1000000000000000000) (sym is) c.requires.used in
-    let counted : count_in c.args.group c.args.cycle a.counters + c.args.rated.blocks.0 ≤ 4000000000000000000 = subst (λ x. count_in c.args.group c.args.cycle x.counters + c.args.rated.blocks.0 ≤ 4000000000000000000) (sym is) c.requires.counted in
-    let charges : a.next_charge < 4294967296 = subst (λ x. x.next_charge < 4294967296) (sym is) c.requires.charges in
+    let now : AccountRows = c.args.self.now in
     subst IsAccount (sym (debited_parts a c.args.session.now c.args.group c.args.cycle c.args.rated.units.0 c.args.rated.blocks.0 c.args.rated.amount.0 c.none-none_held.result c.settle-charged.new.self c.count_blocks.new.counters.items c.count_units.new.groups.items
-    cycle c.none-none_held.ensures c.settle-charged.ensures.rows c.count_blocks.ensures c.count_units.ensures))
-    (IsAccount-debited a c.args.session.now c.args.group c.args.rated.units.0 c.args.rated.blocks.0 c.args.rated.amount.0 used (subst (λ x. count_in c.args.group x a.counters + c.args.rated.blocks.0 ≤ 4000000000000000000) cycle counted) charges c.self.invariant)
+    (c.requires.cycle ∙ sym (ap (λ (x : AccountRows). cycle_at x.book c.args.group x.as_of) c.self.view_is)) c.none-none_held.ensures c.settle-charged.ensures.rows c.count_blocks.ensures c.count_units.ensures
+    ∙ ap (debited_account c.args.session.now c.args.group c.args.rated.units.0 c.args.rated.blocks.0 c.args.rated.amount.0) c.self.view_is))
+    (IsAccount-debited now c.args.session.now c.args.group c.args.rated.units.0 c.args.rated.blocks.0 c.args.rated.amount.0 c.requires.used
+    (subst (λ x. count_in c.args.group x now.counters + c.args.rated.blocks.0 ≤ 4000000000000000000) c.requires.cycle c.requires.counted) c.requires.charges
+    (subst IsAccount c.self.view_is c.self.invariant))

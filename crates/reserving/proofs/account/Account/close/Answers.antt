@@ -5,18 +5,18 @@ use Rattle.reserving.specs.Rows.{AccountRows, IsAccount, IsRowsOf}
 use Rattle.reserving.specs.Requests.{closed}
 use Rattle.reserving.specs.Changes.{advanced, closed_account, is_other, lapsed_rows}
 use Rattle.reserving.proofs.Advancing.{is_live_in-is}
-use Rattle.reserving.proofs.Lapsing.{lapsable_of}
-use Rattle.reserving.proofs.Closing.{IsRowsOf-closed}
-use Rattle.reserving.proofs.Kept.{IsAccount-closed, closed-parts}
-use Rattle.reserving.specs.Left.{LeftRows, IsWith}
+use Rattle.reserving.proofs.rows.Lapsing.{lapsable_of}
+use Rattle.reserving.proofs.rows.Closing.{IsRowsOf-closed}
+use Rattle.reserving.proofs.kept.Sessions.{IsAccount-closed, closed-parts}
+use Rattle.reserving.specs.Left.{IsWith}
 use Rattle.reserving.specs.Sessions.{is_live_in}
-use Rattle.reserving.proofs.LeftSettled.{live_later}
-use Rattle.reserving.proofs.LeftSessions.{with_closed}
+use Rattle.reserving.proofs.left.Settled.{live_later}
+use Rattle.reserving.proofs.left.Sessions.{with_closed}
 use Rattle.reserving.specs.Inside.{rows_of}
 use Rattle.reserving.proofs.account.Account.close.Goals as goal
 
 pub close_groups-requires : goal.close_groups-requires
-close_groups-requires c = lapsable_of (λ s. not (is_other c.args.session.now s)) c.self.inside.groups.items c.self.inside.purse c.self.invariant.held
+close_groups-requires c = lapsable_of (λ s. not (is_other c.args.session.now s)) c.self.inside.rows.groups.items c.self.inside.rows.purse c.self.invariant.held
 
 -- the account after time went on
 advanced_is : (c : goal.After-close_session) → rows_of c.self.inside ≡ advanced c.args.moment c.args.self.now
@@ -25,11 +25,11 @@ advanced_is c = c.self.view_is ∙ c.advance.ensures.rows
 after_is : (c : goal.After-close_session) → (let a : AccountRows = record (rows_of c.self.inside) { buckets = c.close_groups.new.purse; sessions = c.close_session.new.sessions.items; groups = c.close_groups.new.groups.items } in a) ≡ closed_account c.args.session.now (advanced c.args.moment c.args.self.now)
 after_is c =
     closed-parts (rows_of c.self.inside) c.args.session.now c.close_groups.new.purse c.close_session.new.sessions.items c.close_groups.new.groups.items
-    (c.close_groups.ensures.purse ∙ ap (λ t. lapsed_rows (is_other c.args.session.now) t c.self.inside.groups.items c.self.inside.purse) moment)
+    (c.close_groups.ensures.purse ∙ ap (λ t. lapsed_rows (is_other c.args.session.now) t c.self.inside.rows.groups.items c.self.inside.rows.purse) moment)
     c.close_session.ensures c.close_groups.ensures.groups
     ∙ ap (closed_account c.args.session.now) (advanced_is c)
   where
-    moment : c.args.moment ≡ c.self.inside.as_of
+    moment : c.args.moment ≡ c.self.inside.rows.as_of
     moment = sym (ap (λ (a : AccountRows). a.as_of) (advanced_is c))
 
 account_of : (c : goal.After-close_session) → IsAccount (advanced c.args.moment c.args.self.now)

@@ -3,9 +3,9 @@ use Rattle.reserving.specs.Rows.{IsRowsOf}
 use Rattle.reserving.specs.Requests.{credited}
 use Rattle.reserving.specs.Changes.{advanced}
 use Rattle.reserving.proofs.Crediting.{IsRowsOf-credited}
-use Rattle.reserving.specs.Left.{LeftRows, IsWith}
+use Rattle.reserving.specs.Left.{IsWith}
 use Rattle.reserving.specs.Rows.{AccountRows}
-use Rattle.reserving.proofs.LeftCredited.{with_credited}
+use Rattle.reserving.proofs.left.Credited.{with_credited}
 use Rattle.reserving.proofs.account.Account.credit.Goals as goal
 
 pub returns-clause-ledger : goal.returns-clause-ledger

@@ -7,16 +7,17 @@ use Rattle.reserving.specs.Pricing.{cycle_at}
 use Rattle.reserving.specs.Settlement.{passes}
 use Rattle.reserving.specs.Sessions.{session_in}
 use Rattle.reserving.specs.Changes.{advanced, used_in, count_in, event_price_in, debited_account}
+use Rattle.reserving.specs.Prepared.{with_rows}
+use Rattle.reserving.specs.declared.settle.Settled.{Settled}
 use Rattle.reserving.specs.Rows.{AccountRows}
 use Rattle.reserving.proofs.Advancing.{session_in-advanced}
-use Rattle.reserving.proofs.SettledCall.{within_used, within_counted, there_later, counter_there, used_middle, count_middle}
+use Rattle.reserving.proofs.calls.Settled.{within_used, within_counted, there_later, counter_there, used_middle, count_middle}
 use Rattle.reserving.proofs.ChargeRows.{charge-numbered}
-use Rattle.reserving.proofs.Debited.{debited_is, covered_is, debit_passes_is, debit_is}
+use Rattle.reserving.proofs.calls.Debited.{IsDebitMade, debited_is, covered_is, debit_passes_is, debit_is}
 use Rattle.reserving.specs.Sessions.{is_of}
-use Rattle.reserving.specs.Left.{LeftRows, joined, IsWith}
 use Rattle.reserving.proofs.LeftTests.{none_each}
-use Rattle.reserving.proofs.LeftReadings.{debit_passes_told, event_price_told}
-use Rattle.reserving.proofs.LeftDebited.{debit_beside, covered_beside}
+use Rattle.reserving.proofs.LeftReadings.{debit_passes_told}
+use Rattle.reserving.proofs.left.Debited.{debit_beside, covered_beside}
 use Rattle.reserving.proofs.account.Account.debit.Goals as goal
 
 pub returns-then-lt-clause-debit : goal.returns-then-lt-clause-debit
@@ -53,19 +54,43 @@ charge_use-charged-requires-clause-counted c =
     let same : count_in c.args.group c.cycle_at-cycle.result c.advance.new.self.counters ≡ count_in c.args.group c.cycle_at-cycle.result c.args.self.now.counters = count_middle c.args.self.now c.advance.new.self c.args.session.now c.args.group c.cycle_at-cycle.result c.args.moment (c.advance.ensures.rows ∙ ap (advanced c.args.moment) c.in_ok-make_rows.ensures.ok) in
     omega (arith, same, cycle, c.in-Some.ensures.blocks, within_counted (used_in c.args.session.now c.args.group c.args.self.now.groups) c.args.units.0 (count_in c.args.group (cycle_at c.args.self.now.book c.args.group c.args.moment) c.args.self.now.counters) c.event_price-price.result.blocks c.args.self.now.next_charge c.in-Some.ensures.some)
 
+-- the units' blocks and their price, by the rows
+started : (c : goal.After-result-4-1) → c.in-Some.rated.blocks.0 ≡ (event_price_in c.args.group c.args.units.0 c.args.moment c.args.self.now).blocks
+started c = c.in-Some.ensures.blocks ∙ ap (λ (x : Rated). x.blocks) c.event_price-price.ensures
+
+price : (c : goal.After-result-4-1) → c.in-Some.rated.amount.0 ≡ (event_price_in c.args.group c.args.units.0 c.args.moment c.args.self.now).amount.0
+price c = ap (λ (x : Amount). x.0) c.in-Some.ensures.amount ∙ ap (λ (x : Rated). x.amount.0) c.event_price-price.ensures
+
+brought : (c : goal.After-result-4-1) → c.advance.new.self ≡ advanced c.args.moment (with_rows c.args.session.now c.args.group c.cycle_at-cycle.result c.args.self.now)
+brought c = c.advance.ensures.rows ∙ ap (advanced c.args.moment) c.in_ok-make_rows.ensures.ok
+
+debited : (c : goal.After-result-4-1) → c.charge_use-charged.new.self ≡ debited_account c.args.session.now c.args.group c.args.units.0 c.in-Some.rated.blocks.0 c.in-Some.rated.amount.0 c.advance.new.self
+debited c =
+    c.charge_use-charged.ensures.rows ∙ (λ i. debited_account c.args.session.now c.args.group (c.in-Some.ensures.units i).0 c.in-Some.rated.blocks.0 c.in-Some.rated.amount.0 c.advance.new.self)
+
+abbrev answered : (c : goal.After-result-4-1) → Settled
+answered c = record { blocks = c.in-Some.rated.blocks; rated = c.in-Some.rated.amount; collected = c.charge_use-charged.result.collected; uncollected = c.charge_use-charged.result.uncollected }
+
+made : (c : goal.After-result-4-1) → IsDebitMade c.args.self.now c.advance.new.self c.charge_use-charged.new.self c.args.session.now c.args.group c.cycle_at-cycle.result c.args.moment c.args.units.0 c.funds.result.0 (answered c)
+made c =
+    let a : AccountRows = c.args.self.now in
+    record {
+      later = c.requires;
+      cycle = c.cycle_at-cycle.ensures;
+      covers = ap (λ (x : Amount). is_lt (nat_cmp c.funds.result.0 x.0)) c.in-Some.ensures.amount ∙ sym c.lt.ensures ∙ c.if-lt.false;
+      fits = ap (λ (x : Rated). passes (used_in c.args.session.now c.args.group a.groups) c.args.units.0 (count_in c.args.group (cycle_at a.book c.args.group c.args.moment) a.counters) x.blocks a.next_charge) (sym c.event_price-price.ensures) ∙ c.in-Some.ensures.some;
+      started = started c;
+      price = price c;
+      brought = brought c;
+      debited = debited c;
+      missing = c.charge_use-charged.ensures.uncollected;
+      whole = c.charge_use-charged.ensures.collected;
+    }
+
 pub returns-clause-debit : goal.returns-clause-debit
 returns-clause-debit c = λ ledger rows.
-    let a : AccountRows = c.args.self.now in
-    let price : c.in-Some.rated.amount.0 ≡ (event_price_in c.args.group c.args.units.0 c.args.moment a).amount.0 = ap (λ (x : Amount). x.0) c.in-Some.ensures.amount ∙ ap (λ (x : Rated). x.amount.0) c.event_price-price.ensures in
-    let blocks : c.in-Some.rated.blocks.0 ≡ (event_price_in c.args.group c.args.units.0 c.args.moment a).blocks = c.in-Some.ensures.blocks ∙ ap (λ (x : Rated). x.blocks) c.event_price-price.ensures in
-    debit_is ledger a c.advance.new.self c.charge_use-charged.new.self c.args.session.now c.args.group c.cycle_at-cycle.result c.args.moment c.args.units.0 c.funds.result.0 _
-    c.in-Some.ensures.account rows c.requires c.cycle_at-cycle.ensures (c.funds.ensures.ledger ledger rows)
-    (ap (λ (x : Amount). is_lt (nat_cmp c.funds.result.0 x.0)) c.in-Some.ensures.amount ∙ sym c.lt.ensures ∙ c.if-lt.false)
-    (ap (λ (x : Rated). passes (used_in c.args.session.now c.args.group a.groups) c.args.units.0 (count_in c.args.group (cycle_at a.book c.args.group c.args.moment) a.counters) x.blocks a.next_charge) (sym c.event_price-price.ensures) ∙ c.in-Some.ensures.some)
-    blocks price
-    (c.advance.ensures.rows ∙ ap (advanced c.args.moment) c.in_ok-make_rows.ensures.ok)
-    (c.charge_use-charged.ensures.rows ∙ (λ i. debited_account c.args.session.now c.args.group (c.in-Some.ensures.units i).0 c.in-Some.rated.blocks.0 c.in-Some.rated.amount.0 c.advance.new.self))
-    c.charge_use-charged.ensures.uncollected c.charge_use-charged.ensures.collected
+    debit_is ledger c.args.self.now c.advance.new.self c.charge_use-charged.new.self c.args.session.now c.args.group c.cycle_at-cycle.result c.args.moment c.args.units.0 c.funds.result.0 (answered c)
+    c.in-Some.ensures.account rows (c.funds.ensures.ledger ledger rows) (made c)
 
 pub returns-clause-new : goal.returns-clause-new
 returns-clause-new c = λ x h.
@@ -96,24 +121,11 @@ returns-in_default-clause-limit_left c = λ e ledger left gone h.
 
 pub returns-clause-left : goal.returns-clause-left
 returns-clause-left c = λ ledger left gone h.
-    let a : AccountRows = c.args.self.now in
-    let price : c.in-Some.rated.amount.0 ≡ (event_price_in c.args.group c.args.units.0 c.args.moment a).amount.0 = ap (λ (x : Amount). x.0) c.in-Some.ensures.amount ∙ ap (λ (x : Rated). x.amount.0) c.event_price-price.ensures in
-    let blocks : c.in-Some.rated.blocks.0 ≡ (event_price_in c.args.group c.args.units.0 c.args.moment a).blocks = c.in-Some.ensures.blocks ∙ ap (λ (x : Rated). x.blocks) c.event_price-price.ensures in
-    debit_beside ledger left a c.advance.new.self c.charge_use-charged.new.self c.args.session.now c.args.group c.cycle_at-cycle.result c.args.moment c.args.units.0 c.funds.result.0 _
-    h gone c.requires c.cycle_at-cycle.ensures (c.funds.ensures.left ledger left h)
-    (ap (λ (x : Amount). is_lt (nat_cmp c.funds.result.0 x.0)) c.in-Some.ensures.amount ∙ sym c.lt.ensures ∙ c.if-lt.false)
-    (ap (λ (x : Rated). passes (used_in c.args.session.now c.args.group a.groups) c.args.units.0 (count_in c.args.group (cycle_at a.book c.args.group c.args.moment) a.counters) x.blocks a.next_charge) (sym c.event_price-price.ensures) ∙ c.in-Some.ensures.some)
-    blocks price
-    (c.advance.ensures.rows ∙ ap (advanced c.args.moment) c.in_ok-make_rows.ensures.ok)
-    (c.charge_use-charged.ensures.rows ∙ (λ i. debited_account c.args.session.now c.args.group (c.in-Some.ensures.units i).0 c.in-Some.rated.blocks.0 c.in-Some.rated.amount.0 c.advance.new.self))
-    c.charge_use-charged.ensures.uncollected c.charge_use-charged.ensures.collected
+    debit_beside ledger left c.args.self.now c.advance.new.self c.charge_use-charged.new.self c.args.session.now c.args.group c.cycle_at-cycle.result c.args.moment c.args.units.0 c.funds.result.0 (answered c)
+    h gone (c.funds.ensures.left ledger left h) (made c)
 
 pub returns-clause-by_rows : goal.returns-clause-by_rows
 returns-clause-by_rows c =
     let a : AccountRows = c.args.self.now in
-    let price : c.in-Some.rated.amount.0 ≡ (event_price_in c.args.group c.args.units.0 c.args.moment a).amount.0 = ap (λ (x : Amount). x.0) c.in-Some.ensures.amount ∙ ap (λ (x : Rated). x.amount.0) c.event_price-price.ensures in
-    let blocks : c.in-Some.rated.blocks.0 ≡ (event_price_in c.args.group c.args.units.0 c.args.moment a).blocks = c.in-Some.ensures.blocks ∙ ap (λ (x : Rated). x.blocks) c.event_price-price.ensures in
-    debited_is a c.advance.new.self c.charge_use-charged.new.self c.args.session.now c.args.group c.cycle_at-cycle.result c.args.moment c.args.units.0 c.in-Some.rated.blocks.0 c.in-Some.rated.amount.0 c.cycle_at-cycle.ensures
-    (c.advance.ensures.rows ∙ ap (advanced c.args.moment) c.in_ok-make_rows.ensures.ok)
-    (c.charge_use-charged.ensures.rows ∙ (λ i. debited_account c.args.session.now c.args.group (c.in-Some.ensures.units i).0 c.in-Some.rated.blocks.0 c.in-Some.rated.amount.0 c.advance.new.self))
-    ∙ (λ i. debited_account c.args.session.now c.args.group c.args.units.0 (blocks i) (price i) (advanced c.args.moment a))
+    debited_is a c.advance.new.self c.charge_use-charged.new.self c.args.session.now c.args.group c.cycle_at-cycle.result c.args.moment c.args.units.0 c.in-Some.rated.blocks.0 c.in-Some.rated.amount.0 c.cycle_at-cycle.ensures (brought c) (debited c)
+    ∙ (λ i. debited_account c.args.session.now c.args.group c.args.units.0 (started c i) (price c i) (advanced c.args.moment a))

@@ -1,9 +1,9 @@
 use Rattle.std.proofs.Common.{sym, subst}
 use Rattle.reserving.specs.Rows.{IsRowsOf}
 use Rattle.reserving.specs.Requests.{recorded}
-use Rattle.reserving.proofs.Touching.{IsRowsOf-denied}
+use Rattle.reserving.proofs.rows.Touching.{IsRowsOf-denied}
 use Rattle.reserving.specs.Left.{IsWith}
-use Rattle.reserving.proofs.LeftSessions.{with_denied}
+use Rattle.reserving.proofs.left.Sessions.{with_denied}
 use Rattle.reserving.proofs.account.Account.deny.Goals as goal
 
 pub returns-clause-ledger : goal.returns-clause-ledger

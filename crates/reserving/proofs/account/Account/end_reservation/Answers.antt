@@ -2,15 +2,15 @@ use Rattle.std.proofs.Common.{sym, ap, subst, ◌∙◌}
 use Rattle.buckets.specs.Holding.{IsWithin}
 use Rattle.reserving.specs.Rows.{AccountRows, IsAccount}
 use Rattle.reserving.specs.Changes.{ended_rows}
-use Rattle.reserving.proofs.SettledKept.{within_of, IsAccount-ended}
-use Rattle.reserving.proofs.SettledParts.{ended_parts}
+use Rattle.reserving.proofs.kept.Settled.{within_of, IsAccount-ended}
+use Rattle.reserving.proofs.calls.RowParts.{ended_parts}
 use Rattle.reserving.specs.Inside.{rows_of}
 use Rattle.reserving.proofs.account.Account.end_reservation.Goals as goal
 
 pub release-requires : goal.release-requires
 release-requires c =
-    subst (λ h. IsWithin h c.self.inside.purse) (sym c.end_group-holds.ensures.holds)
-    (within_of c.args.session.now c.args.group c.self.inside.groups.items c.self.inside.purse c.self.invariant.held)
+    subst (λ h. IsWithin h c.self.inside.rows.purse) (sym c.end_group-holds.ensures.holds)
+    (within_of c.args.session.now c.args.group c.self.inside.rows.groups.items c.self.inside.rows.purse c.self.invariant.held)
 
 pub invariant_of-self : goal.invariant_of-self
 invariant_of-self c =

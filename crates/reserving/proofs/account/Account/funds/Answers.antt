@@ -5,19 +5,19 @@ use Rattle.buckets.specs.Spend.{funds}
 use Rattle.reserving.specs.Sessions.{is_live_in}
 use Rattle.reserving.specs.Rows.{IsAccount}
 use Rattle.reserving.specs.Changes.{advanced, lapsed_in, funds_later}
-use Rattle.reserving.proofs.LaterFunds.{funds_later-is}
+use Rattle.reserving.proofs.rows.LaterFunds.{funds_later-is}
 use Rattle.reserving.proofs.Advancing.{IsRowsOf-advanced}
 use Rattle.reserving.proofs.LeftReadings.{funds_told}
 use Rattle.reserving.proofs.account.Account.funds.Goals as goal
 
 pub returns-clause-rows : goal.returns-clause-rows
 returns-clause-rows c =
-    let end : length c.self.inside.purse ≤ c.loop-bucket.bucket-index = rw c.buckets-bucket-items.ensures.value at c.loop-bucket-test.false in
-    let all : take c.loop-bucket.bucket-index c.self.inside.purse ≡ c.self.inside.purse = take_all c.loop-bucket.bucket-index c.self.inside.purse end in
+    let end : length c.self.inside.rows.purse ≤ c.loop-bucket.bucket-index = rw c.buckets-bucket-items.ensures.value at c.loop-bucket-test.false in
+    let all : take c.loop-bucket.bucket-index c.self.inside.rows.purse ≡ c.self.inside.rows.purse = take_all c.loop-bucket.bucket-index c.self.inside.rows.purse end in
     c.loop-bucket.invariant.total
-    ∙ ap (funds_later c.args.group c.validity-validity.result c.args.moment c.self.inside.sessions.items c.self.inside.groups.items) all
-    ∙ funds_later-is c.args.group c.validity-validity.result c.args.moment c.self.inside.sessions.items c.self.inside.groups.items c.self.inside.purse
-    ∙ ap (λ v. funds c.args.group c.args.moment (map (λ b. with_end c.args.moment (with_release c.args.moment b (lapsed_in (is_live_in v c.args.moment c.self.inside.sessions.items) c.self.inside.groups.items b))) c.self.inside.purse)) c.validity-validity.ensures.value
+    ∙ ap (funds_later c.args.group c.validity-validity.result c.args.moment c.self.inside.rows.sessions.items c.self.inside.rows.groups.items) all
+    ∙ funds_later-is c.args.group c.validity-validity.result c.args.moment c.self.inside.rows.sessions.items c.self.inside.rows.groups.items c.self.inside.rows.purse
+    ∙ ap (λ v. funds c.args.group c.args.moment (map (λ b. with_end c.args.moment (with_release c.args.moment b (lapsed_in (is_live_in v c.args.moment c.self.inside.rows.sessions.items) c.self.inside.rows.groups.items b))) c.self.inside.rows.purse)) c.validity-validity.ensures.value
     ∙ ap (λ a. funds c.args.group c.args.moment (advanced c.args.moment a).buckets) c.self.view_is
 
 pub returns-clause-ledger : goal.returns-clause-ledger

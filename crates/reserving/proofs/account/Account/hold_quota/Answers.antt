@@ -3,7 +3,7 @@ use Rattle.reserving.specs.Pricing.{periods_at}
 use Rattle.reserving.specs.Rows.{AccountRows, IsAccount}
 use Rattle.reserving.specs.Changes.{reserved_account}
 use Rattle.reserving.specs.Prepared.{reservation_in}
-use Rattle.reserving.proofs.Reserved.{IsAccount-reserved}
+use Rattle.reserving.proofs.rows.Reserved.{IsAccount-reserved}
 use Rattle.reserving.proofs.ReservedCall.{reserved_parts}
 use Rattle.reserving.specs.Inside.{rows_of}
 use Rattle.reserving.proofs.account.Account.hold_quota.Goals as goal

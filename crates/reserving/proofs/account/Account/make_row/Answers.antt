@@ -1,6 +1,6 @@
 use Rattle.std.proofs.Common.{sym, subst}
 use Rattle.reserving.specs.Rows.{AccountRows, IsAccount}
-use Rattle.reserving.proofs.SettledKept.{IsAccount-with_group_row}
+use Rattle.reserving.proofs.kept.Settled.{IsAccount-with_group_row}
 use Rattle.reserving.specs.Inside.{rows_of}
 use Rattle.reserving.proofs.account.Account.make_row.Goals as goal
 

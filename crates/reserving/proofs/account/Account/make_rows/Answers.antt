@@ -1,7 +1,7 @@
 use Rattle.std.proofs.Common.{◌≡◌, sym, ap, subst, ◌∙◌}
 use Rattle.reserving.specs.Rows.{AccountRows, IsAccount}
 use Rattle.reserving.specs.Prepared.{with_counter}
-use Rattle.reserving.proofs.SettledKept.{IsAccount-with_rows}
+use Rattle.reserving.proofs.kept.Settled.{IsAccount-with_rows}
 use Rattle.reserving.specs.Inside.{rows_of}
 use Rattle.reserving.proofs.account.Account.make_rows.Goals as goal
 

@@ -1,4 +1,4 @@
-use Rattle.reserving.proofs.Empty.{IsRowsOf-new}
+use Rattle.reserving.proofs.rows.Empty.{IsRowsOf-new}
 use Rattle.reserving.proofs.account.Account.new.Goals as goal
 
 pub returns-clause-ledger : goal.returns-clause-ledger

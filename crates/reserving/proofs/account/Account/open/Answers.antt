@@ -1,9 +1,9 @@
 use Rattle.std.proofs.Common.{◌<◌, sym, subst, arith}
 use Rattle.reserving.specs.Rows.{IsAccount, IsRowsOf}
 use Rattle.reserving.specs.Requests.{touched}
-use Rattle.reserving.proofs.Touching.{IsRowsOf-opened}
+use Rattle.reserving.proofs.rows.Touching.{IsRowsOf-opened}
 use Rattle.reserving.specs.Left.{IsWith}
-use Rattle.reserving.proofs.LeftSessions.{with_opened}
+use Rattle.reserving.proofs.left.Sessions.{with_opened}
 use Rattle.reserving.proofs.account.Account.open.Goals as goal
 
 pub returns-clause-ledger : goal.returns-clause-ledger

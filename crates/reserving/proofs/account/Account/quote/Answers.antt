@@ -1,6 +1,6 @@
 use Rattle.std.proofs.Common.{ap, ◌∙◌}
 use Rattle.rating.specs.declared.report.Rated.{Rated}
-use Rattle.reserving.proofs.Debited.{event_price_is}
+use Rattle.reserving.proofs.calls.Debited.{event_price_is}
 use Rattle.reserving.proofs.LeftReadings.{event_price_told}
 use Rattle.reserving.proofs.account.Account.quote.Goals as goal
 

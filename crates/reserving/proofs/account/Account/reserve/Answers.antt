@@ -1,4 +1,4 @@
-use Rattle.std.proofs.Common.{◌≡◌, ℕ, ◌≤◌, ◌<◌, List, Option, sym, ap, subst, ◌∙◌, arith, refl}
+use Rattle.std.proofs.Common.{◌≡◌, ℕ, ◌<◌, List, Option, sym, ap, subst, ◌∙◌, arith, refl}
 use Rattle.std.specs.Prelude.{option_map, nat_lt}
 use Rattle.units.specs.declared.blocks.Units.{Units}
 use Rattle.rating.specs.declared.grant.Grant.{Grant}
@@ -7,11 +7,12 @@ use Rattle.buckets.specs.Spend.{funds}
 use Rattle.reserving.specs.Pricing.{periods_at, switch_at, validity_at, cycle_at}
 use Rattle.reserving.specs.Quotas.{IsQuota}
 use Rattle.reserving.specs.Changes.{advanced, used_in, count_in, reserved_account}
+use Rattle.reserving.specs.Prepared.{with_group_row}
 use Rattle.reserving.specs.Rows.{AccountRows}
 use Rattle.reserving.proofs.ReservedCall.{group_there, free_middle, covered_middle, QuotaOf, grant_told, quota_covered, grant_is, within_grant}
-use Rattle.reserving.proofs.StillFree.{others_advanced, others_reserved}
-use Rattle.reserving.specs.Left.{LeftRows, joined, IsWith}
-use Rattle.reserving.proofs.LeftGranted.{nothing_beside, grant_beside}
+use Rattle.reserving.proofs.calls.StillFree.{others_advanced, others_reserved}
+use Rattle.reserving.specs.Left.{IsWith}
+use Rattle.reserving.proofs.left.Granted.{nothing_beside, grant_beside}
 use Rattle.reserving.proofs.account.Account.reserve.Goals as goal
 
 -- the quota that was reckoned with the window's periods
@@ -45,19 +46,35 @@ hold_quota-requires-clause-covered c =
     covered_middle a c.advance-2.new.self c.args.session.now c.args.group c.args.moment c.quota-quota.result.grant.amount.0
     (quota_covered a c.args.session.now c.args.group c.args.moment requested c.quota-quota.result.wanted c.quota-quota.result.grant q) (c.advance-2.ensures.rows ∙ ap (advanced c.args.moment) c.in_ok-room.ensures.ok)
 
+-- what a grant of some units comes from
+abbrev requested_units : (c : goal.After-struct_known-2-1) → Option ℕ
+requested_units c = option_map (λ (u : Units). u.0) c.args.requested
+
+abbrev granted : (c : goal.After-struct_known-2-1) → Grant
+granted c = c.quota-quota.result.grant
+
+quota_told : (c : goal.After-struct_known-2-1) → QuotaOf c.args.self.now c.args.session.now c.args.group c.args.moment (requested_units c) c.quota-quota.result.wanted (granted c)
+quota_told c =
+    quota_is c.args.self.now c.args.session.now c.args.group c.args.moment (requested_units c) c.quota-quota.result.wanted (granted c) c.window_at-window.result.periods
+    (c.window_at-window.ensures.periods ∙ ap (λ (x : AccountRows). periods_at x.book c.args.moment) c.self.view_is) c.quota-quota.ensures.quota
+
+some_units : (c : goal.After-struct_known-2-1) → 0 < (granted c).units.0
+some_units c = omega (arith, c.if-quota-eq0.false)
+
+switch : (c : goal.After-struct_known-2-1) → c.window_at-window.result.switch ≡ switch_at c.args.self.now.book c.args.moment
+switch c = c.window_at-window.ensures.switch ∙ ap (λ (x : AccountRows). switch_at x.book c.args.moment) c.self.view_is
+
+validity : (c : goal.After-struct_known-2-1) → c.window_at-window.result.validity ≡ validity_at c.args.self.now.book c.args.moment
+validity c = c.window_at-window.ensures.validity ∙ ap (λ (x : AccountRows). validity_at x.book c.args.moment) c.self.view_is
+
+brought : (c : goal.After-struct_known-2-1) → c.advance-2.new.self ≡ advanced c.args.moment (with_group_row c.args.session.now c.args.group c.args.self.now)
+brought c = c.advance-2.ensures.rows ∙ ap (advanced c.args.moment) c.in_ok-room.ensures.ok
+
 pub returns-clause-rows : goal.returns-clause-rows
 returns-clause-rows c = λ ledger rows.
-    let a : AccountRows = c.args.self.now in
-    let requested : Option ℕ = option_map (λ (u : Units). u.0) c.args.requested in
-    let grant : Grant = c.quota-quota.result.grant in
-    let periods : c.window_at-window.result.periods ≡ periods_at a.book c.args.moment = c.window_at-window.ensures.periods ∙ ap (λ (x : AccountRows). periods_at x.book c.args.moment) c.self.view_is in
-    let q : QuotaOf a c.args.session.now c.args.group c.args.moment requested c.quota-quota.result.wanted grant = quota_is a c.args.session.now c.args.group c.args.moment requested c.quota-quota.result.wanted grant c.window_at-window.result.periods periods c.quota-quota.ensures.quota in
-    let some : 0 < grant.units.0 = omega (arith, c.if-quota-eq0.false) in
-    grant_is ledger a c.advance-2.new.self c.hold_quota.new.self c.args.session.now c.args.group c.args.moment requested c.quota-quota.result.wanted grant c.window_at-window.result.switch c.window_at-window.result.validity (nat_lt grant.units.0 c.quota-quota.result.wanted)
-    c.quota-quota.ensures.account rows c.requires.moment c.requires.live c.requires.free q some
-    (c.window_at-window.ensures.switch ∙ ap (λ (x : AccountRows). switch_at x.book c.args.moment) c.self.view_is)
-    (c.window_at-window.ensures.validity ∙ ap (λ (x : AccountRows). validity_at x.book c.args.moment) c.self.view_is) refl
-    (c.advance-2.ensures.rows ∙ ap (advanced c.args.moment) c.in_ok-room.ensures.ok) c.hold_quota.ensures
+    grant_is ledger c.args.self.now c.advance-2.new.self c.hold_quota.new.self c.args.session.now c.args.group c.args.moment (requested_units c) c.quota-quota.result.wanted (granted c)
+    c.window_at-window.result.switch c.window_at-window.result.validity (nat_lt (granted c).units.0 c.quota-quota.result.wanted)
+    c.quota-quota.ensures.account rows c.requires.moment c.requires.live c.requires.free (quota_told c) (some_units c) (switch c) (validity c) refl (brought c) c.hold_quota.ensures
 
 pub returns-clause-within : goal.returns-clause-within
 returns-clause-within c =
@@ -93,14 +110,6 @@ returns-then-quota-eq0-clause-left c = λ ledger left h.
 
 pub returns-clause-left : goal.returns-clause-left
 returns-clause-left c = λ ledger left h.
-    let a : AccountRows = c.args.self.now in
-    let requested : Option ℕ = option_map (λ (u : Units). u.0) c.args.requested in
-    let grant : Grant = c.quota-quota.result.grant in
-    let periods : c.window_at-window.result.periods ≡ periods_at a.book c.args.moment = c.window_at-window.ensures.periods ∙ ap (λ (x : AccountRows). periods_at x.book c.args.moment) c.self.view_is in
-    let q : QuotaOf a c.args.session.now c.args.group c.args.moment requested c.quota-quota.result.wanted grant = quota_is a c.args.session.now c.args.group c.args.moment requested c.quota-quota.result.wanted grant c.window_at-window.result.periods periods c.quota-quota.ensures.quota in
-    let some : 0 < grant.units.0 = omega (arith, c.if-quota-eq0.false) in
-    grant_beside ledger left a c.advance-2.new.self c.hold_quota.new.self c.args.session.now c.args.group c.args.moment requested c.quota-quota.result.wanted grant c.window_at-window.result.switch c.window_at-window.result.validity (nat_lt grant.units.0 c.quota-quota.result.wanted)
-    h c.requires.moment c.requires.live c.requires.free q some
-    (c.window_at-window.ensures.switch ∙ ap (λ (x : AccountRows). switch_at x.book c.args.moment) c.self.view_is)
-    (c.window_at-window.ensures.validity ∙ ap (λ (x : AccountRows). validity_at x.book c.args.moment) c.self.view_is) refl
-    (c.advance-2.ensures.rows ∙ ap (advanced c.args.moment) c.in_ok-room.ensures.ok) c.hold_quota.ensures
+    grant_beside ledger left c.args.self.now c.advance-2.new.self c.hold_quota.new.self c.args.session.now c.args.group c.args.moment (requested_units c) c.quota-quota.result.wanted (granted c)
+    c.window_at-window.result.switch c.window_at-window.result.validity (nat_lt (granted c).units.0 c.quota-quota.result.wanted)
+    h c.requires.moment c.requires.live c.requires.free (quota_told c) (some_units c) (switch c) (validity c) refl (brought c) c.hold_quota.ensures

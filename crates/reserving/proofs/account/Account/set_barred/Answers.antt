@@ -1,9 +1,9 @@
 use Rattle.std.proofs.Common.{sym, subst}
 use Rattle.reserving.specs.Rows.{AccountRows, IsRowsOf}
 use Rattle.reserving.specs.Requests.{with_bar}
-use Rattle.reserving.proofs.Barring.{IsRowsOf-barred}
+use Rattle.reserving.proofs.rows.Barring.{IsRowsOf-barred}
 use Rattle.reserving.specs.Left.{IsWith}
-use Rattle.reserving.proofs.LeftSessions.{with_barred}
+use Rattle.reserving.proofs.left.Sessions.{with_barred}
 use Rattle.reserving.proofs.account.Account.set_barred.Goals as goal
 
 pub returns-clause-ledger : goal.returns-clause-ledger

@@ -1,25 +1,16 @@
-use Rattle.std.proofs.Common.{◌≡◌, ℕ, ◌<◌, true, false, List, [], ◌∷◌, sym, ap, ◌∙◌, length, arith, refl}
-use Rattle.std.specs.Prelude.{◌==◌}
-use Rattle.std.proofs.lemmas.Bool.Decides.{nat_tests}
-use Rattle.units.specs.declared.blocks.UsedPart.{UsedPart}
+use Rattle.std.proofs.Common.{◌≡◌, sym, ap, ◌∙◌, arith}
 use Rattle.reserving.specs.Changes.{advanced, used_in, count_in, settled_account, ended_rows}
 use Rattle.reserving.specs.Pricing.{cycle_at}
 use Rattle.reserving.specs.Rows.{AccountRows}
 use Rattle.reserving.specs.Settlement.{passes}
-use Rattle.reserving.proofs.SettledCall.{rows_ended, nothing_settled, within_used, within_counted, passes_is, there_later, counter_there, used_middle, count_middle, rows_settled, settled_is, ended_is, settlement_is}
-use Rattle.reserving.proofs.SettledFree.{ended_free, settled_free}
-use Rattle.reserving.proofs.StillFree.{others_ended, others_settled}
-use Rattle.reserving.proofs.LeftSettled.{left_ended, left_settled}
+use Rattle.reserving.proofs.Lists.{is_nothing, is_something}
+use Rattle.reserving.proofs.calls.Settled.{rows_ended, nothing_settled, within_used, within_counted, passes_is, there_later, counter_there, used_middle, count_middle, rows_settled, settled_is, ended_is, settlement_is}
+use Rattle.reserving.proofs.calls.Freed.{ended_free, settled_free}
+use Rattle.reserving.proofs.calls.StillFree.{others_ended, others_settled}
+use Rattle.reserving.proofs.left.Settled.{left_ended, left_settled}
 use Rattle.reserving.proofs.LeftReadings.{passes_told}
-use Rattle.reserving.proofs.LeftSettlement.{settlement_beside}
+use Rattle.reserving.proofs.left.Settlement.{settlement_beside}
 use Rattle.reserving.proofs.account.Account.settle.Goals as goal
-
-is_nothing : (ps : List UsedPart) → (length ps == 0) ≡ true → ps ≡ []
-is_nothing [] h = refl
-is_nothing (p ∷ ps) h = absurd (let none : length (p ∷ ps) ≡ 0 = grind (arith, nat_tests) in omega arith)
-
-is_something : (ps : List UsedPart) → (length ps == 0) ≡ false → ps ≡ [] → ⊥
-is_something ps h e = let some : (length ps == 0) ≡ true = ap (λ xs. length xs == 0) e in cc
 
 pub returns-then-is_empty-clause-rows : goal.returns-then-is_empty-clause-rows
 returns-then-is_empty-clause-rows c = λ ledger rows.

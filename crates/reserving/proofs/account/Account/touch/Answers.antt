@@ -4,12 +4,12 @@ use Rattle.reserving.specs.Rows.{AccountRows, IsAccount, IsRowsOf}
 use Rattle.reserving.specs.Requests.{touched}
 use Rattle.reserving.specs.Changes.{advanced, touched_account, touched_session}
 use Rattle.reserving.proofs.Advancing.{is_live_in-is}
-use Rattle.reserving.proofs.Closing.{IsRowsOf-touched}
-use Rattle.reserving.proofs.Kept.{IsAccount-touched}
-use Rattle.reserving.specs.Left.{LeftRows, IsWith}
+use Rattle.reserving.proofs.rows.Closing.{IsRowsOf-touched}
+use Rattle.reserving.proofs.kept.Sessions.{IsAccount-touched}
+use Rattle.reserving.specs.Left.{IsWith}
 use Rattle.reserving.specs.Sessions.{is_live_in}
-use Rattle.reserving.proofs.LeftSettled.{live_later}
-use Rattle.reserving.proofs.LeftSessions.{with_touched}
+use Rattle.reserving.proofs.left.Settled.{live_later}
+use Rattle.reserving.proofs.left.Sessions.{with_touched}
 use Rattle.reserving.specs.Inside.{rows_of}
 use Rattle.reserving.proofs.account.Account.touch.Goals as goal
 
@@ -20,10 +20,10 @@ advanced_is c = c.self.view_is ∙ c.advance.ensures.rows
 after_is : (c : goal.After-touch_session) → (let a : AccountRows = record (rows_of c.self.inside) { sessions = c.touch_session.new.sessions.items } in a) ≡ touched_account c.args.session.now c.args.number (advanced c.args.moment c.args.self.now)
 after_is c =
     (λ i. record (rows_of c.self.inside) { sessions = c.touch_session.ensures i })
-    ∙ (λ i. record (rows_of c.self.inside) { sessions = map (touched_session c.args.session.now c.args.number (moment i)) c.self.inside.sessions.items })
+    ∙ (λ i. record (rows_of c.self.inside) { sessions = map (touched_session c.args.session.now c.args.number (moment i)) c.self.inside.rows.sessions.items })
     ∙ ap (touched_account c.args.session.now c.args.number) (advanced_is c)
   where
-    moment : c.args.moment ≡ c.self.inside.as_of
+    moment : c.args.moment ≡ c.self.inside.rows.as_of
     moment = sym (ap (λ (a : AccountRows). a.as_of) (advanced_is c))
 
 pub invariant_of-self : goal.invariant_of-self

@@ -1,0 +1,111 @@
+-- Accepted commands, the newest first: the history that they leave of each account, and the tables that hold it.
+-- Source: profile.
+use Rattle.std.specs.Prelude.{◌≡◌, ℕ, ◌+◌, ◌≤◌, Bool, true, false, if◌then◌else◌, List, [], ◌∷◌, Option, Some, None}
+use Rattle.identifiers.specs.Texts.{same_name}
+use Rattle.commands.specs.declared.command.Command.{Command}
+use Rattle.commands.specs.declared.command.Command.TheVariants as command
+use Rattle.commands.specs.declared.answer.Answer.{Answer}
+use Rattle.tariffs.specs.Books.{Book}
+use Rattle.reserving.specs.Charges.{charge_rows}
+use Rattle.keepers.specs.declared.key.Key.{Key}
+use Rattle.keepers.specs.Tables.{Head, Rows, Tables, no_rows, charge_in}
+use Rattle.keepers.specs.Change.{AreRowsAt}
+use Rattle.charging.specs.Histories.{History, no_history, kept_under}
+
+-- a command with its moment
+pub record Accepted : Type 0 where
+  pub moment : ℕ
+  pub command : Command
+
+-- what a command is answered on an account's history, whether it is accepted, and the history after it
+pub record Outcome : Type 0 where
+  pub answer : Answer
+  pub accepted : Bool
+  pub after : History
+
+-- which accounts a command concerns: one of this number, or each
+pub data Concerned : Type 0 where
+  one : List ℕ → Concerned
+  each : Concerned
+
+abbrev pub concerned_by : Command → Concerned
+concerned_by (command.Ccr r) = one r.account
+concerned_by (command.OpenAccount n) = one n
+concerned_by (command.Credit c) = one c.account
+concerned_by (command.Bar n) = one n
+concerned_by (command.Unbar n) = one n
+concerned_by command.Sweep = each
+
+-- a command names an account where it concerns that one alone
+abbrev pub names : List ℕ → Concerned → Bool
+names a (one b) = same_name b a
+names a each = false
+
+-- a command brings an account to its moment where it concerns that one or each
+abbrev pub reaches : List ℕ → Concerned → Bool
+reaches a (one b) = same_name b a
+reaches a each = true
+
+abbrev pub is_opening : Command → Bool
+is_opening (command.OpenAccount n) = true
+is_opening (command.Ccr r) = false
+is_opening (command.Credit c) = false
+is_opening (command.Bar n) = false
+is_opening (command.Unbar n) = false
+is_opening command.Sweep = false
+
+-- the moment of the last accepted command
+abbrev pub last_moment : List Accepted → ℕ
+last_moment [] = 0
+last_moment (d ∷ before) = d.moment
+
+-- the moment of the last accepted command that names the account or is a sweep
+abbrev pub as_of : List ℕ → List Accepted → ℕ
+as_of a [] = 0
+as_of a (d ∷ before) = if reaches a (concerned_by d.command) then d.moment else as_of a before
+
+-- how many accounts there are
+abbrev pub account_count : List Accepted → ℕ
+account_count [] = 0
+account_count (d ∷ before) = if is_opening d.command then account_count before + 1 else account_count before
+
+-- moments don't fall
+abbrev pub IsInTime : List Accepted → Type 0
+IsInTime [] = Unit {0}
+IsInTime (d ∷ before) = (last_moment before ≤ d.moment) × IsInTime before
+
+-- ---- one account alone
+
+-- the accepted commands that name an account
+abbrev pub own : List ℕ → List Accepted → List Accepted
+own a [] = []
+own a (d ∷ before) = if names a (concerned_by d.command) then d ∷ own a before else own a before
+
+-- the rows of an account that is there, or none
+abbrev pub IsRowOf : Option Head → Book → ℕ → History → Rows → Type 0
+IsRowOf None book t history r = (history.opened ≡ false) × (r ≡ no_rows)
+IsRowOf (Some head) book t history r = (history.opened ≡ true) × AreRowsAt book history.ledger t r
+
+-- an account's rows are those of its history at a moment
+abbrev pub IsRow : Book → ℕ → History → Rows → Type 0
+IsRow book t history r = IsRowOf r.head book t history r
+
+-- by what commands come to on an account's history
+module _ (outcome : History → Command → ℕ → Outcome) where
+  -- the account's history
+  abbrev pub history_of : List ℕ → List Accepted → History
+  history_of a [] = no_history
+  history_of a (d ∷ before) =
+      if names a (concerned_by d.command)
+      then (outcome (history_of a before) d.command d.moment).after
+      else history_of a before
+
+  -- ---- tables
+
+  -- the tables of the accepted commands
+  pub record AreTablesOf (book : Book) (list : List Accepted) (tables : Tables) : Type 0 where
+    pub last : tables.last ≡ last_moment list
+    pub accounts : (a : List ℕ) → IsRow book (as_of a list) (history_of a list) (tables.rows a)
+    pub answers : (a : List ℕ) (k : Key) → tables.answers a k ≡ kept_under k (history_of a list)
+    pub charges : (a : List ℕ) (n : ℕ) → tables.charges a n ≡ charge_in n (charge_rows (history_of a list).ledger)
+    pub count : tables.count ≡ account_count list

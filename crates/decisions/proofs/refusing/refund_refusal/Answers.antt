@@ -1,0 +1,18 @@
+use Rattle.std.proofs.Common.{Some, None, sym, ◌∙◌}
+use Rattle.std.specs.Prelude.{◌==◌, if◌then◌else◌}
+use Rattle.commands.specs.declared.avp.Avp.TheVariants.{SessionId, CurrencyCode}
+use Rattle.decisions.specs.Decided.{invalid}
+use Rattle.decisions.specs.Recorded.{has_record}
+use Rattle.decisions.proofs.Refused.{then_is, else_is}
+use Rattle.decisions.proofs.refusing.refund_refusal.Goals as goal
+
+pub returns-then-has_record-clause-left : goal.returns-then-has_record-clause-left
+returns-then-has_record-clause-left c = λ ledger left t knows h.
+    then_is (Some (invalid SessionId)) (if c.args.refund.currency == c.args.account.now.book.currency then None else Some (invalid CurrencyCode)) (has_record c.args.session.now ledger)
+    (sym c.if-has_record.true ∙ c.has_record.ensures.left ledger left t knows h)
+
+pub returns-clause-left : goal.returns-clause-left
+returns-clause-left c = λ ledger left t knows h.
+    c.currency_refusal.ensures
+    ∙ else_is (Some (invalid SessionId)) (if c.args.refund.currency == c.args.account.now.book.currency then None else Some (invalid CurrencyCode)) (has_record c.args.session.now ledger)
+    (sym c.if-has_record.false ∙ c.has_record.ensures.left ledger left t knows h)

@@ -1,0 +1,3 @@
+pub mod RequestReplies
+pub mod Continuing
+pub mod Taking

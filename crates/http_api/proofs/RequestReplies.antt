@@ -1,0 +1,129 @@
+-- The reply to one request.
+use Rattle.std.proofs.Common.{◌≡◌, ℕ, Bool, List, [], ◌∷◌, refl, sym, ap, subst, inl, inr, arith, Option, Some, None, Result, Ok, Err, OnOk, OnErr}
+use Rattle.std.proofs.KnownBytes.{Appends-nil}
+use Rattle.commands.specs.declared.answer.Answer.{Answer}
+use Rattle.commands.specs.declared.command.Command.{Command}
+use Rattle.json_fields.specs.declared.fault.WireFault.{WireFault}
+use Rattle.json_fields.specs.declared.fault.WireFault.TheVariants.{Memory}
+use Rattle.wire_answers.specs.Spelled.{answer_text, fault_text}
+use Rattle.tariffs.specs.Books.{Book}
+use Rattle.keepers.specs.declared.fault.StoreFault.{StoreFault}
+use Rattle.keepers.specs.Tables.{Tables}
+use Rattle.charging.specs.Accepted.{Accepted}
+use Rattle.charging.specs.Served.{AreTables, Serves}
+use Rattle.http_heads.specs.declared.status.Status.{Status}
+use Rattle.http_heads.specs.declared.status.Status.TheVariants as status
+use Rattle.http_answers.specs.Asking.{Asking, refuses, reads, IsAsked}
+use Rattle.http_answers.specs.declared.asking.Asked.TheVariants as told
+use Rattle.http_answers.specs.Texts.{response, no_members, unable, Begins, TellsRefusal, TellsFault}
+use Rattle.http_api.specs.Clocks.{GivesInTurn}
+use Rattle.http_api.specs.Replies.{refusal, unserved, reply_at, IsDue, MayAsk, ForEachList, Replies}
+
+-- what follows where all went well, or at an error
+pub ok_gives : {A E P Q : Type 0} (r : Result A E) → (P → Q) → OnOk r P → OnOk r Q
+ok_gives (Ok x) f h = f h
+ok_gives (Err e) f h = tt
+
+pub err_gives : {A E P Q : Type 0} (r : Result A E) → (P → Q) → OnErr r P → OnErr r Q
+err_gives (Ok x) f h = tt
+err_gives (Err e) f h = f h
+
+-- nothing is a beginning of a text
+pub begins_none : (w : Option (List ℕ)) (text : List ℕ) → Begins w w text
+begins_none w text = (0, Appends-nil w)
+
+pub at_err : {A E P : Type 0} (r : Result A E) → P → OnErr r P
+at_err (Ok x) h = tt
+at_err (Err e) h = h
+
+may_not : (asking : Asking) → MayAsk asking []
+may_not (refuses code) = refl
+may_not (reads (Err fault)) = refl
+may_not (reads (Ok c)) = omega arith
+
+may_once : (c : Command) (m : Option ℕ) → MayAsk (reads (Ok c)) (m ∷ [])
+may_once c m = omega arith
+
+module _ {C : Type 0} (gives : C → Option ℕ → C → Type 0) (b : Book) (closes : Bool) (Writes : List ℕ → Type 0) where
+  -- no memory or no store
+  unserved_reply : (asking : Asking) (moments : List (Option ℕ)) (c0 c1 : C) (old new : Tables) → MayAsk asking moments → GivesInTurn gives c0 moments c1 →
+      ForEachList b old (λ list. AreTables b list new) → Writes (response status.Unavailable closes unable) → Replies gives b asking closes c0 c1 Writes old new
+  unserved_reply asking moments c0 c1 old new may given same w = record {
+    moments = moments;
+    given = given;
+    text = response status.Unavailable closes unable;
+    written = w;
+    replied = λ list time are. record {
+      reply = unserved list;
+      is_reply = inr (may, refl);
+      written = refl;
+      tables = same list time are;
+      time = time;
+    };
+  }
+
+  -- a request that changes nothing, without the clock
+  due_reply : (asking : Asking) (code : Status) (body : List ℕ) (c : C) (tables : Tables) → ((list : List Accepted) → IsDue b list asking [] (refusal list code body)) →
+      Writes (response code closes body) → Replies gives b asking closes c c Writes tables tables
+  due_reply asking code body c tables due w = record {
+    moments = [];
+    given = refl;
+    text = response code closes body;
+    written = w;
+    replied = λ list time are. record { reply = refusal list code body; is_reply = inl (due list); written = refl; tables = are; time = time };
+  }
+
+  refused_by : (code : Status) (c : C) (tables : Tables) → TellsRefusal closes code Writes → Replies gives b (refuses code) closes c c Writes tables tables
+  refused_by code c tables (inl w) = due_reply (refuses code) code no_members c tables (λ list. (refl, refl)) w
+  refused_by code c tables (inr w) = unserved_reply (refuses code) [] c c tables tables refl refl (λ list time are. are) w
+
+  -- a refusal
+  pub refused_reply : (code : Status) (c : C) (tables : Tables) → TellsRefusal closes code Writes → (asking : Asking) → IsAsked asking (told.Refused code) → Replies gives b asking closes c c Writes tables tables
+  refused_reply code c tables tells (refuses s) asked = subst (λ x. Replies gives b (refuses x) closes c c Writes tables tables) asked (refused_by code c tables tells)
+  refused_reply code c tables tells (reads read) asked = absurd asked
+
+  unread_by : (fault : WireFault) (c : C) (tables : Tables) (read : Result Command WireFault) → TellsFault closes fault Writes → (¬ (fault ≡ Memory) → read ≡ Err fault) →
+      Replies gives b (reads read) closes c c Writes tables tables
+  unread_by fault c tables read (inl w) fails =
+      due_reply (reads read) status.BadRequest (fault_text fault) c tables
+      (λ list. subst (λ r. IsDue b list (reads r) [] (refusal list status.BadRequest (fault_text fault))) (sym (fails w.0)) (refl, refl)) w.1
+  unread_by fault c tables read (inr w) fails = unserved_reply (reads read) [] c c tables tables (may_not (reads read)) refl (λ list time are. are) w
+
+  -- a request that isn't read
+  pub unread_reply : (fault : WireFault) (c : C) (tables : Tables) → TellsFault closes fault Writes → (asking : Asking) → IsAsked asking (told.Unread fault) → Replies gives b asking closes c c Writes tables tables
+  unread_reply fault c tables tells (refuses s) asked = absurd asked
+  unread_reply fault c tables tells (reads read) asked = unread_by fault c tables read tells asked
+
+  -- a command, whatever it is read from
+  pub command_reply : (c : Command) (c0 c1 : C) (old new : Tables) → Replies gives b (reads (Ok c)) closes c0 c1 Writes old new → (asking : Asking) → IsAsked asking (told.Does c) → Replies gives b asking closes c0 c1 Writes old new
+  command_reply c c0 c1 old new replies (refuses s) asked = absurd asked
+  command_reply c c0 c1 old new replies (reads read) asked = subst (λ r. Replies gives b (reads r) closes c0 c1 Writes old new) (sym asked) replies
+
+  -- a clock that doesn't answer
+  pub unclocked_reply : (c : Command) (c0 c1 : C) (tables : Tables) → gives c0 None c1 → Writes (response status.Unavailable closes unable) → Replies gives b (reads (Ok c)) closes c0 c1 Writes tables tables
+  unclocked_reply c c0 c1 tables given w = unserved_reply (reads (Ok c)) (None ∷ []) c0 c1 tables tables (may_once c None) (c1, given, refl) (λ list time are. are) w
+
+  -- a store fault
+  pub failed_reply : (c : Command) (t : ℕ) (c0 c1 : C) (old new : Tables) (fault : StoreFault) → gives c0 (Some t) c1 → Serves b c t old new (Err fault) →
+      Writes (response status.Unavailable closes unable) → Replies gives b (reads (Ok c)) closes c0 c1 Writes old new
+  failed_reply c t c0 c1 old new fault given serves w =
+      unserved_reply (reads (Ok c)) (Some t ∷ []) c0 c1 old new (may_once c (Some t)) (c1, given, refl) (λ list time are. subst (AreTables b list) (sym (serves list time are)) are) w
+
+  -- a command that is served
+  pub served_reply : (c : Command) (t : ℕ) (c0 c1 : C) (old new : Tables) (answer : Answer) → gives c0 (Some t) c1 → Serves b c t old new (Ok answer) →
+      Writes (response status.Ok closes (answer_text answer)) → Replies gives b (reads (Ok c)) closes c0 c1 Writes old new
+  served_reply c t c0 c1 old new answer given serves w = record {
+    moments = Some t ∷ [];
+    given = (c1, given, refl);
+    text = response status.Ok closes (answer_text answer);
+    written = w;
+    replied = λ list time are.
+        let served = serves list time are in
+        record {
+          reply = reply_at b list c (Some t);
+          is_reply = inl (Some t, refl, refl);
+          written = ap (λ a. response status.Ok closes (answer_text a)) served.answer;
+          tables = served.tables;
+          time = served.time;
+        };
+  }

@@ -1,0 +1,109 @@
+-- A connection, one request after another: what is written is a function of the bytes that are read and of the clock's
+-- moments, but that 503 may stand where memory or the store fails.
+-- Source: RFC 9112 sections 2.1, 6 and 9.3; the bounds: profile.
+use Rattle.std.specs.Prelude.{◌≡◌, ◌<◌, ◌≤◌, ◌-◌, ◌==◌, ℕ, zero, suc, Bool, true, if◌then◌else◌}
+use Rattle.std.specs.Prelude.{List, [], ◌++◌, Option, ◌⊎◌}
+use Rattle.std.specs.Io.KnownBytes.{Appends}
+use Rattle.tariffs.specs.Books.{Book}
+use Rattle.keepers.specs.Tables.{Tables}
+use Rattle.charging.specs.Accepted.{Accepted, IsInTime}
+use Rattle.charging.specs.Served.{AreTables}
+use Rattle.http_heads.specs.Requests.{Next, asks, refused, ended, IsNext}
+use Rattle.http_answers.specs.Asking.{Asking, refuses, asked_of}
+use Rattle.http_answers.specs.Texts.{response, Begins}
+use Rattle.http_api.specs.Clocks.{GivesInTurn}
+use Rattle.http_api.specs.Replies.{Reply, IsReply, ForEachList}
+
+-- how many requests a connection still takes, what it has still to read, the accepted commands, the moments that the
+-- clock gave, and what was written
+pub record Connection : Type 0 where
+  pub left : ℕ
+  pub rest : List ℕ
+  pub list : List Accepted
+  pub moments : List (Option ℕ)
+  pub written : List ℕ
+
+-- a new one takes 1,000 requests
+abbrev pub new_connection : List ℕ → List Accepted → Connection
+new_connection stream list = record { left = 1000; rest = stream; list = list; moments = []; written = [] }
+
+-- how many it takes after a request: none where that ends the connection
+abbrev pub left_after : Bool → ℕ → ℕ
+left_after closes left = if closes then 0 else left - 1
+
+-- it after an answer, which says so where no request is taken after it
+abbrev pub after_reply : Connection → Bool → List ℕ → List (Option ℕ) → Reply → Connection
+after_reply old closes rest moments reply = record {
+  left = left_after closes old.left;
+  rest = rest;
+  list = reply.after;
+  moments = old.moments ++ moments;
+  written = old.written ++ response reply.status (left_after closes old.left == 0) reply.body;
+}
+
+-- a request is answered
+pub record IsAnswered (b : Book) (asking : Asking) (closes : Bool) (rest : List ℕ) (old new : Connection) : Type 0 where
+  pub moments : List (Option ℕ)
+  pub reply : Reply
+  pub is_reply : IsReply b old.list asking moments reply
+  pub after : new ≡ after_reply old closes rest moments reply
+
+-- what comes next is answered; after a refusal of the head or of the length nothing more is read
+abbrev pub Takes : Book → Next → Connection → Connection → Type 0
+Takes b (asks ask rest) old new = IsAnswered b (asked_of ask) ask.closes rest old new
+Takes b (refused status) old new = IsAnswered b (refuses status) true [] old new
+Takes b ended old new = ⊥
+
+-- one turn
+pub record IsTurn (b : Book) (old new : Connection) : Type 0 where
+  pub taken : 0 < old.left
+  pub next : Next
+  pub is_next : IsNext old.rest next
+  pub takes : Takes b next old new
+
+-- so many turns
+abbrev pub Turns : Book → ℕ → Connection → Connection → Type 0
+Turns b zero first last = last ≡ first
+Turns b (suc n) first last = (between : Connection) × Turns b n first between × IsTurn b between last
+
+-- no more requests are taken, or the stream ends before a request does
+abbrev pub IsOver : Connection → Type 0
+IsOver last = (last.left ≡ 0) ⊎ IsNext last.rest ended
+
+-- ---- over a reader, a writer, a keeper and a clock
+
+-- so many requests of a stream come to these moments, this text and these tables
+pub record IsTaken (b : Book) (stream : List ℕ) (count : ℕ) (moments : List (Option ℕ)) (text : List ℕ) (content : Tables)
+    (list : List Accepted) : Type 0 where
+  pub last : Connection
+  pub turns : Turns b count (new_connection stream list) last
+  pub given : last.moments ≡ moments
+  pub written : last.written ≡ text
+  pub tables : AreTables b last.list content
+  pub time : IsInTime last.list
+
+-- and the connection is over
+pub record IsWhole (b : Book) (stream : List ℕ) (count : ℕ) (moments : List (Option ℕ)) (text : List ℕ) (content : Tables)
+    (list : List Accepted) : Type 0 where
+  pub taken : IsTaken b stream count moments text content list
+  pub over : IsOver taken.last
+
+-- a stream is served to the end of the connection
+pub record IsServed {C : Type 0} (gives : C → Option ℕ → C → Type 0) (b : Book) (stream : List ℕ) (count : ℕ)
+    (before after : C) (empty full : Option (List ℕ)) (old new : Tables) : Type 0 where
+  pub moments : List (Option ℕ)
+  pub given : GivesInTurn gives before moments after
+  pub text : List ℕ
+  pub written : Appends empty full text
+  pub whole : ForEachList b old (IsWhole b stream count moments text new)
+
+-- so many requests of it were taken, and a beginning of their answers is written
+pub record IsBegun {C : Type 0} (gives : C → Option ℕ → C → Type 0) (b : Book) (stream : List ℕ)
+    (before after : C) (empty full : Option (List ℕ)) (old new : Tables) : Type 0 where
+  pub count : ℕ
+  pub bounded : count ≤ 1000
+  pub moments : List (Option ℕ)
+  pub given : GivesInTurn gives before moments after
+  pub text : List ℕ
+  pub written : Begins empty full text
+  pub taken : ForEachList b old (IsTaken b stream count moments text new)

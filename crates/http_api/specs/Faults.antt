@@ -1,0 +1,18 @@
+-- Faults of serving.
+-- Source: profile.
+use Rattle.std.specs.Prelude.{ℕ}
+use Rattle.byte_streams.specs.declared.StreamFault.{StreamFault}
+use Rattle.byte_streams.specs.declared.StreamFault.TheVariants as stream
+use Rattle.http_api.specs.declared.fault.ServeFault.{ServeFault}
+use Rattle.http_api.specs.declared.fault.ServeFault.TheVariants.{Memory, Read, Write}
+
+abbrev pub fault_number : ServeFault → ℕ
+fault_number Memory = 1
+fault_number Read = 2
+fault_number Write = 3
+
+-- a stream's fault among them
+abbrev pub serve_fault : StreamFault → ServeFault
+serve_fault stream.Memory = Memory
+serve_fault stream.Read = Read
+serve_fault stream.Write = Write

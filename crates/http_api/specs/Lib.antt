@@ -1,0 +1,5 @@
+pub mod Clocks
+pub mod Faults
+pub mod Replies
+pub mod Connections
+pub mod Hearing

@@ -1,0 +1,85 @@
+-- What a request is answered after a list of accepted commands, and the list after it.
+-- Source: profile; the statuses: RFC 9110 section 15.
+use Rattle.std.specs.Prelude.{◌≡◌, ◌≤◌, ℕ, Bool, List, [], ◌∷◌, length, Option, Some, None, Ok, Err, ◌⊎◌}
+use Rattle.commands.specs.declared.command.Command.{Command}
+use Rattle.wire_answers.specs.Spelled.{answer_text, fault_text}
+use Rattle.tariffs.specs.Books.{Book}
+use Rattle.keepers.specs.Tables.{Tables}
+use Rattle.charging.specs.Accepted.{Accepted, IsInTime}
+use Rattle.charging.specs.declared.running.DatedCommand.{DatedCommand}
+use Rattle.charging.specs.Served.{AreTables, moment_of, answer_to, with_command}
+use Rattle.charging.specs.Runs.{after_commands}
+use Rattle.http_heads.specs.declared.status.Status.{Status}
+use Rattle.http_heads.specs.declared.status.Status.TheVariants as status
+use Rattle.http_answers.specs.Asking.{Asking, refuses, reads}
+use Rattle.http_answers.specs.Texts.{response, no_members, unable}
+use Rattle.http_api.specs.Clocks.{GivesInTurn}
+
+-- an answer's status and body, and the accepted commands after it
+pub record Reply : Type 0 where
+  pub status : Status
+  pub body : List ℕ
+  pub after : List Accepted
+
+-- a request that isn't accepted leaves the list
+abbrev pub refusal : List Accepted → Status → List ℕ → Reply
+refusal list code text = record { status = code; body = text; after = list }
+
+-- no memory, no store or no clock
+abbrev pub unserved : List Accepted → Reply
+unserved list = refusal list status.Unavailable unable
+
+-- a command at the clock's moment; without one it isn't served
+abbrev pub reply_at : Book → List Accepted → Command → Option ℕ → Reply
+reply_at b list c None = unserved list
+reply_at b list c (Some t) = record {
+  status = status.Ok;
+  body = answer_text (answer_to b list c (moment_of list t));
+  after = with_command b list c (moment_of list t);
+}
+
+-- what is due, by what a request asks; the clock is asked once for a command, and for nothing else
+abbrev pub IsDue : Book → List Accepted → Asking → List (Option ℕ) → Reply → Type 0
+IsDue b list (refuses code) moments reply = (moments ≡ []) × (reply ≡ refusal list code no_members)
+IsDue b list (reads (Err fault)) moments reply = (moments ≡ []) × (reply ≡ refusal list status.BadRequest (fault_text fault))
+IsDue b list (reads (Ok c)) moments reply = (m : Option ℕ) × (moments ≡ m ∷ []) × (reply ≡ reply_at b list c m)
+
+-- how often the clock may be asked before memory or the store fails
+abbrev pub MayAsk : Asking → List (Option ℕ) → Type 0
+MayAsk (refuses code) moments = moments ≡ []
+MayAsk (reads (Err fault)) moments = moments ≡ []
+MayAsk (reads (Ok c)) moments = length moments ≤ 1
+
+-- what is due; or 503 where memory or the store fails: then the request isn't accepted
+abbrev pub IsReply : Book → List Accepted → Asking → List (Option ℕ) → Reply → Type 0
+IsReply b list asking moments reply = IsDue b list asking moments reply ⊎ (MayAsk asking moments × (reply ≡ unserved list))
+
+-- ---- over a keeper
+
+-- this is so of every list of accepted commands whose tables these are
+abbrev pub ForEachList : Book → Tables → (List Accepted → Type 0) → Type 0
+ForEachList b tables says = (list : List Accepted) → IsInTime list → AreTables b list tables → says list
+
+-- some dated commands came to the list, in time, and these are its tables then
+pub record IsContinued (b : Book) (content : Tables) (list : List Accepted) : Type 0 where
+  pub commands : List DatedCommand
+  pub tables : AreTables b (after_commands b list commands) content
+  pub time : IsInTime (after_commands b list commands)
+
+-- the text is that of a reply, and the tables are those of the list after it
+pub record IsReplied (b : Book) (asking : Asking) (closes : Bool) (moments : List (Option ℕ)) (text : List ℕ) (content : Tables)
+    (list : List Accepted) : Type 0 where
+  pub reply : Reply
+  pub is_reply : IsReply b list asking moments reply
+  pub written : text ≡ response reply.status closes reply.body
+  pub tables : AreTables b reply.after content
+  pub time : IsInTime reply.after
+
+-- what a request leaves: moments that the clock gave, a text that is written, and tables
+pub record Replies {C : Type 0} (gives : C → Option ℕ → C → Type 0) (b : Book) (asking : Asking) (closes : Bool)
+    (before after : C) (Writes : List ℕ → Type 0) (old new : Tables) : Type 0 where
+  pub moments : List (Option ℕ)
+  pub given : GivesInTurn gives before moments after
+  pub text : List ℕ
+  pub written : Writes text
+  pub replied : ForEachList b old (IsReplied b asking closes moments text new)

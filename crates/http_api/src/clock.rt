@@ -1,0 +1,29 @@
+ghost use Rattle.std.specs.Prelude.{◌≡◌, ℕ, Option, Some};
+
+use units::Moment;
+
+/// What tells the time.
+pub trait Clock {
+    /// A call gives this moment, in seconds since 1970, or none, and leaves the clock like this. A clock that says
+    /// nothing of its moments holds of all.
+    ghost gives: { Self → Option ℕ → Self → Type 0 };
+
+    /// The moment now; None where the clock doesn't answer.
+    fn now(&mut self) -> Option<Moment>
+        ensures { gives self.old result self.new };
+}
+
+/// A clock that stands still.
+#[derive(Clone, Copy, Debug, PartialEq, Eq)]
+pub struct FixedClock {
+    /// Its moment.
+    pub moment: Moment,
+}
+
+impl Clock for FixedClock {
+    ghost gives = { λ old given new. (given ≡ Some old.moment) × (new ≡ old) };
+
+    fn now(&mut self) -> Option<Moment> {
+        Some(self.moment)
+    }
+}

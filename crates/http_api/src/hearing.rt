@@ -1,0 +1,63 @@
+ghost use Rattle.std.specs.Prelude.{◌≡◌, ◌≤◌, ◌*◌, ℕ, List, Option, length, IfOk, IfSome};
+ghost use Rattle.http_heads.specs.Requests.{Next, Tells, seen};
+ghost use Rattle.http_answers.specs.Routes.{table};
+ghost use Rattle.http_answers.specs.Asking.{asked_of, IsAsked};
+ghost use Rattle.http_api.specs.Hearing.{Hears, HearsNext};
+
+use byte_streams::StreamFault;
+use http_answers::{Asked, Route, Router, ask};
+use http_heads::{HeaderSpan, Request, Taken, next_request};
+use std::alloc::Global;
+use std::io::Read;
+
+/// A request: what it asks, and whether the connection ends after it.
+#[derive(Drop)]
+pub(crate) struct Heard {
+    pub(crate) asked: Asked,
+    pub(crate) closes: bool,
+}
+
+/// Takes the next request off a stream, and tells what it asks; None where the stream ends before a request does.
+///
+/// # Errors
+/// `Memory` where a growth was refused, `Read` where the reader failed.
+pub(crate) fn hear<R: Read>(
+    alloc: Global,
+    router: &Router<Route>,
+    reader: &mut R,
+    room: &mut [HeaderSpan],
+) -> Result<Option<Heard>, StreamFault>
+    requires router { router.now ≡ table }
+    requires room { 8192 ≤ 3 * length room.old }
+    ensures { IfOk result (λ heard. IfSome (R.remaining reader.old) (λ stream. Hears stream heard (R.remaining reader.new))) }
+{
+    let taken = next_request(alloc, reader, room)?;
+    Ok(heard_of(alloc, router, taken))
+}
+
+/// What a request that was taken asks. A refusal ends the connection.
+fn heard_of(alloc: Global, router: &Router<Route>, taken: Taken) -> Option<Heard>
+    requires { router.now ≡ table }
+    ensures { (next : Next) (left : Option (List ℕ)) → Tells next taken left → HearsNext next result left }
+{
+    match taken {
+        Taken::Request(request) => Some(heard_request(alloc, router, &request)),
+        Taken::Refused(status) => Some(Heard {
+            asked: Asked::Refused(status),
+            closes: true,
+        }),
+        Taken::Ended => None,
+    }
+}
+
+/// What a request asks.
+fn heard_request(alloc: Global, router: &Router<Route>, request: &Request) -> Heard
+    requires { router.now ≡ table }
+    ensures asked { IsAsked (asked_of (seen request.now)) result.asked }
+    ensures closes { result.closes ≡ request.now.closes }
+{
+    Heard {
+        asked: ask(alloc, router, request),
+        closes: request.closes,
+    }
+}

@@ -1,0 +1,15 @@
+//! Serves connections of HTTP/1.1 over any keeper: what is written is a function of the bytes that are read and of the
+//! clock's moments.
+#![tactic(auto)]
+
+mod answering;
+mod clock;
+mod fault;
+mod hearing;
+mod serving;
+mod socket;
+
+pub use crate::clock::{Clock, FixedClock};
+pub use crate::fault::ServeFault;
+pub use crate::serving::{MAX_REQUESTS, Served, serve};
+pub use crate::socket::{SOCKET_SECONDS, serve_socket};

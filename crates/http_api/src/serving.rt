@@ -1,0 +1,134 @@
+ghost use Rattle.std.specs.Prelude.{◌≡◌, ◌≤◌, ◌<◌, ◌+◌, ◌*◌, length, IfOk, OnErr, IfSome};
+ghost use Rattle.http_answers.specs.Routes.{table};
+ghost use Rattle.http_api.specs.Replies.{ForEachList, IsContinued};
+ghost use Rattle.http_api.specs.Connections.{left_after, IsServed, IsBegun};
+
+use crate::answering::answer_request;
+use crate::clock::Clock;
+use crate::fault::ServeFault;
+use crate::hearing::{Heard, hear};
+use http_answers::{Route, Router, known_router};
+use http_heads::{EMPTY_HEADER_SPAN, HeaderSpan, MAX_FIELDS};
+use keepers::Keeper;
+use std::alloc::Global;
+use std::io::{BufReader, Read, Write};
+use tariffs::TariffBook;
+
+/// The most requests of a connection.
+pub const MAX_REQUESTS: u32 = 1000;
+
+/// What was served.
+#[derive(Clone, Copy, Debug, PartialEq, Eq)]
+pub struct Served {
+    /// How many requests were answered, refusals among them.
+    pub requests: u32,
+}
+
+/// Serves the requests of a connection, one after another (RFC 9112 section 9.3): each is taken off the reader with its
+/// body, answered at the clock's moment, and its answer written before the next is read. At most 1,000 are answered.
+///
+/// Over a reader that doesn't tell its bytes, as a socket, the keeper's tables are still those of dated commands.
+///
+/// # Errors
+/// `Memory` where a growth was refused for a head, a body or the text of a command's answer; `Read` where the reader
+/// failed; `Write` where the writer did. What was accepted stays so, and a beginning of the answers is written.
+pub fn serve<R: Read, W: Write, K: Keeper, C: Clock>(
+    alloc: Global,
+    reader: &mut R,
+    writer: &mut W,
+    keeper: &mut K,
+    book: &TariffBook,
+    clock: &mut C,
+) -> Result<Served, ServeFault>
+    ensures served { K.clean keeper.new → IfOk result (λ done. IfSome (R.remaining reader.old) (λ stream.
+        IsServed C.gives book.now stream done.requests clock.old clock.new (W.contents writer.old) (W.contents writer.new)
+        (K.content keeper.old) (K.content keeper.new))) }
+    ensures begun { K.clean keeper.new → OnErr result (IfSome (R.remaining reader.old) (λ stream.
+        IsBegun C.gives book.now stream clock.old clock.new (W.contents writer.old) (W.contents writer.new)
+        (K.content keeper.old) (K.content keeper.new))) }
+    ensures bounded { IfOk result (λ done. done.requests ≤ 1000) }
+    ensures continued { K.clean keeper.new →
+        ForEachList book.now (K.content keeper.old) (IsContinued book.now (K.content keeper.new)) }
+    ensures cleanness { K.clean keeper.new → K.clean keeper.old }
+    ensures failures { K.failed keeper.old ≤ K.failed keeper.new }
+{
+    let Ok(router) = known_router(alloc) else {
+        return Err(ServeFault::Memory);
+    };
+    let Ok(mut room) = Vec::from_elem(alloc, EMPTY_HEADER_SPAN, MAX_FIELDS) else {
+        return Err(ServeFault::Memory);
+    };
+    let Ok(mut buffered) = BufReader::new(alloc, reader) else {
+        return Err(ServeFault::Memory);
+    };
+    serve_requests(
+        alloc,
+        &router,
+        &mut buffered,
+        room.as_mut_slice(),
+        writer,
+        keeper,
+        book,
+        clock,
+    )
+}
+
+/// What was served with one request more.
+fn one_more(served: u32) -> Served
+    requires { served < 1000 }
+    ensures { result.requests ≡ served + 1 }
+{
+    Served {
+        requests: served + 1,
+    }
+}
+
+/// How many requests a connection takes after one.
+fn left_after(closes: bool, left: u32) -> u32
+    requires { 0 < left }
+    ensures { result ≡ left_after closes left }
+{
+    if closes { 0 } else { left - 1 }
+}
+
+/// Serves the requests of a connection.
+fn serve_requests<R: Read, W: Write, K: Keeper, C: Clock>(
+    alloc: Global,
+    router: &Router<Route>,
+    reader: &mut R,
+    room: &mut [HeaderSpan],
+    writer: &mut W,
+    keeper: &mut K,
+    book: &TariffBook,
+    clock: &mut C,
+) -> Result<Served, ServeFault>
+    requires router { router.now ≡ table }
+    requires room { 8192 ≤ 3 * length room.old }
+    ensures served { K.clean keeper.new → IfOk result (λ done. IfSome (R.remaining reader.old) (λ stream.
+        IsServed C.gives book.now stream done.requests clock.old clock.new (W.contents writer.old) (W.contents writer.new)
+        (K.content keeper.old) (K.content keeper.new))) }
+    ensures begun { K.clean keeper.new → OnErr result (IfSome (R.remaining reader.old) (λ stream.
+        IsBegun C.gives book.now stream clock.old clock.new (W.contents writer.old) (W.contents writer.new)
+        (K.content keeper.old) (K.content keeper.new))) }
+    ensures bounded { IfOk result (λ done. done.requests ≤ 1000) }
+    ensures continued { K.clean keeper.new →
+        ForEachList book.now (K.content keeper.old) (IsContinued book.now (K.content keeper.new)) }
+    ensures cleanness { K.clean keeper.new → K.clean keeper.old }
+    ensures failures { K.failed keeper.old ≤ K.failed keeper.new }
+{
+    let mut left = MAX_REQUESTS;
+    for served in 0..MAX_REQUESTS {
+        let Some(heard) = hear(alloc, router, reader, room)? else {
+            return Ok(Served { requests: served });
+        };
+        let Heard { asked, closes } = heard;
+        left = left_after(closes, left);
+        answer_request(alloc, writer, keeper, book, clock, asked, left == 0)?;
+        if left == 0 {
+            return Ok(one_more(served));
+        }
+    }
+    Ok(Served {
+        requests: MAX_REQUESTS,
+    })
+}

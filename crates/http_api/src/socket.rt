@@ -1,0 +1,47 @@
+ghost use Rattle.std.specs.Prelude.{◌≡◌, ◌≤◌, IfOk};
+ghost use Rattle.http_api.specs.Replies.{ForEachList, IsContinued};
+
+use crate::clock::Clock;
+use crate::fault::ServeFault;
+use crate::serving::{Served, serve};
+use keepers::Keeper;
+use std::alloc::Global;
+use std::io;
+use std::net::TcpStream;
+use std::time::Duration;
+use tariffs::TariffBook;
+
+/// How long a read or a write of a socket may take, in seconds (profile).
+pub const SOCKET_SECONDS: u64 = 30;
+
+/// Serves the requests of a socket, as `serve`. Answers leave it without delay, and a read or a write that takes more
+/// than 30 seconds is a fault.
+///
+/// # Errors
+/// As `serve`, and `Read` where the socket can't be set so; then nothing is read.
+pub fn serve_socket<K: Keeper, C: Clock>(
+    alloc: Global,
+    stream: &TcpStream,
+    keeper: &mut K,
+    book: &TariffBook,
+    clock: &mut C,
+) -> Result<Served, ServeFault>
+    ensures bounded { IfOk result (λ done. done.requests ≤ 1000) }
+    ensures continued { K.clean keeper.new →
+        ForEachList book.now (K.content keeper.old) (IsContinued book.now (K.content keeper.new)) }
+    ensures cleanness { K.clean keeper.new → K.clean keeper.old }
+    ensures failures { K.failed keeper.old ≤ K.failed keeper.new }
+{
+    if limit(stream).is_err() {
+        return Err(ServeFault::Read);
+    }
+    serve(alloc, &mut &*stream, &mut &*stream, keeper, book, clock)
+}
+
+/// Sets what a socket delays, and how long it waits.
+fn limit(stream: &TcpStream) -> io::Result<()> {
+    let longest = Some(Duration::from_secs(SOCKET_SECONDS));
+    stream.set_nodelay(true)?;
+    stream.set_read_timeout(longest)?;
+    stream.set_write_timeout(longest)
+}

@@ -1,0 +1,118 @@
+-- Rows that are told equal are equal.
+use Rattle.std.proofs.Common.{◌≡◌, ℕ, Bool, true, false, List, [], ◌∷◌, refl, sym, ap, ◌∙◌, Option, Some, None}
+use Rattle.std.specs.Prelude.{◌==◌, ◌&&◌}
+use Rattle.std.specs.Cmp.Lexicographic.{pointwise}
+use Rattle.buckets.specs.declared.holds.Hold.{Hold}
+use Rattle.buckets.specs.Row.{Row}
+use Rattle.rating.specs.declared.grant.Periods.{Periods}
+use Rattle.reserving.specs.declared.session.Session.{Session}
+use Rattle.reserving.specs.declared.session.SessionState.{SessionState}
+use Rattle.reserving.specs.declared.session.SessionState.TheVariants.{Open, Ended, NeverOpened}
+use Rattle.reserving.specs.declared.session.SessionGroup.{SessionGroup}
+use Rattle.reserving.specs.declared.session.Reservation.{Reservation}
+use Rattle.reserving.specs.declared.session.Counter.{Counter}
+use Rattle.reserving.proofs.Lists.{not_both}
+use Rattle.reserving.proofs.Holds.{same_from, number_from, both}
+use Rattle.keepers.specs.Differing.{same_scope, equal_bucket, equal_counter, same_state, equal_session, equal_periods, equal_hold, equal_reservation, equal_group}
+
+scope_from : (x y : Option ℕ) → same_scope x y ≡ true → x ≡ y
+scope_from None None e = refl
+scope_from None (Some y) e = absurd (not_both e)
+scope_from (Some x) None e = absurd (not_both e)
+scope_from (Some x) (Some y) e = ap Some (number_from x y e)
+
+pub bucket_from : (x y : Row) → equal_bucket x y ≡ true → x ≡ y
+bucket_from x y e =
+    let number = both (x.number == y.number) _ e in
+    let from = both (x.from == y.from) _ number.1 in
+    let until = both (x.until == y.until) _ from.1 in
+    let scope = both (same_scope x.scope y.scope) _ until.1 in
+    let credited = both (x.credited == y.credited) _ scope.1 in
+    let available = both (x.available == y.available) _ credited.1 in
+    let reserved = both (x.reserved == y.reserved) _ available.1 in
+    let charged = both (x.charged == y.charged) (x.expired == y.expired) reserved.1 in
+    λ i. record {
+      number = number_from x.number y.number number.0 i;
+      from = number_from x.from y.from from.0 i;
+      until = number_from x.until y.until until.0 i;
+      scope = scope_from x.scope y.scope scope.0 i;
+      credited = number_from x.credited y.credited credited.0 i;
+      available = number_from x.available y.available available.0 i;
+      reserved = number_from x.reserved y.reserved reserved.0 i;
+      charged = number_from x.charged y.charged charged.0 i;
+      expired = number_from x.expired y.expired charged.1 i;
+    }
+
+pub counter_from : (x y : Counter) → equal_counter x y ≡ true → x ≡ y
+counter_from x y e =
+    let group = both (x.group == y.group) _ e in
+    let cycle = both (x.cycle == y.cycle) (x.blocks == y.blocks) group.1 in
+    λ i. record {
+      group = number_from x.group y.group group.0 i;
+      cycle = number_from x.cycle y.cycle cycle.0 i;
+      blocks = number_from x.blocks y.blocks cycle.1 i;
+    }
+
+state_from : (x y : SessionState) → same_state x y ≡ true → x ≡ y
+state_from Open Open e = refl
+state_from Open Ended e = absurd (not_both e)
+state_from Open NeverOpened e = absurd (not_both e)
+state_from Ended Open e = absurd (not_both e)
+state_from Ended Ended e = refl
+state_from Ended NeverOpened e = absurd (not_both e)
+state_from NeverOpened Open e = absurd (not_both e)
+state_from NeverOpened Ended e = absurd (not_both e)
+state_from NeverOpened NeverOpened e = refl
+
+pub session_from : (x y : Session) → equal_session x y ≡ true → x ≡ y
+session_from x y e =
+    let id = both _ _ e in
+    let number = both (x.last_number == y.last_number) _ id.1 in
+    let touched = both (x.touched == y.touched) (same_state x.state y.state) number.1 in
+    λ i. record {
+      id = same_from x.id y.id id.0 i;
+      last_number = number_from x.last_number y.last_number number.0 i;
+      touched = number_from x.touched y.touched touched.0 i;
+      state = state_from x.state y.state touched.1 i;
+    }
+
+periods_from : (x y : Periods) → equal_periods x y ≡ true → x ≡ y
+periods_from x y e =
+    let parts = both (x.before.0 == y.before.0) (x.after.0 == y.after.0) e in
+    λ i. record {
+      before = record { 0 = number_from x.before.0 y.before.0 parts.0 i };
+      after = record { 0 = number_from x.after.0 y.after.0 parts.1 i };
+    }
+
+hold_from : (x y : Hold) → equal_hold x y ≡ true → x ≡ y
+hold_from x y e =
+    let parts = both (x.bucket == y.bucket) (x.amount == y.amount) e in
+    λ i. record { bucket = number_from x.bucket y.bucket parts.0 i; amount = number_from x.amount y.amount parts.1 i }
+
+holds_from : (xs ys : List Hold) → pointwise equal_hold xs ys ≡ true → xs ≡ ys
+holds_from [] [] e = refl
+holds_from [] (y ∷ ys) e = absurd (not_both e)
+holds_from (x ∷ xs) [] e = absurd (not_both e)
+holds_from (x ∷ xs) (y ∷ ys) e =
+    let parts = both (equal_hold x y) (pointwise equal_hold xs ys) e in
+    λ i. hold_from x y parts.0 i ∷ holds_from xs ys parts.1 i
+
+reservation_from : (x y : Option Reservation) → equal_reservation x y ≡ true → x ≡ y
+reservation_from None None e = refl
+reservation_from None (Some y) e = absurd (not_both e)
+reservation_from (Some x) None e = absurd (not_both e)
+reservation_from (Some x) (Some y) e =
+    let parts = both (equal_periods x.periods y.periods) (pointwise equal_hold x.holds y.holds) e in
+    λ i. Some (record { periods = periods_from x.periods y.periods parts.0 i; holds = holds_from x.holds y.holds parts.1 i })
+
+pub group_from : (x y : SessionGroup) → equal_group x y ≡ true → x ≡ y
+group_from x y e =
+    let session = both _ _ e in
+    let group = both (x.group == y.group) _ session.1 in
+    let used = both (x.used == y.used) (equal_reservation x.reservation y.reservation) group.1 in
+    λ i. record {
+      session = same_from x.session y.session session.0 i;
+      group = number_from x.group y.group group.0 i;
+      used = number_from x.used y.used used.0 i;
+      reservation = reservation_from x.reservation y.reservation used.1 i;
+    }

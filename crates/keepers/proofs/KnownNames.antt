@@ -1,0 +1,48 @@
+-- Whether a session has a row, by what is live, and by the names of those that were left.
+use Rattle.std.proofs.Common.{◌≡◌, Bool, true, false, cond, List, ◌++◌, refl, sym, ap, ◌∙◌, Option, Some, None, ℕ}
+use Rattle.std.specs.Prelude.{is_some}
+use Rattle.std.specs.HashMap.{get}
+use Rattle.identifiers.specs.Texts.{same_name}
+use Rattle.reserving.specs.declared.session.Session.{Session}
+use Rattle.reserving.specs.Sessions.{is_open, is_session, session_in}
+use Rattle.reserving.specs.Left.{first_of}
+use Rattle.reserving.proofs.Lists.{not_both, find-passes}
+use Rattle.reserving.proofs.Holds.{same_from}
+use Rattle.reserving.proofs.LeftParted.{find_both}
+use Rattle.keepers.specs.Named.{Names, is_named, AreLeftSessions}
+use Rattle.keepers.proofs.GroupRows.{among}
+
+some_behind : {A : Type 0} (l x : Option A) → is_some x ≡ true → true ≡ is_some (first_of l x)
+some_behind None x e = sym e
+some_behind (Some y) x e = refl
+
+none_behind : {A : Type 0} (l x : Option A) → is_some x ≡ false → is_some l ≡ is_some (first_of l x)
+none_behind None x e = sym e
+none_behind (Some y) x e = refl
+
+pub known_live : (s : List ℕ) (left live : List Session) → is_some (session_in s live) ≡ true → true ≡ is_some (session_in s (left ++ live))
+known_live s left live e = some_behind (session_in s left) (session_in s live) e ∙ ap is_some (sym (find_both (is_session s) left live))
+
+pub known_left : (s : List ℕ) (left live : List Session) → is_some (session_in s live) ≡ false → is_some (session_in s left) ≡ is_some (session_in s (left ++ live))
+known_left s left live e = none_behind (session_in s left) (session_in s live) e ∙ ap is_some (sym (find_both (is_session s) left live))
+
+-- a name that isn't kept has no row among those that were left
+unnamed : (names : Names) (s : List ℕ) (left : List Session) → AreLeftSessions names left → is_named names s ≡ false → is_some (session_in s left) ≡ false
+unnamed names s left h e = at (session_in s left) refl
+  where
+    at : (o : Option Session) → session_in s left ≡ o → is_some o ≡ false
+    at None f = refl
+    at (Some r) f =
+        let known = (among (λ r. (is_open r.state ≡ false) × (is_named names r.id ≡ true)) (is_session s) left r h f).1 in
+        absurd (not_both (sym e ∙ ap (is_named names) (sym (same_from r.id s (find-passes (is_session s) left r f))) ∙ known))
+
+pub known_none : (names : Names) (s : List ℕ) (left live : List Session) → AreLeftSessions names left → is_named names s ≡ false → is_some (session_in s live) ≡ false → false ≡ is_some (session_in s (left ++ live))
+known_none names s left live h e f = sym (unnamed names s left h e) ∙ known_left s left live f
+
+-- a name that was kept stays so
+pub named_on : (was is : Names) (name : List ℕ) → ((q : List ℕ) → get same_name is q ≡ cond (same_name name q) (Some true) (get same_name was q)) → (s : List ℕ) → is_named was s ≡ true → is_named is s ≡ true
+named_on was is name updates s e = ap is_some (updates s) ∙ at (same_name name s)
+  where
+    at : (t : Bool) → is_some (cond t (Some true) (get same_name was s)) ≡ true
+    at true = refl
+    at false = e

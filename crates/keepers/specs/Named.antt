@@ -1,0 +1,35 @@
+-- What the keeper in memory knows of the rows that were left without a search: the numbers and names that they have.
+use Rattle.std.specs.Prelude.{◌≡◌, ℕ, Bool, true, false, List, nat_eq, is_some}
+use Rattle.std.specs.HashMap.{HashMap, get}
+use Rattle.std.specs.declared.hash.FoldHasher.{FoldHasher}
+use Rattle.std.specs.declared.hash.BuildHasherDefault.{BuildHasherDefault}
+use Rattle.buckets.specs.Row.{Row}
+use Rattle.identifiers.specs.Texts.{same_name}
+use Rattle.reserving.specs.declared.session.Session.{Session}
+use Rattle.reserving.specs.declared.session.SessionGroup.{SessionGroup}
+use Rattle.reserving.specs.Rows.{EachIn}
+use Rattle.reserving.specs.Sessions.{is_open}
+use Rattle.reserving.specs.Left.{is_dead}
+
+-- a set of numbers, and one of names
+abbrev pub Numbers : Type 0
+Numbers = HashMap ℕ Bool (BuildHasherDefault FoldHasher)
+
+abbrev pub Names : Type 0
+Names = HashMap (List ℕ) Bool (BuildHasherDefault FoldHasher)
+
+abbrev pub is_numbered : Numbers → ℕ → Bool
+is_numbered numbers n = is_some (get nat_eq numbers n)
+
+abbrev pub is_named : Names → List ℕ → Bool
+is_named names s = is_some (get same_name names s)
+
+-- each that was left can't change, and is known by its number or name
+abbrev pub AreLeftBuckets : Numbers → List Row → Type 0
+AreLeftBuckets numbers rows = EachIn (λ b. (is_dead b ≡ true) × (is_numbered numbers b.number ≡ true)) rows
+
+abbrev pub AreLeftSessions : Names → List Session → Type 0
+AreLeftSessions names rows = EachIn (λ r. (is_open r.state ≡ false) × (is_named names r.id ≡ true)) rows
+
+abbrev pub AreLeftGroups : Names → List SessionGroup → Type 0
+AreLeftGroups names rows = EachIn (λ r. (is_some r.reservation ≡ false) × (is_named names r.session ≡ true)) rows

@@ -1,0 +1,534 @@
+//! The rows of an account in memory.
+
+ghost use Rattle.std.specs.List.{list_any};
+ghost use Rattle.std.specs.Prelude.{◌≡◌, ℕ, List, true, IsOk, ◌≤◌, ◌++◌, ◌&&◌, ◌||◌, ◌==◌, [], not, filter, is_some, IfOk, OnOk, OnErr, position};
+ghost use Rattle.reserving.specs.Sessions.{session_in, group_in, counter_in, is_session, is_of, is_counter};
+ghost use Rattle.reserving.specs.Left.{bucket_in, is_dead};
+ghost use Rattle.keepers.specs.Change.{IsLoadedFrom, IsMadeFrom, over, AreRowsAt, AreDeadOf};
+ghost use Rattle.reserving.specs.Stored.{StoredRows};
+ghost use Rattle.reserving.specs.Ledger.{Ledger};
+ghost use Rattle.keepers.specs.Tables.{no_rows};
+ghost use Rattle.keepers.specs.Whole.{AreWhole};
+ghost use Rattle.reserving.specs.Rows.{EachIn};
+ghost use Rattle.keepers.specs.Parts.{rows_of, with_live, advanced_parts, leaves_bucket, leaves_counter, leaves_session, leaves_group};
+ghost use Rattle.keepers.specs.Named.{is_numbered, is_named, AreLeftBuckets, AreLeftSessions, AreLeftGroups};
+ghost use Rattle.keepers.specs.Inside.{AreSameRows, HasRoom};
+
+use crate::whole::WholeAccount;
+use buckets::Bucket;
+use identifiers::SessionId;
+use reserving::{Account, Counter, Session, SessionGroup, SessionState, StoredAccount};
+use std::alloc::{AllocError, Global};
+use std::collections::HashMap;
+use std::marker::Model;
+use tariffs::TariffBook;
+use units::Moment;
+
+/// Rows that can't change any more.
+#[derive(Drop)]
+pub(crate) struct LeftStore {
+    buckets: Vec<Bucket>,
+    counters: Vec<Counter>,
+    sessions: Vec<Session>,
+    groups: Vec<SessionGroup>,
+}
+
+/// What the rows that were left name: the numbers of the buckets, and the names of the sessions and of the groups'
+/// sessions.
+#[derive(Drop)]
+pub(crate) struct Known {
+    numbers: HashMap<u32, bool>,
+    names: HashMap<SessionId, bool>,
+}
+
+/// The rows of an account: those that were live after its last command, and those that were left. What the latter name
+/// is kept beside them, so that a commit doesn't search them.
+#[derive(Drop)]
+pub(crate) struct Store {
+    live: StoredAccount,
+    left: LeftStore,
+    known: Known,
+    alloc: Global,
+}
+
+impl Model for Store {
+    ghost use Rattle.keepers.specs.Parts.{Parts};
+    ghost use Rattle.keepers.specs.Inside.{parts_of, AreKept};
+
+    ghost Value = { Parts };
+
+    ghost view = { parts_of };
+
+    ghost invariant = { AreKept };
+}
+
+impl Store {
+    /// A new account's rows. It takes no memory.
+    pub(crate) fn new(alloc: Global, live: StoredAccount) -> Store
+        ensures parts { result ≡ record { live = live; left = record { buckets = []; counters = []; sessions = []; groups = [] } } }
+        ensures over { rows_of result ≡ over live no_rows }
+    {
+        let _kept = live.as_of();
+        let left = LeftStore {
+            buckets: Vec::new(alloc),
+            counters: Vec::new(alloc),
+            sessions: Vec::new(alloc),
+            groups: Vec::new(alloc),
+        };
+        let known = Known {
+            numbers: HashMap::new(alloc),
+            names: HashMap::new(alloc),
+        };
+        Store {
+            live,
+            left,
+            known,
+            alloc,
+        }
+    }
+
+    /// A copy of what may still change at the moment.
+    pub(crate) fn load<'b>(
+        &self,
+        book: &'b TariffBook,
+        moment: Moment,
+    ) -> Result<Account<'b>, AllocError>
+        ensures { IfOk result (λ account. IsLoadedFrom book.now moment (rows_of self.now) account) }
+    {
+        let _kept = self.live.as_of();
+        self.live.load_at(book, moment, &self.left.counters)
+    }
+
+    /// A copy of the buckets that can't be used any more.
+    pub(crate) fn dead_buckets(&self) -> Result<Vec<Bucket>, AllocError>
+        ensures { IfOk result (λ found. AreDeadOf (rows_of self.now) found.items) }
+    {
+        dead_rows(&self.left.buckets, &self.live)
+    }
+
+    /// A copy of every row.
+    pub(crate) fn whole(&self) -> Result<WholeAccount, AllocError>
+        ensures { IfOk result (AreWhole (rows_of self.now)) }
+    {
+        Ok(WholeAccount {
+            buckets: all_buckets(&self.left.buckets, &self.live)?,
+            counters: all_counters(self.alloc, &self.left.counters, &self.live)?,
+            sessions: all_sessions(self.alloc, &self.left.sessions, &self.live)?,
+            groups: all_groups(self.alloc, &self.left.groups, &self.live)?,
+        })
+    }
+
+    /// Whether there is a row of this session.
+    pub(crate) fn knows(&self, session: &SessionId) -> bool
+        ensures { result ≡ is_some (session_in session.now (self.now.left.sessions ++ self.now.live.sessions)) }
+    {
+        has_session(self.live.sessions(), session)
+            || (self.known.names.contains_key(session) && has_session(&self.left.sessions, session))
+    }
+
+    /// Puts these rows in the place of those that were live. At a fault nothing has changed.
+    pub(crate) fn replace(&mut self, after: StoredAccount) -> Result<(), AllocError>
+        ensures parts { OnOk result (self.new ≡ with_live after self.old) }
+        ensures over { OnOk result ((before : StoredRows) → IsMadeFrom before after (rows_of self.old) → rows_of self.new ≡ over after (rows_of self.old)) }
+        ensures err { OnErr result (self.new ≡ self.old) }
+    {
+        let _kept = after.as_of();
+        let _live = self.live.as_of();
+        let leaving = leaving_rows(self.alloc, &self.live, &after)?;
+        note(&mut self.known, &leaving)?;
+        make_room(&mut self.left, &leaving)?;
+        append(&mut self.left, leaving)?;
+        keep(&mut self.left, &self.known, &after);
+        self.live = after;
+        Ok(())
+    }
+
+    /// Brings the rows to a moment.
+    pub(crate) fn advance(&mut self, book: &TariffBook, moment: Moment)
+        ensures parts { self.new ≡ advanced_parts book.now moment self.old }
+        ensures rows { (ledger : Ledger) (u : ℕ) → u ≤ moment → AreRowsAt book.now ledger u (rows_of self.old) → AreRowsAt book.now ledger moment (rows_of self.new) }
+    {
+        let _kept = self.live.as_of();
+        let _ranges = book.validity();
+        self.live.advance(book, moment);
+    }
+}
+
+fn session_place(rows: &[Session], session: &SessionId) -> Option<usize>
+    ensures { result ≡ position (is_session session.now) rows.now }
+{
+    rows.iter().position(|row| row.id == *session)
+}
+
+fn has_session(rows: &[Session], session: &SessionId) -> bool
+    ensures { result ≡ is_some (session_in session.now rows.now) }
+{
+    session_place(rows, session).is_some()
+}
+
+fn has_bucket(rows: &[Bucket], number: u32) -> bool
+    ensures { result ≡ is_some (bucket_in number rows.now) }
+{
+    bucket_place(rows, number).is_some()
+}
+
+fn bucket_place(rows: &[Bucket], number: u32) -> Option<usize>
+    ensures { result ≡ position (λ b. b.number == number) rows.now }
+{
+    rows.iter().position(|row| row.number() == number)
+}
+
+fn has_group(rows: &[SessionGroup], session: &SessionId, group: u32) -> bool
+    ensures { result ≡ is_some (group_in session.now group rows.now) }
+{
+    group_place(rows, session, group).is_some()
+}
+
+fn group_place(rows: &[SessionGroup], session: &SessionId, group: u32) -> Option<usize>
+    ensures { result ≡ position (is_of session.now group) rows.now }
+{
+    rows.iter()
+        .position(|row| row.session == *session && row.group == group)
+}
+
+fn has_counter(rows: &[Counter], group: u32, cycle: u32) -> bool
+    ensures { result ≡ is_some (counter_in group cycle rows.now) }
+{
+    counter_place(rows, group, cycle).is_some()
+}
+
+fn counter_place(rows: &[Counter], group: u32, cycle: u32) -> Option<usize>
+    ensures { result ≡ position (is_counter group cycle) rows.now }
+{
+    rows.iter()
+        .position(|row| row.group == group && row.cycle == cycle)
+}
+
+fn dead_rows(left: &Vec<Bucket>, live: &StoredAccount) -> Result<Vec<Bucket>, AllocError>
+    ensures { IfOk result (λ rows. rows.items ≡ filter is_dead (left.now.items ++ live.now.buckets)) }
+{
+    let mut rows = copy_of_buckets(left)?;
+    rows.append(&mut live.purse().to_vec()?)?;
+    rows.retain(|row| row.is_dead());
+    Ok(rows)
+}
+
+// ---- what is left of the rows that were live
+
+fn leaving_rows(
+    alloc: Global,
+    live: &StoredAccount,
+    after: &StoredAccount,
+) -> Result<LeftStore, AllocError>
+    ensures buckets { IfOk result (λ left. left.buckets.items ≡ filter (leaves_bucket after.now) live.now.buckets) }
+    ensures counters { IfOk result (λ left. left.counters.items ≡ filter (leaves_counter after.now) live.now.counters) }
+    ensures sessions { IfOk result (λ left. left.sessions.items ≡ filter (leaves_session after.now) live.now.sessions) }
+    ensures groups { IfOk result (λ left. left.groups.items ≡ filter (leaves_group after.now) live.now.groups) }
+{
+    Ok(LeftStore {
+        buckets: leaving_buckets(live, after)?,
+        counters: leaving_counters(alloc, live, after)?,
+        sessions: leaving_sessions(alloc, live, after)?,
+        groups: leaving_groups(alloc, live, after)?,
+    })
+}
+
+/// Keeps what these rows name.
+fn note(known: &mut Known, rows: &LeftStore) -> Result<(), AllocError>
+    ensures numbers { (n : ℕ) → is_numbered known.old.numbers n ≡ true → is_numbered known.new.numbers n ≡ true }
+    ensures names { (s : List ℕ) → is_named known.old.names s ≡ true → is_named known.new.names s ≡ true }
+    ensures buckets { OnOk result (EachIn (λ b. is_numbered known.new.numbers b.number ≡ true) rows.now.buckets.items) }
+    ensures sessions { OnOk result (EachIn (λ r. is_named known.new.names r.id ≡ true) rows.now.sessions.items) }
+    ensures groups { OnOk result (EachIn (λ r. is_named known.new.names r.session ≡ true) rows.now.groups.items) }
+{
+    note_buckets(&mut known.numbers, &rows.buckets)?;
+    note_sessions(&mut known.names, &rows.sessions)?;
+    note_groups(&mut known.names, &rows.groups)?;
+    Ok(())
+}
+
+/// Makes room for these rows.
+fn make_room(left: &mut LeftStore, rows: &LeftStore) -> Result<(), AllocError>
+    ensures same { AreSameRows left.old left.new }
+    ensures room { OnOk result (HasRoom left.new rows.now) }
+{
+    left.buckets.reserve(rows.buckets.len())?;
+    left.counters.reserve(rows.counters.len())?;
+    left.sessions.reserve(rows.sessions.len())?;
+    left.groups.reserve(rows.groups.len())?;
+    Ok(())
+}
+
+/// Puts these rows behind, for which there is room.
+fn append(left: &mut LeftStore, mut rows: LeftStore) -> Result<(), AllocError>
+    requires { HasRoom left.old rows }
+    ensures ok { IsOk result }
+    ensures buckets { left.new.buckets.items ≡ left.old.buckets.items ++ rows.buckets.items }
+    ensures counters { left.new.counters.items ≡ left.old.counters.items ++ rows.counters.items }
+    ensures sessions { left.new.sessions.items ≡ left.old.sessions.items ++ rows.sessions.items }
+    ensures groups { left.new.groups.items ≡ left.old.groups.items ++ rows.groups.items }
+{
+    left.buckets.append(&mut rows.buckets)?;
+    left.counters.append(&mut rows.counters)?;
+    left.sessions.append(&mut rows.sessions)?;
+    left.groups.append(&mut rows.groups)?;
+    Ok(())
+}
+
+/// Lets what there are rows of again go.
+fn keep(left: &mut LeftStore, known: &Known, after: &StoredAccount)
+    requires buckets { AreLeftBuckets known.now.numbers left.old.buckets.items }
+    requires sessions { AreLeftSessions known.now.names left.old.sessions.items }
+    requires groups { AreLeftGroups known.now.names left.old.groups.items }
+    ensures buckets { left.new.buckets.items ≡ filter (leaves_bucket after.now) left.old.buckets.items }
+    ensures counters { left.new.counters.items ≡ filter (leaves_counter after.now) left.old.counters.items }
+    ensures sessions { left.new.sessions.items ≡ filter (leaves_session after.now) left.old.sessions.items }
+    ensures groups { left.new.groups.items ≡ filter (leaves_group after.now) left.old.groups.items }
+{
+    keep_buckets(&mut left.buckets, &known.numbers, after);
+    left.counters
+        .retain(|row| !has_counter(after.counters(), row.group, row.cycle));
+    keep_sessions(&mut left.sessions, &known.names, after);
+    keep_groups(&mut left.groups, &known.names, after);
+}
+
+fn leaving_buckets(live: &StoredAccount, after: &StoredAccount) -> Result<Vec<Bucket>, AllocError>
+    ensures { IfOk result (λ rows. rows.items ≡ filter (leaves_bucket after.now) live.now.buckets) }
+{
+    let mut rows = live.purse().to_vec()?;
+    rows.retain(|row| row.is_dead() && !has_bucket(after.purse().buckets(), row.number()));
+    Ok(rows)
+}
+
+fn leaving_counters(
+    alloc: Global,
+    live: &StoredAccount,
+    after: &StoredAccount,
+) -> Result<Vec<Counter>, AllocError>
+    ensures { IfOk result (λ rows. rows.items ≡ filter (leaves_counter after.now) live.now.counters) }
+{
+    let mut rows = Vec::from_slice(alloc, live.counters())?;
+    rows.retain(|row| !has_counter(after.counters(), row.group, row.cycle));
+    Ok(rows)
+}
+
+fn leaving_sessions(
+    alloc: Global,
+    live: &StoredAccount,
+    after: &StoredAccount,
+) -> Result<Vec<Session>, AllocError>
+    ensures { IfOk result (λ rows. rows.items ≡ filter (leaves_session after.now) live.now.sessions) }
+{
+    let mut rows = sessions_of(alloc, live.sessions())?;
+    rows.retain(|row| row.state != SessionState::Open && !has_session(after.sessions(), &row.id));
+    Ok(rows)
+}
+
+fn leaving_groups(
+    alloc: Global,
+    live: &StoredAccount,
+    after: &StoredAccount,
+) -> Result<Vec<SessionGroup>, AllocError>
+    ensures { IfOk result (λ rows. rows.items ≡ filter (leaves_group after.now) live.now.groups) }
+{
+    let mut rows = groups_of(alloc, live.groups())?;
+    rows.retain(|row| {
+        row.reservation.is_none()
+            && (!has_session(after.sessions(), &row.session)
+                && !has_group(after.groups(), &row.session, row.group))
+    });
+    Ok(rows)
+}
+
+fn all_buckets(left: &Vec<Bucket>, live: &StoredAccount) -> Result<Vec<Bucket>, AllocError>
+    ensures { IfOk result (λ rows. rows.items ≡ left.now.items ++ live.now.buckets) }
+{
+    let mut rows = copy_of_buckets(left)?;
+    rows.append(&mut live.purse().to_vec()?)?;
+    Ok(rows)
+}
+
+fn all_counters(
+    alloc: Global,
+    left: &Vec<Counter>,
+    live: &StoredAccount,
+) -> Result<Vec<Counter>, AllocError>
+    ensures { IfOk result (λ rows. rows.items ≡ left.now.items ++ live.now.counters) }
+{
+    let mut rows = Vec::from_slice(alloc, left)?;
+    rows.extend_from_slice(live.counters())?;
+    Ok(rows)
+}
+
+fn all_sessions(
+    alloc: Global,
+    left: &Vec<Session>,
+    live: &StoredAccount,
+) -> Result<Vec<Session>, AllocError>
+    ensures { IfOk result (λ rows. rows.items ≡ left.now.items ++ live.now.sessions) }
+{
+    let mut rows = copy_of_sessions(left)?;
+    rows.append(&mut sessions_of(alloc, live.sessions())?)?;
+    Ok(rows)
+}
+
+fn all_groups(
+    alloc: Global,
+    left: &Vec<SessionGroup>,
+    live: &StoredAccount,
+) -> Result<Vec<SessionGroup>, AllocError>
+    ensures { IfOk result (λ rows. rows.items ≡ left.now.items ++ live.now.groups) }
+{
+    let mut rows = copy_of_groups(left)?;
+    rows.append(&mut groups_of(alloc, live.groups())?)?;
+    Ok(rows)
+}
+
+// ---- what was left stays, but for what there are rows of again
+
+fn keep_buckets(rows: &mut Vec<Bucket>, numbers: &HashMap<u32, bool>, after: &StoredAccount)
+    requires { AreLeftBuckets numbers.now rows.old.items }
+    ensures { rows.new.items ≡ filter (leaves_bucket after.now) rows.old.items }
+{
+    if !any_numbered(numbers, after.purse().buckets()) {
+        return;
+    }
+    rows.retain(|row| row.is_dead() && !has_bucket(after.purse().buckets(), row.number()));
+}
+
+fn keep_sessions(rows: &mut Vec<Session>, names: &HashMap<SessionId, bool>, after: &StoredAccount)
+    requires { AreLeftSessions names.now rows.old.items }
+    ensures { rows.new.items ≡ filter (leaves_session after.now) rows.old.items }
+{
+    if !any_named(names, after.sessions()) {
+        return;
+    }
+    rows.retain(|row| row.state != SessionState::Open && !has_session(after.sessions(), &row.id));
+}
+
+fn keep_groups(
+    rows: &mut Vec<SessionGroup>,
+    names: &HashMap<SessionId, bool>,
+    after: &StoredAccount,
+)
+    requires { AreLeftGroups names.now rows.old.items }
+    ensures { rows.new.items ≡ filter (leaves_group after.now) rows.old.items }
+{
+    if !any_of_named(names, after) {
+        return;
+    }
+    rows.retain(|row| {
+        row.reservation.is_none()
+            && (!has_session(after.sessions(), &row.session)
+                && !has_group(after.groups(), &row.session, row.group))
+    });
+}
+
+fn any_numbered(numbers: &HashMap<u32, bool>, rows: &[Bucket]) -> bool
+    ensures { result ≡ list_any (λ b. is_numbered numbers.now b.number) rows.now }
+{
+    rows.iter().any(|row| numbers.contains_key(&row.number()))
+}
+
+fn any_named(names: &HashMap<SessionId, bool>, rows: &[Session]) -> bool
+    ensures { result ≡ list_any (λ r. is_named names.now r.id) rows.now }
+{
+    rows.iter().any(|row| names.contains_key(&row.id))
+}
+
+fn any_group_named(names: &HashMap<SessionId, bool>, rows: &[SessionGroup]) -> bool
+    ensures { result ≡ list_any (λ r. is_named names.now r.session) rows.now }
+{
+    rows.iter().any(|row| names.contains_key(&row.session))
+}
+
+fn any_of_named(names: &HashMap<SessionId, bool>, rows: &StoredAccount) -> bool
+    ensures { result ≡ (list_any (λ r. is_named names.now r.id) rows.now.sessions || list_any (λ r. is_named names.now r.session) rows.now.groups) }
+{
+    any_named(names, rows.sessions()) || any_group_named(names, rows.groups())
+}
+
+// ---- what those that were left name
+
+fn note_number(numbers: &mut HashMap<u32, bool>, number: u32) -> Result<(), AllocError>
+    ensures stay { (n : ℕ) → is_numbered numbers.old n ≡ true → is_numbered numbers.new n ≡ true }
+    ensures noted { OnOk result (is_numbered numbers.new number ≡ true) }
+{
+    numbers.insert(number, true)?;
+    Ok(())
+}
+
+fn note_name(names: &mut HashMap<SessionId, bool>, name: SessionId) -> Result<(), AllocError>
+    ensures stay { (s : List ℕ) → is_named names.old s ≡ true → is_named names.new s ≡ true }
+    ensures noted { OnOk result (is_named names.new name ≡ true) }
+{
+    names.insert(name, true)?;
+    Ok(())
+}
+
+fn note_buckets(numbers: &mut HashMap<u32, bool>, rows: &[Bucket]) -> Result<(), AllocError>
+    ensures stay { (n : ℕ) → is_numbered numbers.old n ≡ true → is_numbered numbers.new n ≡ true }
+    ensures noted { OnOk result (EachIn (λ b. is_numbered numbers.new b.number ≡ true) rows.now) }
+{
+    for row in rows {
+        note_number(numbers, row.number())?;
+    }
+    Ok(())
+}
+
+fn note_sessions(names: &mut HashMap<SessionId, bool>, rows: &[Session]) -> Result<(), AllocError>
+    ensures stay { (s : List ℕ) → is_named names.old s ≡ true → is_named names.new s ≡ true }
+    ensures noted { OnOk result (EachIn (λ r. is_named names.new r.id ≡ true) rows.now) }
+{
+    for row in rows {
+        let name = row.id.clone()?;
+        note_name(names, name)?;
+    }
+    Ok(())
+}
+
+fn note_groups(
+    names: &mut HashMap<SessionId, bool>,
+    rows: &[SessionGroup],
+) -> Result<(), AllocError>
+    ensures stay { (s : List ℕ) → is_named names.old s ≡ true → is_named names.new s ≡ true }
+    ensures noted { OnOk result (EachIn (λ r. is_named names.new r.session ≡ true) rows.now) }
+{
+    for row in rows {
+        let name = row.session.clone()?;
+        note_name(names, name)?;
+    }
+    Ok(())
+}
+
+// ---- copies
+
+fn copy_of_buckets(rows: &Vec<Bucket>) -> Result<Vec<Bucket>, AllocError>
+    ensures { IfOk result (λ copy. copy.items ≡ rows.now.items) }
+{
+    rows.clone()
+}
+
+fn sessions_of(alloc: Global, rows: &[Session]) -> Result<Vec<Session>, AllocError>
+    ensures { IfOk result (λ copy. copy.items ≡ rows.now) }
+{
+    rows.to_vec(alloc)
+}
+
+fn groups_of(alloc: Global, rows: &[SessionGroup]) -> Result<Vec<SessionGroup>, AllocError>
+    ensures { IfOk result (λ copy. copy.items ≡ rows.now) }
+{
+    rows.to_vec(alloc)
+}
+
+fn copy_of_sessions(rows: &Vec<Session>) -> Result<Vec<Session>, AllocError>
+    ensures { IfOk result (λ copy. copy.items ≡ rows.now.items) }
+{
+    rows.clone()
+}
+
+fn copy_of_groups(rows: &Vec<SessionGroup>) -> Result<Vec<SessionGroup>, AllocError>
+    ensures { IfOk result (λ copy. copy.items ≡ rows.now.items) }
+{
+    rows.clone()
+}

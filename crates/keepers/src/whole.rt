@@ -1,0 +1,37 @@
+//! Every row that is kept of an account.
+
+ghost use Rattle.std.specs.Prelude.{◌≡◌, []};
+
+use buckets::Bucket;
+use reserving::{Counter, Session, SessionGroup};
+use std::alloc::Global;
+
+/// Every row that is kept of an account, those that can't change any more first.
+#[derive(Drop)]
+pub struct WholeAccount {
+    /// Its buckets.
+    pub buckets: Vec<Bucket>,
+    /// Its counters.
+    pub counters: Vec<Counter>,
+    /// Its sessions and recorded events.
+    pub sessions: Vec<Session>,
+    /// What its sessions have of rating groups.
+    pub groups: Vec<SessionGroup>,
+}
+
+impl WholeAccount {
+    /// No row at all. It takes no memory.
+    pub(crate) fn none(alloc: Global) -> WholeAccount
+        ensures buckets { result.buckets.items ≡ [] }
+        ensures counters { result.counters.items ≡ [] }
+        ensures sessions { result.sessions.items ≡ [] }
+        ensures groups { result.groups.items ≡ [] }
+    {
+        WholeAccount {
+            buckets: Vec::new(alloc),
+            counters: Vec::new(alloc),
+            sessions: Vec::new(alloc),
+            groups: Vec::new(alloc),
+        }
+    }
+}

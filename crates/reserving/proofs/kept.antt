@@ -1,0 +1,5 @@
+pub mod Sessions
+pub mod Settled
+pub mod Debited
+pub mod LivePart
+pub mod Parts

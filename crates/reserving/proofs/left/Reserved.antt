@@ -1,0 +1,73 @@
+-- A grant, and a debit, leave the rows that were left as they are.
+use Rattle.std.proofs.Common.{◌≡◌, ℕ, ◌+◌, true, false, cond, List, [], ◌∷◌, ◌++◌, map, refl, ap, ◌∙◌, arith, Some}
+use Rattle.std.specs.Prelude.{if◌then◌else◌, nat_lt, min, ◌-◌}
+use Rattle.rating.specs.declared.grant.Periods.{Periods}
+use Rattle.buckets.specs.declared.holds.Hold.{Hold}
+use Rattle.buckets.specs.Row.{Row, precedes, eligible_amount, with_hold}
+use Rattle.buckets.specs.Share.{share, parts}
+use Rattle.buckets.specs.Spend.{Each, held_rows}
+use Rattle.buckets.specs.Holding.{holds_of}
+use Rattle.buckets.proofs.SharesAlong.{KeepsPlace}
+use Rattle.reserving.specs.declared.session.SessionGroup.{SessionGroup}
+use Rattle.reserving.specs.Keyed.{put}
+use Rattle.reserving.specs.Pricing.{periods_at}
+use Rattle.reserving.specs.Sessions.{is_of, is_live_in}
+use Rattle.reserving.specs.Changes.{used_in, with_reservation, reserved_account}
+use Rattle.reserving.specs.Rows.{AccountRows, EachIn}
+use Rattle.reserving.specs.Left.{LeftRows, placed, merged, joined, IsDead, IsLeft}
+use Rattle.reserving.proofs.LeftMerged.{map_merged, each_map, share_merged, dead_amount}
+use Rattle.reserving.proofs.LeftJoined.{put_behind}
+use Rattle.reserving.proofs.LeftFrames.{not_of_live, row_same}
+
+-- ---- shares as holds
+
+parts_first : (f : Row → ℕ) (b : Row) (xs : List Row) → f b ≡ 0 → parts f (b ∷ xs) ≡ parts f xs
+parts_first f b xs e = ap (λ n. cond (nat_lt 0 n) (record { bucket = b.number; amount = n } ∷ parts f xs) (parts f xs)) e
+
+parts_placed : (f : Row → ℕ) (b : Row) (xs : List Row) → f b ≡ 0 → parts f (placed b xs) ≡ parts f xs
+parts_placed f b [] e = parts_first f b [] e
+parts_placed f b (x ∷ xs) e = elim (precedes b x) as (λ t. parts f (if t then b ∷ x ∷ xs else x ∷ placed b xs) ≡ parts f (x ∷ xs)) [ true ↦ parts_first f b (x ∷ xs) e | false ↦ ap (λ hs. cond (nat_lt 0 (f x)) (record { bucket = x.number; amount = f x } ∷ hs) hs) (parts_placed f b xs e) ]
+
+parts_merged : (f : Row → ℕ) (left rows : List Row) → Each (λ b. f b ≡ 0) left → parts f (merged left rows) ≡ parts f rows
+parts_merged f [] rows h = refl
+parts_merged f (b ∷ bs) rows h = parts_placed f b (merged bs rows) h.0 ∙ parts_merged f bs rows h.1
+
+min_none : (m n : ℕ) → m ≡ 0 → min m n ≡ 0
+min_none m n e = omega (arith, e)
+
+pub holds_merged : (group at amount : ℕ) (left rows : List Row) → Each IsDead left → holds_of group at amount (merged left rows) ≡ holds_of group at amount rows
+holds_merged group at amount left rows dead =
+    (λ i. parts (λ b. share_merged (eligible_amount group at) left rows amount b (dead_amount group at left dead) i) (merged left rows))
+    ∙ parts_merged (share (eligible_amount group at) rows amount) left rows (each_map (λ b. eligible_amount group at b ≡ 0) (λ b. share (eligible_amount group at) rows amount b ≡ 0) left (λ b e. min_none (eligible_amount group at b) _ e) (dead_amount group at left dead))
+
+-- ---- buckets
+
+hold_none : (b : Row) (n : ℕ) → n ≡ 0 → with_hold b n ≡ b
+hold_none b n e =
+    let a : b.available - n ≡ b.available = omega (arith, e) in
+    let r : b.reserved + n ≡ b.reserved = omega (arith, e) in
+    λ i. record b { available = a i; reserved = r i }
+
+hold_keeps : (f : Row → ℕ) → KeepsPlace (λ b. with_hold b (f b))
+hold_keeps f = record { number = λ b. refl; until = λ b. refl }
+
+pub held_merged : (group at amount : ℕ) (left rows : List Row) → Each IsDead left → held_rows group at amount (merged left rows) ≡ merged left (held_rows group at amount rows)
+held_merged group at amount left rows dead =
+    (λ i. map (λ b. with_hold b (share_merged (eligible_amount group at) left rows amount b (dead_amount group at left dead) i)) (merged left rows))
+    ∙ map_merged (λ b. with_hold b (share (eligible_amount group at) rows amount b)) (hold_keeps (share (eligible_amount group at) rows amount)) left rows
+    (each_map (λ b. eligible_amount group at b ≡ 0) (λ b. with_hold b (share (eligible_amount group at) rows amount b) ≡ b) left (λ b e. hold_none b _ (min_none (eligible_amount group at b) _ e)) (dead_amount group at left dead))
+
+-- ---- the grant
+
+pub reserved_joined : (left : LeftRows) (a : AccountRows) (s : List ℕ) (g amount : ℕ) → IsLeft left a → is_live_in a.book.validity a.as_of a.sessions s ≡ true →
+    reserved_account s g amount (joined left a) ≡ joined left (reserved_account s g amount a)
+reserved_joined left a s g amount h alive =
+    let p : Periods = periods_at a.book a.as_of in
+    let not_of : EachIn (λ r. is_of s g r ≡ false) left.groups = not_of_live left a a.as_of s g h alive in
+    let hs : List Hold = holds_of g a.as_of amount a.buckets in
+    let same : holds_of g a.as_of amount (merged left.buckets a.buckets) ≡ hs = holds_merged g a.as_of amount left.buckets a.buckets h.dead in
+    let row : SessionGroup = record { session = s; group = g; used = used_in s g a.groups; reservation = Some (record { periods = p; holds = hs }) } in
+    let groups : with_reservation s g p (holds_of g a.as_of amount (merged left.buckets a.buckets)) (left.groups ++ a.groups) ≡ left.groups ++ with_reservation s g p hs a.groups =
+    (λ i. put (is_of s g) (record { session = s; group = g; used = (row_same left a h s g not_of i).used; reservation = Some (record { periods = p; holds = same i }) }) (left.groups ++ a.groups))
+    ∙ put_behind (is_of s g) row left.groups a.groups not_of in
+    λ i. record (joined left a) { buckets = held_merged g a.as_of amount left.buckets a.buckets h.dead i; groups = groups i }

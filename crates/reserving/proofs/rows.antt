@@ -1,0 +1,11 @@
+pub mod Lapsing
+pub mod TwoAdvances
+pub mod LaterFunds
+pub mod Touching
+pub mod Closing
+pub mod Empty
+pub mod Complete
+pub mod Reserved
+pub mod Debited
+mod Worked
+pub mod Barring

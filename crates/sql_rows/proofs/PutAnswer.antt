@@ -1,0 +1,140 @@
+-- What the text of `put_answer` does.
+use Rattle.std.specs.Prelude.{codes, option_map, is_some, length, if◌then◌else◌}
+use Rattle.std.proofs.Common.{◌≡◌, ◌≢◌, inl, inr, ℕ, ℤ, pos, ◌+◌, List, [], ◌∷◌, ◌++◌, map, Bool, true, false, ◌&&◌}
+use Rattle.std.proofs.Common.{Some, None, Option, Ok, Err, Result, OnOk, IsTrue, refl, sym, ap, ◌∙◌, arith, nat_eq}
+use Rattle.std.specs.Ordering.{eq_by_cmp}
+use Rattle.sqlite_value.specs.declared.value.Value.{Value}
+use Rattle.sqlite_value.specs.declared.value.Value.TheVariants.{Null, Int, Text}
+use Rattle.sqlite_value.specs.Order.{Row, row_cmp}
+use Rattle.sqlite_value.specs.Keys.{plain}
+use Rattle.sqlite_trees.specs.Tree.{Trees}
+use Rattle.sqlite_sql.specs.Term.{Term, lit, col}
+use Rattle.sqlite_schema.specs.declared.command.Source.TheVariants.{Values}
+use Rattle.sqlite_schema.specs.declared.command.Conflict.TheVariants.{Abort}
+use Rattle.sqlite_schema.specs.declared.command.Command.TheVariants.{InsertOr}
+use Rattle.sqlite_schema.specs.Rules.{agree}
+use Rattle.sqlite_rules.specs.Cast.{cast_row}
+use Rattle.sqlite_rules.specs.Keys.{conflicts}
+use Rattle.sqlite_tied.specs.Compute.{everything}
+use Rattle.sqlite.specs.Values.{bound_value, or_null}
+use Rattle.sqlite.specs.declared.error.Error.{Error}
+use Rattle.sqlite.specs.Listing.{understood}
+use Rattle.sqlite.specs.State.{State, ExecutesInside}
+use Rattle.sqlite.proofs.Callers.{IsPlain, command_of}
+use Rattle.sql_tables.specs.Keyed.{key_of, look, same_name}
+use Rattle.sql_tables.specs.Schema.{answers, accounts, book_schema, key_index}
+use Rattle.sql_tables.specs.Statements.{IsBook, Puts, Changes}
+use Rattle.sql_tables.proofs.Casts.{cast_int, cast_null, cast_or_null, cast_or_text}
+use Rattle.sql_tables.proofs.Counted.{counted}
+use Rattle.sql_tables.proofs.Found.{put_tells, is_some_map, apart_if, same_if}
+use Rattle.sql_tables.proofs.Keys.{text_number_text_number}
+use Rattle.sql_tables.proofs.Steps.{or_false}
+use Rattle.sql_tables.proofs.Tabled.{puts_table}
+use Rattle.sql_tables.proofs.Ties.{agree_ties}
+use Rattle.sql_tables.proofs.Upserts.{pick}
+use Rattle.sql_rows.specs.Values.{nat, Kept, answer_values, answer_key, answer_in}
+use Rattle.sql_rows.specs.Content.{Rows, Content, with_rows, with_answer, rows_in, content_of}
+use Rattle.sql_rows.specs.Makes.{Makes}
+use Rattle.sql_rows.proofs.Stays.{rows_same, meta_kept, head_kept, buckets_kept, counters_kept, sessions_kept}
+use Rattle.sql_rows.proofs.Stays.{groups_kept, holds_kept, answers_kept, charges_kept, vouchers_kept}
+
+abbrev pub put_answer_text : List ℕ
+put_answer_text =
+    codes "INSERT INTO answers VALUES (?1, ?2, ?3, ?4, ?5, ?6) "
+    ++ codes "ON CONFLICT (account, kind, name, number) DO UPDATE SET "
+    ++ codes "account = excluded.account, kind = excluded.kind, name = excluded.name, "
+    ++ codes "number = excluded.number, content = excluded.content, answer = excluded.answer"
+
+abbrev terms : List Term
+terms = lit Null ∷ col 0 0 ∷ col 0 1 ∷ col 0 2 ∷ col 0 3 ∷ col 0 4 ∷ col 0 5 ∷ []
+
+abbrev project : List Term
+project = col 1 0 ∷ col 1 0 ∷ col 0 8 ∷ col 0 9 ∷ col 0 10 ∷ col 0 11 ∷ col 0 12 ∷ col 0 13 ∷ []
+
+abbrev places : List ℕ
+places = 1 ∷ 2 ∷ 3 ∷ 4 ∷ []
+
+put_is : command_of (understood book_schema put_answer_text)
+    ≡ InsertOr 7 Abort (Values terms 7)
+    (record { target = Some places; update = Some (record { lets = []; body = pick 14 6 project }) } ∷ [])
+unfolding understood everything
+put_is = refl
+
+put_plain : IsPlain (understood book_schema put_answer_text)
+unfolding understood everything
+put_plain = (refl, refl)
+
+module _ (a : List ℕ) (kind : ℕ) (name : List ℕ) (number : ℕ) (k : Kept) where
+  abbrev values : Row
+  values = answer_values a kind name number k
+
+  again : (id : ℤ) → cast_row answers (Int id ∷ values) ≡ Int id ∷ values
+  again id = simp (cast_int)
+
+  unset : cast_row answers (Null ∷ values) ≡ Null ∷ values
+  unset = simp (cast_int, cast_null)
+
+  meets : (id : ℤ) (other : Row) → conflicts (Some places) book_schema.indexes answers (Int id ∷ values) other
+      ≡ eq_by_cmp row_cmp (key_of places other) (key_of places (Int id ∷ values))
+  meets id other = or_false (agree plain places other places (Int id ∷ values)) ∙ agree_ties places other
+      (Int id ∷ values) (refl, (refl, (refl, (refl, tt))))
+
+  puts : (old new : State) (r : Result ℕ Error) → (IsTrue old.is_open → IsBook old)
+      → OnOk r (ExecutesInside 0 put_answer_text values old new r) → OnOk r (Puts answers values old new)
+  puts =
+      puts_table 7 answers refl (inr (inr (inr (inr (inr (inr (inr (inl refl)))))))) (key_index answers)
+      (inr (inr (inr (inr (inr (inr (inr (inl refl))))))))
+      refl refl refl (λ e. omega arith) refl
+      put_answer_text terms project 7 6 put_is put_plain values (λ olds new. refl) again unset
+      (λ id met r. refl) (λ id met. refl) refl (λ v. refl) (λ id. (refl, (refl, (refl, (refl, tt))))) meets
+
+  tie : (x : List ℕ) (l : ℕ) (t : List ℕ) (m : ℕ) → eq_by_cmp row_cmp (answer_key x l t m)
+      (key_of places (Null ∷ values)) ≡ (same_name a x && (nat_eq kind l && (same_name name t && nat_eq number m)))
+  tie x l t m = text_number_text_number a x kind l name t number m
+
+  turns : (old new : Trees) → Changes answers values old new → content_of new ≡ with_rows a
+      (with_answer kind name number k) (content_of old)
+  turns old new c = λ i. record {
+    meta = meta_kept old new (c.others.0 (omega arith)) i;
+    rows = λ x. account x i;
+    vouchers = λ code. vouchers_kept old new (c.others.1.1.1.1.1.1.1.1.0 (omega arith)) code i;
+    count = length (c.others.1.0 (omega arith) i);
+  }
+    where
+      account : (x : List ℕ) → rows_in new x ≡ (if same_name a x then with_answer kind name number k (rows_in old x)
+          else rows_in old x)
+      account x = rows_same (same_name a x) (rows_in new x) (rows_in old x) (with_answer kind name number k)
+          (same_if (same_name a x) _ _ (head_kept old new (c.others.1.0 (omega arith)) x))
+          (λ k1. same_if (same_name a x) _ _ (buckets_kept old new (c.others.1.1.0 (omega arith)) x k1))
+          (λ k1 k2. same_if (same_name a x) _ _ (counters_kept old new (c.others.1.1.1.0 (omega arith)) x k1 k2))
+          (λ k1. same_if (same_name a x) _ _ (sessions_kept old new (c.others.1.1.1.1.0 (omega arith)) x k1))
+          (λ k1 k2. same_if (same_name a x) _ _ (groups_kept old new (c.others.1.1.1.1.1.0 (omega arith)) x k1 k2))
+          (λ k1 k2 k3. same_if (same_name a x) _ _ (holds_kept old new (c.others.1.1.1.1.1.1.0 (omega arith)) x k1
+          k2 k3))
+          (λ l t m. put_tells answer_in answers values old new c k refl (answer_key x l t m)
+          (same_name a x && (nat_eq kind l && (same_name name t && nat_eq number m))) (tie x l t m)
+          ∙ apart_if (same_name a x) (nat_eq kind l && (same_name name t && nat_eq number m)) _ _)
+          (λ k1. same_if (same_name a x) _ _ (charges_kept old new (c.others.1.1.1.1.1.1.1.1.1.0 (omega arith)) x k1))
+
+  pub makes_answer : (old new : State) (r : Result ℕ Error) → (IsTrue old.is_open → IsBook old)
+      → OnOk r (ExecutesInside 0 put_answer_text values old new r) → OnOk r
+      (Makes (with_rows a (with_answer kind name number k)) old new)
+  makes_answer old new (Err e) book x = tt
+  makes_answer old new (Ok count) book x =
+      let p = puts old new (Ok count) book x in
+      record {
+        turns = record { content = turns old.now.trees new.now.trees p.changes; catalog = p.changes.catalog };
+        book = p.book;
+        shows = p.shows;
+      }
+
+  -- the parameters, as they are bound
+  pub bound_answer : (v1 v2 v3 v4 v5 v6 : Value)
+      → v1 ≡ Text a
+      → v2 ≡ nat kind
+      → v3 ≡ Text name
+      → v4 ≡ nat number
+      → v5 ≡ Text k.content
+      → v6 ≡ Text k.answer
+      → ◌≡◌ {A = Row} (map bound_value (v1 ∷ v2 ∷ v3 ∷ v4 ∷ v5 ∷ v6 ∷ [])) values
+  bound_answer v1 v2 v3 v4 v5 v6 e1 e2 e3 e4 e5 e6 = rw (e1, e2, e3, e4, e5, e6) refl

@@ -1,0 +1,148 @@
+-- What the text of `put_charge` does.
+use Rattle.std.specs.Prelude.{codes, option_map, is_some, length, if◌then◌else◌}
+use Rattle.std.proofs.Common.{◌≡◌, ◌≢◌, inl, inr, ℕ, ℤ, pos, ◌+◌, List, [], ◌∷◌, ◌++◌, map, Bool, true, false, ◌&&◌}
+use Rattle.std.proofs.Common.{Some, None, Option, Ok, Err, Result, OnOk, IsTrue, refl, sym, ap, ◌∙◌, arith, nat_eq}
+use Rattle.std.specs.Ordering.{eq_by_cmp}
+use Rattle.sqlite_value.specs.declared.value.Value.{Value}
+use Rattle.sqlite_value.specs.declared.value.Value.TheVariants.{Null, Int, Text}
+use Rattle.sqlite_value.specs.Order.{Row, row_cmp}
+use Rattle.sqlite_value.specs.Keys.{plain}
+use Rattle.sqlite_trees.specs.Tree.{Trees}
+use Rattle.sqlite_sql.specs.Term.{Term, lit, col}
+use Rattle.sqlite_schema.specs.declared.command.Source.TheVariants.{Values}
+use Rattle.sqlite_schema.specs.declared.command.Conflict.TheVariants.{Abort}
+use Rattle.sqlite_schema.specs.declared.command.Command.TheVariants.{InsertOr}
+use Rattle.sqlite_schema.specs.Rules.{agree}
+use Rattle.sqlite_rules.specs.Cast.{cast_row}
+use Rattle.sqlite_rules.specs.Keys.{conflicts}
+use Rattle.sqlite_tied.specs.Compute.{everything}
+use Rattle.sqlite.specs.Values.{bound_value, or_null}
+use Rattle.sqlite.specs.declared.error.Error.{Error}
+use Rattle.sqlite.specs.Listing.{understood}
+use Rattle.sqlite.specs.State.{State, ExecutesInside}
+use Rattle.sqlite.proofs.Callers.{IsPlain, command_of}
+use Rattle.reserving.specs.declared.charge.ChargeRow.{ChargeRow}
+use Rattle.sql_tables.specs.Keyed.{key_of, look, same_name}
+use Rattle.sql_tables.specs.Schema.{charges, accounts, book_schema, key_index}
+use Rattle.sql_tables.specs.Statements.{IsBook, Puts, Changes}
+use Rattle.sql_tables.proofs.Casts.{cast_int, cast_null, cast_or_null, cast_or_text}
+use Rattle.sql_tables.proofs.Counted.{counted}
+use Rattle.sql_tables.proofs.Found.{put_tells, is_some_map, apart_if, same_if}
+use Rattle.sql_tables.proofs.Keys.{text_number}
+use Rattle.sql_tables.proofs.Steps.{or_false}
+use Rattle.sql_tables.proofs.Tabled.{puts_table}
+use Rattle.sql_tables.proofs.Ties.{agree_ties}
+use Rattle.sql_tables.proofs.Upserts.{pick}
+use Rattle.sql_rows.specs.Values.{nat, charge_values, charge_key, charge_in}
+use Rattle.sql_rows.specs.Content.{Rows, Content, with_rows, with_charge, rows_in, content_of}
+use Rattle.sql_rows.specs.Makes.{Makes}
+use Rattle.sql_rows.proofs.Stays.{rows_same, meta_kept, head_kept, buckets_kept, counters_kept, sessions_kept}
+use Rattle.sql_rows.proofs.Stays.{groups_kept, holds_kept, answers_kept, charges_kept, vouchers_kept}
+
+abbrev pub put_charge_text : List ℕ
+put_charge_text =
+    codes "INSERT INTO charges VALUES (?1, ?2, ?3, ?4, ?5, ?6, ?7, ?8, ?9) "
+    ++ codes "ON CONFLICT (account, number) DO UPDATE SET "
+    ++ codes "account = excluded.account, number = excluded.number, moment = excluded.moment, "
+    ++ codes "session = excluded.session, rating_group = excluded.rating_group, "
+    ++ codes "blocks = excluded.blocks, rated = excluded.rated, collected = excluded.collected, "
+    ++ codes "uncollected = excluded.uncollected"
+
+abbrev terms : List Term
+terms = lit Null ∷ col 0 0 ∷ col 0 1 ∷ col 0 2 ∷ col 0 3 ∷ col 0 4 ∷ col 0 5 ∷ col 0 6 ∷ col 0 7 ∷ col 0 8 ∷ []
+
+abbrev project : List Term
+project = col 1 0 ∷ col 1 0 ∷ col 0 11 ∷ col 0 12 ∷ col 0 13 ∷ col 0 14 ∷ col 0 15 ∷ col 0 16 ∷ col 0 17 ∷
+    col 0 18 ∷ col 0 19 ∷ []
+
+abbrev places : List ℕ
+places = 1 ∷ 2 ∷ []
+
+put_is : command_of (understood book_schema put_charge_text)
+    ≡ InsertOr 9 Abort (Values terms 10)
+    (record { target = Some places; update = Some (record { lets = []; body = pick 18 9 project }) } ∷ [])
+unfolding understood everything
+put_is = refl
+
+put_plain : IsPlain (understood book_schema put_charge_text)
+unfolding understood everything
+put_plain = (refl, refl)
+
+module _ (a : List ℕ) (row : ChargeRow) where
+  abbrev values : Row
+  values = charge_values a row
+
+  again : (id : ℤ) → cast_row charges (Int id ∷ values) ≡ Int id ∷ values
+  again id = simp (cast_int)
+
+  unset : cast_row charges (Null ∷ values) ≡ Null ∷ values
+  unset = simp (cast_int, cast_null)
+
+  meets : (id : ℤ) (other : Row) → conflicts (Some places) book_schema.indexes charges (Int id ∷ values) other
+      ≡ eq_by_cmp row_cmp (key_of places other) (key_of places (Int id ∷ values))
+  meets id other = or_false (agree plain places other places (Int id ∷ values)) ∙ agree_ties places other
+      (Int id ∷ values) (refl, (refl, tt))
+
+  puts : (old new : State) (r : Result ℕ Error) → (IsTrue old.is_open → IsBook old)
+      → OnOk r (ExecutesInside 0 put_charge_text values old new r) → OnOk r (Puts charges values old new)
+  puts =
+      puts_table 9 charges refl (inr (inr (inr (inr (inr (inr (inr (inr (inr (inl refl)))))))))) (key_index charges)
+      (inr (inr (inr (inr (inr (inr (inr (inr (inr (inl refl))))))))))
+      refl refl refl (λ e. omega arith) refl
+      put_charge_text terms project 10 9 put_is put_plain values (λ olds new. refl) again unset
+      (λ id met r. refl) (λ id met. refl) refl (λ v. refl) (λ id. (refl, (refl, tt))) meets
+
+  tie : (x : List ℕ) (n : ℕ) → eq_by_cmp row_cmp (charge_key x n) (key_of places (Null ∷ values)) ≡
+      (same_name a x && (nat_eq row.number n))
+  tie x n = text_number a x row.number n
+
+  turns : (old new : Trees) → Changes charges values old new → content_of new ≡ with_rows a (with_charge row)
+      (content_of old)
+  turns old new c = λ i. record {
+    meta = meta_kept old new (c.others.0 (omega arith)) i;
+    rows = λ x. account x i;
+    vouchers = λ code. vouchers_kept old new (c.others.1.1.1.1.1.1.1.1.0 (omega arith)) code i;
+    count = length (c.others.1.0 (omega arith) i);
+  }
+    where
+      account : (x : List ℕ) → rows_in new x ≡ (if same_name a x then with_charge row (rows_in old x) else rows_in
+          old x)
+      account x = rows_same (same_name a x) (rows_in new x) (rows_in old x) (with_charge row)
+          (same_if (same_name a x) _ _ (head_kept old new (c.others.1.0 (omega arith)) x))
+          (λ k1. same_if (same_name a x) _ _ (buckets_kept old new (c.others.1.1.0 (omega arith)) x k1))
+          (λ k1 k2. same_if (same_name a x) _ _ (counters_kept old new (c.others.1.1.1.0 (omega arith)) x k1 k2))
+          (λ k1. same_if (same_name a x) _ _ (sessions_kept old new (c.others.1.1.1.1.0 (omega arith)) x k1))
+          (λ k1 k2. same_if (same_name a x) _ _ (groups_kept old new (c.others.1.1.1.1.1.0 (omega arith)) x k1 k2))
+          (λ k1 k2 k3. same_if (same_name a x) _ _ (holds_kept old new (c.others.1.1.1.1.1.1.0 (omega arith)) x k1
+          k2 k3))
+          (λ k1 k2 k3. same_if (same_name a x) _ _ (answers_kept old new (c.others.1.1.1.1.1.1.1.0 (omega arith)) x k1
+          k2 k3))
+          (λ n. put_tells charge_in charges values old new c row refl (charge_key x n)
+          (same_name a x && (nat_eq row.number n)) (tie x n)
+          ∙ apart_if (same_name a x) (nat_eq row.number n) _ _)
+
+  pub makes_charge : (old new : State) (r : Result ℕ Error) → (IsTrue old.is_open → IsBook old)
+      → OnOk r (ExecutesInside 0 put_charge_text values old new r) → OnOk r
+      (Makes (with_rows a (with_charge row)) old new)
+  makes_charge old new (Err e) book x = tt
+  makes_charge old new (Ok count) book x =
+      let p = puts old new (Ok count) book x in
+      record {
+        turns = record { content = turns old.now.trees new.now.trees p.changes; catalog = p.changes.catalog };
+        book = p.book;
+        shows = p.shows;
+      }
+
+  -- the parameters, as they are bound
+  pub bound_charge : (v1 v2 v3 v4 v5 v6 v7 v8 v9 : Value)
+      → v1 ≡ Text a
+      → v2 ≡ nat row.number
+      → v3 ≡ nat row.moment
+      → v4 ≡ Text row.session
+      → v5 ≡ nat row.group
+      → v6 ≡ nat row.blocks.0
+      → v7 ≡ nat row.rated.0
+      → v8 ≡ nat row.collected.0
+      → v9 ≡ nat row.uncollected.0
+      → ◌≡◌ {A = Row} (map bound_value (v1 ∷ v2 ∷ v3 ∷ v4 ∷ v5 ∷ v6 ∷ v7 ∷ v8 ∷ v9 ∷ [])) values
+  bound_charge v1 v2 v3 v4 v5 v6 v7 v8 v9 e1 e2 e3 e4 e5 e6 e7 e8 e9 = rw (e1, e2, e3, e4, e5, e6, e7, e8, e9) refl

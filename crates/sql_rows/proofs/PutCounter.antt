@@ -1,0 +1,138 @@
+-- What the text of `put_counter` does.
+use Rattle.std.specs.Prelude.{codes, option_map, is_some, length, if◌then◌else◌}
+use Rattle.std.proofs.Common.{◌≡◌, ◌≢◌, inl, inr, ℕ, ℤ, pos, ◌+◌, List, [], ◌∷◌, ◌++◌, map, Bool, true, false, ◌&&◌}
+use Rattle.std.proofs.Common.{Some, None, Option, Ok, Err, Result, OnOk, IsTrue, refl, sym, ap, ◌∙◌, arith, nat_eq}
+use Rattle.std.specs.Ordering.{eq_by_cmp}
+use Rattle.sqlite_value.specs.declared.value.Value.{Value}
+use Rattle.sqlite_value.specs.declared.value.Value.TheVariants.{Null, Int, Text}
+use Rattle.sqlite_value.specs.Order.{Row, row_cmp}
+use Rattle.sqlite_value.specs.Keys.{plain}
+use Rattle.sqlite_trees.specs.Tree.{Trees}
+use Rattle.sqlite_sql.specs.Term.{Term, lit, col}
+use Rattle.sqlite_schema.specs.declared.command.Source.TheVariants.{Values}
+use Rattle.sqlite_schema.specs.declared.command.Conflict.TheVariants.{Abort}
+use Rattle.sqlite_schema.specs.declared.command.Command.TheVariants.{InsertOr}
+use Rattle.sqlite_schema.specs.Rules.{agree}
+use Rattle.sqlite_rules.specs.Cast.{cast_row}
+use Rattle.sqlite_rules.specs.Keys.{conflicts}
+use Rattle.sqlite_tied.specs.Compute.{everything}
+use Rattle.sqlite.specs.Values.{bound_value, or_null}
+use Rattle.sqlite.specs.declared.error.Error.{Error}
+use Rattle.sqlite.specs.Listing.{understood}
+use Rattle.sqlite.specs.State.{State, ExecutesInside}
+use Rattle.sqlite.proofs.Callers.{IsPlain, command_of}
+use Rattle.reserving.specs.declared.session.Counter.{Counter}
+use Rattle.sql_tables.specs.Keyed.{key_of, look, same_name}
+use Rattle.sql_tables.specs.Schema.{counters, accounts, book_schema, key_index}
+use Rattle.sql_tables.specs.Statements.{IsBook, Puts, Changes}
+use Rattle.sql_tables.proofs.Casts.{cast_int, cast_null, cast_or_null, cast_or_text}
+use Rattle.sql_tables.proofs.Counted.{counted}
+use Rattle.sql_tables.proofs.Found.{put_tells, is_some_map, apart_if, same_if}
+use Rattle.sql_tables.proofs.Keys.{text_number_number}
+use Rattle.sql_tables.proofs.Steps.{or_false}
+use Rattle.sql_tables.proofs.Tabled.{puts_table}
+use Rattle.sql_tables.proofs.Ties.{agree_ties}
+use Rattle.sql_tables.proofs.Upserts.{pick}
+use Rattle.sql_rows.specs.Values.{nat, counter_values, counter_key, counter_in}
+use Rattle.sql_rows.specs.Content.{Rows, Content, with_rows, with_counter, rows_in, content_of}
+use Rattle.sql_rows.specs.Makes.{Makes}
+use Rattle.sql_rows.proofs.Stays.{rows_same, meta_kept, head_kept, buckets_kept, counters_kept, sessions_kept}
+use Rattle.sql_rows.proofs.Stays.{groups_kept, holds_kept, answers_kept, charges_kept, vouchers_kept}
+
+abbrev pub put_counter_text : List ℕ
+put_counter_text =
+    codes "INSERT INTO counters VALUES (?1, ?2, ?3, ?4) "
+    ++ codes "ON CONFLICT (account, rating_group, cycle) DO UPDATE SET "
+    ++ codes "account = excluded.account, rating_group = excluded.rating_group, "
+    ++ codes "cycle = excluded.cycle, blocks = excluded.blocks"
+
+abbrev terms : List Term
+terms = lit Null ∷ col 0 0 ∷ col 0 1 ∷ col 0 2 ∷ col 0 3 ∷ []
+
+abbrev project : List Term
+project = col 1 0 ∷ col 1 0 ∷ col 0 6 ∷ col 0 7 ∷ col 0 8 ∷ col 0 9 ∷ []
+
+abbrev places : List ℕ
+places = 1 ∷ 2 ∷ 3 ∷ []
+
+put_is : command_of (understood book_schema put_counter_text)
+    ≡ InsertOr 3 Abort (Values terms 5)
+    (record { target = Some places; update = Some (record { lets = []; body = pick 6 4 project }) } ∷ [])
+unfolding understood everything
+put_is = refl
+
+put_plain : IsPlain (understood book_schema put_counter_text)
+unfolding understood everything
+put_plain = (refl, refl)
+
+module _ (a : List ℕ) (k : Counter) where
+  abbrev values : Row
+  values = counter_values a k
+
+  again : (id : ℤ) → cast_row counters (Int id ∷ values) ≡ Int id ∷ values
+  again id = simp (cast_int)
+
+  unset : cast_row counters (Null ∷ values) ≡ Null ∷ values
+  unset = simp (cast_int, cast_null)
+
+  meets : (id : ℤ) (other : Row) → conflicts (Some places) book_schema.indexes counters (Int id ∷ values) other
+      ≡ eq_by_cmp row_cmp (key_of places other) (key_of places (Int id ∷ values))
+  meets id other = or_false (agree plain places other places (Int id ∷ values)) ∙ agree_ties places other
+      (Int id ∷ values) (refl, (refl, (refl, tt)))
+
+  puts : (old new : State) (r : Result ℕ Error) → (IsTrue old.is_open → IsBook old)
+      → OnOk r (ExecutesInside 0 put_counter_text values old new r) → OnOk r (Puts counters values old new)
+  puts =
+      puts_table 3 counters refl (inr (inr (inr (inl refl)))) (key_index counters) (inr (inr (inr (inl refl))))
+      refl refl refl (λ e. omega arith) refl
+      put_counter_text terms project 5 4 put_is put_plain values (λ olds new. refl) again unset
+      (λ id met r. refl) (λ id met. refl) refl (λ v. refl) (λ id. (refl, (refl, (refl, tt)))) meets
+
+  tie : (x : List ℕ) (g y : ℕ) → eq_by_cmp row_cmp (counter_key x g y) (key_of places (Null ∷ values)) ≡
+      (same_name a x && (nat_eq k.group g && nat_eq k.cycle y))
+  tie x g y = text_number_number a x k.group g k.cycle y
+
+  turns : (old new : Trees) → Changes counters values old new → content_of new ≡ with_rows a (with_counter k)
+      (content_of old)
+  turns old new c = λ i. record {
+    meta = meta_kept old new (c.others.0 (omega arith)) i;
+    rows = λ x. account x i;
+    vouchers = λ code. vouchers_kept old new (c.others.1.1.1.1.1.1.1.1.0 (omega arith)) code i;
+    count = length (c.others.1.0 (omega arith) i);
+  }
+    where
+      account : (x : List ℕ) → rows_in new x ≡ (if same_name a x then with_counter k (rows_in old x) else rows_in old x)
+      account x = rows_same (same_name a x) (rows_in new x) (rows_in old x) (with_counter k)
+          (same_if (same_name a x) _ _ (head_kept old new (c.others.1.0 (omega arith)) x))
+          (λ k1. same_if (same_name a x) _ _ (buckets_kept old new (c.others.1.1.0 (omega arith)) x k1))
+          (λ g y. put_tells counter_in counters values old new c k refl (counter_key x g y)
+          (same_name a x && (nat_eq k.group g && nat_eq k.cycle y)) (tie x g y)
+          ∙ apart_if (same_name a x) (nat_eq k.group g && nat_eq k.cycle y) _ _)
+          (λ k1. same_if (same_name a x) _ _ (sessions_kept old new (c.others.1.1.1.1.0 (omega arith)) x k1))
+          (λ k1 k2. same_if (same_name a x) _ _ (groups_kept old new (c.others.1.1.1.1.1.0 (omega arith)) x k1 k2))
+          (λ k1 k2 k3. same_if (same_name a x) _ _ (holds_kept old new (c.others.1.1.1.1.1.1.0 (omega arith)) x k1
+          k2 k3))
+          (λ k1 k2 k3. same_if (same_name a x) _ _ (answers_kept old new (c.others.1.1.1.1.1.1.1.0 (omega arith)) x k1
+          k2 k3))
+          (λ k1. same_if (same_name a x) _ _ (charges_kept old new (c.others.1.1.1.1.1.1.1.1.1.0 (omega arith)) x k1))
+
+  pub makes_counter : (old new : State) (r : Result ℕ Error) → (IsTrue old.is_open → IsBook old)
+      → OnOk r (ExecutesInside 0 put_counter_text values old new r) → OnOk r
+      (Makes (with_rows a (with_counter k)) old new)
+  makes_counter old new (Err e) book x = tt
+  makes_counter old new (Ok count) book x =
+      let p = puts old new (Ok count) book x in
+      record {
+        turns = record { content = turns old.now.trees new.now.trees p.changes; catalog = p.changes.catalog };
+        book = p.book;
+        shows = p.shows;
+      }
+
+  -- the parameters, as they are bound
+  pub bound_counter : (v1 v2 v3 v4 : Value)
+      → v1 ≡ Text a
+      → v2 ≡ nat k.group
+      → v3 ≡ nat k.cycle
+      → v4 ≡ nat k.blocks
+      → ◌≡◌ {A = Row} (map bound_value (v1 ∷ v2 ∷ v3 ∷ v4 ∷ [])) values
+  bound_counter v1 v2 v3 v4 e1 e2 e3 e4 = rw (e1, e2, e3, e4) refl

@@ -1,0 +1,139 @@
+-- What the text of `put_hold` does.
+use Rattle.std.specs.Prelude.{codes, option_map, is_some, length, if◌then◌else◌}
+use Rattle.std.proofs.Common.{◌≡◌, ◌≢◌, inl, inr, ℕ, ℤ, pos, ◌+◌, List, [], ◌∷◌, ◌++◌, map, Bool, true, false, ◌&&◌}
+use Rattle.std.proofs.Common.{Some, None, Option, Ok, Err, Result, OnOk, IsTrue, refl, sym, ap, ◌∙◌, arith, nat_eq}
+use Rattle.std.specs.Ordering.{eq_by_cmp}
+use Rattle.sqlite_value.specs.declared.value.Value.{Value}
+use Rattle.sqlite_value.specs.declared.value.Value.TheVariants.{Null, Int, Text}
+use Rattle.sqlite_value.specs.Order.{Row, row_cmp}
+use Rattle.sqlite_value.specs.Keys.{plain}
+use Rattle.sqlite_trees.specs.Tree.{Trees}
+use Rattle.sqlite_sql.specs.Term.{Term, lit, col}
+use Rattle.sqlite_schema.specs.declared.command.Source.TheVariants.{Values}
+use Rattle.sqlite_schema.specs.declared.command.Conflict.TheVariants.{Abort}
+use Rattle.sqlite_schema.specs.declared.command.Command.TheVariants.{InsertOr}
+use Rattle.sqlite_schema.specs.Rules.{agree}
+use Rattle.sqlite_rules.specs.Cast.{cast_row}
+use Rattle.sqlite_rules.specs.Keys.{conflicts}
+use Rattle.sqlite_tied.specs.Compute.{everything}
+use Rattle.sqlite.specs.Values.{bound_value, or_null}
+use Rattle.sqlite.specs.declared.error.Error.{Error}
+use Rattle.sqlite.specs.Listing.{understood}
+use Rattle.sqlite.specs.State.{State, ExecutesInside}
+use Rattle.sqlite.proofs.Callers.{IsPlain, command_of}
+use Rattle.sql_tables.specs.Keyed.{key_of, look, same_name}
+use Rattle.sql_tables.specs.Schema.{holds, accounts, book_schema, key_index}
+use Rattle.sql_tables.specs.Statements.{IsBook, Puts, Changes}
+use Rattle.sql_tables.proofs.Casts.{cast_int, cast_null, cast_or_null, cast_or_text}
+use Rattle.sql_tables.proofs.Counted.{counted}
+use Rattle.sql_tables.proofs.Found.{put_tells, is_some_map, apart_if, same_if}
+use Rattle.sql_tables.proofs.Keys.{text_text_number_number}
+use Rattle.sql_tables.proofs.Steps.{or_false}
+use Rattle.sql_tables.proofs.Tabled.{puts_table}
+use Rattle.sql_tables.proofs.Ties.{agree_ties}
+use Rattle.sql_tables.proofs.Upserts.{pick}
+use Rattle.sql_rows.specs.Values.{nat, hold_values, hold_key, hold_in}
+use Rattle.sql_rows.specs.Content.{Rows, Content, with_rows, with_hold, rows_in, content_of}
+use Rattle.sql_rows.specs.Makes.{Makes}
+use Rattle.sql_rows.proofs.Stays.{rows_same, meta_kept, head_kept, buckets_kept, counters_kept, sessions_kept}
+use Rattle.sql_rows.proofs.Stays.{groups_kept, holds_kept, answers_kept, charges_kept, vouchers_kept}
+
+abbrev pub put_hold_text : List ℕ
+put_hold_text =
+    codes "INSERT INTO holds VALUES (?1, ?2, ?3, ?4, ?5) "
+    ++ codes "ON CONFLICT (account, session, rating_group, bucket) DO UPDATE SET "
+    ++ codes "account = excluded.account, session = excluded.session, "
+    ++ codes "rating_group = excluded.rating_group, bucket = excluded.bucket, amount = excluded.amount"
+
+abbrev terms : List Term
+terms = lit Null ∷ col 0 0 ∷ col 0 1 ∷ col 0 2 ∷ col 0 3 ∷ col 0 4 ∷ []
+
+abbrev project : List Term
+project = col 1 0 ∷ col 1 0 ∷ col 0 7 ∷ col 0 8 ∷ col 0 9 ∷ col 0 10 ∷ col 0 11 ∷ []
+
+abbrev places : List ℕ
+places = 1 ∷ 2 ∷ 3 ∷ 4 ∷ []
+
+put_is : command_of (understood book_schema put_hold_text)
+    ≡ InsertOr 6 Abort (Values terms 6)
+    (record { target = Some places; update = Some (record { lets = []; body = pick 12 5 project }) } ∷ [])
+unfolding understood everything
+put_is = refl
+
+put_plain : IsPlain (understood book_schema put_hold_text)
+unfolding understood everything
+put_plain = (refl, refl)
+
+module _ (a s : List ℕ) (g n amount : ℕ) where
+  abbrev values : Row
+  values = hold_values a s g n amount
+
+  again : (id : ℤ) → cast_row holds (Int id ∷ values) ≡ Int id ∷ values
+  again id = simp (cast_int)
+
+  unset : cast_row holds (Null ∷ values) ≡ Null ∷ values
+  unset = simp (cast_int, cast_null)
+
+  meets : (id : ℤ) (other : Row) → conflicts (Some places) book_schema.indexes holds (Int id ∷ values) other
+      ≡ eq_by_cmp row_cmp (key_of places other) (key_of places (Int id ∷ values))
+  meets id other = or_false (agree plain places other places (Int id ∷ values)) ∙ agree_ties places other
+      (Int id ∷ values) (refl, (refl, (refl, (refl, tt))))
+
+  puts : (old new : State) (r : Result ℕ Error) → (IsTrue old.is_open → IsBook old)
+      → OnOk r (ExecutesInside 0 put_hold_text values old new r) → OnOk r (Puts holds values old new)
+  puts =
+      puts_table 6 holds refl (inr (inr (inr (inr (inr (inr (inl refl))))))) (key_index holds)
+      (inr (inr (inr (inr (inr (inr (inl refl)))))))
+      refl refl refl (λ e. omega arith) refl
+      put_hold_text terms project 6 5 put_is put_plain values (λ olds new. refl) again unset
+      (λ id met r. refl) (λ id met. refl) refl (λ v. refl) (λ id. (refl, (refl, (refl, (refl, tt))))) meets
+
+  tie : (x : List ℕ) (t : List ℕ) (h m : ℕ) → eq_by_cmp row_cmp (hold_key x t h m) (key_of places (Null ∷ values)) ≡
+      (same_name a x && (same_name s t && (nat_eq g h && nat_eq n m)))
+  tie x t h m = text_text_number_number a x s t g h n m
+
+  turns : (old new : Trees) → Changes holds values old new → content_of new ≡ with_rows a (with_hold s g n amount)
+      (content_of old)
+  turns old new c = λ i. record {
+    meta = meta_kept old new (c.others.0 (omega arith)) i;
+    rows = λ x. account x i;
+    vouchers = λ code. vouchers_kept old new (c.others.1.1.1.1.1.1.1.1.0 (omega arith)) code i;
+    count = length (c.others.1.0 (omega arith) i);
+  }
+    where
+      account : (x : List ℕ) → rows_in new x ≡ (if same_name a x then with_hold s g n amount (rows_in old x) else
+          rows_in old x)
+      account x = rows_same (same_name a x) (rows_in new x) (rows_in old x) (with_hold s g n amount)
+          (same_if (same_name a x) _ _ (head_kept old new (c.others.1.0 (omega arith)) x))
+          (λ k1. same_if (same_name a x) _ _ (buckets_kept old new (c.others.1.1.0 (omega arith)) x k1))
+          (λ k1 k2. same_if (same_name a x) _ _ (counters_kept old new (c.others.1.1.1.0 (omega arith)) x k1 k2))
+          (λ k1. same_if (same_name a x) _ _ (sessions_kept old new (c.others.1.1.1.1.0 (omega arith)) x k1))
+          (λ k1 k2. same_if (same_name a x) _ _ (groups_kept old new (c.others.1.1.1.1.1.0 (omega arith)) x k1 k2))
+          (λ t h m. put_tells hold_in holds values old new c amount refl (hold_key x t h m)
+          (same_name a x && (same_name s t && (nat_eq g h && nat_eq n m))) (tie x t h m)
+          ∙ apart_if (same_name a x) (same_name s t && (nat_eq g h && nat_eq n m)) _ _)
+          (λ k1 k2 k3. same_if (same_name a x) _ _ (answers_kept old new (c.others.1.1.1.1.1.1.1.0 (omega arith)) x k1
+          k2 k3))
+          (λ k1. same_if (same_name a x) _ _ (charges_kept old new (c.others.1.1.1.1.1.1.1.1.1.0 (omega arith)) x k1))
+
+  pub makes_hold : (old new : State) (r : Result ℕ Error) → (IsTrue old.is_open → IsBook old)
+      → OnOk r (ExecutesInside 0 put_hold_text values old new r) → OnOk r
+      (Makes (with_rows a (with_hold s g n amount)) old new)
+  makes_hold old new (Err e) book x = tt
+  makes_hold old new (Ok count) book x =
+      let p = puts old new (Ok count) book x in
+      record {
+        turns = record { content = turns old.now.trees new.now.trees p.changes; catalog = p.changes.catalog };
+        book = p.book;
+        shows = p.shows;
+      }
+
+  -- the parameters, as they are bound
+  pub bound_hold : (v1 v2 v3 v4 v5 : Value)
+      → v1 ≡ Text a
+      → v2 ≡ Text s
+      → v3 ≡ nat g
+      → v4 ≡ nat n
+      → v5 ≡ nat amount
+      → ◌≡◌ {A = Row} (map bound_value (v1 ∷ v2 ∷ v3 ∷ v4 ∷ v5 ∷ [])) values
+  bound_hold v1 v2 v3 v4 v5 e1 e2 e3 e4 e5 = rw (e1, e2, e3, e4, e5) refl

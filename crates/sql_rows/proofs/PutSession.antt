@@ -1,0 +1,151 @@
+-- What the text of `put_session` does.
+use Rattle.std.specs.Prelude.{codes, option_map, is_some, length, if◌then◌else◌}
+use Rattle.std.proofs.Common.{◌≡◌, ◌≢◌, inl, inr, ℕ, ℤ, pos, ◌+◌, List, [], ◌∷◌, ◌++◌, map, Bool, true, false, ◌&&◌}
+use Rattle.std.proofs.Common.{Some, None, Option, Ok, Err, Result, OnOk, IsTrue, refl, sym, ap, ◌∙◌, arith, nat_eq}
+use Rattle.std.specs.Ordering.{eq_by_cmp}
+use Rattle.sqlite_value.specs.declared.value.Value.{Value}
+use Rattle.sqlite_value.specs.declared.value.Value.TheVariants.{Null, Int, Text}
+use Rattle.sqlite_value.specs.Order.{Row, row_cmp}
+use Rattle.sqlite_value.specs.Keys.{plain}
+use Rattle.sqlite_trees.specs.Tree.{Trees}
+use Rattle.sqlite_sql.specs.Term.{Term, lit, col}
+use Rattle.sqlite_schema.specs.declared.command.Source.TheVariants.{Values}
+use Rattle.sqlite_schema.specs.declared.command.Conflict.TheVariants.{Abort}
+use Rattle.sqlite_schema.specs.declared.command.Command.TheVariants.{InsertOr}
+use Rattle.sqlite_schema.specs.Rules.{agree}
+use Rattle.sqlite_rules.specs.Cast.{cast_row}
+use Rattle.sqlite_rules.specs.Keys.{conflicts}
+use Rattle.sqlite_tied.specs.Compute.{everything}
+use Rattle.sqlite.specs.Values.{bound_value, or_null}
+use Rattle.sqlite.specs.declared.error.Error.{Error}
+use Rattle.sqlite.specs.Listing.{understood}
+use Rattle.sqlite.specs.State.{State, ExecutesInside}
+use Rattle.sqlite.proofs.Callers.{IsPlain, command_of}
+use Rattle.reserving.specs.declared.session.Session.{Session}
+use Rattle.reserving.specs.declared.session.SessionState.{SessionState}
+use Rattle.reserving.specs.declared.session.SessionState.TheVariants.{Open, Ended, NeverOpened}
+use Rattle.sql_tables.specs.Keyed.{key_of, look, same_name}
+use Rattle.sql_tables.specs.Schema.{sessions, accounts, book_schema, key_index}
+use Rattle.sql_tables.specs.Statements.{IsBook, Puts, Changes}
+use Rattle.sql_tables.proofs.Casts.{cast_int, cast_null, cast_or_null, cast_or_text}
+use Rattle.sql_tables.proofs.Counted.{counted}
+use Rattle.sql_tables.proofs.Found.{put_tells, is_some_map, apart_if, same_if}
+use Rattle.sql_tables.proofs.Keys.{text_text}
+use Rattle.sql_tables.proofs.Steps.{or_false}
+use Rattle.sql_tables.proofs.Tabled.{puts_table}
+use Rattle.sql_tables.proofs.Ties.{agree_ties}
+use Rattle.sql_tables.proofs.Upserts.{pick}
+use Rattle.sql_rows.specs.Values.{nat, session_cells, session_values, session_key, session_in, state_number}
+use Rattle.sql_rows.specs.Content.{Rows, Content, with_rows, with_session, rows_in, content_of}
+use Rattle.sql_rows.specs.Makes.{Makes}
+use Rattle.sql_rows.proofs.Stays.{rows_same, meta_kept, head_kept, buckets_kept, counters_kept, sessions_kept}
+use Rattle.sql_rows.proofs.Stays.{groups_kept, holds_kept, answers_kept, charges_kept, vouchers_kept}
+
+abbrev pub put_session_text : List ℕ
+put_session_text =
+    codes "INSERT INTO sessions VALUES (?1, ?2, ?3, ?4, ?5) "
+    ++ codes "ON CONFLICT (account, session) DO UPDATE SET "
+    ++ codes "account = excluded.account, session = excluded.session, "
+    ++ codes "last_number = excluded.last_number, touched = excluded.touched, state = excluded.state"
+
+abbrev terms : List Term
+terms = lit Null ∷ col 0 0 ∷ col 0 1 ∷ col 0 2 ∷ col 0 3 ∷ col 0 4 ∷ []
+
+abbrev project : List Term
+project = col 1 0 ∷ col 1 0 ∷ col 0 7 ∷ col 0 8 ∷ col 0 9 ∷ col 0 10 ∷ col 0 11 ∷ []
+
+abbrev places : List ℕ
+places = 1 ∷ 2 ∷ []
+
+put_is : command_of (understood book_schema put_session_text)
+    ≡ InsertOr 4 Abort (Values terms 6)
+    (record { target = Some places; update = Some (record { lets = []; body = pick 8 5 project }) } ∷ [])
+unfolding understood everything
+put_is = refl
+
+put_plain : IsPlain (understood book_schema put_session_text)
+unfolding understood everything
+put_plain = (refl, refl)
+
+pub session_told : (v : Value) (row : Session) → session_in (v ∷ session_cells row) ≡ row
+session_told v row = go row.state refl
+  where
+    go : (o : SessionState) → row.state ≡ o → session_in (v ∷ session_cells row) ≡ row
+    go Open e = rw e refl
+    go Ended e = rw e refl
+    go NeverOpened e = rw e refl
+
+module _ (a : List ℕ) (row : Session) where
+  abbrev values : Row
+  values = session_values a row
+
+  again : (id : ℤ) → cast_row sessions (Int id ∷ values) ≡ Int id ∷ values
+  again id = simp (cast_int)
+
+  unset : cast_row sessions (Null ∷ values) ≡ Null ∷ values
+  unset = simp (cast_int, cast_null)
+
+  meets : (id : ℤ) (other : Row) → conflicts (Some places) book_schema.indexes sessions (Int id ∷ values) other
+      ≡ eq_by_cmp row_cmp (key_of places other) (key_of places (Int id ∷ values))
+  meets id other = or_false (agree plain places other places (Int id ∷ values)) ∙ agree_ties places other
+      (Int id ∷ values) (refl, (refl, tt))
+
+  puts : (old new : State) (r : Result ℕ Error) → (IsTrue old.is_open → IsBook old)
+      → OnOk r (ExecutesInside 0 put_session_text values old new r) → OnOk r (Puts sessions values old new)
+  puts =
+      puts_table 4 sessions refl (inr (inr (inr (inr (inl refl))))) (key_index sessions)
+      (inr (inr (inr (inr (inl refl)))))
+      refl refl refl (λ e. omega arith) refl
+      put_session_text terms project 6 5 put_is put_plain values (λ olds new. refl) again unset
+      (λ id met r. refl) (λ id met. refl) refl (λ v. refl) (λ id. (refl, (refl, tt))) meets
+
+  tie : (x : List ℕ) (s : List ℕ) → eq_by_cmp row_cmp (session_key x s) (key_of places (Null ∷ values)) ≡
+      (same_name a x && (same_name row.id s))
+  tie x s = text_text a x row.id s
+
+  turns : (old new : Trees) → Changes sessions values old new → content_of new ≡ with_rows a (with_session row)
+      (content_of old)
+  turns old new c = λ i. record {
+    meta = meta_kept old new (c.others.0 (omega arith)) i;
+    rows = λ x. account x i;
+    vouchers = λ code. vouchers_kept old new (c.others.1.1.1.1.1.1.1.1.0 (omega arith)) code i;
+    count = length (c.others.1.0 (omega arith) i);
+  }
+    where
+      account : (x : List ℕ) → rows_in new x ≡ (if same_name a x then with_session row (rows_in old x) else rows_in
+          old x)
+      account x = rows_same (same_name a x) (rows_in new x) (rows_in old x) (with_session row)
+          (same_if (same_name a x) _ _ (head_kept old new (c.others.1.0 (omega arith)) x))
+          (λ k1. same_if (same_name a x) _ _ (buckets_kept old new (c.others.1.1.0 (omega arith)) x k1))
+          (λ k1 k2. same_if (same_name a x) _ _ (counters_kept old new (c.others.1.1.1.0 (omega arith)) x k1 k2))
+          (λ s. put_tells session_in sessions values old new c row (session_told (Text a) row) (session_key x s)
+          (same_name a x && (same_name row.id s)) (tie x s)
+          ∙ apart_if (same_name a x) (same_name row.id s) _ _)
+          (λ k1 k2. same_if (same_name a x) _ _ (groups_kept old new (c.others.1.1.1.1.1.0 (omega arith)) x k1 k2))
+          (λ k1 k2 k3. same_if (same_name a x) _ _ (holds_kept old new (c.others.1.1.1.1.1.1.0 (omega arith)) x k1
+          k2 k3))
+          (λ k1 k2 k3. same_if (same_name a x) _ _ (answers_kept old new (c.others.1.1.1.1.1.1.1.0 (omega arith)) x k1
+          k2 k3))
+          (λ k1. same_if (same_name a x) _ _ (charges_kept old new (c.others.1.1.1.1.1.1.1.1.1.0 (omega arith)) x k1))
+
+  pub makes_session : (old new : State) (r : Result ℕ Error) → (IsTrue old.is_open → IsBook old)
+      → OnOk r (ExecutesInside 0 put_session_text values old new r) → OnOk r
+      (Makes (with_rows a (with_session row)) old new)
+  makes_session old new (Err e) book x = tt
+  makes_session old new (Ok count) book x =
+      let p = puts old new (Ok count) book x in
+      record {
+        turns = record { content = turns old.now.trees new.now.trees p.changes; catalog = p.changes.catalog };
+        book = p.book;
+        shows = p.shows;
+      }
+
+  -- the parameters, as they are bound
+  pub bound_session : (v1 v2 v3 v4 v5 : Value)
+      → v1 ≡ Text a
+      → v2 ≡ Text row.id
+      → v3 ≡ nat row.last_number
+      → v4 ≡ nat row.touched
+      → v5 ≡ nat (state_number row.state)
+      → ◌≡◌ {A = Row} (map bound_value (v1 ∷ v2 ∷ v3 ∷ v4 ∷ v5 ∷ [])) values
+  bound_session v1 v2 v3 v4 v5 e1 e2 e3 e4 e5 = rw (e1, e2, e3, e4, e5) refl

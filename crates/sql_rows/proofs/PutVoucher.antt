@@ -1,0 +1,145 @@
+-- What the text of `put_voucher` does.
+use Rattle.std.specs.Prelude.{codes, option_map, is_some, length, if◌then◌else◌}
+use Rattle.std.proofs.Common.{◌≡◌, ◌≢◌, inl, inr, ℕ, ℤ, pos, ◌+◌, List, [], ◌∷◌, ◌++◌, map, Bool, true, false, ◌&&◌}
+use Rattle.std.proofs.Common.{Some, None, Option, Ok, Err, Result, OnOk, IsTrue, refl, sym, ap, ◌∙◌, arith, nat_eq}
+use Rattle.std.specs.Ordering.{eq_by_cmp}
+use Rattle.sqlite_value.specs.declared.value.Value.{Value}
+use Rattle.sqlite_value.specs.declared.value.Value.TheVariants.{Null, Int, Text}
+use Rattle.sqlite_value.specs.Order.{Row, row_cmp}
+use Rattle.sqlite_value.specs.Keys.{plain}
+use Rattle.sqlite_trees.specs.Tree.{Trees}
+use Rattle.sqlite_sql.specs.Term.{Term, lit, col}
+use Rattle.sqlite_schema.specs.declared.command.Source.TheVariants.{Values}
+use Rattle.sqlite_schema.specs.declared.command.Conflict.TheVariants.{Abort}
+use Rattle.sqlite_schema.specs.declared.command.Command.TheVariants.{InsertOr}
+use Rattle.sqlite_schema.specs.Rules.{agree}
+use Rattle.sqlite_rules.specs.Cast.{cast_row}
+use Rattle.sqlite_rules.specs.Keys.{conflicts}
+use Rattle.sqlite_tied.specs.Compute.{everything}
+use Rattle.sqlite.specs.Values.{bound_value, or_null}
+use Rattle.sqlite.specs.declared.error.Error.{Error}
+use Rattle.sqlite.specs.Listing.{understood}
+use Rattle.sqlite.specs.State.{State, ExecutesInside}
+use Rattle.sqlite.proofs.Callers.{IsPlain, command_of}
+use Rattle.sql_tables.specs.Keyed.{key_of, look, same_name}
+use Rattle.sql_tables.specs.Schema.{vouchers, accounts, book_schema, key_index}
+use Rattle.sql_tables.specs.Statements.{IsBook, Puts, Changes}
+use Rattle.sql_tables.proofs.Casts.{cast_int, cast_null, cast_or_null, cast_or_text}
+use Rattle.sql_tables.proofs.Counted.{counted}
+use Rattle.sql_tables.proofs.Found.{put_tells, is_some_map, apart_if, same_if}
+use Rattle.sql_tables.proofs.Keys.{text_last}
+use Rattle.sql_tables.proofs.Steps.{or_false}
+use Rattle.sql_tables.proofs.Tabled.{puts_table}
+use Rattle.sql_tables.proofs.Ties.{agree_ties}
+use Rattle.sql_tables.proofs.Upserts.{pick}
+use Rattle.sql_rows.specs.Values.{nat, Voucher, voucher_values, voucher_key, voucher_in, optional_in, optional_text_in}
+use Rattle.sql_rows.specs.Content.{Rows, Content, with_voucher, rows_in, content_of}
+use Rattle.sql_rows.specs.Makes.{Makes}
+use Rattle.sql_rows.proofs.Stays.{rows_same, meta_kept, head_kept, buckets_kept, counters_kept, sessions_kept}
+use Rattle.sql_rows.proofs.Stays.{groups_kept, holds_kept, answers_kept, charges_kept, vouchers_kept}
+
+abbrev pub put_voucher_text : List ℕ
+put_voucher_text =
+    codes "INSERT INTO vouchers VALUES (?1, ?2, ?3, ?4, ?5) "
+    ++ codes "ON CONFLICT (code) DO UPDATE SET "
+    ++ codes "code = excluded.code, amount = excluded.amount, days = excluded.days, "
+    ++ codes "scope = excluded.scope, account = excluded.account"
+
+abbrev terms : List Term
+terms = lit Null ∷ col 0 0 ∷ col 0 1 ∷ col 0 2 ∷ col 0 3 ∷ col 0 4 ∷ []
+
+abbrev project : List Term
+project = col 1 0 ∷ col 1 0 ∷ col 0 7 ∷ col 0 8 ∷ col 0 9 ∷ col 0 10 ∷ col 0 11 ∷ []
+
+abbrev places : List ℕ
+places = 1 ∷ []
+
+put_is : command_of (understood book_schema put_voucher_text)
+    ≡ InsertOr 8 Abort (Values terms 6)
+    (record { target = Some places; update = Some (record { lets = []; body = pick 16 5 project }) } ∷ [])
+unfolding understood everything
+put_is = refl
+
+put_plain : IsPlain (understood book_schema put_voucher_text)
+unfolding understood everything
+put_plain = (refl, refl)
+
+pub voucher_told : (code : List ℕ) (row : Voucher) → voucher_in (voucher_values code row) ≡ row
+voucher_told code row = λ i. record {
+  amount = row.amount;
+  days = number_told row.days i;
+  scope = number_told row.scope i;
+  account = text_told row.account i;
+}
+  where
+    number_told : (o : Option ℕ) → optional_in (or_null nat o) ≡ o
+    number_told None = refl
+    number_told (Some n) = refl
+
+    text_told : (o : Option (List ℕ)) → optional_text_in (or_null Text o) ≡ o
+    text_told None = refl
+    text_told (Some t) = refl
+
+module _ (code : List ℕ) (row : Voucher) where
+  abbrev values : Row
+  values = voucher_values code row
+
+  again : (id : ℤ) → cast_row vouchers (Int id ∷ values) ≡ Int id ∷ values
+  again id = simp (cast_int, cast_or_null, cast_or_text)
+
+  unset : cast_row vouchers (Null ∷ values) ≡ Null ∷ values
+  unset = simp (cast_int, cast_or_null, cast_or_text, cast_null)
+
+  meets : (id : ℤ) (other : Row) → conflicts (Some places) book_schema.indexes vouchers (Int id ∷ values) other
+      ≡ eq_by_cmp row_cmp (key_of places other) (key_of places (Int id ∷ values))
+  meets id other = or_false (agree plain places other places (Int id ∷ values)) ∙ agree_ties places other
+      (Int id ∷ values) (refl, tt)
+
+  puts : (old new : State) (r : Result ℕ Error) → (IsTrue old.is_open → IsBook old)
+      → OnOk r (ExecutesInside 0 put_voucher_text values old new r) → OnOk r (Puts vouchers values old new)
+  puts =
+      puts_table 8 vouchers refl (inr (inr (inr (inr (inr (inr (inr (inr (inl refl))))))))) (key_index vouchers)
+      (inr (inr (inr (inr (inr (inr (inr (inr (inl refl)))))))))
+      refl refl refl (λ e. omega arith) refl
+      put_voucher_text terms project 6 5 put_is put_plain values (λ olds new. refl) again unset
+      (λ id met r. refl) (λ id met. refl) refl (λ v. refl) (λ id. (refl, tt)) meets
+
+  turns : (old new : Trees) → Changes vouchers values old new → content_of new ≡ with_voucher code row (content_of old)
+  turns old new c = λ i. record {
+    meta = meta_kept old new (c.others.0 (omega arith)) i;
+    rows = λ x. record {
+      head = head_kept old new (c.others.1.0 (omega arith)) x i;
+      buckets = λ k1. buckets_kept old new (c.others.1.1.0 (omega arith)) x k1 i;
+      counters = λ k1 k2. counters_kept old new (c.others.1.1.1.0 (omega arith)) x k1 k2 i;
+      sessions = λ k1. sessions_kept old new (c.others.1.1.1.1.0 (omega arith)) x k1 i;
+      groups = λ k1 k2. groups_kept old new (c.others.1.1.1.1.1.0 (omega arith)) x k1 k2 i;
+      holds = λ k1 k2 k3. holds_kept old new (c.others.1.1.1.1.1.1.0 (omega arith)) x k1 k2 k3 i;
+      answers = λ k1 k2 k3. answers_kept old new (c.others.1.1.1.1.1.1.1.0 (omega arith)) x k1 k2 k3 i;
+      charges = λ k1. charges_kept old new (c.others.1.1.1.1.1.1.1.1.1.0 (omega arith)) x k1 i;
+    };
+    vouchers = λ k. put_tells voucher_in vouchers values old new c row (voucher_told code row) (voucher_key k)
+        (same_name code k)
+        (text_last code k) i;
+    count = length (c.others.1.0 (omega arith) i);
+  }
+
+  pub makes_voucher : (old new : State) (r : Result ℕ Error) → (IsTrue old.is_open → IsBook old)
+      → OnOk r (ExecutesInside 0 put_voucher_text values old new r) → OnOk r (Makes (with_voucher code row) old new)
+  makes_voucher old new (Err e) book x = tt
+  makes_voucher old new (Ok count) book x =
+      let p = puts old new (Ok count) book x in
+      record {
+        turns = record { content = turns old.now.trees new.now.trees p.changes; catalog = p.changes.catalog };
+        book = p.book;
+        shows = p.shows;
+      }
+
+  -- the parameters, as they are bound
+  pub bound_voucher : (v1 v2 v3 v4 v5 : Value)
+      → v1 ≡ Text code
+      → v2 ≡ nat row.amount
+      → bound_value v3 ≡ or_null nat row.days
+      → bound_value v4 ≡ or_null nat row.scope
+      → bound_value v5 ≡ or_null Text row.account
+      → ◌≡◌ {A = Row} (map bound_value (v1 ∷ v2 ∷ v3 ∷ v4 ∷ v5 ∷ [])) values
+  bound_voucher v1 v2 v3 v4 v5 e1 e2 e3 e4 e5 = rw (e1, e2, e3, e4, e5) refl

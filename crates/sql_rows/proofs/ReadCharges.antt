@@ -1,0 +1,105 @@
+-- What the text of `read_charges` answers.
+use Rattle.std.specs.Prelude.{codes, option_map}
+use Rattle.std.proofs.Common.{◌≡◌, inl, inr, ℕ, pos, List, [], ◌∷◌, ◌++◌, map, drop, Bool, true, false, ◌&&◌, ◌||◌}
+use Rattle.std.proofs.Common.{Some, None, Option, is_eq, refl, sym, ap, ap₂, subst, ◌∙◌, nat_eq, nat_lt}
+use Rattle.std.proofs.lemmas.Bool.{and_parts, and_from}
+use Rattle.std.specs.List.{list_all, find}
+use Rattle.std.specs.Ordering.{eq_by_cmp}
+use Rattle.sqlite_value.specs.declared.value.Value.TheVariants.{Null, Int, Text}
+use Rattle.sqlite_value.specs.declared.keys.Collation.TheVariants.{Binary}
+use Rattle.sqlite_value.specs.declared.keys.Key.{Key}
+use Rattle.sqlite_value.specs.Order.{Row, column, row_cmp, value_cmp}
+use Rattle.sqlite_trees.specs.Tree.{Trees}
+use Rattle.sqlite_sql.specs.declared.ops.BinaryOp.TheVariants.{Compare, Or}
+use Rattle.sqlite_sql.specs.declared.ops.CompareOp.TheVariants.{Eq, Gt}
+use Rattle.sqlite_sql.specs.Term.{Term, lit, col, op2, holds as holds_in}
+use Rattle.sqlite_schema.specs.declared.command.Command.TheVariants.{Select}
+use Rattle.sqlite_schema.specs.Rules.{equal}
+use Rattle.sqlite_tied.specs.Compute.{everything}
+use Rattle.sqlite.specs.Given.{IsPlain}
+use Rattle.sqlite.specs.Listing.{understood, reads_listing}
+use Rattle.sqlite.specs.State.{State}
+use Rattle.sqlite.proofs.Callers.{command_of}
+use Rattle.sql_tables.specs.Keyed.{key_of, same_name}
+use Rattle.sql_tables.specs.Schema.{charges, book_schema}
+use Rattle.sql_tables.specs.Selects.{Selects, only}
+use Rattle.sql_tables.specs.Statements.{Answers}
+use Rattle.sql_tables.proofs.ByKey.{listed_told, only_all}
+use Rattle.sql_tables.proofs.Columns.{equal_turned}
+use Rattle.sql_tables.proofs.Keys.{keys_split, int_tie, text_tie}
+use Rattle.sql_tables.proofs.Selected.{select_from, told}
+use Rattle.sql_tables.proofs.Selections.{meets}
+use Rattle.sql_tables.proofs.Steps.{and_apart, and_last, and_true}
+use Rattle.reserving.specs.declared.charge.ChargeRow.{ChargeRow}
+use Rattle.sql_rows.specs.Values.{nat, charge_key, charge_in, charge_cells}
+use Rattle.sql_rows.specs.Content.{rows_in}
+use Rattle.sql_rows.specs.Lists.{AreCharges}
+
+abbrev project : List Term
+project = col 1 2 ∷ col 1 3 ∷ col 1 4 ∷ col 1 5 ∷ col 1 6 ∷ col 1 7 ∷ col 1 8 ∷ col 1 9 ∷ []
+
+abbrev names : List (List ℕ)
+names = codes "number" ∷ codes "moment" ∷ codes "session" ∷ codes "rating_group" ∷ codes "blocks" ∷ codes "rated" ∷
+    codes "collected" ∷ codes "uncollected" ∷ []
+
+abbrev columns : Row → Row
+columns r = column r 2 ∷ column r 3 ∷ column r 4 ∷ column r 5 ∷ column r 6 ∷ column r 7 ∷ column r 8 ∷ column r 9 ∷ []
+
+same_columns : (r : Row) → charge_in (drop 1 r) ≡ charge_in (Null ∷ columns r)
+same_columns [] = refl
+same_columns (v ∷ vs) = refl
+
+back : (x : ChargeRow) (r : Row) → charge_cells x ≡ columns r → charge_in (drop 1 r) ≡ x
+back x r is = same_columns r ∙ ap (λ w. charge_in (Null ∷ w)) (sym is) ∙ refl
+
+abbrev pub read_charges_text : List ℕ
+read_charges_text = codes "SELECT number, moment, session, rating_group, blocks, rated, collected, uncollected "
+    ++ codes "FROM charges WHERE account = ?1 ORDER BY number"
+
+abbrev charges_terms : List Term
+charges_terms =
+    op2 (Compare Eq Binary) (col 1 1) (col 0 0) ∷ []
+
+abbrev charges_order : List (Term × Key)
+charges_order = (col 1 2, record { collation = Binary; descending = false }) ∷ []
+
+charges_is : (command_of (understood book_schema read_charges_text)
+    ≡ Select (record { lets = []; body = select_from 18 charges_terms project charges_order }) names) ×
+    (reads_listing book_schema read_charges_text ≡ false)
+unfolding understood everything
+charges_is = (refl, refl)
+
+pub read_charges_plain : IsPlain (understood book_schema read_charges_text)
+unfolding understood everything
+read_charges_plain = (refl, refl)
+
+module _ (a : List ℕ) where
+  abbrev front : Row → Bool
+  front r = equal Binary (column r 1) (Text a)
+
+  abbrev rest : ℕ → Row → Bool
+  rest n r = is_eq (value_cmp (nat n) (column r 2))
+
+  splits : (n : ℕ) (r : Row) → meets (1 ∷ 2 ∷ []) (charge_key a n) r ≡ (front r && rest n r)
+  splits n r =
+      keys_split (Text a) (column r 1) (nat n ∷ []) (column r 2 ∷ [])
+      ∙ ap₂ ◌&&◌ (sym (equal_turned (column r 1) (Text a) refl)) (keys_split (nat n) (column r 2) [] [] ∙ and_true _)
+
+  wanted : (n : ℕ) (x : ChargeRow) (r : Row) → charge_cells x ≡ columns r → rest n r ≡ nat_eq x.number n
+  wanted n x r is = ap (λ (w : Row). is_eq (value_cmp (nat n) (column w 0))) (sym is) ∙ int_tie x.number n
+
+  pub charges_read : (old new : State) (rows : List Row) (xs : List ChargeRow) → Answers read_charges_text
+      (Text a ∷ []) old new rows
+      → map charge_cells xs ≡ rows → AreCharges (rows_in old.now.trees a) xs
+  charges_read old new rows xs got is n =
+      listed_told charges (inr (inr (inr (inr (inr (inr (inr (inr (inr (inl refl))))))))))
+      (inr (inr (inr (inr (inr (inr (inr (inr (inr (inl refl)))))))))) refl old.now.trees got.fits
+      (got.book.stored.1.1.1.1.1.1.1.1.1.0) charge_in charge_cells columns
+      (λ r. front r && true) (charge_key a n) (refl, (refl, tt)) (λ x r m. back x r)
+      (λ x. nat_eq x.number n) (λ x. true) front (rest n) (λ r. true) (λ r. refl) (splits n) (wanted n)
+      (λ r m h. refl) (λ x r e same. refl) xs
+      (subst (Selects (λ r. front r && true) columns (old.now.trees 18)) (sym is)
+      (told read_charges_text names 18 charges_terms project charges_order charges_is read_charges_plain
+      (Text a ∷ [])
+      (λ r. front r && true) columns (λ r. refl) (λ r. refl) old new rows got))
+      ∙ only_all _

@@ -1,0 +1,122 @@
+-- What the text of `read_groups` answers.
+use Rattle.std.specs.Prelude.{codes, option_map}
+use Rattle.std.proofs.Common.{◌≡◌, inl, inr, ℕ, pos, List, [], ◌∷◌, ◌++◌, map, drop, Bool, true, false, ◌&&◌, ◌||◌}
+use Rattle.std.proofs.Common.{Some, None, Option, is_eq, refl, sym, ap, ap₂, subst, ◌∙◌, nat_eq, nat_lt}
+use Rattle.std.proofs.lemmas.Bool.{and_parts, and_from}
+use Rattle.std.specs.List.{list_all, find}
+use Rattle.std.specs.Ordering.{eq_by_cmp}
+use Rattle.sqlite_value.specs.declared.value.Value.TheVariants.{Null, Int, Text}
+use Rattle.sqlite_value.specs.declared.keys.Collation.TheVariants.{Binary}
+use Rattle.sqlite_value.specs.declared.keys.Key.{Key}
+use Rattle.sqlite_value.specs.Order.{Row, column, row_cmp, value_cmp}
+use Rattle.sqlite_trees.specs.Tree.{Trees}
+use Rattle.sqlite_sql.specs.declared.ops.BinaryOp.TheVariants.{Compare, Or}
+use Rattle.sqlite_sql.specs.declared.ops.CompareOp.TheVariants.{Eq, Gt}
+use Rattle.sqlite_sql.specs.Term.{Term, lit, col, op2, holds as holds_in}
+use Rattle.sqlite_schema.specs.declared.command.Command.TheVariants.{Select}
+use Rattle.sqlite_schema.specs.Rules.{equal}
+use Rattle.sqlite_tied.specs.Compute.{everything}
+use Rattle.sqlite.specs.Given.{IsPlain}
+use Rattle.sqlite.specs.Listing.{understood, reads_listing}
+use Rattle.sqlite.specs.State.{State}
+use Rattle.sqlite.proofs.Callers.{command_of}
+use Rattle.sql_tables.specs.Keyed.{key_of, same_name}
+use Rattle.sql_tables.specs.Schema.{session_groups, book_schema}
+use Rattle.sql_tables.specs.Selects.{Selects, only}
+use Rattle.sql_tables.specs.Statements.{Answers}
+use Rattle.sql_tables.proofs.ByKey.{listed_told, only_all}
+use Rattle.sql_tables.proofs.Columns.{equal_turned}
+use Rattle.sql_tables.proofs.Keys.{keys_split, int_tie, text_tie}
+use Rattle.sql_tables.proofs.Selected.{select_from, told}
+use Rattle.sql_tables.proofs.Selections.{meets}
+use Rattle.sql_tables.proofs.Steps.{and_apart, and_last, and_true}
+use Rattle.sql_rows.specs.Values.{nat, nat_in, Group, PeriodNames, group_key, group_in, group_cells}
+use Rattle.sql_rows.specs.Content.{rows_in}
+use Rattle.sql_rows.specs.Lists.{GroupAt, AreGroups, group_at_cells}
+use Rattle.sql_rows.proofs.PutGroup.{group_told}
+
+-- a stored row as one of the list
+abbrev at_in : Row → GroupAt
+at_in v = record { group = nat_in (column v 2); row = group_in v }
+
+at_told : (x : GroupAt) → at_in (Null ∷ Null ∷ group_at_cells x) ≡ x
+at_told x = λ i. record { group = x.group; row = group_told Null Null x.group x.row i }
+
+abbrev project : List Term
+project = col 1 3 ∷ col 1 4 ∷ col 1 5 ∷ col 1 6 ∷ col 1 7 ∷ []
+
+abbrev names : List (List ℕ)
+names = codes "rating_group" ∷ codes "used" ∷ codes "reserved" ∷ codes "period_before" ∷ codes "period_after" ∷ []
+
+abbrev columns : Row → Row
+columns r = column r 3 ∷ column r 4 ∷ column r 5 ∷ column r 6 ∷ column r 7 ∷ []
+
+same_columns : (r : Row) → at_in (drop 1 r) ≡ at_in (Null ∷ Null ∷ columns r)
+same_columns [] = refl
+same_columns (v ∷ vs) = refl
+
+back : (x : GroupAt) (r : Row) → group_at_cells x ≡ columns r → at_in (drop 1 r) ≡ x
+back x r is = same_columns r ∙ ap (λ w. at_in (Null ∷ Null ∷ w)) (sym is) ∙ at_told x
+
+abbrev pub read_groups_text : List ℕ
+read_groups_text = codes "SELECT rating_group, used, reserved, period_before, period_after "
+    ++ codes "FROM session_groups WHERE account = ?1 AND session = ?2"
+
+abbrev groups_terms : List Term
+groups_terms =
+    op2 (Compare Eq Binary) (col 1 1) (col 0 0)
+    ∷ op2 (Compare Eq Binary) (col 1 2) (col 0 1) ∷ []
+
+abbrev groups_order : List (Term × Key)
+groups_order = []
+
+groups_is : (command_of (understood book_schema read_groups_text)
+    ≡ Select (record { lets = []; body = select_from 10 groups_terms project groups_order }) names) ×
+    (reads_listing book_schema read_groups_text ≡ false)
+unfolding understood everything
+groups_is = (refl, refl)
+
+pub read_groups_plain : IsPlain (understood book_schema read_groups_text)
+unfolding understood everything
+read_groups_plain = (refl, refl)
+
+rows_only : (o : Option Row) → option_map (λ (x : GroupAt). x.row) (option_map at_in o) ≡ option_map group_in o
+rows_only None = refl
+rows_only (Some v) = refl
+
+module _ (a s : List ℕ) where
+  abbrev front : Row → Bool
+  front r = equal Binary (column r 1) (Text a) && equal Binary (column r 2) (Text s)
+
+  abbrev rest : ℕ → Row → Bool
+  rest g r = is_eq (value_cmp (nat g) (column r 3))
+
+  splits : (g : ℕ) (r : Row) → meets (1 ∷ 2 ∷ 3 ∷ []) (group_key a s g) r ≡ (front r && rest g r)
+  splits g r =
+      keys_split (Text a) (column r 1) (Text s ∷ nat g ∷ []) (column r 2 ∷ column r 3 ∷ [])
+      ∙ ap₂ ◌&&◌ (sym (equal_turned (column r 1) (Text a) refl))
+      (keys_split (Text s) (column r 2) (nat g ∷ []) (column r 3 ∷ [])
+      ∙ ap₂ ◌&&◌ (sym (equal_turned (column r 2) (Text s) refl)) (keys_split (nat g) (column r 3) [] [] ∙ and_true _))
+      ∙ and_apart (equal Binary (column r 1) (Text a)) (equal Binary (column r 2) (Text s)) (rest g r)
+
+  wanted : (g : ℕ) (x : GroupAt) (r : Row) → group_at_cells x ≡ columns r → rest g r ≡ nat_eq x.group g
+  wanted g x r is = ap (λ (w : Row). is_eq (value_cmp (nat g) (column w 0))) (sym is) ∙ int_tie x.group g
+
+  pub groups_read : (old new : State) (rows : List Row) (xs : List GroupAt) → Answers read_groups_text
+      (Text a ∷ Text s ∷ []) old new rows
+      → map group_at_cells xs ≡ rows → AreGroups (rows_in old.now.trees a) s xs
+  groups_read old new rows xs got is g =
+      ap (option_map (λ (x : GroupAt). x.row))
+      (listed_told session_groups (inr (inr (inr (inr (inr (inl refl))))))
+      (inr (inr (inr (inr (inr (inl refl)))))) refl old.now.trees got.fits (got.book.stored.1.1.1.1.1.0) at_in
+      group_at_cells columns
+      (λ r. front r && true) (group_key a s g) (refl, (refl, (refl, tt))) (λ x r m. back x r)
+      (λ x. nat_eq x.group g) (λ x. true) front (rest g) (λ r. true) (λ r. refl) (splits g) (wanted g)
+      (λ r m h. refl) (λ x r e same. refl) xs
+      (subst (Selects (λ r. front r && true) columns (old.now.trees 10)) (sym is)
+      (told read_groups_text names 10 groups_terms project groups_order groups_is read_groups_plain
+      (Text a ∷ Text s ∷ [])
+      (λ r. front r && true) columns (λ r. and_apart (equal Binary (column r 1) (Text a))
+      (equal Binary (column r 2) (Text s)) true) (λ r. refl) old new rows got))
+      ∙ only_all _)
+      ∙ rows_only _

@@ -1,0 +1,90 @@
+-- What the text of `read_session` answers.
+use Rattle.std.specs.Prelude.{codes}
+use Rattle.std.proofs.Common.{◌≡◌, inl, inr, ℕ, pos, List, [], ◌∷◌, ◌++◌, map, drop, Bool, true, false, ◌&&◌, Some}
+use Rattle.std.proofs.Common.{None, Option, Equal, refl, sym, ap, subst, ◌∙◌}
+use Rattle.std.specs.List.{list_all}
+use Rattle.std.specs.Ordering.{eq_by_cmp}
+use Rattle.sqlite_value.specs.declared.value.Value.TheVariants.{Null, Int, Text}
+use Rattle.sqlite_value.specs.declared.keys.Collation.TheVariants.{Binary}
+use Rattle.sqlite_value.specs.Keys.{first_key}
+use Rattle.sqlite_value.specs.Order.{Row, column, row_cmp, value_cmp}
+use Rattle.sqlite_sql.specs.declared.ops.BinaryOp.TheVariants.{Compare}
+use Rattle.sqlite_sql.specs.declared.ops.CompareOp.TheVariants.{Eq}
+use Rattle.sqlite_sql.specs.Term.{Term, lit, col, op2, holds as holds_in}
+use Rattle.sqlite_schema.specs.declared.command.Command.TheVariants.{Select}
+use Rattle.sqlite_schema.specs.Rules.{equal}
+use Rattle.sqlite_tied.specs.Compute.{everything}
+use Rattle.sqlite.specs.Given.{IsPlain}
+use Rattle.sqlite.specs.Listing.{understood, reads_listing}
+use Rattle.sqlite.specs.State.{State}
+use Rattle.sqlite.proofs.Callers.{command_of}
+use Rattle.sql_tables.specs.Keyed.{key_of}
+use Rattle.sql_tables.specs.Schema.{sessions, book_schema}
+use Rattle.sql_tables.specs.Selects.{Selects, one_or_none}
+use Rattle.sql_tables.specs.Statements.{Answers}
+use Rattle.sql_tables.proofs.ByKey.{one_told}
+use Rattle.sql_tables.proofs.Selected.{select_from, told}
+use Rattle.sql_tables.proofs.Steps.{and_true}
+use Rattle.sql_tables.proofs.Ties.{agree_ties_at, equal_present, tie_parts}
+use Rattle.reserving.specs.declared.session.Session.{Session}
+use Rattle.sql_rows.proofs.PutSession.{session_told}
+use Rattle.sql_rows.specs.Values.{nat, session_key, session_in, session_cells}
+use Rattle.sql_rows.specs.Content.{rows_in}
+
+abbrev pub read_session_text : List ℕ
+read_session_text = codes "SELECT session, last_number, touched, state FROM sessions "
+    ++ codes "WHERE account = ?1 AND session = ?2"
+
+abbrev terms : List Term
+terms =
+    op2 (Compare Eq Binary) (col 1 1) (col 0 0)
+    ∷ op2 (Compare Eq Binary) (col 1 2) (col 0 1) ∷ []
+
+abbrev project : List Term
+project = col 1 2 ∷ col 1 3 ∷ col 1 4 ∷ col 1 5 ∷ []
+
+abbrev names : List (List ℕ)
+names = codes "session" ∷ codes "last_number" ∷ codes "touched" ∷ codes "state" ∷ []
+
+abbrev places : List ℕ
+places = 1 ∷ 2 ∷ []
+
+text_is : (command_of (understood book_schema read_session_text)
+    ≡ Select (record { lets = []; body = select_from 8 terms project [] }) names) ×
+    (reads_listing book_schema read_session_text ≡ false)
+unfolding understood everything
+text_is = (refl, refl)
+
+pub read_session_plain : IsPlain (understood book_schema read_session_text)
+unfolding understood everything
+read_session_plain = (refl, refl)
+
+abbrev columns : Row → Row
+columns r = column r 2 ∷ column r 3 ∷ column r 4 ∷ column r 5 ∷ []
+
+same_columns : (r : Row) → session_in (drop 1 r) ≡ session_in (Null ∷ columns r)
+same_columns [] = refl
+same_columns (v ∷ vs) = refl
+
+back : (x : Session) (r : Row) → session_cells x ≡ columns r → session_in (drop 1 r) ≡ x
+back x r is = same_columns r ∙ ap (λ w. session_in (Null ∷ w)) (sym is) ∙ session_told Null x
+
+module _ (a s : List ℕ) where
+  means : (r : Row) → list_all (holds_in (session_key a s ∷ r ∷ [])) terms ≡ eq_by_cmp row_cmp (key_of places r)
+      (session_key a s)
+  unfolding first_key
+  means r = agree_ties_at places r (0 ∷ 1 ∷ []) (session_key a s) (refl, (refl, tt))
+
+  pub session_read : (old new : State) (rows : List Row) (o : Option Session) → Answers read_session_text
+      (session_key a s) old new rows
+      → rows ≡ map session_cells (one_or_none o) → o ≡ (rows_in old.now.trees a).sessions s
+  session_read old new rows o got is =
+      one_told sessions (inr (inr (inr (inr (inl refl))))) (inr (inr (inr (inr (inl refl))))) refl old.now.trees
+      got.fits
+      (got.book.stored.1.1.1.1.0) session_in session_cells columns
+      (λ r. eq_by_cmp row_cmp (key_of places r) (session_key a s)) (session_key a s) (refl, (refl, tt))
+      (λ x r m. back x r) (λ r. refl) o
+      (subst (Selects (λ r. eq_by_cmp row_cmp (key_of places r) (session_key a s)) columns (old.now.trees 8)) is
+      (told read_session_text names 8 terms project [] text_is read_session_plain (session_key a s)
+      (λ r. eq_by_cmp row_cmp (key_of places r) (session_key a s)) columns
+      means (λ r. refl) old new rows got))

@@ -1,0 +1,26 @@
+use Rattle.std.proofs.Common.{rules, ◌≡◌, Some, None, OnOk, OnErr, refl, sym, ◌∙◌, ap, subst, arith}
+use Rattle.sqlite.specs.Held.{state}
+use Rattle.sqlite.specs.State.{ExecutesInside}
+use Rattle.sqlite.specs.Values.{or_null, bound_value}
+use Rattle.sqlite_value.specs.declared.value.Value.TheVariants.{Text}
+use Rattle.sql_rows.specs.Values.{nat}
+use Rattle.sql_rows.proofs.PutAnswer.{put_answer_text, makes_answer, bound_answer}
+use Rattle.sql_rows.proofs.answer_rows.put_answer_reference.Goals as goal
+
+pub returns-clause-makes : goal.returns-clause-makes
+returns-clause-makes g c clean =
+    let old = state g.S.Store c.args.tx.now.conn.now in
+    let new = state g.S.Store c.write.new.tx.conn.now in
+    makes_answer c.args.account.now 2 c.args.reference.now 0 (record
+    { content = c.args.content.now; answer = c.args.answer.now }) old new c.write.result
+    (c.requires.book (omega (arith, c.write.ensures.survives.clean)))
+    (subst (λ p. OnOk c.write.result (ExecutesInside 0 put_answer_text p old new c.write.result))
+    (bound_answer c.args.account.now 2 c.args.reference.now 0
+    (record { content = c.args.content.now; answer = c.args.answer.now }) _ _ _ _ _ _
+    (c.text-of_account.ensures ∙ ap Text c.as_str.ensures.value)
+    c.whole-kind.ensures
+    (c.text-name.ensures ∙ ap Text c.as_str-2.ensures.value)
+    c.whole-number.ensures
+    c.text-of_content.ensures
+    c.text-of_answer.ensures)
+    (c.write.ensures.runs clean))

@@ -1,0 +1,28 @@
+use Rattle.std.proofs.Common.{rules, ◌≡◌, Some, None, OnOk, OnErr, refl, sym, ◌∙◌, ap, subst, arith}
+use Rattle.sqlite.specs.Held.{state}
+use Rattle.sqlite.specs.State.{ExecutesInside}
+use Rattle.sqlite.specs.Values.{or_null, bound_value}
+use Rattle.sqlite_value.specs.declared.value.Value.TheVariants.{Text}
+use Rattle.sql_rows.specs.Values.{nat}
+use Rattle.sql_rows.proofs.PutBucket.{put_bucket_text, makes_bucket, bound_bucket}
+use Rattle.sql_rows.proofs.bucket_rows.put_bucket.Goals as goal
+
+pub returns-clause-makes : goal.returns-clause-makes
+returns-clause-makes g c clean =
+    let old = state g.S.Store c.args.tx.now.conn.now in
+    let new = state g.S.Store c.write.new.tx.conn.now in
+    makes_bucket c.args.account.now c.args.bucket.now old new c.write.result
+    (c.requires.book (omega (arith, c.write.ensures.survives.clean)))
+    (subst (λ p. OnOk c.write.result (ExecutesInside 0 put_bucket_text p old new c.write.result))
+    (bound_bucket c.args.account.now c.args.bucket.now _ _ _ _ _ _ _ _ _ _
+    (c.text-of_account.ensures ∙ ap Text c.as_str.ensures.value)
+    (c.whole-number.ensures ∙ ap nat c.number.ensures)
+    (c.large-starts.ensures ∙ ap nat (c.seconds.ensures.value ∙ c.from.ensures))
+    (c.large-ends.ensures ∙ ap nat (c.seconds-2.ensures.value ∙ c.until.ensures))
+    (c.optional-scope.ensures ∙ ap (or_null nat) c.scope.ensures)
+    (c.large-credited.ensures ∙ ap nat c.credited.ensures.amount)
+    (c.large-available.ensures ∙ ap nat c.available.ensures.amount)
+    (c.large-reserved.ensures ∙ ap nat c.reserved.ensures.amount)
+    (c.large-charged.ensures ∙ ap nat c.charged.ensures.amount)
+    (c.large-expired.ensures ∙ ap nat c.expired.ensures.amount))
+    (c.write.ensures.runs clean))

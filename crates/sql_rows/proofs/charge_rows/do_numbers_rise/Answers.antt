@@ -1,0 +1,11 @@
+use Rattle.std.proofs.Common.{rules, sym, subst, arith, refl}
+use Rattle.std.specs.Option.{option_map}
+use Rattle.std.proofs.lemmas.List.{drop_all}
+use Rattle.sql_rows.proofs.Rising.{RiseAfter, nothing_after}
+use Rattle.sql_rows.proofs.charge_rows.do_numbers_rise.Goals as goal
+
+pub returns : goal.returns
+returns c told =
+    c.rows.invariant (subst (RiseAfter (option_map (λ b. b.now) c.rows.last))
+    (sym (drop_all c.rows.charge-index c.args.charges.now (omega arith)))
+    (nothing_after (option_map (λ b. b.now) c.rows.last)))

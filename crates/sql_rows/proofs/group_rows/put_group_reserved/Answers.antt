@@ -1,0 +1,37 @@
+use Rattle.std.proofs.Common.{rules, ◌≡◌, Some, None, OnOk, OnErr, refl, sym, ◌∙◌, ap, subst, arith}
+use Rattle.sqlite.specs.Held.{state}
+use Rattle.sqlite.specs.State.{ExecutesInside}
+use Rattle.sqlite.specs.Values.{or_null, bound_value}
+use Rattle.sqlite_value.specs.declared.value.Value.TheVariants.{Text}
+use Rattle.sql_rows.specs.Values.{nat}
+use Rattle.sql_rows.proofs.PutGroup.{put_group_text, makes_group, bound_group}
+use Rattle.sql_rows.proofs.group_rows.put_group_reserved.Goals as goal
+
+pub returns-clause-makes : goal.returns-clause-makes
+returns-clause-makes g c clean =
+    let old = state g.S.Store c.args.tx.now.conn.now in
+    let new = state g.S.Store c.write.new.tx.conn.now in
+    makes_group c.args.account.now c.args.session.now c.args.group
+    (record {
+      used = c.args.used;
+      periods = Some (record {
+        before = c.args.before.now;
+        after = c.args.after.now;
+      });
+    }) old new c.write.result
+    (c.requires.book (omega (arith, c.write.ensures.survives.clean)))
+    (subst (λ p. OnOk c.write.result (ExecutesInside 0 put_group_text p old new c.write.result))
+    (bound_group c.args.account.now c.args.session.now c.args.group
+    (record {
+      used = c.args.used;
+      periods = Some (record
+          { before = c.args.before.now; after = c.args.after.now });
+    }) _ _ _ _ _ _ _
+    (c.text-of_account.ensures ∙ ap Text c.as_str.ensures.value)
+    (c.text-of_session.ensures ∙ ap Text c.as_str-2.ensures.value)
+    c.whole-of_group.ensures
+    c.in_ok-units.ensures
+    c.flag-reserved.ensures
+    (ap bound_value c.text-at_grant.ensures)
+    (ap bound_value c.text-at_switch.ensures))
+    (c.write.ensures.runs clean))

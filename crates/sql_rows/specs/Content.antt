@@ -1,0 +1,124 @@
+-- What the tables hold, each row under its key.
+-- Source: profile.
+use Rattle.std.specs.Prelude.{ℕ, ◌&&◌, Bool, List, Option, Some, None, option_map, is_some, length, ◌+◌}
+use Rattle.std.specs.Prelude.{if◌then◌else◌, nat_eq}
+use Rattle.sqlite_trees.specs.Tree.{Trees}
+use Rattle.buckets.specs.Row.{Row as Bucket}
+use Rattle.reserving.specs.declared.session.Session.{Session}
+use Rattle.reserving.specs.declared.session.Counter.{Counter}
+use Rattle.reserving.specs.declared.charge.ChargeRow.{ChargeRow}
+use Rattle.sql_tables.specs.Keyed.{look, same_name}
+use Rattle.sql_tables.specs.Schema.{meta, accounts, buckets, counters, sessions, session_groups, holds, answers}
+use Rattle.sql_tables.specs.Schema.{vouchers, charges}
+use Rattle.sql_rows.specs.declared.head.Head.{Head}
+use Rattle.sql_rows.specs.Values.{Meta, Group, Kept, Voucher, meta_key, head_key, bucket_key, counter_key}
+use Rattle.sql_rows.specs.Values.{session_key, group_key, hold_key, answer_key, voucher_key, charge_key, meta_in}
+use Rattle.sql_rows.specs.Values.{head_in, bucket_in, counter_in, session_in, group_in, hold_in, answer_in}
+use Rattle.sql_rows.specs.Values.{voucher_in, charge_in}
+
+-- what is stored of an account; texts are known by their bytes
+pub record Rows : Type 0 where
+  pub head : Option Head
+  -- by number
+  pub buckets : ℕ → Option Bucket
+  -- by rating group and cycle
+  pub counters : ℕ → ℕ → Option Counter
+  -- by name
+  pub sessions : List ℕ → Option Session
+  -- by session and rating group
+  pub groups : List ℕ → ℕ → Option Group
+  -- by session, rating group and bucket: micro-units
+  pub holds : List ℕ → ℕ → ℕ → Option ℕ
+  -- by kind, name and number
+  pub answers : ℕ → List ℕ → ℕ → Option Kept
+  -- by number
+  pub charges : ℕ → Option ChargeRow
+
+pub record Content : Type 0 where
+  pub meta : Option Meta
+  -- by account
+  pub rows : List ℕ → Rows
+  -- by code
+  pub vouchers : List ℕ → Option Voucher
+  -- how many accounts there are
+  pub count : ℕ
+
+-- ---- one row changes
+
+-- an account's rows change, and no other's
+abbrev pub with_rows : List ℕ → (Rows → Rows) → Content → Content
+with_rows a change c = record c { rows = λ x. if same_name a x then change (c.rows x) else c.rows x }
+
+abbrev pub with_meta : Meta → Content → Content
+with_meta m c = record c { meta = Some m }
+
+abbrev pub with_head : Head → Rows → Rows
+with_head h r = record r { head = Some h }
+
+-- an account is opened, or its head changes
+abbrev pub with_account : List ℕ → Head → Content → Content
+with_account a h c = record c {
+  rows = λ x. if same_name a x then with_head h (c.rows x) else c.rows x;
+  count = if is_some (c.rows a).head then c.count else c.count + 1;
+}
+
+abbrev pub with_bucket : Bucket → Rows → Rows
+with_bucket b r = record r { buckets = λ n. if nat_eq b.number n then Some b else r.buckets n }
+
+abbrev pub with_counter : Counter → Rows → Rows
+with_counter k r = record r {
+  counters = λ g c. if nat_eq k.group g && nat_eq k.cycle c then Some k else r.counters g c;
+}
+
+abbrev pub with_session : Session → Rows → Rows
+with_session x r = record r { sessions = λ s. if same_name x.id s then Some x else r.sessions s }
+
+abbrev pub with_group : List ℕ → ℕ → Group → Rows → Rows
+with_group s g x r = record r {
+  groups = λ t h. if same_name s t && nat_eq g h then Some x else r.groups t h;
+}
+
+abbrev pub with_hold : List ℕ → ℕ → ℕ → ℕ → Rows → Rows
+with_hold s g n amount r = record r {
+  holds = λ t h m. if same_name s t && (nat_eq g h && nat_eq n m) then Some amount else r.holds t h m;
+}
+
+-- a group's holds are gone
+abbrev pub without_holds : List ℕ → ℕ → Rows → Rows
+without_holds s g r = record r {
+  holds = λ t h m. if same_name s t && nat_eq g h then None else r.holds t h m;
+}
+
+abbrev pub with_answer : ℕ → List ℕ → ℕ → Kept → Rows → Rows
+with_answer kind name number k r = record r {
+  answers = λ l t m.
+      if nat_eq kind l && (same_name name t && nat_eq number m) then Some k else r.answers l t m;
+}
+
+abbrev pub with_charge : ChargeRow → Rows → Rows
+with_charge x r = record r { charges = λ n. if nat_eq x.number n then Some x else r.charges n }
+
+abbrev pub with_voucher : List ℕ → Voucher → Content → Content
+with_voucher code x c = record c { vouchers = λ k. if same_name code k then Some x else c.vouchers k }
+
+-- ---- the tables
+
+abbrev pub rows_in : Trees → List ℕ → Rows
+rows_in trees a = record {
+  head = option_map head_in (look accounts trees (head_key a));
+  buckets = λ n. option_map bucket_in (look buckets trees (bucket_key a n));
+  counters = λ g c. option_map counter_in (look counters trees (counter_key a g c));
+  sessions = λ s. option_map session_in (look sessions trees (session_key a s));
+  groups = λ s g. option_map group_in (look session_groups trees (group_key a s g));
+  holds = λ s g n. option_map hold_in (look holds trees (hold_key a s g n));
+  answers = λ kind name number. option_map answer_in (look answers trees (answer_key a kind name number));
+  charges = λ n. option_map charge_in (look charges trees (charge_key a n));
+}
+
+abbrev pub content_of : Trees → Content
+content_of trees = record {
+  meta = option_map meta_in (look meta trees meta_key);
+  rows = rows_in trees;
+  vouchers = λ code. option_map voucher_in (look vouchers trees (voucher_key code));
+  count = length (trees accounts.tree);
+}

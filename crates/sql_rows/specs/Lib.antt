@@ -1,0 +1,6 @@
+pub mod Content
+pub mod Each
+pub mod Lists
+pub mod Makes
+pub mod Texts
+pub mod Values

@@ -1,0 +1,60 @@
+-- What lists that are read tell of an account's rows: the row under each key, or that there is none.
+-- Source: profile.
+use Rattle.std.specs.Prelude.{◌≡◌, ℕ, ◌&&◌, ◌||◌, nat_eq, nat_lt, ◌<◌, Bool, List, [], ◌∷◌, Option, option_map}
+use Rattle.std.specs.List.{find}
+use Rattle.sqlite_value.specs.Order.{Row as Values}
+use Rattle.buckets.specs.Row.{Row as Bucket}
+use Rattle.reserving.specs.declared.session.Session.{Session}
+use Rattle.reserving.specs.declared.charge.ChargeRow.{ChargeRow}
+use Rattle.sql_tables.specs.Keyed.{same_name}
+use Rattle.sql_tables.specs.Selects.{only}
+use Rattle.sql_rows.specs.Values.{Group, group_cells, nat}
+use Rattle.sql_rows.specs.Content.{Rows}
+
+abbrev pub is_live : Bucket → Bool
+is_live b = nat_lt 0 b.available || nat_lt 0 b.reserved
+
+-- the buckets that pass the test: each by its number, and no other
+abbrev pub AreBuckets : (Bucket → Bool) → Rows → List Bucket → Type 0
+AreBuckets test rows bs = (n : ℕ) → find (λ b. nat_eq b.number n) bs ≡ only test (rows.buckets n)
+
+-- the sessions that pass the test
+abbrev pub AreSessions : (Session → Bool) → Rows → List Session → Type 0
+AreSessions test rows xs = (s : List ℕ) → find (λ x. same_name x.id s) xs ≡ only test (rows.sessions s)
+
+-- what a session has of a rating group
+pub record GroupAt : Type 0 where
+  pub group : ℕ
+  pub row : Group
+
+-- the columns after the session's
+abbrev pub group_at_cells : GroupAt → Values
+group_at_cells x = group_cells x.group x.row
+
+-- all that the session has
+abbrev pub AreGroups : Rows → List ℕ → List GroupAt → Type 0
+AreGroups rows s xs = (g : ℕ) → option_map (λ (x : GroupAt). x.row) (find (λ x. nat_eq x.group g) xs) ≡ rows.groups s g
+
+-- what is held for a session's rating group of a bucket, in micro-units
+pub record HoldAt : Type 0 where
+  pub group : ℕ
+  pub bucket : ℕ
+  pub amount : ℕ
+
+abbrev pub hold_cells : HoldAt → Values
+hold_cells h = nat h.group ∷ nat h.bucket ∷ nat h.amount ∷ []
+
+-- all that is held for the session
+abbrev pub AreHolds : Rows → List ℕ → List HoldAt → Type 0
+AreHolds rows s xs = (g n : ℕ) →
+    option_map (λ (x : HoldAt). x.amount) (find (λ x. nat_eq x.group g && nat_eq x.bucket n) xs) ≡ rows.holds s g n
+
+-- all charges of the account
+abbrev pub AreCharges : Rows → List ChargeRow → Type 0
+AreCharges rows xs = (n : ℕ) → find (λ x. nat_eq x.number n) xs ≡ rows.charges n
+
+-- each number is above the one before it
+abbrev pub NumbersRise : List ChargeRow → Type 0
+NumbersRise [] = Unit {0}
+NumbersRise (x ∷ []) = Unit {0}
+NumbersRise (x ∷ y ∷ zs) = (x.number < y.number) × NumbersRise (y ∷ zs)

@@ -1,0 +1,24 @@
+-- What a statement does to a connection, told by the content of the tables.
+-- Source: profile.
+use Rattle.std.specs.Prelude.{◌≡◌, true}
+use Rattle.sqlite_trees.specs.Objects.{catalog_tree}
+use Rattle.sqlite_trees.specs.Tree.{Trees}
+use Rattle.sqlite.specs.State.{State, Shows}
+use Rattle.sql_tables.specs.Statements.{IsBook, IsIdle}
+use Rattle.sql_rows.specs.Content.{Content, content_of}
+
+-- the trees after have the content that the change makes of that before, and the same catalog
+pub record Turns (change : Content → Content) (old new : Trees) : Type 0 where
+  pub content : content_of new ≡ change (content_of old)
+  pub catalog : new catalog_tree ≡ old catalog_tree
+
+-- inside a transaction
+pub record Makes (change : Content → Content) (old new : State) : Type 0 where
+  pub turns : Turns change old.now.trees new.now.trees
+  pub book : IsBook new
+  pub shows : Shows old new new.now old.committed true
+
+-- the change is committed
+pub record Commits (change : Content → Content) (old new : State) : Type 0 where
+  pub turns : Turns change old.now.trees new.now.trees
+  pub idle : IsIdle new

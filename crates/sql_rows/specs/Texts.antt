@@ -1,0 +1,50 @@
+-- Rows as they are read, as those of the content.
+-- Source: profile.
+use Rattle.std.specs.Prelude.{◌≡◌, Bool, Option, is_some, option_map}
+use Rattle.std.specs.String.{string_bytes}
+use Rattle.sqlite_value.specs.Order.{Row as Values, column}
+use Rattle.sqlite_value.specs.declared.value.Value.TheVariants.{Text}
+use Rattle.sqlite.specs.Values.{or_null}
+use Rattle.buckets.specs.Row.{Row as Bucket}
+use Rattle.sql_rows.specs.declared.answer_rows.Kept.{Kept as KeptTexts}
+use Rattle.sql_rows.specs.declared.bucket_rows.BucketColumns.{BucketColumns}
+use Rattle.sql_rows.specs.declared.group_rows.GroupColumns.{GroupColumns}
+use Rattle.sql_rows.specs.declared.group_rows.PeriodNames.{PeriodNames as ReadNames}
+use Rattle.sql_rows.specs.declared.hold_rows.HeldColumns.{HeldColumns}
+use Rattle.sql_rows.specs.declared.meta_rows.Meta.{Meta as MetaRow}
+use Rattle.sql_rows.specs.Lists.{GroupAt, HoldAt}
+use Rattle.sql_rows.specs.Values.{Kept, Meta, PeriodNames}
+
+abbrev pub kept_of : KeptTexts → Kept
+kept_of k = record { content = string_bytes k.content; answer = string_bytes k.answer }
+
+abbrev pub meta_of : MetaRow → Meta
+meta_of m = record { version = m.version; book = string_bytes m.book; last = m.last }
+
+abbrev pub bucket_row : BucketColumns → Bucket
+bucket_row b = record {
+  number = b.number;
+  from = b.starts;
+  until = b.ends;
+  scope = b.scope;
+  credited = b.credited;
+  available = b.available;
+  reserved = b.reserved;
+  charged = b.charged;
+  expired = b.expired;
+}
+
+abbrev pub names_of : ReadNames → PeriodNames
+names_of p = record { before = string_bytes p.before; after = string_bytes p.after }
+
+abbrev pub group_at : GroupColumns → GroupAt
+group_at g = record { group = g.group; row = record { used = g.used; periods = option_map names_of g.periods } }
+
+abbrev pub hold_at : HeldColumns → HoldAt
+hold_at h = record { group = h.group; bucket = h.bucket; amount = h.amount }
+
+-- the names stand in their columns, and are there exactly where the group has a reservation
+pub record ArePeriods (row : Values) (is_reserved : Bool) (o : Option ReadNames) : Type 0 where
+  pub there : is_some o ≡ is_reserved
+  pub before : column row 3 ≡ or_null (λ p. Text (string_bytes p.before)) o
+  pub after : column row 4 ≡ or_null (λ p. Text (string_bytes p.after)) o

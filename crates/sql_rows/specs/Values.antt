@@ -1,0 +1,285 @@
+-- The values of a row, and the row that values are.
+-- Source: profile.
+use Rattle.std.specs.Prelude.{ℕ, pos, negsuc, Bool, true, false, List, [], ◌∷◌, Option, Some, None, is_some}
+use Rattle.std.specs.Prelude.{if◌then◌else◌, ◌==◌}
+use Rattle.sqlite_value.specs.declared.value.Value.{Value}
+use Rattle.sqlite_value.specs.declared.value.Value.TheVariants.{Null, Int, Real, Text, Blob}
+use Rattle.sqlite_value.specs.Order.{Row as Values, column}
+use Rattle.sqlite.specs.Values.{or_null}
+use Rattle.buckets.specs.Row.{Row as Bucket}
+use Rattle.reserving.specs.declared.session.Session.{Session}
+use Rattle.reserving.specs.declared.session.SessionState.{SessionState}
+use Rattle.reserving.specs.declared.session.SessionState.TheVariants.{Open, Ended, NeverOpened}
+use Rattle.reserving.specs.declared.session.Counter.{Counter}
+use Rattle.reserving.specs.declared.charge.ChargeRow.{ChargeRow}
+use Rattle.sql_rows.specs.declared.head.Head.{Head}
+
+-- ---- one value; what isn't of its kind reads as nothing
+
+abbrev pub nat : ℕ → Value
+nat n = Int (pos n)
+
+abbrev pub nat_in : Value → ℕ
+nat_in Null = 0
+nat_in (Int (pos n)) = n
+nat_in (Int (negsuc n)) = 0
+nat_in (Real x) = 0
+nat_in (Text t) = 0
+nat_in (Blob b) = 0
+
+abbrev pub text_in : Value → List ℕ
+text_in Null = []
+text_in (Int n) = []
+text_in (Real x) = []
+text_in (Text t) = t
+text_in (Blob b) = []
+
+abbrev pub optional_in : Value → Option ℕ
+optional_in Null = None
+optional_in (Int n) = Some (nat_in (Int n))
+optional_in (Real x) = None
+optional_in (Text t) = None
+optional_in (Blob b) = None
+
+abbrev pub optional_text_in : Value → Option (List ℕ)
+optional_text_in Null = None
+optional_text_in (Int n) = None
+optional_text_in (Real x) = None
+optional_text_in (Text t) = Some t
+optional_text_in (Blob b) = None
+
+abbrev pub flag_number : Bool → ℕ
+flag_number b = if b then 1 else 0
+
+abbrev pub flag_in : Value → Bool
+flag_in v = nat_in v == 1
+
+abbrev pub state_number : SessionState → ℕ
+state_number Open = 1
+state_number Ended = 2
+state_number NeverOpened = 3
+
+abbrev pub state_in : Value → SessionState
+state_in v = if nat_in v == 1 then Open else if nat_in v == 2 then Ended else NeverOpened
+
+-- ---- `meta`
+
+-- what is kept once
+pub record Meta : Type 0 where
+  pub version : ℕ
+  -- the text of the tariff book
+  pub book : List ℕ
+  -- the moment of the last accepted command
+  pub last : ℕ
+
+abbrev pub meta_key : Values
+meta_key = nat 1 ∷ []
+
+-- the columns after the key
+abbrev pub meta_cells : Meta → Values
+meta_cells m = nat m.version ∷ Text m.book ∷ nat m.last ∷ []
+
+abbrev pub meta_values : Meta → Values
+meta_values m = nat 1 ∷ meta_cells m
+
+abbrev pub meta_in : Values → Meta
+meta_in v = record { version = nat_in (column v 1); book = text_in (column v 2); last = nat_in (column v 3) }
+
+-- ---- `accounts`
+
+abbrev pub head_key : List ℕ → Values
+head_key a = Text a ∷ []
+
+-- the columns after the key
+abbrev pub head_cells : Head → Values
+head_cells h = nat (flag_number h.barred) ∷ nat h.as_of ∷ nat h.next_bucket ∷ nat h.next_charge ∷ []
+
+abbrev pub head_values : List ℕ → Head → Values
+head_values a h = Text a ∷ head_cells h
+
+abbrev pub head_in : Values → Head
+head_in v = record {
+  barred = flag_in (column v 1);
+  as_of = nat_in (column v 2);
+  next_bucket = nat_in (column v 3);
+  next_charge = nat_in (column v 4);
+}
+
+-- ---- `buckets`
+
+abbrev pub bucket_key : List ℕ → ℕ → Values
+bucket_key a n = Text a ∷ nat n ∷ []
+
+-- the columns after the account's
+abbrev pub bucket_cells : Bucket → Values
+bucket_cells b =
+    nat b.number ∷ nat b.from ∷ nat b.until ∷ or_null nat b.scope ∷ nat b.credited
+    ∷ nat b.available ∷ nat b.reserved ∷ nat b.charged ∷ nat b.expired ∷ []
+
+abbrev pub bucket_values : List ℕ → Bucket → Values
+bucket_values a b = Text a ∷ bucket_cells b
+
+abbrev pub bucket_in : Values → Bucket
+bucket_in v = record {
+  number = nat_in (column v 1);
+  from = nat_in (column v 2);
+  until = nat_in (column v 3);
+  scope = optional_in (column v 4);
+  credited = nat_in (column v 5);
+  available = nat_in (column v 6);
+  reserved = nat_in (column v 7);
+  charged = nat_in (column v 8);
+  expired = nat_in (column v 9);
+}
+
+-- ---- `counters`
+
+abbrev pub counter_key : List ℕ → ℕ → ℕ → Values
+counter_key a g c = Text a ∷ nat g ∷ nat c ∷ []
+
+abbrev pub counter_cells : Counter → Values
+counter_cells r = nat r.group ∷ nat r.cycle ∷ nat r.blocks ∷ []
+
+abbrev pub counter_values : List ℕ → Counter → Values
+counter_values a r = Text a ∷ counter_cells r
+
+abbrev pub counter_in : Values → Counter
+counter_in v = record { group = nat_in (column v 1); cycle = nat_in (column v 2); blocks = nat_in (column v 3) }
+
+-- ---- `sessions`
+
+abbrev pub session_key : List ℕ → List ℕ → Values
+session_key a s = Text a ∷ Text s ∷ []
+
+abbrev pub session_cells : Session → Values
+session_cells r = Text r.id ∷ nat r.last_number ∷ nat r.touched ∷ nat (state_number r.state) ∷ []
+
+abbrev pub session_values : List ℕ → Session → Values
+session_values a r = Text a ∷ session_cells r
+
+abbrev pub session_in : Values → Session
+session_in v = record {
+  id = text_in (column v 1);
+  last_number = nat_in (column v 2);
+  touched = nat_in (column v 3);
+  state = state_in (column v 4);
+}
+
+-- ---- `session_groups`
+
+-- the names of a reservation's tariff periods
+pub record PeriodNames : Type 0 where
+  pub before : List ℕ
+  pub after : List ℕ
+
+-- what a session has of a rating group; what its reservation holds stands in `holds`
+pub record Group : Type 0 where
+  pub used : ℕ
+  pub periods : Option PeriodNames
+
+abbrev pub group_key : List ℕ → List ℕ → ℕ → Values
+group_key a s g = Text a ∷ Text s ∷ nat g ∷ []
+
+-- the columns after the session's
+abbrev pub group_cells : ℕ → Group → Values
+group_cells g r =
+    nat g ∷ nat r.used ∷ nat (flag_number (is_some r.periods))
+    ∷ or_null (λ p. Text p.before) r.periods ∷ or_null (λ p. Text p.after) r.periods ∷ []
+
+abbrev pub group_values : List ℕ → List ℕ → ℕ → Group → Values
+group_values a s g r = Text a ∷ Text s ∷ group_cells g r
+
+abbrev pub group_in : Values → Group
+group_in v = record {
+  used = nat_in (column v 3);
+  periods = if flag_in (column v 4)
+      then Some (record { before = text_in (column v 5); after = text_in (column v 6) })
+      else None;
+}
+
+-- ---- `holds`
+
+abbrev pub hold_key : List ℕ → List ℕ → ℕ → ℕ → Values
+hold_key a s g n = Text a ∷ Text s ∷ nat g ∷ nat n ∷ []
+
+abbrev pub hold_values : List ℕ → List ℕ → ℕ → ℕ → ℕ → Values
+hold_values a s g n amount = Text a ∷ Text s ∷ nat g ∷ nat n ∷ nat amount ∷ []
+
+abbrev pub hold_in : Values → ℕ
+hold_in v = nat_in (column v 4)
+
+-- ---- `answers`
+
+-- the texts of a command and of its first answer
+pub record Kept : Type 0 where
+  pub content : List ℕ
+  pub answer : List ℕ
+
+-- the two kinds of names
+abbrev pub request_kind : ℕ
+request_kind = 1
+
+abbrev pub reference_kind : ℕ
+reference_kind = 2
+
+abbrev pub answer_key : List ℕ → ℕ → List ℕ → ℕ → Values
+answer_key a kind name number = Text a ∷ nat kind ∷ Text name ∷ nat number ∷ []
+
+-- the columns after the key
+abbrev pub answer_cells : Kept → Values
+answer_cells k = Text k.content ∷ Text k.answer ∷ []
+
+abbrev pub answer_values : List ℕ → ℕ → List ℕ → ℕ → Kept → Values
+answer_values a kind name number k = Text a ∷ nat kind ∷ Text name ∷ nat number ∷ answer_cells k
+
+abbrev pub answer_in : Values → Kept
+answer_in v = record { content = text_in (column v 4); answer = text_in (column v 5) }
+
+-- ---- `vouchers`
+
+pub record Voucher : Type 0 where
+  pub amount : ℕ
+  pub days : Option ℕ
+  pub scope : Option ℕ
+  -- the account that redeemed it
+  pub account : Option (List ℕ)
+
+abbrev pub voucher_key : List ℕ → Values
+voucher_key code = Text code ∷ []
+
+abbrev pub voucher_values : List ℕ → Voucher → Values
+voucher_values code r = Text code ∷ nat r.amount ∷ or_null nat r.days ∷ or_null nat r.scope ∷ or_null Text r.account
+    ∷ []
+
+abbrev pub voucher_in : Values → Voucher
+voucher_in v = record {
+  amount = nat_in (column v 1);
+  days = optional_in (column v 2);
+  scope = optional_in (column v 3);
+  account = optional_text_in (column v 4);
+}
+
+-- ---- `charges`
+
+abbrev pub charge_key : List ℕ → ℕ → Values
+charge_key a n = Text a ∷ nat n ∷ []
+
+abbrev pub charge_cells : ChargeRow → Values
+charge_cells r =
+    nat r.number ∷ nat r.moment ∷ Text r.session ∷ nat r.group ∷ nat r.blocks.0
+    ∷ nat r.rated.0 ∷ nat r.collected.0 ∷ nat r.uncollected.0 ∷ []
+
+abbrev pub charge_values : List ℕ → ChargeRow → Values
+charge_values a r = Text a ∷ charge_cells r
+
+abbrev pub charge_in : Values → ChargeRow
+charge_in v = record {
+  number = nat_in (column v 1);
+  moment = nat_in (column v 2);
+  session = text_in (column v 3);
+  group = nat_in (column v 4);
+  blocks = record { 0 = nat_in (column v 5) };
+  rated = record { 0 = nat_in (column v 6) };
+  collected = record { 0 = nat_in (column v 7) };
+  uncollected = record { 0 = nat_in (column v 8) };
+}

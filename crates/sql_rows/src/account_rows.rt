@@ -1,0 +1,96 @@
+ghost use Rattle.std.specs.Prelude.{◌≡◌, map, false, IsTrue, IfOk, OnOk, OnErr};
+ghost use Rattle.sql_rows.specs.Content.{rows_in, with_account};
+ghost use Rattle.sql_rows.specs.Values.{head_cells};
+ghost use Rattle.sql_rows.specs.Makes.{Makes};
+ghost use Rattle.sql_tables.specs.Statements.{HasBook, HasIdleBook, IsStill};
+ghost use Rattle.sql_tables.specs.Selects.{one_or_none};
+ghost use Rattle.sqlite.specs.Held.{state};
+ghost use Rattle.sqlite.specs.State.{HasCleanDisk, KeepsCommit, Survives};
+
+use crate::decoding::{flag_at, moment_at};
+use crate::head::Head;
+use identifiers::AccountNumber;
+use sql_tables::{
+    ReadFault, checked, flag, has_columns, large, number_at, one_of, read, text, write,
+};
+use sqlite::{Alter, Connection, Error, Row, Transaction};
+
+/// Puts what is kept of an account once.
+pub fn put_account<S: Alter>(
+    tx: &mut Transaction<'_, S>,
+    account: &AccountNumber,
+    head: &Head,
+) -> Result<usize, Error>
+    requires book { HasBook (state S.Store tx.old.conn.now) }
+    ensures same_reference { tx.new.conn.ghost_name ≡ tx.old.conn.ghost_name }
+    ensures makes { HasCleanDisk (state S.Store tx.new.conn.now) → OnOk result (
+        Makes (with_account account.now head.now)
+        (state S.Store tx.old.conn.now) (state S.Store tx.new.conn.now)) }
+    ensures kept { HasCleanDisk (state S.Store tx.new.conn.now) → OnErr result (
+        KeepsCommit (state S.Store tx.old.conn.now) (state S.Store tx.new.conn.now)) }
+    ensures survives { Survives (state S.Store tx.old.conn.now) (state S.Store tx.new.conn.now) (λ _. ⊥) }
+{
+    let number = text(account.as_str());
+    let barred = flag(head.barred);
+    let as_of = large(head.as_of.seconds());
+    let next_bucket = checked(head.next_bucket as u128, 4)?;
+    let next_charge = checked(head.next_charge as u128, 5)?;
+    write(
+        tx,
+        "INSERT INTO accounts VALUES (?1, ?2, ?3, ?4, ?5) \
+         ON CONFLICT (account) DO UPDATE SET \
+         account = excluded.account, barred = excluded.barred, as_of = excluded.as_of, \
+         next_bucket = excluded.next_bucket, next_charge = excluded.next_charge",
+        &[number, barred, as_of, next_bucket, next_charge],
+    )
+}
+
+/// What is kept of an account once: none where it is not opened.
+pub fn read_account<S: Alter>(
+    conn: &mut Connection<S>,
+    account: &AccountNumber,
+) -> Result<Option<Head>, ReadFault>
+    requires idle { HasIdleBook (state S.Store conn.old) }
+    ensures found { HasCleanDisk (state S.Store conn.new) → IfOk result (λ o.
+        o ≡ (rows_in (state S.Store conn.old).now.trees account.now).head) }
+    ensures still { HasCleanDisk (state S.Store conn.new) → IsTrue (state S.Store conn.new).is_open →
+        IsStill (state S.Store conn.old) (state S.Store conn.new) }
+    ensures idle { HasIdleBook (state S.Store conn.new) }
+    ensures cleanness { HasCleanDisk (state S.Store conn.new) → HasCleanDisk (state S.Store conn.old) }
+    ensures mode { conn.old.in_transaction ≡ false → conn.new.in_transaction ≡ false }
+{
+    let of_account = text(account.as_str());
+    let rows = read(
+        conn,
+        "SELECT barred, as_of, next_bucket, next_charge FROM accounts \
+         WHERE account = ?1",
+        &[of_account],
+    )?;
+    head_among(&rows)
+}
+
+fn head_among(rows: &[Row]) -> Result<Option<Head>, ReadFault>
+    ensures { IfOk result (λ o. rows.now ≡ map head_cells (one_or_none o)) }
+{
+    let row = one_of(rows)?;
+    match row {
+        None => Ok(None),
+        Some(row) => Ok(Some(head_from(row)?)),
+    }
+}
+
+fn head_from(row: &Row) -> Result<Head, ReadFault>
+    ensures { IfOk result (λ h. row.now ≡ head_cells h) }
+{
+    has_columns(row, 4)?;
+    let barred = flag_at(row, 0)?;
+    let as_of = moment_at(row, 1)?;
+    let next_bucket = number_at(row, 2)?;
+    let next_charge = number_at(row, 3)?;
+    Ok(Head {
+        barred,
+        as_of,
+        next_bucket,
+        next_charge,
+    })
+}

@@ -1,0 +1,196 @@
+ghost use Rattle.std.specs.Prelude.{◌≡◌, map, true, false, IsTrue, IfOk, OnOk, OnErr};
+ghost use Rattle.sql_rows.specs.Content.{rows_in, with_bucket, with_rows};
+ghost use Rattle.sql_rows.specs.Values.{bucket_cells};
+ghost use Rattle.sql_rows.specs.Lists.{AreBuckets, is_live};
+ghost use Rattle.sql_rows.specs.Texts.{bucket_row};
+ghost use Rattle.sql_rows.specs.Each.{with_buckets};
+ghost use Rattle.sql_rows.specs.Makes.{Makes};
+ghost use Rattle.sql_tables.specs.Statements.{HasBook, HasIdleBook, IsStill};
+ghost use Rattle.sqlite.specs.Held.{state};
+ghost use Rattle.sqlite.specs.State.{HasCleanDisk, KeepsCommit, Survives};
+
+use crate::decoding::moment_at;
+use buckets::Bucket;
+use identifiers::AccountNumber;
+use sql_tables::{
+    ReadFault, has_columns, large, number_at, optional, optional_at, read, small_at, text, whole,
+    write,
+};
+use sqlite::{Alter, Connection, Error, Row, Transaction};
+use std::alloc::Global;
+use units::Moment;
+
+/// The columns of a bucket, as they stand.
+#[derive(Clone, Copy, Debug, PartialEq, Eq)]
+pub struct BucketColumns {
+    /// Its number within the account.
+    pub number: u32,
+    /// The first moment at which it may be used.
+    pub starts: Moment,
+    /// The first moment at which it is over.
+    pub ends: Moment,
+    /// The one rating group that it pays for, or none where it pays for all.
+    pub scope: Option<u32>,
+    /// Micro-units, as each amount.
+    pub credited: u64,
+    /// What is neither reserved nor charged, before its end.
+    pub available: u64,
+    /// What reservations hold.
+    pub reserved: u64,
+    /// What was charged.
+    pub charged: u64,
+    /// What was left at its end.
+    pub expired: u64,
+}
+
+/// Puts a bucket of an account.
+pub fn put_bucket<S: Alter>(
+    tx: &mut Transaction<'_, S>,
+    account: &AccountNumber,
+    bucket: &Bucket,
+) -> Result<usize, Error>
+    requires book { HasBook (state S.Store tx.old.conn.now) }
+    ensures same_reference { tx.new.conn.ghost_name ≡ tx.old.conn.ghost_name }
+    ensures makes { HasCleanDisk (state S.Store tx.new.conn.now) → OnOk result (
+        Makes (with_rows account.now (with_bucket bucket.now))
+        (state S.Store tx.old.conn.now) (state S.Store tx.new.conn.now)) }
+    ensures kept { HasCleanDisk (state S.Store tx.new.conn.now) → OnErr result (
+        KeepsCommit (state S.Store tx.old.conn.now) (state S.Store tx.new.conn.now)) }
+    ensures survives { Survives (state S.Store tx.old.conn.now) (state S.Store tx.new.conn.now) (λ _. ⊥) }
+{
+    let of_account = text(account.as_str());
+    let number = whole(bucket.number());
+    let starts = large(bucket.from().seconds());
+    let ends = large(bucket.until().seconds());
+    let scope = optional(bucket.scope());
+    let credited = large(bucket.credited());
+    let available = large(bucket.available());
+    let reserved = large(bucket.reserved());
+    let charged = large(bucket.charged());
+    let expired = large(bucket.expired());
+    write(
+        tx,
+        "INSERT INTO buckets VALUES (?1, ?2, ?3, ?4, ?5, ?6, ?7, ?8, ?9, ?10) \
+         ON CONFLICT (account, number) DO UPDATE SET \
+         account = excluded.account, number = excluded.number, starts = excluded.starts, \
+         ends = excluded.ends, scope = excluded.scope, credited = excluded.credited, \
+         available = excluded.available, reserved = excluded.reserved, \
+         charged = excluded.charged, expired = excluded.expired",
+        &[
+            of_account, number, starts, ends, scope, credited, available, reserved, charged,
+            expired,
+        ],
+    )
+}
+
+/// The buckets that have money available or reserved, as they stand: no rule of theirs is tested yet.
+pub fn read_buckets_live<S: Alter>(
+    conn: &mut Connection<S>,
+    alloc: Global,
+    account: &AccountNumber,
+) -> Result<Vec<BucketColumns>, ReadFault>
+    requires idle { HasIdleBook (state S.Store conn.old) }
+    ensures found { HasCleanDisk (state S.Store conn.new) → IfOk result (λ bs.
+        AreBuckets is_live (rows_in (state S.Store conn.old).now.trees account.now) (map bucket_row bs.items)) }
+    ensures still { HasCleanDisk (state S.Store conn.new) → IsTrue (state S.Store conn.new).is_open →
+        IsStill (state S.Store conn.old) (state S.Store conn.new) }
+    ensures idle { HasIdleBook (state S.Store conn.new) }
+    ensures cleanness { HasCleanDisk (state S.Store conn.new) → HasCleanDisk (state S.Store conn.old) }
+    ensures mode { conn.old.in_transaction ≡ false → conn.new.in_transaction ≡ false }
+{
+    let of_account = text(account.as_str());
+    let rows = read(
+        conn,
+        "SELECT number, starts, ends, scope, credited, available, reserved, charged, expired \
+         FROM buckets WHERE account = ?1 AND (available > 0 OR reserved > 0) ORDER BY ends, number",
+        &[of_account],
+    )?;
+    buckets_from(alloc, &rows)
+}
+
+/// All buckets, as they stand: no rule of theirs is tested yet.
+pub fn read_buckets_all<S: Alter>(
+    conn: &mut Connection<S>,
+    alloc: Global,
+    account: &AccountNumber,
+) -> Result<Vec<BucketColumns>, ReadFault>
+    requires idle { HasIdleBook (state S.Store conn.old) }
+    ensures found { HasCleanDisk (state S.Store conn.new) → IfOk result (λ bs.
+        AreBuckets (λ b. true) (rows_in (state S.Store conn.old).now.trees account.now) (map bucket_row bs.items)) }
+    ensures still { HasCleanDisk (state S.Store conn.new) → IsTrue (state S.Store conn.new).is_open →
+        IsStill (state S.Store conn.old) (state S.Store conn.new) }
+    ensures idle { HasIdleBook (state S.Store conn.new) }
+    ensures cleanness { HasCleanDisk (state S.Store conn.new) → HasCleanDisk (state S.Store conn.old) }
+    ensures mode { conn.old.in_transaction ≡ false → conn.new.in_transaction ≡ false }
+{
+    let of_account = text(account.as_str());
+    let rows = read(
+        conn,
+        "SELECT number, starts, ends, scope, credited, available, reserved, charged, expired \
+         FROM buckets WHERE account = ?1 ORDER BY number",
+        &[of_account],
+    )?;
+    buckets_from(alloc, &rows)
+}
+
+fn buckets_from(alloc: Global, rows: &[Row]) -> Result<Vec<BucketColumns>, ReadFault>
+    ensures { IfOk result (λ xs. map bucket_cells (map bucket_row xs.items) ≡ rows.now) }
+{
+    let mut buckets = Vec::new(alloc);
+    'rows: for row in rows {
+        let bucket = bucket_from(row)?;
+        let Ok(()) = buckets.push(bucket) else {
+            return Err(ReadFault::Memory);
+        };
+    }
+    Ok(buckets)
+}
+
+fn bucket_from(row: &Row) -> Result<BucketColumns, ReadFault>
+    ensures { IfOk result (λ b. row.now ≡ bucket_cells (bucket_row b)) }
+{
+    has_columns(row, 9)?;
+    let number = small_at(row, 0)?;
+    let starts = moment_at(row, 1)?;
+    let ends = moment_at(row, 2)?;
+    let scope = optional_at(row, 3)?;
+    let credited = number_at(row, 4)?;
+    let available = number_at(row, 5)?;
+    let reserved = number_at(row, 6)?;
+    let charged = number_at(row, 7)?;
+    let expired = number_at(row, 8)?;
+    Ok(BucketColumns {
+        number,
+        starts,
+        ends,
+        scope,
+        credited,
+        available,
+        reserved,
+        charged,
+        expired,
+    })
+}
+
+/// Puts each bucket in turn.
+pub fn put_buckets<S: Alter>(
+    tx: &mut Transaction<'_, S>,
+    account: &AccountNumber,
+    rows: &[Bucket],
+) -> Result<(), Error>
+    requires open { HasCleanDisk (state S.Store tx.old.conn.now) → IsTrue (state S.Store tx.old.conn.now).is_open →
+        IsTrue (state S.Store tx.old.conn.now).in_transaction }
+    requires book { HasBook (state S.Store tx.old.conn.now) }
+    ensures same_reference { tx.new.conn.ghost_name ≡ tx.old.conn.ghost_name }
+    ensures makes { HasCleanDisk (state S.Store tx.new.conn.now) → IsTrue (state S.Store tx.old.conn.now).is_open →
+        OnOk result (Makes (with_buckets account.now rows.now)
+        (state S.Store tx.old.conn.now) (state S.Store tx.new.conn.now)) }
+    ensures kept { HasCleanDisk (state S.Store tx.new.conn.now) → OnErr result (
+        KeepsCommit (state S.Store tx.old.conn.now) (state S.Store tx.new.conn.now)) }
+    ensures survives { Survives (state S.Store tx.old.conn.now) (state S.Store tx.new.conn.now) (λ _. ⊥) }
+{
+    'rows: for row in rows {
+        put_bucket(tx, account, row)?;
+    }
+    Ok(())
+}

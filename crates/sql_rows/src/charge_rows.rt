@@ -1,0 +1,171 @@
+ghost use Rattle.std.specs.Prelude.{◌≡◌, map, false, IsTrue, IfOk, OnOk, OnErr};
+ghost use Rattle.sql_rows.specs.Content.{rows_in, with_charge, with_rows};
+ghost use Rattle.sql_rows.specs.Values.{charge_cells};
+ghost use Rattle.sql_rows.specs.Lists.{AreCharges, NumbersRise};
+ghost use Rattle.sql_rows.specs.Each.{with_charges};
+ghost use Rattle.sql_rows.specs.Makes.{Makes};
+ghost use Rattle.sql_tables.specs.Statements.{HasBook, HasIdleBook, IsStill};
+ghost use Rattle.sqlite.specs.Held.{state};
+ghost use Rattle.sqlite.specs.State.{HasCleanDisk, KeepsCommit, Survives};
+
+use crate::decoding::{moment_at, session_at};
+use identifiers::AccountNumber;
+use reserving::ChargeRow;
+use sql_tables::{
+    ReadFault, checked, has_columns, large, number_at, read, small_at, text, whole, write,
+};
+use sqlite::{Alter, Connection, Error, Row, Transaction};
+use std::alloc::Global;
+use units::{Amount, Blocks};
+
+/// Puts a charge of an account.
+pub fn put_charge<S: Alter>(
+    tx: &mut Transaction<'_, S>,
+    account: &AccountNumber,
+    charge: &ChargeRow,
+) -> Result<usize, Error>
+    requires book { HasBook (state S.Store tx.old.conn.now) }
+    ensures same_reference { tx.new.conn.ghost_name ≡ tx.old.conn.ghost_name }
+    ensures makes { HasCleanDisk (state S.Store tx.new.conn.now) → OnOk result (
+        Makes (with_rows account.now (with_charge charge.now))
+        (state S.Store tx.old.conn.now) (state S.Store tx.new.conn.now)) }
+    ensures kept { HasCleanDisk (state S.Store tx.new.conn.now) → OnErr result (
+        KeepsCommit (state S.Store tx.old.conn.now) (state S.Store tx.new.conn.now)) }
+    ensures survives { Survives (state S.Store tx.old.conn.now) (state S.Store tx.new.conn.now) (λ _. ⊥) }
+{
+    let of_account = text(account.as_str());
+    let number = whole(charge.number);
+    let moment = large(charge.moment.seconds());
+    let session = text(charge.session.as_str());
+    let group = whole(charge.group);
+    let blocks = checked(charge.blocks.0 as u128, 6)?;
+    let rated = checked(charge.rated.0, 7)?;
+    let collected = checked(charge.collected.0, 8)?;
+    let uncollected = checked(charge.uncollected.0, 9)?;
+    write(
+        tx,
+        "INSERT INTO charges VALUES (?1, ?2, ?3, ?4, ?5, ?6, ?7, ?8, ?9) \
+         ON CONFLICT (account, number) DO UPDATE SET \
+         account = excluded.account, number = excluded.number, moment = excluded.moment, \
+         session = excluded.session, rating_group = excluded.rating_group, \
+         blocks = excluded.blocks, rated = excluded.rated, collected = excluded.collected, \
+         uncollected = excluded.uncollected",
+        &[
+            of_account,
+            number,
+            moment,
+            session,
+            group,
+            blocks,
+            rated,
+            collected,
+            uncollected,
+        ],
+    )
+}
+
+/// The charges of an account, in the order of their numbers.
+pub fn read_charges<S: Alter>(
+    conn: &mut Connection<S>,
+    alloc: Global,
+    account: &AccountNumber,
+) -> Result<Vec<ChargeRow>, ReadFault>
+    requires idle { HasIdleBook (state S.Store conn.old) }
+    ensures found { HasCleanDisk (state S.Store conn.new) → IfOk result (λ xs.
+        AreCharges (rows_in (state S.Store conn.old).now.trees account.now) xs.items) }
+    ensures order { IfOk result (λ xs. NumbersRise xs.items) }
+    ensures still { HasCleanDisk (state S.Store conn.new) → IsTrue (state S.Store conn.new).is_open →
+        IsStill (state S.Store conn.old) (state S.Store conn.new) }
+    ensures idle { HasIdleBook (state S.Store conn.new) }
+    ensures cleanness { HasCleanDisk (state S.Store conn.new) → HasCleanDisk (state S.Store conn.old) }
+    ensures mode { conn.old.in_transaction ≡ false → conn.new.in_transaction ≡ false }
+{
+    let of_account = text(account.as_str());
+    let rows = read(
+        conn,
+        "SELECT number, moment, session, rating_group, blocks, rated, collected, uncollected \
+         FROM charges WHERE account = ?1 ORDER BY number",
+        &[of_account],
+    )?;
+    charges_from(alloc, &rows)
+}
+
+fn charges_from(alloc: Global, rows: &[Row]) -> Result<Vec<ChargeRow>, ReadFault>
+    ensures cells { IfOk result (λ xs. map charge_cells xs.items ≡ rows.now) }
+    ensures order { IfOk result (λ xs. NumbersRise xs.items) }
+{
+    let mut charges = Vec::new(alloc);
+    'rows: for row in rows {
+        let charge = charge_from(alloc, row)?;
+        let Ok(()) = charges.push(charge) else {
+            return Err(ReadFault::Memory);
+        };
+    }
+    if !do_numbers_rise(&charges) {
+        return Err(ReadFault::Rules);
+    }
+    Ok(charges)
+}
+
+/// Whether each number is above the one before it.
+fn do_numbers_rise(charges: &[ChargeRow]) -> bool
+    ensures { IsTrue result → NumbersRise charges.now }
+{
+    let mut last: Option<&ChargeRow> = None;
+    'rows: for charge in charges {
+        if let Some(before) = last {
+            if charge.number <= before.number {
+                return false;
+            }
+        }
+        last = Some(charge);
+    }
+    true
+}
+
+fn charge_from(alloc: Global, row: &Row) -> Result<ChargeRow, ReadFault>
+    ensures { IfOk result (λ x. row.now ≡ charge_cells x) }
+{
+    has_columns(row, 8)?;
+    let number = small_at(row, 0)?;
+    let moment = moment_at(row, 1)?;
+    let session = session_at(alloc, row, 2)?;
+    let group = small_at(row, 3)?;
+    let blocks = number_at(row, 4)?;
+    let rated = number_at(row, 5)?;
+    let collected = number_at(row, 6)?;
+    let uncollected = number_at(row, 7)?;
+    Ok(ChargeRow {
+        number,
+        moment,
+        session,
+        group,
+        blocks: Blocks(blocks),
+        rated: Amount(rated as u128),
+        collected: Amount(collected as u128),
+        uncollected: Amount(uncollected as u128),
+    })
+}
+
+/// Puts each charge in turn.
+pub fn put_charges<S: Alter>(
+    tx: &mut Transaction<'_, S>,
+    account: &AccountNumber,
+    rows: &[ChargeRow],
+) -> Result<(), Error>
+    requires open { HasCleanDisk (state S.Store tx.old.conn.now) → IsTrue (state S.Store tx.old.conn.now).is_open →
+        IsTrue (state S.Store tx.old.conn.now).in_transaction }
+    requires book { HasBook (state S.Store tx.old.conn.now) }
+    ensures same_reference { tx.new.conn.ghost_name ≡ tx.old.conn.ghost_name }
+    ensures makes { HasCleanDisk (state S.Store tx.new.conn.now) → IsTrue (state S.Store tx.old.conn.now).is_open →
+        OnOk result (Makes (with_charges account.now rows.now)
+        (state S.Store tx.old.conn.now) (state S.Store tx.new.conn.now)) }
+    ensures kept { HasCleanDisk (state S.Store tx.new.conn.now) → OnErr result (
+        KeepsCommit (state S.Store tx.old.conn.now) (state S.Store tx.new.conn.now)) }
+    ensures survives { Survives (state S.Store tx.old.conn.now) (state S.Store tx.new.conn.now) (λ _. ⊥) }
+{
+    'rows: for row in rows {
+        put_charge(tx, account, row)?;
+    }
+    Ok(())
+}

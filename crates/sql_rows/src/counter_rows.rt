@@ -1,0 +1,96 @@
+ghost use Rattle.std.specs.Prelude.{◌≡◌, map, false, IsTrue, IfOk, OnOk, OnErr};
+ghost use Rattle.sql_rows.specs.Content.{rows_in, with_counter, with_rows};
+ghost use Rattle.sql_rows.specs.Values.{counter_cells};
+ghost use Rattle.sql_rows.specs.Makes.{Makes};
+ghost use Rattle.sql_tables.specs.Statements.{HasBook, HasIdleBook, IsStill};
+ghost use Rattle.sql_tables.specs.Selects.{one_or_none};
+ghost use Rattle.sqlite.specs.Held.{state};
+ghost use Rattle.sqlite.specs.State.{HasCleanDisk, KeepsCommit, Survives};
+
+use identifiers::AccountNumber;
+use reserving::Counter;
+use sql_tables::{
+    ReadFault, checked, has_columns, number_at, one_of, read, small_at, text, whole, write,
+};
+use sqlite::{Alter, Connection, Error, Row, Transaction};
+
+/// Puts a counter of an account.
+pub fn put_counter<S: Alter>(
+    tx: &mut Transaction<'_, S>,
+    account: &AccountNumber,
+    counter: &Counter,
+) -> Result<usize, Error>
+    requires book { HasBook (state S.Store tx.old.conn.now) }
+    ensures same_reference { tx.new.conn.ghost_name ≡ tx.old.conn.ghost_name }
+    ensures makes { HasCleanDisk (state S.Store tx.new.conn.now) → OnOk result (
+        Makes (with_rows account.now (with_counter counter.now))
+        (state S.Store tx.old.conn.now) (state S.Store tx.new.conn.now)) }
+    ensures kept { HasCleanDisk (state S.Store tx.new.conn.now) → OnErr result (
+        KeepsCommit (state S.Store tx.old.conn.now) (state S.Store tx.new.conn.now)) }
+    ensures survives { Survives (state S.Store tx.old.conn.now) (state S.Store tx.new.conn.now) (λ _. ⊥) }
+{
+    let of_account = text(account.as_str());
+    let group = whole(counter.group);
+    let cycle = whole(counter.cycle);
+    let blocks = checked(counter.blocks as u128, 4)?;
+    write(
+        tx,
+        "INSERT INTO counters VALUES (?1, ?2, ?3, ?4) \
+         ON CONFLICT (account, rating_group, cycle) DO UPDATE SET \
+         account = excluded.account, rating_group = excluded.rating_group, \
+         cycle = excluded.cycle, blocks = excluded.blocks",
+        &[of_account, group, cycle, blocks],
+    )
+}
+
+/// The counter of a rating group in a cycle.
+pub fn read_counter<S: Alter>(
+    conn: &mut Connection<S>,
+    account: &AccountNumber,
+    group: u32,
+    cycle: u32,
+) -> Result<Option<Counter>, ReadFault>
+    requires idle { HasIdleBook (state S.Store conn.old) }
+    ensures found { HasCleanDisk (state S.Store conn.new) → IfOk result (λ o.
+        o ≡ (rows_in (state S.Store conn.old).now.trees account.now).counters group cycle) }
+    ensures still { HasCleanDisk (state S.Store conn.new) → IsTrue (state S.Store conn.new).is_open →
+        IsStill (state S.Store conn.old) (state S.Store conn.new) }
+    ensures idle { HasIdleBook (state S.Store conn.new) }
+    ensures cleanness { HasCleanDisk (state S.Store conn.new) → HasCleanDisk (state S.Store conn.old) }
+    ensures mode { conn.old.in_transaction ≡ false → conn.new.in_transaction ≡ false }
+{
+    let of_account = text(account.as_str());
+    let of_group = whole(group);
+    let of_cycle = whole(cycle);
+    let rows = read(
+        conn,
+        "SELECT rating_group, cycle, blocks FROM counters \
+         WHERE account = ?1 AND rating_group = ?2 AND cycle = ?3",
+        &[of_account, of_group, of_cycle],
+    )?;
+    counter_among(&rows)
+}
+
+fn counter_among(rows: &[Row]) -> Result<Option<Counter>, ReadFault>
+    ensures { IfOk result (λ o. rows.now ≡ map counter_cells (one_or_none o)) }
+{
+    let row = one_of(rows)?;
+    match row {
+        None => Ok(None),
+        Some(row) => Ok(Some(counter_from(row)?)),
+    }
+}
+
+fn counter_from(row: &Row) -> Result<Counter, ReadFault>
+    ensures { IfOk result (λ k. row.now ≡ counter_cells k) }
+{
+    has_columns(row, 3)?;
+    let group = small_at(row, 0)?;
+    let cycle = small_at(row, 1)?;
+    let blocks = number_at(row, 2)?;
+    Ok(Counter {
+        group,
+        cycle,
+        blocks,
+    })
+}

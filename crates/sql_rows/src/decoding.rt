@@ -1,0 +1,58 @@
+ghost use Rattle.std.specs.Prelude.{◌≡◌, IfOk, pos, if◌then◌else◌};
+ghost use Rattle.sqlite_value.specs.Order.{column};
+ghost use Rattle.sqlite_value.specs.declared.value.Value.TheVariants.{Int, Text};
+ghost use Rattle.sql_rows.specs.Values.{flag_number, nat, state_number};
+
+use identifiers::SessionId;
+use reserving::SessionState;
+use sql_tables::{ReadFault, number_at, small_at, text_at};
+use sqlite::Row;
+use std::alloc::Global;
+use units::Moment;
+
+/// The moment in a column.
+pub(crate) fn moment_at(row: &Row, at: usize) -> Result<Moment, ReadFault>
+    ensures { IfOk result (λ m. column row.now at ≡ nat m) }
+{
+    let seconds = number_at(row, at)?;
+    match Moment::new(seconds) {
+        Some(moment) => Ok(moment),
+        None => Err(ReadFault::Rules),
+    }
+}
+
+/// The truth value in a column: 0 or 1.
+pub(crate) fn flag_at(row: &Row, at: usize) -> Result<bool, ReadFault>
+    ensures { IfOk result (λ b. column row.now at ≡ nat (flag_number b)) }
+{
+    let number = small_at(row, at)?;
+    match number {
+        0 => Ok(false),
+        1 => Ok(true),
+        _ => Err(ReadFault::Rules),
+    }
+}
+
+/// The session's name in a column.
+pub(crate) fn session_at(alloc: Global, row: &Row, at: usize) -> Result<SessionId, ReadFault>
+    ensures { IfOk result (λ s. column row.now at ≡ Text s) }
+{
+    let name = text_at(row, at)?;
+    match SessionId::new(alloc, &name)? {
+        Some(session) => Ok(session),
+        None => Err(ReadFault::Rules),
+    }
+}
+
+/// The state of a session in a column.
+pub(crate) fn state_at(row: &Row, at: usize) -> Result<SessionState, ReadFault>
+    ensures { IfOk result (λ s. column row.now at ≡ nat (state_number s)) }
+{
+    let number = small_at(row, at)?;
+    match number {
+        1 => Ok(SessionState::Open),
+        2 => Ok(SessionState::Ended),
+        3 => Ok(SessionState::NeverOpened),
+        _ => Err(ReadFault::Rules),
+    }
+}

@@ -1,0 +1,137 @@
+ghost use Rattle.std.specs.Prelude.{◌≡◌, map, false, IsTrue, IfOk, OnOk, OnErr};
+ghost use Rattle.sql_rows.specs.Content.{rows_in, with_hold, with_rows, without_holds};
+ghost use Rattle.sql_rows.specs.Lists.{AreHolds, hold_cells};
+ghost use Rattle.sql_rows.specs.Texts.{hold_at};
+ghost use Rattle.sql_rows.specs.Makes.{Makes};
+ghost use Rattle.sql_tables.specs.Statements.{HasBook, HasIdleBook, IsStill};
+ghost use Rattle.sqlite.specs.Held.{state};
+ghost use Rattle.sqlite.specs.State.{HasCleanDisk, KeepsCommit, Survives};
+
+use buckets::Hold;
+use identifiers::{AccountNumber, SessionId};
+use sql_tables::{ReadFault, checked, has_columns, number_at, read, small_at, text, whole, write};
+use sqlite::{Alter, Connection, Error, Row, Transaction};
+use std::alloc::Global;
+
+/// What is held of a bucket for a rating group.
+#[derive(Clone, Copy, Debug, PartialEq, Eq)]
+pub struct HeldColumns {
+    /// Rating-Group (RFC 8506 section 8.29).
+    pub group: u32,
+    /// The bucket's number within the account.
+    pub bucket: u32,
+    /// Micro-units.
+    pub amount: u64,
+}
+
+/// Puts what a session's reservation in a rating group holds of a bucket, in micro-units.
+pub fn put_hold<S: Alter>(
+    tx: &mut Transaction<'_, S>,
+    account: &AccountNumber,
+    session: &SessionId,
+    group: u32,
+    hold: &Hold,
+) -> Result<usize, Error>
+    requires book { HasBook (state S.Store tx.old.conn.now) }
+    ensures same_reference { tx.new.conn.ghost_name ≡ tx.old.conn.ghost_name }
+    ensures makes { HasCleanDisk (state S.Store tx.new.conn.now) → OnOk result (
+        Makes (with_rows account.now (with_hold session.now group hold.now.bucket hold.now.amount))
+        (state S.Store tx.old.conn.now) (state S.Store tx.new.conn.now)) }
+    ensures kept { HasCleanDisk (state S.Store tx.new.conn.now) → OnErr result (
+        KeepsCommit (state S.Store tx.old.conn.now) (state S.Store tx.new.conn.now)) }
+    ensures survives { Survives (state S.Store tx.old.conn.now) (state S.Store tx.new.conn.now) (λ _. ⊥) }
+{
+    let of_account = text(account.as_str());
+    let of_session = text(session.as_str());
+    let of_group = whole(group);
+    let bucket = whole(hold.bucket);
+    let amount = checked(hold.amount as u128, 5)?;
+    write(
+        tx,
+        "INSERT INTO holds VALUES (?1, ?2, ?3, ?4, ?5) \
+         ON CONFLICT (account, session, rating_group, bucket) DO UPDATE SET \
+         account = excluded.account, session = excluded.session, \
+         rating_group = excluded.rating_group, bucket = excluded.bucket, amount = excluded.amount",
+        &[of_account, of_session, of_group, bucket, amount],
+    )
+}
+
+/// Removes what a session's reservation in a rating group holds.
+pub fn remove_holds<S: Alter>(
+    tx: &mut Transaction<'_, S>,
+    account: &AccountNumber,
+    session: &SessionId,
+    group: u32,
+) -> Result<usize, Error>
+    requires book { HasBook (state S.Store tx.old.conn.now) }
+    ensures same_reference { tx.new.conn.ghost_name ≡ tx.old.conn.ghost_name }
+    ensures makes { HasCleanDisk (state S.Store tx.new.conn.now) → OnOk result (
+        Makes (with_rows account.now (without_holds session.now group))
+        (state S.Store tx.old.conn.now) (state S.Store tx.new.conn.now)) }
+    ensures kept { HasCleanDisk (state S.Store tx.new.conn.now) → OnErr result (
+        KeepsCommit (state S.Store tx.old.conn.now) (state S.Store tx.new.conn.now)) }
+    ensures survives { Survives (state S.Store tx.old.conn.now) (state S.Store tx.new.conn.now) (λ _. ⊥) }
+{
+    let of_account = text(account.as_str());
+    let of_session = text(session.as_str());
+    let of_group = whole(group);
+    write(
+        tx,
+        "DELETE FROM holds WHERE account = ?1 AND session = ?2 AND rating_group = ?3",
+        &[of_account, of_session, of_group],
+    )
+}
+
+/// What is held for a session, by rating group and bucket.
+pub fn read_holds<S: Alter>(
+    conn: &mut Connection<S>,
+    alloc: Global,
+    account: &AccountNumber,
+    session: &SessionId,
+) -> Result<Vec<HeldColumns>, ReadFault>
+    requires idle { HasIdleBook (state S.Store conn.old) }
+    ensures found { HasCleanDisk (state S.Store conn.new) → IfOk result (λ xs.
+        AreHolds (rows_in (state S.Store conn.old).now.trees account.now) session.now (map hold_at xs.items)) }
+    ensures still { HasCleanDisk (state S.Store conn.new) → IsTrue (state S.Store conn.new).is_open →
+        IsStill (state S.Store conn.old) (state S.Store conn.new) }
+    ensures idle { HasIdleBook (state S.Store conn.new) }
+    ensures cleanness { HasCleanDisk (state S.Store conn.new) → HasCleanDisk (state S.Store conn.old) }
+    ensures mode { conn.old.in_transaction ≡ false → conn.new.in_transaction ≡ false }
+{
+    let of_account = text(account.as_str());
+    let of_session = text(session.as_str());
+    let rows = read(
+        conn,
+        "SELECT rating_group, bucket, amount \
+         FROM holds WHERE account = ?1 AND session = ?2",
+        &[of_account, of_session],
+    )?;
+    helds_from(alloc, &rows)
+}
+
+fn helds_from(alloc: Global, rows: &[Row]) -> Result<Vec<HeldColumns>, ReadFault>
+    ensures { IfOk result (λ xs. map hold_cells (map hold_at xs.items) ≡ rows.now) }
+{
+    let mut helds = Vec::new(alloc);
+    'rows: for row in rows {
+        let held = held_from(row)?;
+        let Ok(()) = helds.push(held) else {
+            return Err(ReadFault::Memory);
+        };
+    }
+    Ok(helds)
+}
+
+fn held_from(row: &Row) -> Result<HeldColumns, ReadFault>
+    ensures { IfOk result (λ h. row.now ≡ hold_cells (hold_at h)) }
+{
+    has_columns(row, 3)?;
+    let group = small_at(row, 0)?;
+    let bucket = small_at(row, 1)?;
+    let amount = number_at(row, 2)?;
+    Ok(HeldColumns {
+        group,
+        bucket,
+        amount,
+    })
+}

@@ -1,0 +1,100 @@
+ghost use Rattle.std.specs.Prelude.{◌≡◌, map, option_map, false, IsTrue, IfOk, OnOk, OnErr};
+ghost use Rattle.sql_rows.specs.Content.{content_of, with_meta};
+ghost use Rattle.sql_rows.specs.Values.{meta_cells};
+ghost use Rattle.sql_rows.specs.Texts.{meta_of};
+ghost use Rattle.sql_rows.specs.Makes.{Makes};
+ghost use Rattle.sql_tables.specs.Statements.{HasBook, HasIdleBook, IsStill};
+ghost use Rattle.sql_tables.specs.Selects.{one_or_none};
+ghost use Rattle.sqlite.specs.Held.{state};
+ghost use Rattle.sqlite.specs.State.{HasCleanDisk, KeepsCommit, Survives};
+
+use crate::decoding::moment_at;
+use sql_tables::{
+    ReadFault, has_columns, large, one_of, read, small_at, text, text_at, whole, write,
+};
+use sqlite::{Alter, Connection, Error, Row, Transaction};
+use units::Moment;
+
+/// What is kept once.
+#[derive(Debug, Drop)]
+pub struct Meta {
+    /// The version of the tables.
+    pub version: u32,
+    /// The text of the tariff book.
+    pub book: String,
+    /// The moment of the last accepted command.
+    pub last: Moment,
+}
+
+/// Puts what is kept once: the version of the tables, the text of the tariff book, and the moment of the last
+/// accepted command.
+pub fn put_meta<S: Alter>(
+    tx: &mut Transaction<'_, S>,
+    version: u32,
+    book: &str,
+    last: Moment,
+) -> Result<usize, Error>
+    requires book { HasBook (state S.Store tx.old.conn.now) }
+    ensures same_reference { tx.new.conn.ghost_name ≡ tx.old.conn.ghost_name }
+    ensures makes { HasCleanDisk (state S.Store tx.new.conn.now) → OnOk result (
+        Makes (with_meta (record { version = version; book = book.now; last = last }))
+        (state S.Store tx.old.conn.now) (state S.Store tx.new.conn.now)) }
+    ensures kept { HasCleanDisk (state S.Store tx.new.conn.now) → OnErr result (
+        KeepsCommit (state S.Store tx.old.conn.now) (state S.Store tx.new.conn.now)) }
+    ensures survives { Survives (state S.Store tx.old.conn.now) (state S.Store tx.new.conn.now) (λ _. ⊥) }
+{
+    let id = whole(1);
+    let of_version = whole(version);
+    let of_book = text(book);
+    let moment = large(last.seconds());
+    write(
+        tx,
+        "INSERT INTO meta VALUES (?1, ?2, ?3, ?4) \
+         ON CONFLICT (id) DO UPDATE SET \
+         id = excluded.id, version = excluded.version, book = excluded.book, \
+         last_moment = excluded.last_moment",
+        &[id, of_version, of_book, moment],
+    )
+}
+
+/// What is kept once: none where the tables are new.
+pub fn read_meta<S: Alter>(conn: &mut Connection<S>) -> Result<Option<Meta>, ReadFault>
+    requires idle { HasIdleBook (state S.Store conn.old) }
+    ensures found { HasCleanDisk (state S.Store conn.new) → IfOk result (λ o. option_map meta_of o ≡ (content_of (state S.Store conn.old).now.trees).meta) }
+    ensures still { HasCleanDisk (state S.Store conn.new) → IsTrue (state S.Store conn.new).is_open →
+        IsStill (state S.Store conn.old) (state S.Store conn.new) }
+    ensures idle { HasIdleBook (state S.Store conn.new) }
+    ensures cleanness { HasCleanDisk (state S.Store conn.new) → HasCleanDisk (state S.Store conn.old) }
+    ensures mode { conn.old.in_transaction ≡ false → conn.new.in_transaction ≡ false }
+{
+    let rows = read(
+        conn,
+        "SELECT version, book, last_moment FROM meta WHERE id = 1",
+        &[],
+    )?;
+    meta_among(&rows)
+}
+
+fn meta_among(rows: &[Row]) -> Result<Option<Meta>, ReadFault>
+    ensures { IfOk result (λ o. rows.now ≡ map meta_cells (one_or_none (option_map meta_of o))) }
+{
+    let row = one_of(rows)?;
+    match row {
+        None => Ok(None),
+        Some(row) => Ok(Some(meta_from(row)?)),
+    }
+}
+
+fn meta_from(row: &Row) -> Result<Meta, ReadFault>
+    ensures { IfOk result (λ m. row.now ≡ meta_cells (meta_of m)) }
+{
+    has_columns(row, 3)?;
+    let version = small_at(row, 0)?;
+    let book = text_at(row, 1)?;
+    let last = moment_at(row, 2)?;
+    Ok(Meta {
+        version,
+        book,
+        last,
+    })
+}

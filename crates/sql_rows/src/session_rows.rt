@@ -1,0 +1,173 @@
+ghost use Rattle.std.specs.Prelude.{◌≡◌, map, false, IsTrue, IfOk, OnOk, OnErr};
+ghost use Rattle.sql_rows.specs.Content.{rows_in, with_rows, with_session};
+ghost use Rattle.sql_rows.specs.Values.{session_cells, state_number};
+ghost use Rattle.sql_rows.specs.Lists.{AreSessions};
+ghost use Rattle.reserving.specs.Sessions.{is_open};
+ghost use Rattle.sql_rows.specs.Each.{with_sessions};
+ghost use Rattle.sql_rows.specs.Makes.{Makes};
+ghost use Rattle.sql_tables.specs.Statements.{HasBook, HasIdleBook, IsStill};
+ghost use Rattle.sql_tables.specs.Selects.{one_or_none};
+ghost use Rattle.sqlite.specs.Held.{state};
+ghost use Rattle.sqlite.specs.State.{HasCleanDisk, KeepsCommit, Survives};
+
+use crate::decoding::{moment_at, session_at, state_at};
+use identifiers::{AccountNumber, SessionId};
+use reserving::{Session, SessionState};
+use sql_tables::{ReadFault, has_columns, large, one_of, read, small_at, text, whole, write};
+use sqlite::{Alter, Connection, Error, Row, Transaction};
+use std::alloc::Global;
+
+/// Puts a session of an account, or a recorded event.
+pub fn put_session<S: Alter>(
+    tx: &mut Transaction<'_, S>,
+    account: &AccountNumber,
+    session: &Session,
+) -> Result<usize, Error>
+    requires book { HasBook (state S.Store tx.old.conn.now) }
+    ensures same_reference { tx.new.conn.ghost_name ≡ tx.old.conn.ghost_name }
+    ensures makes { HasCleanDisk (state S.Store tx.new.conn.now) → OnOk result (
+        Makes (with_rows account.now (with_session session.now))
+        (state S.Store tx.old.conn.now) (state S.Store tx.new.conn.now)) }
+    ensures kept { HasCleanDisk (state S.Store tx.new.conn.now) → OnErr result (
+        KeepsCommit (state S.Store tx.old.conn.now) (state S.Store tx.new.conn.now)) }
+    ensures survives { Survives (state S.Store tx.old.conn.now) (state S.Store tx.new.conn.now) (λ _. ⊥) }
+{
+    let of_account = text(account.as_str());
+    let name = text(session.id.as_str());
+    let last_number = whole(session.last_number);
+    let touched = large(session.touched.seconds());
+    let state = whole(state_number(session.state));
+    write(
+        tx,
+        "INSERT INTO sessions VALUES (?1, ?2, ?3, ?4, ?5) \
+         ON CONFLICT (account, session) DO UPDATE SET \
+         account = excluded.account, session = excluded.session, \
+         last_number = excluded.last_number, touched = excluded.touched, state = excluded.state",
+        &[of_account, name, last_number, touched, state],
+    )
+}
+
+/// The number of a state in the column.
+fn state_number(state: SessionState) -> u32
+    ensures { result ≡ state_number state }
+{
+    match state {
+        SessionState::Open => 1,
+        SessionState::Ended => 2,
+        SessionState::NeverOpened => 3,
+    }
+}
+
+/// The session with the name, or the recorded event.
+pub fn read_session<S: Alter>(
+    conn: &mut Connection<S>,
+    alloc: Global,
+    account: &AccountNumber,
+    session: &SessionId,
+) -> Result<Option<Session>, ReadFault>
+    requires idle { HasIdleBook (state S.Store conn.old) }
+    ensures found { HasCleanDisk (state S.Store conn.new) → IfOk result (λ o.
+        o ≡ (rows_in (state S.Store conn.old).now.trees account.now).sessions session.now) }
+    ensures still { HasCleanDisk (state S.Store conn.new) → IsTrue (state S.Store conn.new).is_open →
+        IsStill (state S.Store conn.old) (state S.Store conn.new) }
+    ensures idle { HasIdleBook (state S.Store conn.new) }
+    ensures cleanness { HasCleanDisk (state S.Store conn.new) → HasCleanDisk (state S.Store conn.old) }
+    ensures mode { conn.old.in_transaction ≡ false → conn.new.in_transaction ≡ false }
+{
+    let of_account = text(account.as_str());
+    let of_session = text(session.as_str());
+    let rows = read(
+        conn,
+        "SELECT session, last_number, touched, state FROM sessions \
+         WHERE account = ?1 AND session = ?2",
+        &[of_account, of_session],
+    )?;
+    session_among(alloc, &rows)
+}
+
+fn session_among(alloc: Global, rows: &[Row]) -> Result<Option<Session>, ReadFault>
+    ensures { IfOk result (λ o. rows.now ≡ map session_cells (one_or_none o)) }
+{
+    let row = one_of(rows)?;
+    match row {
+        None => Ok(None),
+        Some(row) => Ok(Some(session_from(alloc, row)?)),
+    }
+}
+
+fn session_from(alloc: Global, row: &Row) -> Result<Session, ReadFault>
+    ensures { IfOk result (λ s. row.now ≡ session_cells s) }
+{
+    has_columns(row, 4)?;
+    let id = session_at(alloc, row, 0)?;
+    let last_number = small_at(row, 1)?;
+    let touched = moment_at(row, 2)?;
+    let state = state_at(row, 3)?;
+    Ok(Session {
+        id,
+        last_number,
+        touched,
+        state,
+    })
+}
+
+/// The open sessions of an account; the index finds them without its past ones.
+pub fn read_sessions_open<S: Alter>(
+    conn: &mut Connection<S>,
+    alloc: Global,
+    account: &AccountNumber,
+) -> Result<Vec<Session>, ReadFault>
+    requires idle { HasIdleBook (state S.Store conn.old) }
+    ensures found { HasCleanDisk (state S.Store conn.new) → IfOk result (λ xs.
+        AreSessions (λ x. is_open x.state) (rows_in (state S.Store conn.old).now.trees account.now) xs.items) }
+    ensures still { HasCleanDisk (state S.Store conn.new) → IsTrue (state S.Store conn.new).is_open →
+        IsStill (state S.Store conn.old) (state S.Store conn.new) }
+    ensures idle { HasIdleBook (state S.Store conn.new) }
+    ensures cleanness { HasCleanDisk (state S.Store conn.new) → HasCleanDisk (state S.Store conn.old) }
+    ensures mode { conn.old.in_transaction ≡ false → conn.new.in_transaction ≡ false }
+{
+    let of_account = text(account.as_str());
+    let rows = read(
+        conn,
+        "SELECT session, last_number, touched, state \
+         FROM sessions WHERE account = ?1 AND state = 1",
+        &[of_account],
+    )?;
+    sessions_from(alloc, &rows)
+}
+
+fn sessions_from(alloc: Global, rows: &[Row]) -> Result<Vec<Session>, ReadFault>
+    ensures { IfOk result (λ xs. map session_cells xs.items ≡ rows.now) }
+{
+    let mut sessions = Vec::new(alloc);
+    'rows: for row in rows {
+        let session = session_from(alloc, row)?;
+        let Ok(()) = sessions.push(session) else {
+            return Err(ReadFault::Memory);
+        };
+    }
+    Ok(sessions)
+}
+
+/// Puts each session in turn.
+pub fn put_sessions<S: Alter>(
+    tx: &mut Transaction<'_, S>,
+    account: &AccountNumber,
+    rows: &[Session],
+) -> Result<(), Error>
+    requires open { HasCleanDisk (state S.Store tx.old.conn.now) → IsTrue (state S.Store tx.old.conn.now).is_open →
+        IsTrue (state S.Store tx.old.conn.now).in_transaction }
+    requires book { HasBook (state S.Store tx.old.conn.now) }
+    ensures same_reference { tx.new.conn.ghost_name ≡ tx.old.conn.ghost_name }
+    ensures makes { HasCleanDisk (state S.Store tx.new.conn.now) → IsTrue (state S.Store tx.old.conn.now).is_open →
+        OnOk result (Makes (with_sessions account.now rows.now)
+        (state S.Store tx.old.conn.now) (state S.Store tx.new.conn.now)) }
+    ensures kept { HasCleanDisk (state S.Store tx.new.conn.now) → OnErr result (
+        KeepsCommit (state S.Store tx.old.conn.now) (state S.Store tx.new.conn.now)) }
+    ensures survives { Survives (state S.Store tx.old.conn.now) (state S.Store tx.new.conn.now) (λ _. ⊥) }
+{
+    'rows: for row in rows {
+        put_session(tx, account, row)?;
+    }
+    Ok(())
+}

@@ -1,0 +1,116 @@
+-- What a refusal keeps.
+use Rattle.std.proofs.Common.{◌≡◌, inl, inr, ℕ, List, Option, Some, None, Ok, Err, Result, IfOk, OnOk, OnErr, IsTrue}
+use Rattle.std.proofs.Common.{refl, true, sym, subst, ap, ◌∙◌}
+use Rattle.std.specs.Result.{IfErr}
+use Rattle.sqlite_value.specs.Order.{Row}
+use Rattle.sqlite_schema.specs.declared.command.Returning.{Returning}
+use Rattle.sqlite_resolve.specs.declared.compiled.Compiled.{Compiled}
+use Rattle.sqlite.specs.declared.error.Error.{Error}
+use Rattle.sqlite.specs.Clock.{timed}
+use Rattle.sqlite.specs.Listing.{understood}
+use Rattle.sqlite_catalog.specs.Listing.{IsSound}
+use Rattle.sqlite_schema.specs.Rules.{Fits}
+use Rattle.sqlite.specs.State.{State, IsLive, ExecutesInside, KeepsCommit, Shows, IsUnchanged, Shown, ShowsRows}
+use Rattle.sqlite.specs.State.{FailsToQuery, FailsToShow, IsNotRun}
+use Rattle.sqlite.proofs.Callers.{IsPlain}
+use Rattle.sql_tables.specs.Schema.{book_schema}
+use Rattle.sql_tables.specs.Statements.{Answers, IsBook, Spares, IsIdle, AreStored}
+use Rattle.sql_tables.specs.Statements.{IsStill}
+
+keeps : (old new : State) → Spares old new → KeepsCommit old new
+keeps old new (inl u) = record { was_open = λ on. u.0.was_open; committed = λ on. u.0.committed_is }
+keeps old new (inr r) = record { was_open = r.was_open; committed = λ on. (r.undone on).1 }
+
+pub keeps_err : {A : Type 0} (old new : State) (r : Result A Error) → OnErr r (Spares old new) → OnErr r
+    (KeepsCommit old new)
+keeps_err old new (Ok x) h = tt
+keeps_err old new (Err e) h = keeps old new h
+
+pub keeps_itself : {A : Type 0} (s : State) (r : Result A Error) → OnErr r (KeepsCommit s s)
+keeps_itself s (Ok x) = tt
+keeps_itself s (Err e) = record { was_open = λ on. on; committed = λ on. refl }
+
+pub spares : (sql : List ℕ) (params : Row) (old new : State) (r : Result ℕ Error) → ExecutesInside 0 sql params old
+    new r → OnErr r (Spares old new)
+spares sql params old new (Ok count) h = tt
+spares sql params old new (Err e) (inl h) = h.1
+spares sql params old new (Err e) (inr h) = inl h.2
+
+pub on_ok : {A : Type 0} {B : Type 0} (r : Result A Error) → B → OnOk r B
+on_ok (Ok x) h = h
+on_ok (Err e) h = tt
+
+-- ---- what reading keeps
+
+fails_shown : (old new : State) (sql : List ℕ) (c : Compiled) (params : Row) (e : Error) (r : Option Returning) →
+    FailsToShow old new sql c params e r → Spares old new
+fails_shown old new sql c params e None h = inl h.3
+fails_shown old new sql c params e (Some what) (inl h) = inl h.1
+fails_shown old new sql c params e (Some what) (inr h) = inr h.3
+
+fails_spares : (sql : List ℕ) (params : Row) (old new : State) (e : Error) → FailsToQuery sql params old new e →
+    Spares old new
+unfolding FailsToQuery IsNotRun
+fails_spares sql params old new e (inl (inl h)) = inl h.1
+fails_spares sql params old new e (inl (inr h)) = inr h.3
+fails_spares sql params old new e (inr h) = fails_shown old new sql h.0 (timed params h.0.formats h.1.now) e
+    h.0.returning h.2
+
+shown_open : (old new : State) (sql : List ℕ) (c : Compiled) (params : Row) (rows : List Row) (r : Option Returning)
+    → ShowsRows old new sql c params rows r → IsTrue old.is_open
+shown_open old new sql c params rows None h = h.3.0.was_open
+shown_open old new sql c params rows (Some what) h = h.1.shown.was_open
+
+was_shown : (sql : List ℕ) (params : Row) (old new : State) (rows : List Row) → Shown sql params old new rows →
+    IsTrue old.is_open
+unfolding Shown
+was_shown sql params old new rows h = shown_open old new sql h.0 (timed params h.0.formats h.1.now) rows
+    h.0.returning h.2
+
+shown_unchanged : (sql : List ℕ) (params : Row) (old new : State) (rows : List Row) → IsPlain
+    (understood old.now.schema sql) → Shown sql params old new rows → IsUnchanged old new
+unfolding Shown
+shown_unchanged sql params old new rows plain h = let bare = subst IsPlain h.1.is plain in (rw bare.0 at h.2).3
+
+-- a selection changes nothing, whether it answers or fails outside a transaction
+pub reads_still : {V : Type 0} (items : V → List Row) (sql : List ℕ) (params : Row) (old new : State)
+    (r : Result V Error) → IsPlain (understood book_schema sql) → (IsTrue old.is_open → IsIdle old)
+    → IfOk r (λ v. Shown sql params old new (items v)) → IfErr r (FailsToQuery sql params old new) → IsTrue
+    new.is_open → IsStill old new
+reads_still items sql params old new (Ok v) plain idle ok err on =
+    let was = was_shown sql params old new (items v) ok in
+    let same = shown_unchanged sql params old new (items v) (subst (λ s. IsPlain (understood s sql))
+    (sym (idle was).book.schema) plain) ok in
+    record { was_open = was; now_is = same.0.now_is; committed_is = same.0.committed_is }
+reads_still items sql params old new (Err e) plain idle ok err on = go (fails_spares sql params old new e err)
+  where
+    go : Spares old new → IsStill old new
+    go (inl u) = record { was_open = u.0.was_open; now_is = u.0.now_is; committed_is = u.0.committed_is }
+    go (inr b) = record {
+      was_open = b.was_open on;
+      now_is = (b.undone on).0 ∙ sym (idle (b.was_open on)).settled;
+      committed_is = (b.undone on).1;
+    }
+
+pub idle_still : (old new : State) → IsIdle old → IsStill old new → IsIdle new
+idle_still old new idle still = record {
+  book = record {
+    schema = ap (λ d. d.schema) still.now_is ∙ idle.book.schema;
+    stored = subst
+        (λ d. AreStored d.trees) (sym still.now_is) idle.book.stored;
+  };
+  settled = still.now_is ∙ idle.settled ∙ sym still.committed_is;
+}
+
+-- ---- the rules of the tables
+
+pub fits_of : (old : State) → IsTrue old.is_open → IsBook old → IsLive old → Fits book_schema old.now.trees
+fits_of old on book live =
+    let sound = subst (λ s. IsSound s old.now.trees) book.schema (live on).0 in
+    record { rules = λ rule other. sound.obeys.rules rule; indexed = sound.obeys.indexed }
+
+pub answers_from : (sql : List ℕ) (params : Row) (old new : State) (rows : List Row) →
+    (IsTrue old.is_open → IsIdle old) → IsLive old → Shown sql params old new rows → Answers sql params old new rows
+answers_from sql params old new rows idle live shown =
+    let on = was_shown sql params old new rows shown in
+    record { was_open = on; book = (idle on).book; fits = fits_of old on (idle on).book live; shown = shown }

@@ -1,0 +1,71 @@
+-- What each text that makes a table leaves of the stages.
+use Rattle.std.proofs.Common.{◌≡◌, ◌⊎◌, inl, inr, ℕ, zero, suc, List, [], ◌∷◌, take, slice_get, Bool, true, false}
+use Rattle.std.proofs.Common.{Some, None, Option, Ok, Err, Result, OnOk, IsTrue, refl, sym, ap, subst, ◌∙◌}
+use Rattle.std.specs.List.{AllByRecursion}
+use Rattle.sqlite_value.specs.Order.{Row}
+use Rattle.sqlite_trees.specs.Tree.{Trees}
+use Rattle.sqlite_schema.specs.declared.schema.Table.{Table}
+use Rattle.sqlite_catalog.specs.Change.{created, next_tree, KeepsRows}
+use Rattle.sqlite.specs.declared.error.Error.{Error}
+use Rattle.sqlite.specs.State.{State, ExecutesInside}
+use Rattle.sql_tables.specs.Keyed.{IsStored}
+use Rattle.sql_tables.specs.Schema.{book_schema}
+use Rattle.sql_tables.specs.Statements.{AreStored, IsBook}
+use Rattle.sql_tables.specs.Stages.{AreEmpty, IsBlank, IsStage, Builds, BuildsAll}
+use Rattle.sqlite.specs.Steps.{IsEmpty}
+use Rattle.sql_tables.specs.Texts.{stage, sessions_state_text}
+use Rattle.sql_tables.proofs.Creates.{IsText, makes}
+use Rattle.sql_tables.proofs.Indexed.{makes_index}
+
+same_some : {A : Type 0} {x y : A} → ◌≡◌ {A = Option A} (Some x) (Some y) → x ≡ y
+same_some e = cc
+
+all_take : (P : Table → Type 0) (k : ℕ) (ts : List Table) (t : Table) → slice_get ts k ≡ Some t → AllByRecursion P
+    (take k ts) → P t → AllByRecursion P (take (suc k) ts)
+all_take P k [] t e h p = absurd (cc)
+all_take P zero (x ∷ ts) t e h p = (subst P (sym (same_some e)) p, tt)
+all_take P (suc k) (x ∷ ts) t e h p = (h.0, all_take P k ts t e h.1 p)
+
+still_empty : (ts : List Table) (old new : Trees) → KeepsRows ts old new → AreEmpty ts old → AreEmpty ts new
+still_empty [] old new kept h = tt
+still_empty (t ∷ ts) old new kept h = (kept.0 ∙ h.0, still_empty ts old new kept.1 h.1)
+
+pub makes_stage : (k : ℕ) (t : Table) (text : List ℕ) → IsText (stage k) (record t { tree = 0 }) text
+    → created (stage k) (record t { tree = 0 }) ≡ stage (suc k) → next_tree (stage k) ≡ t.tree → slice_get
+    book_schema.tables k ≡ Some t
+    → (old new : State) (r : Result ℕ Error) → (IsTrue old.is_open → IsStage k old)
+    → OnOk r (ExecutesInside 0 text [] old new r) → OnOk r (Builds (suc k) old new)
+makes_stage k t text is next tree at old new (Err e) has x = tt
+makes_stage k t text is next tree at old new (Ok count) has x =
+    let before = has x.1.was_open in
+    let m = makes (stage k) (record t { tree = 0 }) text is old new count before.schema x.0 in
+    record {
+      made = record {
+        schema = m.schema ∙ next;
+        empty = all_take (λ (t : Table). new.now.trees t.tree ≡ []) k book_schema.tables t at
+            (still_empty (stage k).tables old.now.trees new.now.trees m.others before.empty)
+            (ap new.now.trees (sym tree) ∙ m.empty);
+      };
+      shows = x.1;
+    }
+
+none_stored : (ts : List Table) (trees : Trees) → AreEmpty ts trees → AllByRecursion
+    (λ (t : Table). IsStored (trees t.tree)) ts
+none_stored [] trees h = tt
+none_stored (t ∷ ts) trees h = (subst IsStored (sym h.0) (tt, tt), none_stored ts trees h.1)
+
+pub makes_all : (old new : State) (r : Result ℕ Error) → (IsTrue old.is_open → IsStage 10 old)
+    → OnOk r (ExecutesInside 0 sessions_state_text [] old new r) → OnOk r (BuildsAll old new)
+makes_all old new (Err e) has x = tt
+makes_all old new (Ok count) has x =
+    let before = has x.1.was_open in
+    let m = makes_index old new count before.schema x.0 in
+    let empty = still_empty (stage 10).tables old.now.trees new.now.trees m.rows before.empty in
+    record {
+      book = record { schema = m.schema; stored = none_stored book_schema.tables new.now.trees empty };
+      empty = empty;
+      shows = x.1;
+    }
+
+pub blank_from : (s : State) → IsEmpty s → IsBlank s
+blank_from s h = record { none = record { schema = h.2; empty = tt }; settled = h.0.clean }

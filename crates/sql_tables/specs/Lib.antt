@@ -1,0 +1,6 @@
+pub mod Keyed
+pub mod Schema
+pub mod Selects
+pub mod Stages
+pub mod Statements
+pub mod Texts

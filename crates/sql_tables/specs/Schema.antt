@@ -1,0 +1,228 @@
+-- The ten tables of a database, and its index.
+-- Source: profile.
+use Rattle.std.specs.Prelude.{suc, true, false, List, [], ◌∷◌, ◌++◌, Some, None, codes, ℕ, pos}
+use Rattle.sqlite_value.specs.declared.keys.Collation.TheVariants.{Binary}
+use Rattle.sqlite_value.specs.declared.value.Value.TheVariants.{Null, Int}
+use Rattle.sqlite_value.specs.Keys.{plain}
+use Rattle.sqlite_sql.specs.declared.ops.BinaryOp.TheVariants.{Compare, Arith}
+use Rattle.sqlite_sql.specs.declared.ops.CompareOp.TheVariants.{Eq, Ge}
+use Rattle.sqlite_sql.specs.declared.ops.ArithOp.TheVariants.{Add}
+use Rattle.sqlite_sql.specs.Term.{Term, lit, col, op2}
+use Rattle.sqlite_schema.specs.declared.schema.Column.{Column}
+use Rattle.sqlite_schema.specs.declared.schema.Table.{Table}
+use Rattle.sqlite_schema.specs.declared.schema.Index.{Index}
+use Rattle.sqlite_schema.specs.declared.schema.Schema.{Schema}
+use Rattle.sqlite_schema.specs.declared.schema.Reference.{Reference}
+use Rattle.sqlite_schema.specs.declared.schema.Action.TheVariants.{NoAction}
+use Rattle.sqlite_schema.specs.declared.schema.Kind.TheVariants.{Integer, Text}
+
+-- ---- columns
+
+abbrev pub number : List ℕ → Column
+number name = record {
+  name = name;
+  kind = Integer;
+  is_strict = true;
+  not_null = true;
+  default = Null;
+  collation = Binary;
+}
+
+abbrev pub text : List ℕ → Column
+text name = record {
+  name = name;
+  kind = Text;
+  is_strict = true;
+  not_null = true;
+  default = Null;
+  collation = Binary;
+}
+
+-- a number or NULL
+abbrev pub optional_number : List ℕ → Column
+optional_number name = record {
+  name = name;
+  kind = Integer;
+  is_strict = true;
+  not_null = false;
+  default = Null;
+  collation = Binary;
+}
+
+-- a text or NULL
+abbrev pub optional_text : List ℕ → Column
+optional_text name = record {
+  name = name;
+  kind = Text;
+  is_strict = true;
+  not_null = false;
+  default = Null;
+  collation = Binary;
+}
+
+-- ---- rules; the first column stands at place 1
+
+abbrev pub at_least_zero : ℕ → Term
+at_least_zero at = op2 (Compare Ge Binary) (col 1 at) (lit (Int (pos 0)))
+
+abbrev pub is_same : Term → Term → Term
+is_same a b = op2 (Compare Eq Binary) a b
+
+abbrev pub plus : Term → Term → Term
+plus a b = op2 (Arith Add) a b
+
+-- the columns are a key of the parent's table
+abbrev pub belongs : List ℕ → List ℕ → List (List ℕ) → Reference
+belongs columns parent parent_columns = record {
+  columns = columns;
+  parent = parent;
+  parent_columns = parent_columns;
+  on_delete = NoAction;
+  on_update = NoAction;
+  is_deferred = false;
+}
+
+abbrev pub table : List ℕ → ℕ → List Column → List ℕ → List Term → List Reference → Table
+table name tree columns key checks references = record {
+  name = name;
+  tree = tree;
+  columns = columns;
+  key = None;
+  primary = key;
+  uniques = key ∷ [];
+  orders = plain ∷ [];
+  checks = checks;
+  references = references;
+  computed = [];
+  stamps = record { places = []; terms = []; formats = [] };
+  is_counted = false;
+}
+
+-- ---- tables
+
+abbrev pub meta : Table
+meta = table (codes "meta") 0
+    (number (codes "id") ∷ number (codes "version") ∷ text (codes "book") ∷ number (codes "last_moment") ∷ [])
+    (1 ∷ [])
+    (at_least_zero 1 ∷ at_least_zero 2 ∷ at_least_zero 4 ∷ [])
+    []
+
+abbrev pub accounts : Table
+accounts = table (codes "accounts") 2
+    (text (codes "account") ∷ number (codes "barred") ∷ number (codes "as_of") ∷ number (codes "next_bucket") ∷
+    number (codes "next_charge") ∷ [])
+    (1 ∷ [])
+    (at_least_zero 2 ∷ at_least_zero 3 ∷ at_least_zero 4 ∷ at_least_zero 5 ∷ [])
+    []
+
+abbrev pub buckets : Table
+buckets = table (codes "buckets") 4
+    (text (codes "account") ∷ number (codes "number") ∷ number (codes "starts") ∷ number (codes "ends") ∷
+    optional_number (codes "scope") ∷ number (codes "credited") ∷ number (codes "available") ∷
+    number (codes "reserved") ∷ number (codes "charged") ∷ number (codes "expired") ∷ [])
+    (1 ∷ 2 ∷ [])
+    (at_least_zero 2 ∷ at_least_zero 3 ∷ at_least_zero 4 ∷ at_least_zero 5 ∷ at_least_zero 6 ∷
+    at_least_zero 7 ∷ at_least_zero 8 ∷ at_least_zero 9 ∷ at_least_zero 10 ∷
+    is_same (col 1 6) (plus (plus (plus (col 1 7) (col 1 8)) (col 1 9)) (col 1 10)) ∷ [])
+    (belongs (1 ∷ []) (codes "accounts") (codes "account" ∷ []) ∷ [])
+
+abbrev pub counters : Table
+counters = table (codes "counters") 6
+    (text (codes "account") ∷ number (codes "rating_group") ∷ number (codes "cycle") ∷
+    number (codes "blocks") ∷ [])
+    (1 ∷ 2 ∷ 3 ∷ [])
+    (at_least_zero 2 ∷ at_least_zero 3 ∷ at_least_zero 4 ∷ [])
+    (belongs (1 ∷ []) (codes "accounts") (codes "account" ∷ []) ∷ [])
+
+abbrev pub sessions : Table
+sessions = table (codes "sessions") 8
+    (text (codes "account") ∷ text (codes "session") ∷ number (codes "last_number") ∷
+    number (codes "touched") ∷ number (codes "state") ∷ [])
+    (1 ∷ 2 ∷ [])
+    (at_least_zero 3 ∷ at_least_zero 4 ∷ at_least_zero 5 ∷ [])
+    (belongs (1 ∷ []) (codes "accounts") (codes "account" ∷ []) ∷ [])
+
+abbrev pub session_groups : Table
+session_groups = table (codes "session_groups") 10
+    (text (codes "account") ∷ text (codes "session") ∷ number (codes "rating_group") ∷ number (codes "used") ∷
+    number (codes "reserved") ∷ optional_text (codes "period_before") ∷
+    optional_text (codes "period_after") ∷ [])
+    (1 ∷ 2 ∷ 3 ∷ [])
+    (at_least_zero 3 ∷ at_least_zero 4 ∷ at_least_zero 5 ∷ [])
+    (belongs (1 ∷ 2 ∷ []) (codes "sessions") (codes "account" ∷ codes "session" ∷ []) ∷ [])
+
+abbrev pub holds : Table
+holds = table (codes "holds") 12
+    (text (codes "account") ∷ text (codes "session") ∷ number (codes "rating_group") ∷
+    number (codes "bucket") ∷ number (codes "amount") ∷ [])
+    (1 ∷ 2 ∷ 3 ∷ 4 ∷ [])
+    (at_least_zero 3 ∷ at_least_zero 4 ∷ at_least_zero 5 ∷ [])
+    (belongs (1 ∷ 2 ∷ 3 ∷ []) (codes "session_groups") (codes "account" ∷ codes "session" ∷ codes "rating_group" ∷ []) ∷
+    belongs (1 ∷ 4 ∷ []) (codes "buckets") (codes "account" ∷ codes "number" ∷ []) ∷ [])
+
+abbrev pub answers : Table
+answers = table (codes "answers") 14
+    (text (codes "account") ∷ number (codes "kind") ∷ text (codes "name") ∷ number (codes "number") ∷
+    text (codes "content") ∷ text (codes "answer") ∷ [])
+    (1 ∷ 2 ∷ 3 ∷ 4 ∷ [])
+    (at_least_zero 2 ∷ at_least_zero 4 ∷ [])
+    (belongs (1 ∷ []) (codes "accounts") (codes "account" ∷ []) ∷ [])
+
+abbrev pub vouchers : Table
+vouchers = table (codes "vouchers") 16
+    (text (codes "code") ∷ number (codes "amount") ∷ optional_number (codes "days") ∷
+    optional_number (codes "scope") ∷ optional_text (codes "account") ∷ [])
+    (1 ∷ [])
+    (at_least_zero 2 ∷ at_least_zero 3 ∷ at_least_zero 4 ∷ [])
+    (belongs (5 ∷ []) (codes "accounts") (codes "account" ∷ []) ∷ [])
+
+abbrev pub charges : Table
+charges = table (codes "charges") 18
+    (text (codes "account") ∷ number (codes "number") ∷ number (codes "moment") ∷ text (codes "session") ∷
+    number (codes "rating_group") ∷ number (codes "blocks") ∷ number (codes "rated") ∷
+    number (codes "collected") ∷ number (codes "uncollected") ∷ [])
+    (1 ∷ 2 ∷ [])
+    (at_least_zero 2 ∷ at_least_zero 3 ∷ at_least_zero 5 ∷ at_least_zero 6 ∷ at_least_zero 7 ∷
+    at_least_zero 8 ∷ at_least_zero 9 ∷ is_same (col 1 7) (plus (col 1 8) (col 1 9)) ∷ [])
+    (belongs (1 ∷ []) (codes "accounts") (codes "account" ∷ []) ∷ [])
+
+-- ---- indexes
+
+-- the index that a primary key makes
+abbrev pub index_on : List ℕ → ℕ → ℕ → List ℕ → Index
+index_on name tree table columns =
+    record { name = name; tree = tree; table = table; columns = columns; order = plain; is_unique = true }
+
+abbrev pub key_index : Table → Index
+key_index t = index_on (codes "sqlite_autoindex_" ++ t.name ++ codes "_1") (suc t.tree) t.tree t.primary
+
+-- live sessions without their account's past ones
+abbrev pub sessions_state : Index
+sessions_state = record {
+  name = codes "sessions_state";
+  tree = 20;
+  table = sessions.tree;
+  columns = 1 ∷ 5 ∷ [];
+  order = plain;
+  is_unique = false;
+}
+
+-- ---- the schema
+
+abbrev pub book_schema : Schema
+book_schema = record {
+  tables = meta ∷ accounts ∷ buckets ∷ counters ∷ sessions ∷ session_groups ∷ holds ∷ answers ∷ vouchers ∷ charges ∷ [];
+  indexes =
+      key_index meta
+      ∷ key_index accounts
+      ∷ key_index buckets
+      ∷ key_index counters
+      ∷ key_index sessions
+      ∷ key_index session_groups
+      ∷ key_index holds
+      ∷ key_index answers
+      ∷ key_index vouchers
+      ∷ key_index charges
+      ∷ sessions_state ∷ [];
+  views = [];
+}

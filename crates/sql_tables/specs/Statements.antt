@@ -1,0 +1,85 @@
+-- What statements do to a connection.
+use Rattle.std.specs.Prelude.{◌≡◌, ◌≢◌, ◌⊎◌, ℕ, true, List, [], ◌∷◌, Option, None, cond, take, length, is_some, ◌+◌}
+use Rattle.std.specs.Prelude.{if◌then◌else◌, IsTrue}
+use Rattle.std.specs.List.{AllByRecursion}
+use Rattle.std.specs.FinMap.{get, insert}
+use Rattle.std.specs.Ordering.{eq_by_cmp}
+use Rattle.sqlite_value.specs.declared.value.Value.TheVariants.{Null}
+use Rattle.sqlite_value.specs.Order.{Row, row_cmp}
+use Rattle.sqlite_trees.specs.Objects.{catalog_tree}
+use Rattle.sqlite_trees.specs.Tree.{Trees}
+use Rattle.sqlite_schema.specs.declared.schema.Table.{Table}
+use Rattle.sqlite.specs.State.{State, HasCleanDisk, Shows, Shown, IsUnchanged, IsRolledBack}
+use Rattle.sqlite_schema.specs.Rules.{Fits}
+use Rattle.sql_tables.specs.Keyed.{key_of, table_of, Alike, IsStored, look}
+use Rattle.sql_tables.specs.Schema.{book_schema}
+
+abbrev pub AreStored : Trees → Type 0
+AreStored trees = AllByRecursion (λ (t : Table). IsStored (trees t.tree)) book_schema.tables
+
+-- the connection has the ten tables
+pub record IsBook (s : State) : Type 0 where
+  pub schema : s.now.schema ≡ book_schema
+  pub stored : AreStored s.now.trees
+
+-- unless its disk failed it, or an earlier failure shut it
+abbrev pub HasBook : State → Type 0
+HasBook s = HasCleanDisk s → IsTrue s.is_open → IsBook s
+
+-- the tables are there, and no transaction is open
+pub record IsIdle (s : State) : Type 0 where
+  pub book : IsBook s
+  pub settled : s.now ≡ s.committed
+
+-- unless its disk failed it, or an earlier failure shut it
+abbrev pub HasIdleBook : State → Type 0
+HasIdleBook s = HasCleanDisk s → IsTrue s.is_open → IsIdle s
+
+-- the row stands in the place of any with its key, and the other tables stay
+pub record Changes (table : Table) (values : Row) (old new : Trees) : Type 0 where
+  pub rows : Alike (table_of table.primary (new table.tree))
+      (insert (table_of table.primary (old table.tree)) (key_of table.primary (Null ∷ values)) values)
+  pub others : AllByRecursion (λ (t : Table). t.tree ≢ table.tree → new t.tree ≡ old t.tree) book_schema.tables
+  pub catalog : new catalog_tree ≡ old catalog_tree
+
+-- the rows whose key begins with these values are gone, and the other tables stay
+pub record Ends (table : Table) (wanted : Row) (old new : Trees) : Type 0 where
+  pub rows : (key : Row) → get (table_of table.primary (new table.tree)) key
+      ≡ cond (eq_by_cmp row_cmp (take (length wanted) key) wanted) None
+      (get (table_of table.primary (old table.tree)) key)
+  pub others : AllByRecursion (λ (t : Table). t.tree ≢ table.tree → new t.tree ≡ old t.tree) book_schema.tables
+  pub catalog : new catalog_tree ≡ old catalog_tree
+
+-- inside a transaction
+pub record Puts (table : Table) (values : Row) (old new : State) : Type 0 where
+  pub changes : Changes table values old.now.trees new.now.trees
+  -- the table has a row more, unless there was one under the key
+  pub counts : length (new.now.trees table.tree)
+      ≡ (if is_some (look table old.now.trees (key_of table.primary (Null ∷ values)))
+      then length (old.now.trees table.tree)
+      else length (old.now.trees table.tree) + 1)
+  pub book : IsBook new
+  pub shows : Shows old new new.now old.committed true
+
+-- inside a transaction
+pub record Removes (table : Table) (wanted : Row) (old new : State) : Type 0 where
+  pub changes : Ends table wanted old.now.trees new.now.trees
+  pub book : IsBook new
+  pub shows : Shows old new new.now old.committed true
+
+-- a refusal changes nothing, or it ends the transaction with what was last committed
+abbrev pub Spares : State → State → Type 0
+Spares old new = IsUnchanged old new ⊎ IsRolledBack old new
+
+-- nothing is changed
+pub record IsStill (old new : State) : Type 0 where
+  pub was_open : IsTrue old.is_open
+  pub now_is : new.now ≡ old.now
+  pub committed_is : new.committed ≡ old.committed
+
+-- a selection answers these rows, and the tables obey their rules
+pub record Answers (sql : List ℕ) (params : Row) (old new : State) (rows : List Row) : Type 0 where
+  pub was_open : IsTrue old.is_open
+  pub book : IsBook old
+  pub fits : Fits book_schema old.now.trees
+  pub shown : Shown sql params old new rows

@@ -1,0 +1,14 @@
+//! The ten tables of a database, and what a statement on one of them leaves.
+#![tactic(auto)]
+
+mod creating;
+mod reading;
+mod values;
+mod writing;
+
+pub use crate::creating::{create_in_memory, create_tables};
+pub use crate::reading::{
+    ReadFault, has_columns, null_at, number_at, one_of, optional_at, read, small_at, text_at,
+};
+pub use crate::values::{checked, flag, large, null, optional, text, whole};
+pub use crate::writing::write;

@@ -1,0 +1,142 @@
+ghost use Rattle.std.specs.Prelude.{◌≡◌, IsTrue, IfOk, OnOk, pos, false, length, option_map};
+ghost use Rattle.sql_tables.specs.Schema.{book_schema};
+ghost use Rattle.sql_tables.specs.Selects.{one_or_none};
+ghost use Rattle.sql_tables.specs.Statements.{Answers, HasIdleBook, IsStill};
+ghost use Rattle.sqlite.specs.Given.{IsPlain};
+ghost use Rattle.sqlite.specs.Held.{state};
+ghost use Rattle.sqlite.specs.Listing.{understood};
+ghost use Rattle.sqlite.specs.State.{HasCleanDisk};
+ghost use Rattle.sqlite.specs.Values.{bound, or_null};
+ghost use Rattle.sqlite_value.specs.Order.{column};
+ghost use Rattle.sqlite_value.specs.declared.value.Value.TheVariants.{Int, Null, Text};
+ghost use Rattle.std.specs.String.{string_bytes};
+
+use sqlite::types::ValueRef;
+use sqlite::{Alter, Connection, Error, ErrorCode, Row};
+use std::alloc::AllocError;
+
+/// Why rows weren't read.
+#[derive(Clone, Copy, Debug, PartialEq, Eq)]
+pub enum ReadFault {
+    /// A growth was refused.
+    Memory,
+    /// The store failed.
+    Store(Error),
+    /// A row is out of its rules.
+    Rules,
+}
+
+impl From<Error> for ReadFault {
+    fn from(error: Error) -> Self {
+        ReadFault::Store(error)
+    }
+}
+
+impl From<AllocError> for ReadFault {
+    fn from(_: AllocError) -> Self {
+        ReadFault::Memory
+    }
+}
+
+/// The rows that a selection answers. It changes nothing.
+pub fn read<S: Alter>(
+    conn: &mut Connection<S>,
+    sql: &str,
+    params: &[ValueRef<'_>],
+) -> Result<Vec<Row>, ReadFault>
+    requires plain { IsPlain (understood book_schema sql.now) }
+    requires idle { HasIdleBook (state S.Store conn.old) }
+    ensures answers { HasCleanDisk (state S.Store conn.new) → IfOk result (λ rows.
+        Answers sql.now (bound params.now) (state S.Store conn.old) (state S.Store conn.new) rows.items) }
+    ensures still { HasCleanDisk (state S.Store conn.new) → IsTrue (state S.Store conn.new).is_open →
+        IsStill (state S.Store conn.old) (state S.Store conn.new) }
+    ensures idle { HasIdleBook (state S.Store conn.new) }
+    ensures cleanness { HasCleanDisk (state S.Store conn.new) → HasCleanDisk (state S.Store conn.old) }
+    ensures mode { conn.old.in_transaction ≡ false → conn.new.in_transaction ≡ false }
+{
+    let _ours = conn.schema();
+    match conn.query_all(sql, params) {
+        Ok(rows) => Ok(rows),
+        Err(error) => Err(ReadFault::Store(error)),
+    }
+}
+
+/// The row, if there is one; more than one is out of the rules.
+pub fn one_of(rows: &[Row]) -> Result<Option<&Row>, ReadFault>
+    ensures { IfOk result (λ o. rows.now ≡ one_or_none (option_map (λ r. r.now) o)) }
+{
+    match rows {
+        [] => Ok(None),
+        [row] => Ok(Some(row)),
+        _ => Err(ReadFault::Rules),
+    }
+}
+
+/// Tests that a row has this many columns.
+pub fn has_columns(row: &Row, count: usize) -> Result<(), ReadFault>
+    ensures { OnOk result (length row.now ≡ count) }
+{
+    if row.column_count() == count {
+        Ok(())
+    } else {
+        Err(ReadFault::Rules)
+    }
+}
+
+/// The number in a column.
+pub fn number_at(row: &Row, at: usize) -> Result<u64, ReadFault>
+    ensures { IfOk result (λ n. column row.now at ≡ Int (pos n)) }
+{
+    match row.get::<u64>(at) {
+        Ok(number) => Ok(number),
+        Err(error) => Err(fault_of(error)),
+    }
+}
+
+/// The number below 2^32 in a column.
+pub fn small_at(row: &Row, at: usize) -> Result<u32, ReadFault>
+    ensures { IfOk result (λ n. column row.now at ≡ Int (pos n)) }
+{
+    match row.get::<u32>(at) {
+        Ok(number) => Ok(number),
+        Err(error) => Err(fault_of(error)),
+    }
+}
+
+/// The number in a column, none where it is NULL.
+pub fn optional_at(row: &Row, at: usize) -> Result<Option<u32>, ReadFault>
+    ensures { IfOk result (λ o. column row.now at ≡ or_null (λ n. Int (pos n)) o) }
+{
+    match row.get::<Option<u32>>(at) {
+        Ok(number) => Ok(number),
+        Err(error) => Err(fault_of(error)),
+    }
+}
+
+/// Tests that a column is NULL.
+pub fn null_at(row: &Row, at: usize) -> Result<(), ReadFault>
+    ensures { OnOk result (column row.now at ≡ Null) }
+{
+    match row.get::<Option<i64>>(at) {
+        Ok(None) => Ok(()),
+        Ok(Some(_)) => Err(ReadFault::Rules),
+        Err(error) => Err(fault_of(error)),
+    }
+}
+
+/// The text in a column.
+pub fn text_at(row: &Row, at: usize) -> Result<String, ReadFault>
+    ensures { IfOk result (λ s. column row.now at ≡ Text (string_bytes s)) }
+{
+    match row.get::<String>(at) {
+        Ok(text) => Ok(text),
+        Err(error) => Err(fault_of(error)),
+    }
+}
+
+fn fault_of(error: Error) -> ReadFault {
+    match error {
+        Error::SqliteFailure(ErrorCode::OutOfMemory) => ReadFault::Memory,
+        _ => ReadFault::Rules,
+    }
+}
