@@ -1,5 +1,5 @@
 -- Values that are written and read again: no float, rising names, not too deep.
-use Rattle.std.proofs.Common.{◌≡◌, ℕ, suc, ◌≤◌, ◌<◌, ◌^◌, max, List, [], ◌∷◌, Bool, true, false, Option, Some, None, IfSome, Result, Ok, Err, negsuc, refl, sym, ap, ◌∙◌, arith, lit≤, lit<, leb-true, lt-ltb}
+use Rattle.std.proofs.Common.{◌≡◌, ℕ, suc, ◌≤◌, ◌<◌, ◌^◌, max, List, [], ◌∷◌, Bool, true, false, Option, Some, None, option_map, IfSome, Result, Ok, Err, negsuc, refl, sym, ap, ◌∙◌, arith, lit≤, lit<, leb-true, lt-ltb}
 use Rattle.std.specs.Prelude.{⊤, codes}
 use Rattle.std.specs.List.{list_all}
 use Rattle.std.specs.Ordering.{nat_cmp}
@@ -62,6 +62,11 @@ fit_perhaps n k (Some d) ms a h above t = fit_member n k d ms a h above t
 pub above_perhaps : (k l : List ℕ) (o : Option Data) (ms : Members) → slice_cmp nat_cmp l k ≡ Greater → Above k ms → Above k (perhaps l o ms)
 above_perhaps k l None ms g h = h
 above_perhaps k l (Some d) ms g h = (g, h)
+
+-- a number where there is one
+pub fit_optional : (n most : ℕ) (o : Option ℕ) → most ≤ 18446744073709551615 → IfSome o (λ m. m ≤ most) → IfSome (option_map whole o) (Fit n)
+fit_optional n most None l h = tt
+fit_optional n most (Some m) l h = fit_whole n m (omega arith)
 
 pub fit_deeper : (m n : ℕ) (d : Data) → m ≤ n → Fit m d → Fit n d
 fit_deeper m n d le h = record { tidy = h.tidy; deep = omega (arith, h.deep) }

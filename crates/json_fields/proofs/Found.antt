@@ -1,5 +1,5 @@
 -- What the readers of members give where the member is known.
-use Rattle.std.proofs.Common.{◌≡◌, ℕ, ◌≤◌, List, [], ◌∷◌, length, Bool, true, false, ◌&&◌, Option, Some, None, option_map, IfSome, Result, Ok, Err, refl, sym, ap, ◌∙◌, le-leb, nat_le}
+use Rattle.std.proofs.Common.{◌≡◌, ℕ, ◌≤◌, List, [], ◌∷◌, length, Bool, true, false, ◌&&◌, Option, Some, None, option_map, IfSome, Result, Ok, Err, refl, sym, ap, ◌∙◌, arith, le-leb, nat_le}
 use Rattle.std.specs.Ordering.{nat_cmp, match_ordering, is_eq}
 use Rattle.std.specs.declared.cmp.Ordering.{Ordering}
 use Rattle.std.specs.declared.cmp.Ordering.TheVariants.{Less, Equal, Greater}
@@ -38,6 +38,11 @@ in_range low high n e a b = rw (le-leb low n a, le-leb n high b) refl
 pub number_found : (a : Avp) (low high : ℕ) (d : Data) (n : ℕ) → get (name_of a) d ≡ Some (whole n) → low ≤ n → n ≤ high → number_at a low high d ≡ Ok n
 unfolding number_at member_at
 number_found a low high d n e l h = rw e (in_range low high n _ l h)
+
+-- what has no least number begins at 0
+pub from_zero : (most : ℕ) (o : Option ℕ) → IfSome o (λ n. n ≤ most) → IfSome o (λ n. (0 ≤ n) × (n ≤ most))
+from_zero most None h = tt
+from_zero most (Some n) h = (omega arith, h)
 
 pub optional_in_found : (name : List ℕ) (fault : WireFault) (low high : ℕ) (d : Data) (o : Option ℕ) → get name d ≡ option_map whole o → IfSome o (λ n. (low ≤ n) × (n ≤ high)) → optional_in name fault low high d ≡ Ok o
 unfolding optional_in

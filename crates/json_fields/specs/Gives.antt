@@ -1,6 +1,9 @@
 -- A function that reads gives what reading means; one that takes memory may run out of it.
 use Rattle.std.specs.Prelude.{◌≡◌, List, [], ◌∷◌, Result, Ok, Err}
+use Rattle.std.specs.Borrow.{Bor}
 use Rattle.serde_json.specs.Data.{Data, Items, no_items, item}
+use Rattle.serde_json.specs.declared.value.Value.{Value}
+use Rattle.serde_json.specs.View.{view}
 use Rattle.first_fault.specs.Steps as steps
 use Rattle.first_fault.specs.Steps.{GivesUnless}
 pub use Rattle.first_fault.specs.Steps.{◌>>=◌, or_fault, where_holds, Says}
@@ -11,7 +14,8 @@ use Rattle.json_fields.specs.declared.fault.WireFault.TheVariants.{Memory}
 abbrev pub Fails : {Y : Type 0} → WireFault → Result Y WireFault → Type 0
 Fails fault reading = ¬ (fault ≡ Memory) → reading ≡ Err fault
 
--- what a call returned, seen by `view`, is what reading gives; want of memory may come in place of it
+-- what a call returned, seen by `view`, is what reading gives; want of memory may come in place of
+-- it
 abbrev pub Gives : {X Y : Type 0} → (X → Y) → Result X WireFault → Result Y WireFault → Type 0
 Gives view returned reading = GivesUnless Memory view returned reading
 
@@ -21,5 +25,13 @@ item_list no_items = []
 item_list (item d ds) = d ∷ item_list ds
 
 -- The items one after another. What is read of one may depend on those before it.
-abbrev pub read_each : {A : Type 0} → (List A → Data → Result A WireFault) → List A → Items → Result (List A) WireFault
+abbrev pub read_each : {A : Type 0}
+    → (List A → Data → Result A WireFault) → List A → Items → Result (List A) WireFault
 read_each read done ds = steps.collected read done (item_list ds)
+
+-- what a function returns for the items that were read and a value is what `says` gives
+abbrev pub IsReadBy : {A : Type 0}
+    → (Bor (List A) → Bor Value → Result A WireFault → Type 0)
+    → (List A → Data → Result A WireFault) → Type 0
+IsReadBy {A} returns says = (done : Bor (List A)) (value : Bor Value) (r : Result A WireFault)
+    → returns done value r → Gives (λ (x : A). x) r (says done.now (view value.now))

@@ -1,5 +1,5 @@
 -- How values are spelled: compact JSON, with the members in the byte order of their names.
-use Rattle.std.specs.Prelude.{ℕ, negsuc, List, Option, Some, None}
+use Rattle.std.specs.Prelude.{ℕ, negsuc, List, [], ◌∷◌, Option, Some, None}
 use Rattle.commands.specs.declared.avp.Avp.TheVariants as avp
 use Rattle.commands.specs.Names.{name_of}
 use Rattle.serde_json.specs.Data.{Data, number, unsigned, negative, object, Members, no_members, member}
@@ -13,7 +13,13 @@ abbrev pub perhaps : List ℕ → Option Data → Members → Members
 perhaps k None ms = ms
 perhaps k (Some d) ms = member k d ms
 
--- micro-units of a currency (Unit-Value with Exponent -6 and Currency-Code, RFC 8506 sections 8.8 to 8.11)
+-- members, each a name and its value, in front of others
+abbrev pub with_members : List (List ℕ × Data) → Members → Members
+with_members [] ms = ms
+with_members ((k, d) ∷ named) ms = member k d (with_members named ms)
+
+-- micro-units of a currency (Unit-Value with Exponent -6 and Currency-Code, RFC 8506 sections 8.8
+-- to 8.11)
 unfoldable pub value_data : ℕ → Data
 value_data micros = object
     (member (name_of avp.Exponent) (number (negative (negsuc 5)))

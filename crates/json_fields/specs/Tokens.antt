@@ -16,6 +16,11 @@ abbrev pub perhaps_tokens : List ℕ → Option Data → List Token
 perhaps_tokens k None = []
 perhaps_tokens k (Some d) = member_tokens k d
 
+-- members, each a name and its value
+abbrev pub named_tokens : List (List ℕ × Data) → List Token
+named_tokens [] = []
+named_tokens ((k, d) ∷ named) = member_tokens k d ++ named_tokens named
+
 -- the items of an array without its brackets
 abbrev pub item_tokens : Items → List Token
 item_tokens no_items = []

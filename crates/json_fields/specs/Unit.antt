@@ -23,7 +23,10 @@ lacks_unit kind d = is_none (get (name_of_unit kind) d)
 
 -- the first unit member that stands
 unfoldable pub kind_told : Data → Option UnitKind
-kind_told d = if has_unit Time d then Some Time else (if has_unit TotalOctets d then Some TotalOctets else (if has_unit ServiceSpecific d then Some ServiceSpecific else None))
+kind_told d =
+    if has_unit Time d then Some Time
+    else (if has_unit TotalOctets d then Some TotalOctets
+    else (if has_unit ServiceSpecific d then Some ServiceSpecific else None))
 
 -- neither of the other two stands
 abbrev pub lacks_others : UnitKind → Data → Bool
@@ -31,7 +34,8 @@ lacks_others Time d = lacks_unit TotalOctets d && lacks_unit ServiceSpecific d
 lacks_others TotalOctets d = lacks_unit Time d && lacks_unit ServiceSpecific d
 lacks_others ServiceSpecific d = lacks_unit Time d && lacks_unit TotalOctets d
 
--- the units of this kind, alone, from so many on; each fault is this one, of the member that holds them
+-- the units of this kind, alone, from so many on; each fault is this one, of the member that holds
+-- them
 unfoldable pub units_at : WireFault → ℕ → UnitKind → Data → Result ℕ WireFault
 units_at fault low kind d = do
   v ← or_fault fault (get (name_of_unit kind) d)

@@ -1,4 +1,5 @@
-//! Members of JSON objects, read one after another with the first fault told, and written in compact form.
+//! Members of JSON objects, read one after another with the first fault told, and written in
+//! compact form.
 #![tactic(auto)]
 
 mod fault;
@@ -8,7 +9,8 @@ mod writing;
 
 pub use crate::fault::WireFault;
 pub use crate::reading::{
-    array, document, is_text, member, number, object, optional_in, optional_number, text, whole_in,
+    array, document, is_text, member, number, object, optional_in, optional_moment,
+    optional_number, read_each, text, whole_in,
 };
 pub use crate::unit::{unit_name, unit_told, units_in};
-pub use crate::writing::{put_money, put_number, put_perhaps, put_text};
+pub use crate::writing::{put_moment, put_money, put_number, put_perhaps, put_text, text_of};

@@ -1,12 +1,14 @@
-ghost use Rattle.std.specs.Prelude.{◌≡◌, ◌≤◌, ◌↔◌, IfOk, IfSome, IsTrue};
+ghost use Rattle.std.specs.Prelude.{◌≡◌, ◌≤◌, ◌↔◌, List, [], Result, IfOk, IfSome, IsTrue};
+ghost use Rattle.serde_json.specs.Data.{Data};
 ghost use Rattle.serde_json.specs.View.{view, items_view};
-ghost use Rattle.json_fields.specs.Gives.{Gives, Says, or_fault};
+ghost use Rattle.json_fields.specs.Gives.{Gives, Says, or_fault, read_each, IsReadBy};
 ghost use Rattle.json_fields.specs.Fields.{json_of, document_at, member_at, whole_in, number_at, optional_in, optional_at, text_at, object_at, array_of};
 
 use crate::fault::WireFault;
 use commands::Avp;
 use serde_json::Value;
 use std::alloc::Global;
+use units::Moment;
 
 #[tactic(auto, using(crate::proofs::Documents::json_found, crate::proofs::Documents::json_refused))]
 fn parsed(alloc: Global, bytes: &[u8]) -> Result<Value, WireFault>
@@ -74,7 +76,8 @@ pub fn optional_number(
     optional_in(parent, name.name(), WireFault::Invalid(name), low, high)
 }
 
-/// The member of this name, a whole number from `low` to `high`, where it is there; and else `fault`.
+/// The member of this name, a whole number from `low` to `high`, where it is there; and else
+/// `fault`.
 #[tactic(auto, unfolding(crate::specs::Fields::optional_in))]
 pub fn optional_in(
     parent: &Value,
@@ -89,6 +92,31 @@ pub fn optional_in(
     match parent.get(name) {
         None => Ok(None),
         Some(value) => Ok(Some(whole_in(value, fault, low, high)?)),
+    }
+}
+
+/// The member of this name, a moment from `low` to `high`, where it is there; and else `fault`.
+pub fn optional_moment(
+    parent: &Value,
+    name: &str,
+    fault: WireFault,
+    low: u64,
+    high: u64,
+) -> Result<Option<Moment>, WireFault>
+    requires { high ≤ 4_102_488_000 }
+    ensures { Says (λ m. m) result (optional_in name.now fault low high (view parent.now)) }
+{
+    let seconds = optional_in(parent, name, fault, low, high)?;
+    Ok(moment(seconds))
+}
+
+fn moment(seconds: Option<u64>) -> Option<Moment>
+    requires { IfSome seconds (λ n. n ≤ 4_102_488_000) }
+    ensures { result ≡ seconds }
+{
+    match seconds {
+        None => None,
+        Some(seconds) => Moment::new(seconds),
     }
 }
 
@@ -120,6 +148,24 @@ pub fn array<'v>(value: &'v Value, told: Avp) -> Result<&'v Vec<Value>, WireFaul
     ensures { Says (λ v. items_view v.now.items) result (array_of told (view value.now)) }
 {
     value.as_array().ok_or(WireFault::Invalid(told))
+}
+
+/// What the items of an array say, one after another, each read beside those before it; the first
+/// fault ends it.
+pub fn read_each<T: Drop, F: Fn(&[T], &Value) -> Result<T, WireFault>>(
+    alloc: Global,
+    list: &Vec<Value>,
+    read: F,
+) -> Result<Vec<T>, WireFault>
+    requires { F.IsAlwaysCallable read }
+    ensures { (says : List T → Data → Result T WireFault) → IsReadBy (F.post read) says →
+        Gives (λ v. v.items) result (read_each says [] (items_view list.now.items)) }
+{
+    let mut done = Vec::new(alloc);
+    for value in list {
+        done.push(read(&done, value)?)?;
+    }
+    Ok(done)
 }
 
 /// Whether the bytes are those of the text.

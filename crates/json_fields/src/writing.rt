@@ -1,11 +1,13 @@
-ghost use Rattle.std.specs.Prelude.{◌≡◌, ◌++◌, option_map};
-ghost use Rattle.serde_json.specs.Data.{string};
+ghost use Rattle.std.specs.Prelude.{◌≡◌, ◌++◌, ◌≤◌, [], IfSome, OnOk, option_map, string_bytes};
+ghost use Rattle.serde_json.specs.Data.{Data, string};
+ghost use Rattle.serde_json.specs.Written.{compact_text};
 ghost use Rattle.json_fields.specs.Spelling.{whole, value_data, money_data};
 ghost use Rattle.json_fields.specs.Tokens.{Adds, tokens_of, member_tokens, perhaps_tokens};
 
 use commands::Avp;
 use json::Writer;
 use std::alloc::AllocError;
+use units::Moment;
 
 /// Writes a member that is a whole number.
 pub fn put_number(out: &mut Writer, name: &str, n: u64) -> Result<(), AllocError>
@@ -24,6 +26,17 @@ pub fn put_perhaps(out: &mut Writer, name: &str, n: Option<u64>) -> Result<(), A
         None => Ok(()),
         Some(n) => put_number(out, name, n),
     }
+}
+
+/// Writes a member that is a moment, where there is one.
+pub fn put_moment(out: &mut Writer, name: &str, moment: Option<Moment>) -> Result<(), AllocError>
+    ensures adds { Adds result out.old out.new (perhaps_tokens name.now (option_map whole moment)) }
+    ensures rule { OnOk result (IfSome moment (λ m. m ≤ 4_102_488_000)) }
+{
+    let Some(moment) = moment else {
+        return Ok(());
+    };
+    put_number(out, name, moment.seconds())
 }
 
 /// Writes a member that is a text.
@@ -58,4 +71,14 @@ pub fn put_money(out: &mut Writer, micros: u64, currency: u16) -> Result<(), All
     put_value(out, micros)?;
     out.end_object()?;
     Ok(())
+}
+
+/// The text of the value that a new writer wrote.
+#[tactic(auto, using(crate::proofs::Tokens::printed))]
+pub fn text_of(out: Writer) -> String
+    requires { out.before ≡ [] }
+    ensures { (d : Data) → out.tokens ≡ tokens_of d → string_bytes result ≡ compact_text d }
+{
+    let bytes = out.into_inner();
+    unsafe { String::from_utf8_unchecked(bytes) }
 }

@@ -21,8 +21,8 @@ use Rattle.json_fields.specs.Gives.{◌>>=◌, or_fault, where_holds, Gives}
 use Rattle.json_fields.specs.Fields.{member_at, number_at, optional_at, text_at, document_at}
 use Rattle.json_fields.specs.Spelling.{whole, perhaps}
 use Rattle.json_fields.proofs.Compact.{Above}
-use Rattle.json_fields.proofs.Found.{get_skip, get_here, number_found, optional_found, text_found}
-use Rattle.json_fields.proofs.Fit.{Fit, FitMembers, fit_whole, fit_text, fit_object, fit_none, fit_member, fit_perhaps, fit_deeper, above_perhaps, document_again, ascii_text}
+use Rattle.json_fields.proofs.Found.{get_skip, get_here, number_found, from_zero, optional_found, text_found}
+use Rattle.json_fields.proofs.Fit.{Fit, FitMembers, fit_whole, fit_text, fit_object, fit_none, fit_member, fit_perhaps, fit_optional, fit_deeper, above_perhaps, document_again, ascii_text}
 use Rattle.json_fields.proofs.Kept.{same_value, bind_ok, where_ok}
 use Rattle.json_fields.proofs.Order.{in_order}
 use Rattle.wire_requests.specs.Spelled.{request_text}
@@ -54,10 +54,6 @@ module _ (amount : ℕ) (from : Option Data) (reference : List ℕ) (scope until
   no_session : get (name_of avp.SessionId) (object (credit_members amount from reference scope until)) ≡ None
   no_session = get_skip (name_of avp.SessionId) (name_of avp.From) from _ refl ∙ get_skip (name_of avp.SessionId) (name_of avp.Scope) scope _ refl ∙ get_skip (name_of avp.SessionId) (name_of avp.Until) until no_members refl
 
-from_zero : (most : ℕ) (o : Option ℕ) → IfSome o (λ n. n ≤ most) → IfSome o (λ n. (0 ≤ n) × (n ≤ most))
-from_zero most None h = tt
-from_zero most (Some n) h = (omega arith, h)
-
 at_most : (low most : ℕ) (o : Option ℕ) → IfSome o (λ n. (low ≤ n) × (n ≤ most)) → IfSome o (λ n. n ≤ most)
 at_most low most None h = tt
 at_most low most (Some n) h = h.1
@@ -81,10 +77,6 @@ credit_again c is =
       is.reference,
     ) refl
 
-number_fit : (most : ℕ) (o : Option ℕ) → most ≤ 18446744073709551615 → IfSome o (λ m. m ≤ most) → IfSome (option_map whole o) (Fit 0)
-number_fit most None l h = tt
-number_fit most (Some m) l h = fit_whole 0 m (omega arith)
-
 reference_utf8 : (s : List ℕ) → is_reference s ≡ true → IsUtf8 s
 reference_utf8 s h = IsUtf8-are_ascii s (ascii_text is_visible visible_small s (and_three (nat_le 1 (length s)) (nat_le (length s) 64) (list_all is_visible s) h).2)
 
@@ -93,12 +85,12 @@ credit_fit c is =
     let from = option_map whole c.from in
     let scope = option_map whole c.scope in
     let until = option_map whole c.until in
-    let u : FitMembers 0 (perhaps (name_of avp.Until) until no_members) = fit_perhaps 0 _ until no_members refl (number_fit 4_102_444_800 c.until (lit≤ tt) (at_most 1 4_102_444_800 c.until is.until)) tt (fit_none 0) in
+    let u : FitMembers 0 (perhaps (name_of avp.Until) until no_members) = fit_perhaps 0 _ until no_members refl (fit_optional 0 4_102_444_800 c.until (lit≤ tt) (at_most 1 4_102_444_800 c.until is.until)) tt (fit_none 0) in
     let s : FitMembers 0 (perhaps (name_of avp.Scope) scope (perhaps (name_of avp.Until) until no_members)) =
-    fit_perhaps 0 _ scope _ refl (number_fit 4_294_967_295 c.scope (lit≤ tt) is.scope) (above_perhaps _ _ until no_members refl tt) u in
+    fit_perhaps 0 _ scope _ refl (fit_optional 0 4_294_967_295 c.scope (lit≤ tt) is.scope) (above_perhaps _ _ until no_members refl tt) u in
     let r : FitMembers 0 (member (name_of avp.Reference) (string c.reference) (perhaps (name_of avp.Scope) scope (perhaps (name_of avp.Until) until no_members))) =
     fit_member 0 _ (string c.reference) _ refl (fit_text 0 c.reference (reference_utf8 c.reference is.reference)) (above_perhaps _ _ scope _ refl (above_perhaps _ _ until no_members refl tt)) s in
-    let f = fit_perhaps 0 (name_of avp.From) from _ refl (number_fit 4_102_444_799 c.from (lit≤ tt) is.from) (refl, above_perhaps _ _ scope _ refl (above_perhaps _ _ until no_members refl tt)) r in
+    let f = fit_perhaps 0 (name_of avp.From) from _ refl (fit_optional 0 4_102_444_799 c.from (lit≤ tt) is.from) (refl, above_perhaps _ _ scope _ refl (above_perhaps _ _ until no_members refl tt)) r in
     fit_deeper 1 127 _ (lit≤ tt) (fit_object 0 _ (fit_member 0 _ (whole c.amount) _ refl (fit_whole 0 c.amount (omega (arith, is.amount))) (above_perhaps _ _ from _ refl (refl, above_perhaps _ _ scope _ refl (above_perhaps _ _ until no_members refl tt))) f))
 
 pub credit_content_again : (c : Credit) → IsCredit c → content_of c.account (credit_text c) ≡ Ok (content.Credit c)

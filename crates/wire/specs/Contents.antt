@@ -27,7 +27,8 @@ content_text (content.Credit c) = credit_text c
 unfoldable pub request_content_in : List ℕ → Data → Result Content WireFault
 request_content_in account d = do
   r ← request_in d
-  where_holds (pointwise nat_eq r.account account) (Invalid avp.SubscriptionIdData) (content.Request r)
+  where_holds (pointwise nat_eq r.account account) (Invalid avp.SubscriptionIdData)
+      (content.Request r)
 
 unfoldable pub credit_content_in : List ℕ → Data → Result Content WireFault
 credit_content_in account d = do
@@ -64,7 +65,8 @@ ContentsReadAgain text = (c : Content) → IsContent c → content_of (account_o
 
 -- a text that was written for this account is read as its content, unless memory runs out
 abbrev pub ReadsWritten : List ℕ → List ℕ → Result Content WireFault → Type 0
-ReadsWritten account bytes returned = (c : Content) → IsContent c → account_of c ≡ account → content_text c ≡ bytes → Gives (λ x. x) returned (Ok c)
+ReadsWritten account bytes returned = (c : Content)
+    → IsContent c → account_of c ≡ account → content_text c ≡ bytes → Gives (λ x. x) returned (Ok c)
 
 -- what was written has its members in byte order
 abbrev pub CreditsAreInOrder : (Credit → Data) → Type 0

@@ -17,8 +17,8 @@ reference_at d = do
   s ← text_at avp.Reference d
   where_holds (is_reference s) (Invalid avp.Reference) s
 
--- Amount, From, Until, Scope and Reference, in this order: 1 to 10^15 micro-units, from a moment of a command on, until
--- one or "no end"
+-- Amount, From, Until, Scope and Reference, in this order: 1 to 10^15 micro-units, from a moment of
+-- a command on, until one or "no end"
 unfoldable pub credit_at : List ℕ → Data → Result Credit WireFault
 credit_at account d = do
   amount ← number_at avp.Amount 1 1_000_000_000_000_000 d
@@ -26,7 +26,14 @@ credit_at account d = do
   until ← optional_at avp.Until 1 4_102_444_800 d
   scope ← optional_at avp.Scope 0 4_294_967_295 d
   reference ← reference_at d
-  Ok (record { account = account; amount = amount; from = from; until = until; scope = scope; reference = reference })
+  Ok (record {
+    account = account;
+    amount = amount;
+    from = from;
+    until = until;
+    scope = scope;
+    reference = reference;
+  })
 
 -- the credit that the body of an operator's request is, or the first fault
 unfoldable pub credit_of : List ℕ → List ℕ → Result Credit WireFault

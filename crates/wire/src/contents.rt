@@ -33,13 +33,14 @@ fn write_kept_request(alloc: Global, request: &Request) -> Result<String, AllocE
     Ok(text)
 }
 
-/// The text that is kept of an accepted command: of a request its text, of a credit its body, as compact JSON with
-/// the members in the byte order of their names. It is read again as the same content, where a credit is within the
-/// ranges of its body.
+/// The text that is kept of an accepted command: of a request its text, of a credit its body, as
+/// compact JSON with the members in the byte order of their names. It is read again as the same
+/// content, where a credit is within the ranges of its body.
 pub fn write_content(alloc: Global, content: &Content) -> Result<String, AllocError>
     ensures text { IfOk result (λ s. string_bytes s ≡ content_text content.now) }
     ensures read_again { IfOk result
-        (λ s. IsKept content.now → content_of (account_of content.now) (string_bytes s) ≡ Ok content.now) }
+        (λ s. IsKept content.now →
+        content_of (account_of content.now) (string_bytes s) ≡ Ok content.now) }
 {
     match content {
         Content::Request(request) => write_kept_request(alloc, request),
@@ -96,8 +97,8 @@ fn content(alloc: Global, account: AccountNumber, bytes: &[u8]) -> Result<Conten
 /// The content of this account whose text the bytes are, as `write_content` writes it.
 ///
 /// # Errors
-/// The first fault of the request, or of the credit where the text has no Session-Id; `NotRequest` also where the bytes
-/// say a content and aren't its text; `Memory` where memory ran out.
+/// The first fault of the request, or of the credit where the text has no Session-Id; `NotRequest`
+/// also where the bytes say a content and aren't its text; `Memory` where memory ran out.
 pub fn read_content(
     alloc: Global,
     account: AccountNumber,

@@ -9,7 +9,8 @@ use commands::{Avp, Credit};
 use identifiers::{AccountNumber, Reference};
 use json::Writer;
 use json_fields::{
-    WireFault, document, number, optional_number, put_number, put_perhaps, put_text, text,
+    WireFault, document, number, optional_moment, optional_number, put_moment, put_number,
+    put_perhaps, put_text, text, text_of,
 };
 use serde_json::Value;
 use std::alloc::{AllocError, Global};
@@ -21,16 +22,6 @@ fn reference(alloc: Global, parent: &Value) -> Result<Reference, WireFault>
 {
     let text = text(parent, Avp::Reference)?;
     Reference::new(alloc, text)?.ok_or(WireFault::Invalid(Avp::Reference))
-}
-
-fn moment(seconds: Option<u64>) -> Option<Moment>
-    requires { IfSome seconds (λ n. n ≤ 4_102_488_000) }
-    ensures { result ≡ seconds }
-{
-    match seconds {
-        None => None,
-        Some(seconds) => Moment::new(seconds),
-    }
 }
 
 /// A number of the type u32, where it is there.
@@ -45,7 +36,8 @@ fn scope(group: Option<u64>) -> Option<u32>
 }
 
 fn amount(parent: &Value) -> Result<Money, WireFault>
-    ensures { Says (λ m. m) result (number_at Avp.Amount 1 1_000_000_000_000_000 (view parent.now)) }
+    ensures { Says (λ m. m) result
+        (number_at Avp.Amount 1 1_000_000_000_000_000 (view parent.now)) }
 {
     let micros = number(parent, Avp::Amount, 1, 1_000_000_000_000_000)?;
     Money::new(micros).ok_or(WireFault::Invalid(Avp::Amount))
@@ -55,8 +47,7 @@ fn moment_at(parent: &Value, name: Avp, low: u64, high: u64) -> Result<Option<Mo
     requires { high ≤ 4_102_488_000 }
     ensures { Says (λ m. m) result (optional_at name low high (view parent.now)) }
 {
-    let seconds = optional_number(parent, name, low, high)?;
-    Ok(moment(seconds))
+    optional_moment(parent, name.name(), WireFault::Invalid(name), low, high)
 }
 
 /// The credit of this account that an object is, or the first fault in the order of its members.
@@ -83,8 +74,9 @@ pub(crate) fn credit_in(
     })
 }
 
-/// The credit of this account that the body of an operator's request is, or the first fault in the order of its
-/// members: Amount (1 to 10^15 micro-units), From, Until (seconds since 1970, up to "no end"), Scope, Reference.
+/// The credit of this account that the body of an operator's request is, or the first fault in the
+/// order of its members: Amount (1 to 10^15 micro-units), From, Until (seconds since 1970, up to
+/// "no end"), Scope, Reference.
 ///
 /// # Errors
 /// `NotRequest`, `Missing` and `Invalid` as the members say; `Memory` where memory ran out.
@@ -94,12 +86,6 @@ pub fn read_credit(alloc: Global, account: AccountNumber, bytes: &[u8]) -> Resul
 {
     let parent = document(alloc, bytes)?;
     credit_in(alloc, account, &parent)
-}
-
-fn seconds_of(moment: Option<Moment>) -> Option<u64>
-    ensures { result ≡ moment }
-{
-    moment.map(|moment| moment.seconds())
 }
 
 fn group_of(scope: Option<u32>) -> Option<u64>
@@ -114,21 +100,20 @@ fn put_credit(out: &mut Writer, credit: &Credit) -> Result<(), AllocError>
 {
     out.begin_object()?;
     put_number(out, Avp::Amount.name(), credit.amount.micros())?;
-    put_perhaps(out, Avp::From.name(), seconds_of(credit.from))?;
+    put_moment(out, Avp::From.name(), credit.from)?;
     put_text(out, Avp::Reference.name(), credit.reference.as_str())?;
     put_perhaps(out, Avp::Scope.name(), group_of(credit.scope))?;
-    put_perhaps(out, Avp::Until.name(), seconds_of(credit.until))?;
+    put_moment(out, Avp::Until.name(), credit.until)?;
     out.end_object()?;
     Ok(())
 }
 
 /// The text of a credit as it is kept.
-#[tactic(auto, using(json_fields::proofs::Tokens::printed), unfolding(crate::specs::Credits::credit_text))]
+#[tactic(auto, unfolding(crate::specs::Credits::credit_text))]
 pub(crate) fn credit_written(alloc: Global, credit: &Credit) -> Result<String, AllocError>
     ensures { IfOk result (λ s. string_bytes s ≡ credit_text credit.now) }
 {
     let mut out = Writer::new(Vec::new(alloc));
     put_credit(&mut out, credit)?;
-    let bytes = out.into_inner();
-    Ok(String::from_utf8(bytes).unwrap())
+    Ok(text_of(out))
 }

@@ -1,4 +1,5 @@
-//! The texts of the interface: requests and operators' bodies in, answers out, and what is kept of a command.
+//! The texts of the interface: requests and operators' bodies in, answers out, and what is kept of
+//! a command.
 #![tactic(auto)]
 
 mod contents;

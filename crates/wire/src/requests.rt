@@ -8,8 +8,8 @@ use std::alloc::Global;
 /// The command of a gateway that the bytes are, or the first fault.
 ///
 /// # Errors
-/// `NotRequest` where the bytes are no JSON object, `Missing` and `Invalid` with the first member at fault; `Memory`
-/// where memory ran out.
+/// `NotRequest` where the bytes are no JSON object, `Missing` and `Invalid` with the first member
+/// at fault; `Memory` where memory ran out.
 pub fn read_request(alloc: Global, bytes: &[u8]) -> Result<Command, WireFault>
     ensures { Gives (λ c. c) result (command_of bytes.now) }
 {

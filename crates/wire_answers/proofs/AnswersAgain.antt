@@ -50,15 +50,15 @@ use Rattle.json_fields.proofs.Kept.{same_value}
 use Rattle.json_fields.proofs.Order.{in_order}
 use Rattle.json_fields.specs.Fields.{whole_in, number_at, optional_in, object_at, array_of, document_at}
 use Rattle.json_fields.specs.Unit.{name_of_unit, lacks_others, kind_told, units_at}
-use Rattle.json_fields.specs.Spelling.{whole, perhaps, value_data, money_data}
+use Rattle.json_fields.specs.Spelling.{whole, perhaps, with_members, value_data, money_data}
 use Rattle.json_fields.proofs.Compact.{Above}
-use Rattle.json_fields.proofs.Found.{get_skip, get_here, number_found, optional_in_found, text_found, object_found, units_found}
-use Rattle.json_fields.proofs.Fit.{Fit, FitItems, FitMembers, fit_whole, fit_text, fit_object, fit_array, fit_no_items, fit_item, fit_none, fit_member, fit_perhaps, fit_deeper, fit_money, above_perhaps, document_again, ascii_text}
+use Rattle.json_fields.proofs.Found.{get_skip, get_here, number_found, from_zero, optional_in_found, text_found, object_found, units_found}
+use Rattle.json_fields.proofs.Fit.{Fit, FitItems, FitMembers, fit_whole, fit_text, fit_object, fit_array, fit_no_items, fit_item, fit_none, fit_member, fit_perhaps, fit_optional, fit_deeper, fit_money, above_perhaps, document_again, ascii_text}
 use Rattle.wire_requests.specs.Reading.{session_at, kind_at}
 use Rattle.wire_requests.proofs.RequestsAgain.{and_three, session_utf8, visible_small, quantity_low, quantity_high, most_small, session_again, kind_again, kind_small}
 use Rattle.commands.proofs.Inverses.{are_tables}
 use Rattle.wire_answers.specs.Members.{number_in, text_in, object_in}
-use Rattle.wire_answers.specs.Spelled.{granted_data, server_data, final_data, final_of, granted_of, validity_of, service_code, service_data, service_items, failure_members, outcome_members, outcome_code, request_answer_data, code_member, answer_data, answer_text}
+use Rattle.wire_answers.specs.Spelled.{granted_data, server_data, final_data, final_of, granted_of, validity_of, service_code, service_data, service_items, failure_named, outcome_named, outcome_code, request_answer_data, code_member, answer_data, answer_text}
 use Rattle.wire_answers.specs.Rules.{IsFinal, IsGrant, IsServiceOutcome, IsServiceAnswer, IsCost, IsOutcome, IsRequestAnswer, IsAnswer}
 use Rattle.wire_answers.specs.ReadingAnswers.{redirect_at, final_told, final_in, final_when, final_at, quantity_in, granted_when, session_grant_in, granted_in, success_when, service_told, service_answer_at, services_from, services_in, failed_at, failure_told, cost_in, priced_when, checked_when, unserved_in, served_when, outcome_told, request_answer_at, refusal_at, swept_when, bucket_when, done_at, refused_when, answer_when, answer_of, AnswersReadAgain, ReadsWritten, AnswersAreInOrder}
 
@@ -105,10 +105,6 @@ switch_found unit.TotalOctets n None = refl
 switch_found unit.TotalOctets n (Some s) = refl
 switch_found unit.ServiceSpecific n None = refl
 switch_found unit.ServiceSpecific n (Some s) = refl
-
-from_zero : (most : ℕ) (o : Option ℕ) → IfSome o (λ n. n ≤ most) → IfSome o (λ n. (0 ≤ n) × (n ≤ most))
-from_zero most None h = tt
-from_zero most (Some n) h = (omega arith, h)
 
 switch_again : (q : Measured) (switch : Option ℕ) → IfSome switch (λ m. m ≤ 4102488000) → optional_in tariff_time_change NotRequest 0 4102488000 (granted_data q switch) ≡ Ok switch
 unfolding granted_data
@@ -236,7 +232,7 @@ end_members code session = member result_code (whole code) (member (name_of avp.
 
 abbrev request_members : ℕ → ℕ → Outcome → List ℕ → Members
 request_members n k o session = member (name_of avp.RequestNumber) (whole n)
-    (member (name_of avp.RequestType) (whole k) (outcome_members o (end_members (outcome_code o) session)))
+    (member (name_of avp.RequestType) (whole k) (with_members (outcome_named o) (end_members (outcome_code o) session)))
 
 session_found : (n k : ℕ) (o : Outcome) (session : List ℕ) → get (name_of avp.SessionId) (object (request_members n k o session)) ≡ Some (string session)
 session_found n k (outcome.Services ss) session = refl
@@ -323,10 +319,6 @@ unit_above unit.Time = refl
 unit_above unit.TotalOctets = refl
 unit_above unit.ServiceSpecific = refl
 
-number_fit : (n most : ℕ) (o : Option ℕ) → most ≤ 18446744073709551615 → IfSome o (λ m. m ≤ most) → IfSome (option_map whole o) (Fit n)
-number_fit n most None l h = tt
-number_fit n most (Some m) l h = fit_whole n m (omega arith)
-
 granted_fit : (q : Measured) (switch : Option ℕ) → is_quantity q.kind q.units ≡ true → IfSome switch (λ m. m ≤ 4102488000) → Fit 1 (granted_data q switch)
 unfolding granted_data
 granted_fit q switch is s =
@@ -334,7 +326,7 @@ granted_fit q switch is s =
     let small : q.units ≤ 18446744073709551615 = omega (arith, quantity_high q is, most_small q.kind) in
     fit_object 0 _ (fit_member 0 (name_of_unit q.kind) (whole q.units) (perhaps tariff_time_change told no_members) (unit_ascii q.kind) (fit_whole 0 q.units small)
     (above_perhaps (name_of_unit q.kind) tariff_time_change told no_members (unit_above q.kind) tt)
-    (fit_perhaps 0 tariff_time_change told no_members refl (number_fit 0 4102488000 switch (lit≤ tt) s) tt (fit_none 0)))
+    (fit_perhaps 0 tariff_time_change told no_members refl (fit_optional 0 4102488000 switch (lit≤ tt) s) tt (fit_none 0)))
 
 address_utf8 : (s : List ℕ) → is_redirect_address s ≡ true → IsUtf8 s
 address_utf8 s h = name s (ascii_text is_visible visible_small s (and_three (nat_le 1 (length s)) (nat_le (length s) 200) (list_all is_visible s) h).2)
@@ -376,7 +368,7 @@ members_fit g code last grant validity gs cs l u v =
 
 service_fit : (s : ServiceAnswer) → IsServiceAnswer s → Fit 3 (service_data s)
 unfolding service_data
-service_fit s is = members_fit s.group (service_code s.outcome) (final_of s.outcome) (granted_of s.outcome) (option_map whole (validity_of s.outcome)) is.group (code_low s.outcome) (lasts_fit s.outcome is.outcome) (grants_fit s.outcome is.outcome) (number_fit 2 4294967295 (validity_of s.outcome) (lit≤ tt) is.validity)
+service_fit s is = members_fit s.group (service_code s.outcome) (final_of s.outcome) (granted_of s.outcome) (option_map whole (validity_of s.outcome)) is.group (code_low s.outcome) (lasts_fit s.outcome is.outcome) (grants_fit s.outcome is.outcome) (fit_optional 2 4294967295 (validity_of s.outcome) (lit≤ tt) is.validity)
 
 services_fit : (ss : List ServiceAnswer) → AllByRecursion IsServiceAnswer ss → FitItems 3 (service_items ss)
 services_fit [] is = fit_no_items 3
@@ -411,28 +403,28 @@ balance_fit : (b : Balance) → Fit 4 (whole (balance_number b))
 balance_fit EnoughCredit = fit_whole 4 0 (lit≤ tt)
 balance_fit NoCredit = fit_whole 4 1 (lit≤ tt)
 
-failure_fit : (f : Failure) (ms : Members) → FitMembers 4 ms → Above failed_avp ms → FitMembers 4 (failure_members f ms)
+failure_fit : (f : Failure) (ms : Members) → FitMembers 4 ms → Above failed_avp ms → FitMembers 4 (with_members (failure_named f) ms)
 failure_fit (Denied f) ms h above = h
 failure_fit UnknownSessionId ms h above = h
 failure_fit (InvalidAvpValue a) ms h above = fit_member 4 _ (string (name_of a)) ms refl (fit_text 4 (name_of a) (name (name_of a) (avp_ascii a))) above h
 failure_fit UnableToComply ms h above = h
 failure_fit UserUnknown ms h above = h
 
-outcome_fit : (o : Outcome) (code : ℕ) (session : List ℕ) → IsOutcome o → FitMembers 4 (end_members code session) → FitMembers 4 (outcome_members o (end_members code session))
+outcome_fit : (o : Outcome) (code : ℕ) (session : List ℕ) → IsOutcome o → FitMembers 4 (end_members code session) → FitMembers 4 (with_members (outcome_named o) (end_members code session))
 outcome_fit (outcome.Services ss) code session is h = fit_member 4 _ (array (service_items ss)) _ refl (fit_array 3 (service_items ss) (services_fit ss is)) (refl, (refl, tt)) h
 outcome_fit outcome.Refunded code session is h = h
 outcome_fit (outcome.Checked b) code session is h = fit_member 4 _ (whole (balance_number b)) _ refl (balance_fit b) (refl, (refl, tt)) h
 outcome_fit (outcome.Priced c) code session is h = fit_member 4 _ (money_data c.micros c.currency) _ refl (fit_deeper 2 4 _ (lit≤ tt) (fit_money 0 c.micros c.currency is.micros is.currency)) (refl, (refl, tt)) h
 outcome_fit (outcome.Failed f) code session is h = failure_fit f (end_members code session) h (refl, (refl, tt))
 
-failure_above : (k : List ℕ) (f : Failure) (ms : Members) → slice_cmp nat_cmp failed_avp k ≡ Greater → Above k ms → Above k (failure_members f ms)
+failure_above : (k : List ℕ) (f : Failure) (ms : Members) → slice_cmp nat_cmp failed_avp k ≡ Greater → Above k ms → Above k (with_members (failure_named f) ms)
 failure_above k (Denied f) ms g h = h
 failure_above k UnknownSessionId ms g h = h
 failure_above k (InvalidAvpValue a) ms g h = (g, h)
 failure_above k UnableToComply ms g h = h
 failure_above k UserUnknown ms g h = h
 
-outcome_above : (k : List ℕ) (o : Outcome) (ms : Members) → slice_cmp nat_cmp (name_of avp.Services) k ≡ Greater → slice_cmp nat_cmp check_balance_result k ≡ Greater → slice_cmp nat_cmp cost_information k ≡ Greater → slice_cmp nat_cmp failed_avp k ≡ Greater → Above k ms → Above k (outcome_members o ms)
+outcome_above : (k : List ℕ) (o : Outcome) (ms : Members) → slice_cmp nat_cmp (name_of avp.Services) k ≡ Greater → slice_cmp nat_cmp check_balance_result k ≡ Greater → slice_cmp nat_cmp cost_information k ≡ Greater → slice_cmp nat_cmp failed_avp k ≡ Greater → Above k ms → Above k (with_members (outcome_named o) ms)
 outcome_above k (outcome.Services ss) ms s b c f h = (s, h)
 outcome_above k outcome.Refunded ms s b c f h = h
 outcome_above k (outcome.Checked x) ms s b c f h = (b, h)

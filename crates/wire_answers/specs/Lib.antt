@@ -1,5 +1,4 @@
 pub mod Spelled
 pub mod Rules
-pub mod Written
 pub mod Members
 pub mod ReadingAnswers

@@ -1,5 +1,5 @@
--- The members that answers alone have. No fault names one: what isn't there as it is written makes the bytes no answer's
--- text.
+-- The members that answers alone have. No fault names one: what isn't there as it is written makes
+-- the bytes no answer's text.
 use Rattle.std.specs.Prelude.{ℕ, List, Result, Ok}
 use Rattle.serde_json.specs.Data.{Data}
 use Rattle.serde_json.specs.Find.{get, as_str, as_object}

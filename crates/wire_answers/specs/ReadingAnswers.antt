@@ -67,11 +67,16 @@ quantity_in g = do
   n ← units_at NotRequest 1 kind g
   Ok (record { kind = kind; units = n })
 
+-- when the price of a grant changes, where it does
+abbrev pub switch_at : Data → Result (Option ℕ) WireFault
+switch_at g = optional_in tariff_time_change NotRequest 0 4102488000 g
+
 unfoldable pub session_grant_in : Measured → ℕ → Data → Data → Result ServiceOutcome WireFault
 session_grant_in quantity validity d g = do
-  switch ← optional_in tariff_time_change NotRequest 0 4102488000 g
+  switch ← switch_at g
   last ← final_at d
-  Ok (service.Granted (record { quantity = quantity; switch = switch; validity = validity; last = last }))
+  Ok (service.Granted
+      (record { quantity = quantity; switch = switch; validity = validity; last = last }))
 
 abbrev pub granted_when : Data → Data → Measured → Option ℕ → Result ServiceOutcome WireFault
 granted_when d g quantity None = Ok (service.Debited quantity)
@@ -91,7 +96,9 @@ success_when d None = Ok service.Settled
 success_when d (Some g) = granted_in d g
 
 unfoldable pub service_told : ℕ → Data → Result ServiceOutcome WireFault
-service_told n d = if n == 2001 then success_when d (get (granted_unit) d) else (or_fault NotRequest (service_failure_numbered n) >>= λ f. Ok (service.Failed f))
+service_told n d =
+    if n == 2001 then success_when d (get (granted_unit) d)
+    else (or_fault NotRequest (service_failure_numbered n) >>= λ f. Ok (service.Failed f))
 
 unfoldable pub service_answer_at : Data → Result ServiceAnswer WireFault
 service_answer_at d = do
@@ -117,7 +124,12 @@ failed_at d = do
   Ok (InvalidAvpValue a)
 
 unfoldable pub failure_told : ℕ → Data → Result Failure WireFault
-failure_told n d = if n == 5002 then Ok UnknownSessionId else (if n == 5004 then failed_at d else (if n == 5012 then Ok UnableToComply else (if n == 5030 then Ok UserUnknown else (or_fault NotRequest (service_failure_numbered n) >>= λ f. Ok (Denied f)))))
+failure_told n d =
+    if n == 5002 then Ok UnknownSessionId
+    else (if n == 5004 then failed_at d
+    else (if n == 5012 then Ok UnableToComply
+    else (if n == 5030 then Ok UserUnknown
+    else (or_fault NotRequest (service_failure_numbered n) >>= λ f. Ok (Denied f)))))
 
 unfoldable pub cost_in : Data → Result Cost WireFault
 cost_in d = do
@@ -145,7 +157,9 @@ served_when d (Some v) = services_in v >>= λ ss. Ok (outcome.Services ss)
 served_when d None = unserved_in d
 
 unfoldable pub outcome_told : ℕ → Data → Result Outcome WireFault
-outcome_told n d = if n == 2001 then served_when d (get (name_of avp.Services) d) else (failure_told n d >>= λ f. Ok (outcome.Failed f))
+outcome_told n d =
+    if n == 2001 then served_when d (get (name_of avp.Services) d)
+    else (failure_told n d >>= λ f. Ok (outcome.Failed f))
 
 unfoldable pub request_answer_at : Data → Result RequestAnswer WireFault
 request_answer_at d = do
@@ -201,7 +215,8 @@ AnswersReadAgain text = (a : Answer) → IsAnswer a → answer_of (text a) ≡ O
 
 -- a text that was written is read as its answer, unless memory runs out
 abbrev pub ReadsWritten : List ℕ → Result Answer WireFault → Type 0
-ReadsWritten bytes returned = (a : Answer) → IsAnswer a → answer_text a ≡ bytes → Gives (λ x. x) returned (Ok a)
+ReadsWritten bytes returned =
+    (a : Answer) → IsAnswer a → answer_text a ≡ bytes → Gives (λ x. x) returned (Ok a)
 
 -- what was written has its members in byte order
 abbrev pub AnswersAreInOrder : (Answer → Data) → Type 0

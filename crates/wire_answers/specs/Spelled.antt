@@ -22,7 +22,7 @@ use Rattle.commands.specs.declared.answer.Answer.{Answer}
 use Rattle.commands.specs.declared.answer.Answer.TheVariants as answer
 use Rattle.json_fields.specs.declared.fault.WireFault.{WireFault}
 use Rattle.json_fields.specs.declared.fault.WireFault.TheVariants.{NotRequest, Missing, Invalid, Memory}
-use Rattle.json_fields.specs.Spelling.{whole, perhaps, money_data}
+use Rattle.json_fields.specs.Spelling.{whole, perhaps, with_members, money_data}
 use Rattle.json_fields.specs.Unit.{name_of_unit}
 
 -- ---- services
@@ -85,20 +85,21 @@ service_items (s ∷ ss) = item (service_data s) (service_items ss)
 
 -- ---- requests
 
-abbrev pub failure_members : Failure → Members → Members
-failure_members (Denied failure) ms = ms
-failure_members UnknownSessionId ms = ms
-failure_members (InvalidAvpValue avp) ms = member failed_avp (string (name_of avp)) ms
-failure_members UnableToComply ms = ms
-failure_members UserUnknown ms = ms
+abbrev pub failure_named : Failure → List (List ℕ × Data)
+failure_named (Denied failure) = []
+failure_named UnknownSessionId = []
+failure_named (InvalidAvpValue avp) = (failed_avp, string (name_of avp)) ∷ []
+failure_named UnableToComply = []
+failure_named UserUnknown = []
 
--- what stands between the type and the Result-Code
-abbrev pub outcome_members : Outcome → Members → Members
-outcome_members (outcome.Services ss) ms = member (name_of avp.Services) (array (service_items ss)) ms
-outcome_members outcome.Refunded ms = ms
-outcome_members (outcome.Checked balance) ms = member check_balance_result (whole (balance_number balance)) ms
-outcome_members (outcome.Priced cost) ms = member cost_information (money_data cost.micros cost.currency) ms
-outcome_members (outcome.Failed failure) ms = failure_members failure ms
+-- what stands between the type and the Result-Code, each member by its name
+abbrev pub outcome_named : Outcome → List (List ℕ × Data)
+outcome_named (outcome.Services ss) = (name_of avp.Services, array (service_items ss)) ∷ []
+outcome_named outcome.Refunded = []
+outcome_named (outcome.Checked balance) =
+    (check_balance_result, whole (balance_number balance)) ∷ []
+outcome_named (outcome.Priced cost) = (cost_information, money_data cost.micros cost.currency) ∷ []
+outcome_named (outcome.Failed failure) = failure_named failure
 
 abbrev pub outcome_code : Outcome → ℕ
 outcome_code (outcome.Services ss) = 2001
@@ -111,7 +112,7 @@ unfoldable pub request_answer_data : RequestAnswer → Data
 request_answer_data a = object
     (member (name_of avp.RequestNumber) (whole a.number)
     (member (name_of avp.RequestType) (whole (kind_number a.kind))
-    (outcome_members a.outcome
+    (with_members (outcome_named a.outcome)
     (member result_code (whole (outcome_code a.outcome))
     (member (name_of avp.SessionId) (string a.session) no_members)))))
 
@@ -125,14 +126,15 @@ answer_data (answer.Request a) = request_answer_data a
 answer_data answer.Done = object (code_member 2001)
 answer_data (answer.Bucket n) = object (member bucket (whole n) (code_member 2001))
 answer_data (answer.Swept count) = object (member accounts (whole count) (code_member 2001))
-answer_data (answer.Refused reason) = object (member refusal (string (refusal_name reason)) no_members)
+answer_data (answer.Refused reason) =
+    object (member refusal (string (refusal_name reason)) no_members)
 
 -- the text of an answer
 unfoldable pub answer_text : Answer → List ℕ
 answer_text a = compact_text (answer_data a)
 
--- what a text is answered that isn't read: 5012 is DIAMETER_UNABLE_TO_COMPLY, 5005 DIAMETER_MISSING_AVP, 5004
--- DIAMETER_INVALID_AVP_VALUE
+-- what a text is answered that isn't read: 5012 is DIAMETER_UNABLE_TO_COMPLY, 5005
+-- DIAMETER_MISSING_AVP, 5004 DIAMETER_INVALID_AVP_VALUE
 unfoldable pub fault_data : WireFault → Data
 fault_data NotRequest = object (code_member 5012)
 fault_data (Missing avp) = object (member failed_avp (string (name_of avp)) (code_member 5005))

@@ -49,7 +49,8 @@ pub(crate) fn optional(
     low: u64,
     high: u64,
 ) -> Result<Option<u64>, WireFault>
-    ensures reads { Says (λ n. n) result (optional_in name.now WireFault.NotRequest low high (view parent.now)) }
+    ensures reads { Says (λ n. n) result
+        (optional_in name.now WireFault.NotRequest low high (view parent.now)) }
     ensures within { IfOk result (λ o. IfSome o (λ n. (low ≤ n) × (n ≤ high))) }
 {
     optional_in(parent, name, WireFault::NotRequest, low, high)

@@ -85,7 +85,8 @@ fn unserved(parent: &Value) -> Result<Outcome, WireFault>
 }
 
 fn served(alloc: Global, parent: &Value) -> Result<Outcome, WireFault>
-    ensures { Gives (λ o. o) result (served_when (view parent.now) (get (name_of Avp.Services) (view parent.now))) }
+    ensures { Gives (λ o. o) result
+        (served_when (view parent.now) (get (name_of Avp.Services) (view parent.now))) }
 {
     match parent.get(Avp::Services.name()) {
         Some(value) => Ok(Outcome::Services(services_in(alloc, value)?)),
@@ -145,7 +146,8 @@ fn done(parent: &Value) -> Result<Answer, WireFault>
 }
 
 fn refused(parent: &Value) -> Result<Answer, WireFault>
-    ensures { Says (λ a. a) result (refused_when (view parent.now) (get refusal (view parent.now))) }
+    ensures { Says (λ a. a) result
+        (refused_when (view parent.now) (get refusal (view parent.now))) }
 {
     match parent.get(REFUSAL) {
         None => done(parent),
@@ -154,7 +156,8 @@ fn refused(parent: &Value) -> Result<Answer, WireFault>
 }
 
 fn answered(alloc: Global, parent: &Value) -> Result<Answer, WireFault>
-    ensures { Gives (λ a. a) result (answer_when (view parent.now) (get (name_of Avp.SessionId) (view parent.now))) }
+    ensures { Gives (λ a. a) result
+        (answer_when (view parent.now) (get (name_of Avp.SessionId) (view parent.now))) }
 {
     match parent.get(Avp::SessionId.name()) {
         Some(_) => Ok(Answer::Request(request_answer(alloc, parent)?)),

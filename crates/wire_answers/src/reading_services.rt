@@ -1,9 +1,9 @@
-ghost use Rattle.std.specs.Prelude.{◌≡◌, ◌≤◌, IfSome};
+ghost use Rattle.std.specs.Prelude.{◌≡◌, ◌≤◌};
 ghost use Rattle.serde_json.specs.Find.{get};
 ghost use Rattle.serde_json.specs.View.{view, items_view};
 ghost use Rattle.commands.specs.Names.{name_of, granted_unit};
 ghost use Rattle.json_fields.specs.Gives.{Gives, Says};
-ghost use Rattle.wire_answers.specs.ReadingAnswers.{redirect_at, final_told, final_in, final_at, quantity_in, session_grant_in, granted_in, success_when, service_told, service_answer_at, services_from, services_in};
+ghost use Rattle.wire_answers.specs.ReadingAnswers.{redirect_at, final_told, final_in, final_at, quantity_in, switch_at, session_grant_in, granted_in, success_when, service_told, service_answer_at, services_from, services_in};
 
 use crate::members;
 use commands::names::{
@@ -15,7 +15,7 @@ use commands::{
     ServiceOutcome,
 };
 use identifiers::RedirectAddress;
-use json_fields::{WireFault, array, number, unit_told, units_in};
+use json_fields::{WireFault, array, number, optional_moment, read_each, unit_told, units_in};
 use serde_json::Value;
 use std::alloc::Global;
 use units::Moment;
@@ -70,14 +70,17 @@ fn quantity(value: &Value) -> Result<Quantity, WireFault>
     Ok(Quantity::new(kind, units))
 }
 
-fn moment(seconds: Option<u64>) -> Option<Moment>
-    requires { IfSome seconds (λ n. n ≤ 4102488000) }
-    ensures { result ≡ seconds }
+/// When the price of a grant changes, where it does.
+fn switch(value: &Value) -> Result<Option<Moment>, WireFault>
+    ensures { Says (λ m. m) result (switch_at (view value.now)) }
 {
-    match seconds {
-        None => None,
-        Some(seconds) => Moment::new(seconds),
-    }
+    optional_moment(
+        value,
+        TARIFF_TIME_CHANGE,
+        WireFault::NotRequest,
+        0,
+        4_102_488_000,
+    )
 }
 
 #[tactic(auto, unfolding(crate::specs::ReadingAnswers::session_grant_in))]
@@ -88,10 +91,10 @@ fn session_grant(
     parent: &Value,
     value: &Value,
 ) -> Result<ServiceOutcome, WireFault>
-    ensures { Gives (λ o. o) result (session_grant_in quantity validity (view parent.now) (view value.now)) }
+    ensures { Gives (λ o. o) result
+        (session_grant_in quantity validity (view parent.now) (view value.now)) }
 {
-    let seconds = members::optional(value, TARIFF_TIME_CHANGE, 0, 4_102_488_000)?;
-    let switch = moment(seconds);
+    let switch = switch(value)?;
     let last = final_unit(alloc, parent)?;
     Ok(ServiceOutcome::Granted(Granted {
         quantity,
@@ -113,7 +116,8 @@ fn granted_in(alloc: Global, parent: &Value, value: &Value) -> Result<ServiceOut
 }
 
 fn success(alloc: Global, parent: &Value) -> Result<ServiceOutcome, WireFault>
-    ensures { Gives (λ o. o) result (success_when (view parent.now) (get granted_unit (view parent.now))) }
+    ensures { Gives (λ o. o) result
+        (success_when (view parent.now) (get granted_unit (view parent.now))) }
 {
     match parent.get(GRANTED_UNIT) {
         None => Ok(ServiceOutcome::Settled),
@@ -146,12 +150,7 @@ fn service_answer(alloc: Global, value: &Value) -> Result<ServiceAnswer, WireFau
 fn services_from(alloc: Global, list: &Vec<Value>) -> Result<Vec<ServiceAnswer>, WireFault>
     ensures { Gives (λ v. v.items) result (services_from (items_view list.now.items)) }
 {
-    let mut done = Vec::new(alloc);
-    for value in list {
-        let service = service_answer(alloc, value)?;
-        done.push(service)?;
-    }
-    Ok(done)
+    read_each(alloc, list, |_, value| service_answer(alloc, value))
 }
 
 /// The answers to the services of a request.

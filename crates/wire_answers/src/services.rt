@@ -15,19 +15,9 @@ use commands::names::{
 use commands::{Avp, FinalUnit, Granted, Quantity, ServiceAnswer, ServiceOutcome};
 use identifiers::RedirectAddress;
 use json::Writer;
-use json_fields::{put_number, put_perhaps, put_text, unit_name};
+use json_fields::{put_moment, put_number, put_perhaps, put_text, unit_name};
 use std::alloc::AllocError;
 use units::Moment;
-
-fn seconds_of(moment: Option<Moment>) -> Option<u64>
-    ensures value { result ≡ moment }
-    ensures within { IfSome result (λ m. m ≤ 4102488000) }
-{
-    match moment {
-        None => None,
-        Some(moment) => Some(moment.seconds()),
-    }
-}
 
 #[tactic(auto, using(json_fields::proofs::Tokens::perhaps_front), unfolding(crate::specs::Spelled::granted_data))]
 fn put_granted(
@@ -41,7 +31,7 @@ fn put_granted(
 {
     out.begin_object()?;
     put_number(out, unit_name(quantity.kind()), quantity.units())?;
-    put_perhaps(out, TARIFF_TIME_CHANGE, seconds_of(switch))?;
+    put_moment(out, TARIFF_TIME_CHANGE, switch)?;
     out.end_object()?;
     Ok(())
 }
@@ -59,7 +49,8 @@ fn put_server(out: &mut Writer, address: &RedirectAddress) -> Result<(), AllocEr
 }
 
 fn put_redirect(out: &mut Writer, address: &RedirectAddress) -> Result<(), AllocError>
-    ensures adds { Adds result out.old out.new (tokens_of (final_data (FinalUnit.Redirect address.now))) }
+    ensures adds { Adds result out.old out.new
+        (tokens_of (final_data (FinalUnit.Redirect address.now))) }
     ensures rule { OnOk result (is_redirect_address address.now ≡ true) }
 {
     out.begin_object()?;

@@ -3,11 +3,10 @@ ghost use Rattle.std.specs.List.{AllByRecursion};
 ghost use Rattle.serde_json.specs.Data.{string, object, array, member, no_members};
 ghost use Rattle.commands.specs.Names.{name_of, cost_information, failed_avp, refusal};
 ghost use Rattle.json_fields.specs.Spelling.{whole, money_data};
-ghost use Rattle.json_fields.specs.Tokens.{Adds, tokens_of, member_tokens};
-ghost use Rattle.wire_answers.specs.Spelled.{service_items, outcome_code, code_member, request_answer_data, answer_data, answer_text, fault_data, fault_text};
+ghost use Rattle.json_fields.specs.Tokens.{Adds, tokens_of, member_tokens, named_tokens};
+ghost use Rattle.wire_answers.specs.Spelled.{service_items, failure_named, outcome_named, outcome_code, code_member, request_answer_data, answer_data, answer_text, fault_data, fault_text};
 ghost use Rattle.wire_answers.specs.Rules.{IsServiceAnswer, IsCost, IsOutcome, IsRequestAnswer, IsAnswer};
 ghost use Rattle.wire_answers.specs.ReadingAnswers.{answer_of};
-ghost use Rattle.wire_answers.specs.Written.{failure_tokens, outcome_tokens};
 
 use crate::services::put_services;
 use commands::names::{
@@ -15,7 +14,7 @@ use commands::names::{
 };
 use commands::{Answer, Avp, Cost, Failure, Outcome, RequestAnswer, ServiceAnswers};
 use json::Writer;
-use json_fields::{WireFault, put_money, put_number, put_text};
+use json_fields::{WireFault, put_money, put_number, put_text, text_of};
 use std::alloc::{AllocError, Global};
 
 fn put_array(out: &mut Writer, services: &ServiceAnswers) -> Result<(), AllocError>
@@ -30,8 +29,9 @@ fn put_array(out: &mut Writer, services: &ServiceAnswers) -> Result<(), AllocErr
     Ok(())
 }
 
+#[tactic(auto, using(json_fields::proofs::Tokens::one_named))]
 fn put_failure(out: &mut Writer, failure: Failure) -> Result<(), AllocError>
-    ensures { Adds result out.old out.new (failure_tokens failure) }
+    ensures { Adds result out.old out.new (named_tokens (failure_named failure)) }
 {
     match failure {
         Failure::InvalidAvpValue(avp) => put_text(out, FAILED_AVP, avp.name()),
@@ -49,8 +49,9 @@ fn put_cost(out: &mut Writer, cost: Cost) -> Result<(), AllocError>
     Ok(())
 }
 
+#[tactic(auto, using(json_fields::proofs::Tokens::one_named))]
 fn put_outcome(out: &mut Writer, outcome: &Outcome) -> Result<(), AllocError>
-    ensures adds { Adds result out.old out.new (outcome_tokens outcome.now) }
+    ensures adds { Adds result out.old out.new (named_tokens (outcome_named outcome.now)) }
     ensures rule { OnOk result (IsOutcome outcome.now) }
 {
     match outcome {
@@ -71,7 +72,7 @@ fn outcome_code(outcome: &Outcome) -> u64
     }
 }
 
-#[tactic(auto, using(crate::proofs::Fronts::outcome_front), unfolding(crate::specs::Spelled::request_answer_data))]
+#[tactic(auto, using(json_fields::proofs::Tokens::named_front), unfolding(crate::specs::Spelled::request_answer_data))]
 fn put_request_answer(out: &mut Writer, answer: &RequestAnswer) -> Result<(), AllocError>
     ensures adds { Adds result out.old out.new (tokens_of (request_answer_data answer.now)) }
     ensures rule { OnOk result (IsRequestAnswer answer.now) }
@@ -87,7 +88,8 @@ fn put_request_answer(out: &mut Writer, answer: &RequestAnswer) -> Result<(), Al
 }
 
 fn put_counted(out: &mut Writer, name: &str, n: u64) -> Result<(), AllocError>
-    ensures { Adds result out.old out.new (tokens_of (object (member name.now (whole n) (code_member 2001)))) }
+    ensures { Adds result out.old out.new
+        (tokens_of (object (member name.now (whole n) (code_member 2001)))) }
 {
     out.begin_object()?;
     put_number(out, name, n)?;
@@ -106,7 +108,8 @@ fn put_code(out: &mut Writer, code: u64) -> Result<(), AllocError>
 }
 
 fn put_refusal(out: &mut Writer, name: &str) -> Result<(), AllocError>
-    ensures { Adds result out.old out.new (tokens_of (object (member refusal (string name.now) no_members))) }
+    ensures { Adds result out.old out.new
+        (tokens_of (object (member refusal (string name.now) no_members))) }
 {
     out.begin_object()?;
     put_text(out, REFUSAL, name)?;
@@ -128,19 +131,18 @@ fn put_answer(out: &mut Writer, answer: &Answer) -> Result<(), AllocError>
     }
 }
 
-#[tactic(auto, using(json_fields::proofs::Tokens::printed), unfolding(crate::specs::Spelled::answer_text))]
+#[tactic(auto, unfolding(crate::specs::Spelled::answer_text))]
 fn compact(alloc: Global, answer: &Answer) -> Result<String, AllocError>
     ensures text { IfOk result (λ s. string_bytes s ≡ answer_text answer.now) }
     ensures rule { IfOk result (λ s. IsAnswer answer.now) }
 {
     let mut out = Writer::new(Vec::new(alloc));
     put_answer(&mut out, answer)?;
-    let bytes = out.into_inner();
-    Ok(String::from_utf8(bytes).unwrap())
+    Ok(text_of(out))
 }
 
-/// The text of an answer: compact JSON, with the members in the byte order of their names. It is read again as the
-/// same answer.
+/// The text of an answer: compact JSON, with the members in the byte order of their names. It is
+/// read again as the same answer.
 pub fn write_answer(alloc: Global, answer: &Answer) -> Result<String, AllocError>
     ensures text { IfOk result (λ s. string_bytes s ≡ answer_text answer.now) }
     ensures read_again { IfOk result (λ s. answer_of (string_bytes s) ≡ Ok answer.now) }
@@ -173,12 +175,11 @@ fn put_fault(out: &mut Writer, fault: WireFault) -> Result<(), AllocError>
 }
 
 /// The answer to a text that isn't read, as compact JSON.
-#[tactic(auto, using(json_fields::proofs::Tokens::printed), unfolding(crate::specs::Spelled::fault_text))]
+#[tactic(auto, unfolding(crate::specs::Spelled::fault_text))]
 pub fn write_fault(alloc: Global, fault: WireFault) -> Result<String, AllocError>
     ensures { IfOk result (λ s. string_bytes s ≡ fault_text fault) }
 {
     let mut out = Writer::new(Vec::new(alloc));
     put_fault(&mut out, fault)?;
-    let bytes = out.into_inner();
-    Ok(String::from_utf8(bytes).unwrap())
+    Ok(text_of(out))
 }

@@ -1,7 +1,6 @@
 pub mod Objects
 pub mod Kept
 pub mod Micros
-pub mod Fronts
 pub mod RequestsAgain
 pub mod Said
 pub mod SaidServices

@@ -44,7 +44,7 @@ use Rattle.json_fields.specs.declared.fault.WireFault.TheVariants.{Invalid}
 use Rattle.json_fields.specs.Gives.{read_each}
 use Rattle.json_fields.specs.Fields.{member_at, array_of}
 use Rattle.json_fields.specs.Unit.{name_of_unit, kind_told, units_at}
-use Rattle.json_fields.specs.Spelling.{whole, perhaps, value_data, money_data}
+use Rattle.json_fields.specs.Spelling.{whole, perhaps, value_data, money_data, with_members}
 use Rattle.json_fields.proofs.Compact.{Above}
 use Rattle.json_fields.proofs.Found.{get_skip, get_here, number_found, text_found, object_found, units_found}
 use Rattle.json_fields.proofs.Fit.{Fit, FitItems, FitMembers, fit_whole, fit_text, fit_object, fit_array, fit_no_items, fit_item, fit_none, fit_member, fit_perhaps, fit_deeper, fit_money, above_perhaps, document_again, ascii_text}
@@ -55,7 +55,7 @@ use Rattle.wire_requests.specs.Reports.{wanted_in, requested_of, required_at, us
 use Rattle.wire_requests.specs.Phases.{requested_at, used_at, group_is_taken, service_at, are_objects, fewest, services_of, services_at}
 use Rattle.wire_requests.specs.Refunds.{exponent_at, micros_told, money_at, refund_at}
 use Rattle.wire_requests.specs.Reading.{session_at, kind_at, account_at, event_of, event_at, action_at, ask_at, request_in, request_of}
-use Rattle.wire_requests.specs.Spelled.{requested_data, tag_of, part_data, part_items, used_data, service_data, service_items, event_data, refund_data, ask_members, subscription_data, request_data, request_text}
+use Rattle.wire_requests.specs.Spelled.{requested_data, tag_of, part_data, part_items, used_data, service_data, service_items, event_data, refund_data, ask_named, subscription_data, request_data, request_text}
 use Rattle.wire_requests.specs.Rules.{IsRequested, IsUsed, IsService, IsEvent, IsAsk, IsRequest, RequestsReadAgain, RequestsAreInOrder}
 use Rattle.wire_requests.proofs.Kept.{fits}
 
@@ -279,7 +279,7 @@ abbrev ask_data : Ask → ℕ → List ℕ → List ℕ → Data
 ask_data a number session account = object
     (member (name_of avp.RequestNumber) (whole number)
     (member (name_of avp.RequestType) (whole (kind_number (kind_of_ask a)))
-    (ask_members a
+    (with_members (ask_named a)
     (member (name_of avp.SessionId) (string session)
     (member (name_of avp.SubscriptionId) (subscription_data account) no_members)))))
 
@@ -485,7 +485,7 @@ end_fit session account s a =
 list_fit : (ss : List Service) → AllByRecursion IsService ss → Fit 5 (array (service_items ss))
 list_fit ss is = fit_array 4 (service_items ss) (services_fit ss is)
 
-ask_fit : (a : Ask) (session account : List ℕ) → IsAsk a → FitMembers 5 (end_members session account) → FitMembers 5 (ask_members a (end_members session account))
+ask_fit : (a : Ask) (session account : List ℕ) → IsAsk a → FitMembers 5 (end_members session account) → FitMembers 5 (with_members (ask_named a) (end_members session account))
 ask_fit (ask.Initial ss) session account is end = fit_member 5 _ (array (service_items ss)) _ refl (list_fit ss is.1) (refl, (refl, tt)) end
 ask_fit (ask.Update ss) session account is end = fit_member 5 _ (array (service_items ss)) _ refl (list_fit ss is.1) (refl, (refl, tt)) end
 ask_fit (ask.Termination ss) session account is end = fit_member 5 _ (array (service_items ss)) _ refl (list_fit ss is.1) (refl, (refl, tt)) end
@@ -496,7 +496,7 @@ ask_fit (ask.Refund r) session account is end =
     fit_member 5 _ (whole 1) _ refl (fit_whole 5 1 (lit≤ tt)) (refl, (refl, (refl, tt))) (fit_member 5 _ (refund_data r) _ refl (refund_fit r is) (refl, (refl, tt)) end)
 
 ask_above : (k : List ℕ) (a : Ask) (session account : List ℕ) → slice_cmp nat_cmp (name_of avp.Services) k ≡ Greater → slice_cmp nat_cmp (name_of avp.RequestedAction) k ≡ Greater → slice_cmp nat_cmp (name_of avp.RequestedUnit) k ≡ Greater
-    → slice_cmp nat_cmp (name_of avp.SessionId) k ≡ Greater → slice_cmp nat_cmp (name_of avp.SubscriptionId) k ≡ Greater → Above k (ask_members a (end_members session account))
+    → slice_cmp nat_cmp (name_of avp.SessionId) k ≡ Greater → slice_cmp nat_cmp (name_of avp.SubscriptionId) k ≡ Greater → Above k (with_members (ask_named a) (end_members session account))
 ask_above k (ask.Initial ss) session account m a u s d = (m, (s, (d, tt)))
 ask_above k (ask.Update ss) session account m a u s d = (m, (s, (d, tt)))
 ask_above k (ask.Termination ss) session account m a u s d = (m, (s, (d, tt)))
@@ -512,7 +512,7 @@ kind_small kind.Event = lit≤ tt
 abbrev request_members : Request → Members
 request_members r = member (name_of avp.RequestNumber) (whole r.number)
     (member (name_of avp.RequestType) (whole (kind_number (kind_of_ask r.ask)))
-    (ask_members r.ask (end_members r.session r.account)))
+    (with_members (ask_named r.ask) (end_members r.session r.account)))
 
 request_fit : (r : Request) → IsRequest r → FitMembers 5 (request_members r)
 request_fit r is =

@@ -4,6 +4,5 @@ pub mod Refunds
 pub mod Reading
 pub mod Spelled
 pub mod Rules
-pub mod Written
 pub mod Said
 pub mod Told

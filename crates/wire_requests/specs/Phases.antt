@@ -25,7 +25,8 @@ asked_when (Some v) = requested_of v >>= λ r. Ok (Some r)
 unfoldable pub requested_at : Phase → Data → Result (Option Requested) WireFault
 requested_at Initial d = required_at d >>= λ r. Ok (Some r)
 requested_at Update d = asked_when (get (name_of avp.RequestedUnit) d)
-requested_at Termination d = where_holds (is_none (get (name_of avp.RequestedUnit) d)) (Invalid avp.RequestedUnit) None
+requested_at Termination d =
+    where_holds (is_none (get (name_of avp.RequestedUnit) d)) (Invalid avp.RequestedUnit) None
 
 abbrev pub reported_when : Option Data → Result (Option Used) WireFault
 reported_when None = Ok None
@@ -66,7 +67,8 @@ fewest Termination = 0
 unfoldable pub services_of : Phase → Data → Result (List Service) WireFault
 services_of phase d = do
   ds ← array_of avp.Services d
-  few ← where_holds (nat_le (fewest phase) (items_len ds) && nat_le (items_len ds) 16) (Invalid avp.Services) ds
+  few ← where_holds (nat_le (fewest phase) (items_len ds) && nat_le (items_len ds) 16)
+      (Invalid avp.Services) ds
   objects ← where_holds (are_objects ds) (Invalid avp.Services) ds
   services_from phase ds
 

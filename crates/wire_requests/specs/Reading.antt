@@ -68,7 +68,10 @@ event_at action d = do
 
 -- Requested-Action (RFC 8506 section 8.41); 1 is REFUND_ACCOUNT
 unfoldable pub action_at : ℕ → Data → Result Ask WireFault
-action_at n d = if n == 1 then (refund_at d >>= λ r. Ok (ask.Refund r)) else (or_fault (Invalid avp.RequestedAction) (action_numbered n) >>= λ action. event_at action d)
+action_at n d =
+    if n == 1 then (refund_at d >>= λ r. Ok (ask.Refund r))
+    else (or_fault (Invalid avp.RequestedAction) (action_numbered n)
+    >>= λ action. event_at action d)
 
 unfoldable pub ask_at : RequestKind → Data → Result Ask WireFault
 ask_at kind.Initial d = services_at Initial d >>= λ ss. Ok (ask.Initial ss)

@@ -1,7 +1,8 @@
 -- The money of a refund.
-use Rattle.std.specs.Prelude.{ℕ, ◌*◌, ◌^◌, ◌&&◌, ℤ, pos, negsuc, ◌+ℤ◌, unsigned_abs, int_le, Option, Some, None, Result, Ok, nat_le, option_and_then}
+use Rattle.std.specs.Prelude.{ℕ, ◌&&◌, ℤ, pos, negsuc, unsigned_abs, int_le, Option, Some, None, Result, Ok, nat_le, option_and_then}
 use Rattle.serde_json.specs.Data.{Data}
 use Rattle.serde_json.specs.Find.{get, as_number, as_i64}
+use Rattle.units.specs.Amounts.{micros_of}
 use Rattle.commands.specs.declared.avp.Avp.TheVariants as avp
 use Rattle.commands.specs.Names.{name_of}
 use Rattle.commands.specs.Refunds.{Refunded}
@@ -20,16 +21,17 @@ exponent_when (Some v) = do
 unfoldable pub exponent_at : Data → Result ℤ WireFault
 exponent_at d = exponent_when (get (name_of avp.Exponent) d)
 
--- the digits times 10 to the exponent, counted in micro-units (Unit-Value, RFC 8506 section 8.8)
+-- the micro-units of digits and an exponent, which are 0 or more
 abbrev pub micros_told : ℕ → ℤ → ℕ
-micros_told digits exponent = digits * 10 ^ unsigned_abs (exponent +ℤ pos 6)
+micros_told digits exponent = unsigned_abs (micros_of (pos digits) exponent)
 
 -- Value-Digits before Exponent; more than 10^15 micro-units are a fault of Value-Digits
 unfoldable pub money_at : Data → Result ℕ WireFault
 money_at d = do
   digits ← number_at avp.ValueDigits 1 18446744073709551615 d
   exponent ← exponent_at d
-  where_holds (nat_le (micros_told digits exponent) 1000000000000000) (Invalid avp.ValueDigits) (micros_told digits exponent)
+  let micros = micros_told digits exponent
+  where_holds (nat_le micros 1_000_000_000_000_000) (Invalid avp.ValueDigits) micros
 
 -- CC-Money in the Requested-Service-Unit of the request (RFC 8506 section 8.22)
 unfoldable pub refund_at : Data → Result Refunded WireFault

@@ -1,4 +1,5 @@
--- How a request asks for units and reports those used. Each fault inside is one of the whole member.
+-- How a request asks for units and reports those used. Each fault inside is one of the whole
+-- member.
 use Rattle.std.specs.Prelude.{ℕ, ◌&&◌, List, [], Bool, not, Option, Some, None, is_none, Result, Ok, Err, nat_le, option_and_then, unwrap_or}
 use Rattle.std.specs.List.{list_any}
 use Rattle.std.specs.Option.{option_eq}

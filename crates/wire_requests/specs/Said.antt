@@ -59,7 +59,8 @@ pub record SaysUnits (kind : UnitKind) (units : ℕ) (d : Data) : Type 0 where
   pub alone : lacks_others kind d ≡ true
 
 -- a value that stands says this
-pub record SaysValue {A : Type 0} (Says : A → Data → Type 0) (x : A) (told : Option Data) : Type 0 where
+pub record SaysValue {A : Type 0} (Says : A → Data → Type 0)
+    (x : A) (told : Option Data) : Type 0 where
   pub value : Data
   pub stands : told ≡ Some value
   pub says : Says x value
@@ -77,7 +78,8 @@ SaysItems Says (x ∷ xs) no_items = ⊥
 SaysItems Says (x ∷ xs) (item d ds) = Says x d × SaysItems Says xs ds
 
 -- an array says these
-pub record SaysArray {A : Type 0} (Says : A → Data → Type 0) (xs : List A) (value : Data) : Type 0 where
+pub record SaysArray {A : Type 0} (Says : A → Data → Type 0)
+    (xs : List A) (value : Data) : Type 0 where
   pub items : Items
   pub array : as_array value ≡ Some items
   pub says : SaysItems Says xs items
@@ -110,7 +112,8 @@ SaysServices services d = SaysValue (SaysArray SaysService) services (get (name_
 -- an event: what is to be done, and its one service
 pub record SaysEvent (e : Event) (d : Data) : Type 0 where
   pub action : SaysNumber avp.RequestedAction (action_number e.action) d
-  pub service : SaysServices (record { group = e.group; requested = Some e.requested; used = None } ∷ []) d
+  pub service : SaysServices
+      (record { group = e.group; requested = Some e.requested; used = None } ∷ []) d
 
 -- an exponent; without one it is 0
 abbrev pub SaysExponent : ℤ → Option Data → Type 0
@@ -133,7 +136,9 @@ pub record SaysMoney (r : Refunded) (value : Data) : Type 0 where
 -- a refund (REFUND_ACCOUNT is 1): the CC-Money of its Requested-Service-Unit
 pub record SaysRefund (r : Refunded) (d : Data) : Type 0 where
   pub action : SaysNumber avp.RequestedAction 1 d
-  pub money : SaysValue (λ (x : Refunded) value. SaysValue SaysMoney x (get (name_of avp.Money) value)) r (get (name_of avp.RequestedUnit) d)
+  pub money : SaysValue
+      (λ (x : Refunded) value. SaysValue SaysMoney x (get (name_of avp.Money) value))
+      r (get (name_of avp.RequestedUnit) d)
 
 -- what a request asks, by its type; a termination may come without services
 abbrev pub SaysAsk : Ask → Data → Type 0

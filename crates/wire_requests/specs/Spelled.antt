@@ -1,4 +1,5 @@
--- How a request is spelled where it is kept: compact JSON, with the members in the byte order of their names.
+-- How a request is spelled where it is kept: compact JSON, with the members in the byte order of
+-- their names.
 use Rattle.std.specs.Prelude.{ℕ, List, [], ◌∷◌, Option, Some, None, option_map}
 use Rattle.serde_json.specs.Data.{Data, string, array, object, Items, no_items, item, Members, no_members, member}
 use Rattle.serde_json.specs.Written.{compact_text}
@@ -17,13 +18,14 @@ use Rattle.commands.specs.declared.request.Event.{Event}
 use Rattle.commands.specs.declared.request.Ask.{Ask}
 use Rattle.commands.specs.declared.request.Ask.TheVariants as ask
 use Rattle.commands.specs.declared.request.Request.{Request}
-use Rattle.json_fields.specs.Spelling.{whole, perhaps, money_data}
+use Rattle.json_fields.specs.Spelling.{whole, perhaps, with_members, money_data}
 use Rattle.json_fields.specs.Unit.{name_of_unit}
 
 -- an empty object asks for the slice
 abbrev pub requested_data : Requested → Data
 requested_data Slice = object no_members
-requested_data (Units quantity) = object (member (name_of_unit quantity.kind) (whole quantity.units) no_members)
+requested_data (Units quantity) =
+    object (member (name_of_unit quantity.kind) (whole quantity.units) no_members)
 
 abbrev pub tag_of : UsedPart → Option ℕ
 tag_of p = option_map usage_number p.change
@@ -57,17 +59,17 @@ event_data e = service_data (record { group = e.group; requested = Some e.reques
 unfoldable pub refund_data : Refunded → Data
 refund_data r = object (member (name_of avp.Money) (money_data r.micros r.currency) no_members)
 
--- what stands between the type and the Session-Id; the Requested-Action 1 is REFUND_ACCOUNT
-abbrev pub ask_members : Ask → Members → Members
-ask_members (ask.Initial ss) ms = member (name_of avp.Services) (array (service_items ss)) ms
-ask_members (ask.Update ss) ms = member (name_of avp.Services) (array (service_items ss)) ms
-ask_members (ask.Termination ss) ms = member (name_of avp.Services) (array (service_items ss)) ms
-ask_members (ask.Event e) ms =
-    member (name_of avp.Services) (array (item (event_data e) no_items))
-    (member (name_of avp.RequestedAction) (whole (action_number e.action)) ms)
-ask_members (ask.Refund r) ms =
-    member (name_of avp.RequestedAction) (whole 1)
-    (member (name_of avp.RequestedUnit) (refund_data r) ms)
+-- what stands between the type and the Session-Id, each member by its name; the Requested-Action 1
+-- is REFUND_ACCOUNT
+abbrev pub ask_named : Ask → List (List ℕ × Data)
+ask_named (ask.Initial ss) = (name_of avp.Services, array (service_items ss)) ∷ []
+ask_named (ask.Update ss) = (name_of avp.Services, array (service_items ss)) ∷ []
+ask_named (ask.Termination ss) = (name_of avp.Services, array (service_items ss)) ∷ []
+ask_named (ask.Event e) =
+    (name_of avp.Services, array (item (event_data e) no_items))
+    ∷ (name_of avp.RequestedAction, whole (action_number e.action)) ∷ []
+ask_named (ask.Refund r) =
+    (name_of avp.RequestedAction, whole 1) ∷ (name_of avp.RequestedUnit, refund_data r) ∷ []
 
 unfoldable pub subscription_data : List ℕ → Data
 subscription_data account = object
@@ -78,7 +80,7 @@ unfoldable pub request_data : Request → Data
 request_data r = object
     (member (name_of avp.RequestNumber) (whole r.number)
     (member (name_of avp.RequestType) (whole (kind_number (kind_of_ask r.ask)))
-    (ask_members r.ask
+    (with_members (ask_named r.ask)
     (member (name_of avp.SessionId) (string r.session)
     (member (name_of avp.SubscriptionId) (subscription_data r.account) no_members)))))
 

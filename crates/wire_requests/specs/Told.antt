@@ -1,5 +1,5 @@
--- What a fault of a request tells: a member is missing only where an object that can hold it has none of that name, and
--- invalid only where one has it.
+-- What a fault of a request tells: a member is missing only where an object that can hold it has
+-- none of that name, and invalid only where one has it.
 use Rattle.std.specs.Prelude.{◌≡◌, ℕ, ◌&&◌, List, [], ◌∷◌, Bool, true, Option, Some, None, is_some, is_none, Result, Ok, Err, nat_eq, option_and_then, if◌then◌else◌, ⊤}
 use Rattle.std.specs.List.{list_any}
 use Rattle.std.specs.Option.{option_eq}
@@ -40,7 +40,8 @@ amount_told d = option_and_then (get (name_of avp.UnitValue)) (money_told d)
 
 -- the member of this name is this number
 abbrev pub is_number : Avp → ℕ → Data → Bool
-is_number a n d = option_eq nat_eq (option_and_then (λ v. option_and_then as_u64 (as_number v)) (get (name_of a) d)) (Some n)
+is_number a n d = option_eq nat_eq
+    (option_and_then (λ v. option_and_then as_u64 (as_number v)) (get (name_of a) d)) (Some n)
 
 -- an EVENT_REQUEST (4) that asks for REFUND_ACCOUNT (1)
 abbrev pub asks_refund : Data → Bool

@@ -123,10 +123,10 @@ fn ask(alloc: Global, kind: RequestKind, parent: &Value) -> Result<Ask, WireFaul
     }
 }
 
-/// The request that an object is, or the first fault in the order of the fields: Session-Id, CC-Request-Type,
-/// CC-Request-Number, Subscription-Id with its type and data, Requested-Action of an event, the money of a refund,
-/// and else the services, each with its Rating-Group, Requested-Service-Unit and Used-Service-Unit. Other members
-/// are ignored.
+/// The request that an object is, or the first fault in the order of the fields: Session-Id,
+/// CC-Request-Type, CC-Request-Number, Subscription-Id with its type and data, Requested-Action of
+/// an event, the money of a refund, and else the services, each with its Rating-Group,
+/// Requested-Service-Unit and Used-Service-Unit. Other members are ignored.
 ///
 /// # Errors
 /// `Missing` and `Invalid` as the fields say; `Memory` where memory ran out.
@@ -150,8 +150,8 @@ pub fn request(alloc: Global, parent: &Value) -> Result<Request, WireFault>
 /// The request that the bytes are, or the first fault.
 ///
 /// # Errors
-/// `NotRequest` where the bytes are no JSON object, `Missing` and `Invalid` as `request` says; `Memory` where memory
-/// ran out.
+/// `NotRequest` where the bytes are no JSON object, `Missing` and `Invalid` as `request` says;
+/// `Memory` where memory ran out.
 #[tactic(auto, unfolding(crate::specs::Reading::request_of))]
 pub fn read_request(alloc: Global, bytes: &[u8]) -> Result<Request, WireFault>
     ensures { Gives (λ r. r) result (request_of bytes.now) }
@@ -160,14 +160,14 @@ pub fn read_request(alloc: Global, bytes: &[u8]) -> Result<Request, WireFault>
     request(alloc, &parent)
 }
 
-/// What is read of a request is said by its members, whatever their order: its session, its type, its number and its
-/// account, and each service, the event or the refund that it asks.
+/// What is read of a request is said by its members, whatever their order: its session, its type,
+/// its number and its account, and each service, the event or the refund that it asks.
 pub fn request_is_said()
     ensures { ReadsWhatIsSaid }
 {}
 
-/// A fault of a request is told of a member: missing only where the object that has to hold it has none of that name,
-/// invalid only where it has one.
+/// A fault of a request is told of a member: missing only where the object that has to hold it has
+/// none of that name, invalid only where it has one.
 pub fn request_fault_is_told()
     ensures { FaultsAreTold }
 {}

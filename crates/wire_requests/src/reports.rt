@@ -5,7 +5,7 @@ ghost use Rattle.wire_requests.specs.Reports.{wanted_in, requested_of, required_
 
 use commands::names::TARIFF_CHANGE_USAGE;
 use commands::{Avp, Quantity, Requested, UsedParts, usage_numbered};
-use json_fields::{WireFault, array, member, unit_told, units_in};
+use json_fields::{WireFault, array, member, read_each, unit_told, units_in};
 use serde_json::Value;
 use std::alloc::Global;
 use units::{TariffChangeUsage, UnitKind, Units, UsedPart};
@@ -92,12 +92,7 @@ fn kind_of_first(list: &Vec<Value>) -> UnitKind
 fn parts_in(alloc: Global, kind: UnitKind, list: &Vec<Value>) -> Result<Vec<UsedPart>, WireFault>
     ensures { Gives (λ v. v.items) result (parts_from kind (items_view list.now.items)) }
 {
-    let mut done = Vec::new(alloc);
-    for value in list {
-        let part = part(kind, &done, value)?;
-        done.push(part)?;
-    }
-    Ok(done)
+    read_each(alloc, list, |done, value| part(kind, done, value))
 }
 
 #[tactic(auto, using(json_fields::proofs::Counts::counts, crate::proofs::Kept::report), unfolding(crate::specs::Reports::used_of))]

@@ -8,7 +8,7 @@ ghost use Rattle.wire_requests.specs.Phases.{requested_at, used_at, group_is_tak
 use crate::phase::Phase;
 use crate::reports::{requested_in, required, used_in};
 use commands::{Avp, Requested, Service, UsedParts};
-use json_fields::{WireFault, array, number};
+use json_fields::{WireFault, array, number, read_each};
 use serde_json::Value;
 use std::alloc::Global;
 
@@ -73,12 +73,11 @@ fn service(
 fn services_in(alloc: Global, phase: Phase, list: &Vec<Value>) -> Result<Vec<Service>, WireFault>
     ensures { Gives (λ v. v.items) result (services_from phase (items_view list.now.items)) }
 {
-    let mut done = Vec::new(alloc);
-    for value in list {
-        let service = service(alloc, phase, &done, value)?;
-        done.push(service)?;
-    }
-    Ok(done)
+    read_each(
+        alloc,
+        list,
+        |done, value| service(alloc, phase, done, value),
+    )
 }
 
 fn are_objects(list: &Vec<Value>) -> bool

@@ -1,12 +1,10 @@
-ghost use Rattle.std.specs.Prelude.{◌≡◌, ◌++◌, IfOk, OnOk, string_bytes, Ok, true};
+ghost use Rattle.std.specs.Prelude.{◌≡◌, IfOk, OnOk, string_bytes, Ok, true};
 ghost use Rattle.serde_json.specs.Data.{array, no_items, item};
-ghost use Rattle.commands.specs.Codes.{action_number};
-ghost use Rattle.json_fields.specs.Spelling.{whole};
-ghost use Rattle.json_fields.specs.Tokens.{Adds, tokens_of, member_tokens};
+ghost use Rattle.json_fields.specs.Tokens.{Adds, tokens_of, member_tokens, named_tokens};
 ghost use Rattle.wire_requests.specs.Reading.{request_of};
-ghost use Rattle.wire_requests.specs.Spelled.{event_data, refund_data, subscription_data, request_data, request_text};
+ghost use Rattle.wire_requests.specs.Spelled.{ask_named, event_data, refund_data};
+ghost use Rattle.wire_requests.specs.Spelled.{subscription_data, request_data, request_text};
 ghost use Rattle.wire_requests.specs.Rules.{IsEvent, IsAsk, IsRequest, RequestsReadAgain, RequestsAreInOrder};
-ghost use Rattle.wire_requests.specs.Written.{ask_tokens};
 ghost use Rattle.commands.specs.Refunds.{is_refund};
 ghost use Rattle.commands.specs.Names.{name_of};
 ghost use Rattle.identifiers.specs.Texts.{is_account_number};
@@ -15,7 +13,7 @@ use crate::written_services::{put_service, put_services};
 use commands::{Ask, Avp, Event, Refund, Request};
 use identifiers::AccountNumber;
 use json::Writer;
-use json_fields::{put_money, put_number, put_text};
+use json_fields::{put_money, put_number, put_text, text_of};
 use std::alloc::{AllocError, Global};
 
 fn put_event_service(out: &mut Writer, event: &Event) -> Result<(), AllocError>
@@ -31,9 +29,7 @@ fn put_event_service(out: &mut Writer, event: &Event) -> Result<(), AllocError>
 }
 
 fn put_event(out: &mut Writer, event: &Event) -> Result<(), AllocError>
-    ensures adds { Adds result out.old out.new
-        (member_tokens (name_of Avp.Services) (array (item (event_data event.now) no_items))
-        ++ member_tokens (name_of Avp.RequestedAction) (whole (action_number event.now.action))) }
+    ensures adds { Adds result out.old out.new (named_tokens (ask_named (Ask.Event event.now))) }
     ensures rule { OnOk result (IsEvent event.now) }
 {
     put_event_service(out, event)?;
@@ -54,9 +50,7 @@ fn put_refund_money(out: &mut Writer, refund: Refund) -> Result<(), AllocError>
 }
 
 fn put_refund(out: &mut Writer, refund: Refund) -> Result<(), AllocError>
-    ensures adds { Adds result out.old out.new
-        (member_tokens (name_of Avp.RequestedAction) (whole 1)
-        ++ member_tokens (name_of Avp.RequestedUnit) (refund_data refund)) }
+    ensures adds { Adds result out.old out.new (named_tokens (ask_named (Ask.Refund refund))) }
     ensures rule { OnOk result (is_refund refund.micros refund.currency ≡ true) }
 {
     put_number(out, Avp::RequestedAction.name(), 1)?;
@@ -65,8 +59,9 @@ fn put_refund(out: &mut Writer, refund: Refund) -> Result<(), AllocError>
     Ok(())
 }
 
+#[tactic(auto, using(json_fields::proofs::Tokens::one_named))]
 fn put_ask(out: &mut Writer, ask: &Ask) -> Result<(), AllocError>
-    ensures adds { Adds result out.old out.new (ask_tokens ask.now) }
+    ensures adds { Adds result out.old out.new (named_tokens (ask_named ask.now)) }
     ensures rule { OnOk result (IsAsk ask.now) }
 {
     match ask {
@@ -90,7 +85,7 @@ fn put_subscription(out: &mut Writer, account: &AccountNumber) -> Result<(), All
     Ok(())
 }
 
-#[tactic(auto, using(crate::proofs::Fronts::ask_front), unfolding(crate::specs::Spelled::request_data))]
+#[tactic(auto, using(json_fields::proofs::Tokens::named_front), unfolding(crate::specs::Spelled::request_data))]
 fn put_request(out: &mut Writer, request: &Request) -> Result<(), AllocError>
     ensures adds { Adds result out.old out.new (tokens_of (request_data request.now)) }
     ensures rule { OnOk result (IsRequest request.now) }
@@ -106,19 +101,18 @@ fn put_request(out: &mut Writer, request: &Request) -> Result<(), AllocError>
     Ok(())
 }
 
-#[tactic(auto, using(json_fields::proofs::Tokens::printed), unfolding(crate::specs::Spelled::request_text))]
+#[tactic(auto, unfolding(crate::specs::Spelled::request_text))]
 fn compact(alloc: Global, request: &Request) -> Result<String, AllocError>
     ensures text { IfOk result (λ s. string_bytes s ≡ request_text request.now) }
     ensures rule { IfOk result (λ s. IsRequest request.now) }
 {
     let mut out = Writer::new(Vec::new(alloc));
     put_request(&mut out, request)?;
-    let bytes = out.into_inner();
-    Ok(String::from_utf8(bytes).unwrap())
+    Ok(text_of(out))
 }
 
-/// The text of a request as it is kept: compact JSON, with the members in the byte order of their names. It is read
-/// again as the same request.
+/// The text of a request as it is kept: compact JSON, with the members in the byte order of their
+/// names. It is read again as the same request.
 pub fn write_request(alloc: Global, request: &Request) -> Result<String, AllocError>
     ensures text { IfOk result (λ s. string_bytes s ≡ request_text request.now) }
     ensures read_again { IfOk result (λ s. request_of (string_bytes s) ≡ Ok request.now) }
@@ -133,7 +127,8 @@ pub fn request_again()
     ensures { RequestsReadAgain request_text }
 {}
 
-/// The members of a request as it is kept, and of each object in it, stand in the byte order of their names.
+/// The members of a request as it is kept, and of each object in it, stand in the byte order of
+/// their names.
 #[tactic(auto, using(crate::proofs::RequestsAgain::requests_in_order))]
 pub fn request_in_order()
     ensures { RequestsAreInOrder request_data }

@@ -23,7 +23,8 @@ fn put_slice(out: &mut Writer) -> Result<(), AllocError>
 }
 
 fn put_quantity(out: &mut Writer, quantity: Quantity) -> Result<(), AllocError>
-    ensures adds { Adds result out.old out.new (tokens_of (requested_data (Requested.Units quantity))) }
+    ensures adds { Adds result out.old out.new
+        (tokens_of (requested_data (Requested.Units quantity))) }
     ensures rule { OnOk result (is_quantity quantity.kind quantity.units ≡ true) }
 {
     out.begin_object()?;
@@ -114,8 +115,8 @@ pub(crate) fn put_service(
     requested: Option<Requested>,
     used: &Option<UsedParts>,
 ) -> Result<(), AllocError>
-    ensures adds { Adds result out.old out.new
-        (tokens_of (service_data (record { group = group; requested = requested; used = used.now }))) }
+    ensures adds { Adds result out.old out.new (tokens_of (service_data
+        (record { group = group; requested = requested; used = used.now }))) }
     ensures requested { OnOk result (IfSome requested IsRequested) }
     ensures used { OnOk result (IfSome used.now IsUsed) }
 {

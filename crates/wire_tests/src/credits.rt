@@ -1,4 +1,5 @@
-//! The body of an operator's credit: its members missing, of each wrong kind, and at and past their limits.
+//! The body of an operator's credit: its members missing, of each wrong kind, and at and past their
+//! limits.
 
 use crate::tables::joined;
 use identifiers::AccountNumber;

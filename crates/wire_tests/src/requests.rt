@@ -321,8 +321,8 @@ const PAIRS: &str = r##""CC-Request-Type":2,"Multiple-Services-Credit-Control":[
 "CC-Request-Type":2,"Multiple-Services-Credit-Control":[{"Rating-Group":10}] =
    "CC-Request-Type":3,"Multiple-Services-Credit-Control":[{"Rating-Group":10}] -> other"##;
 
-/// The order of services and of the parts of a report is content; the order of members, other members, and how money is
-/// written aren't.
+/// The order of services and of the parts of a report is content; the order of members, other
+/// members, and how money is written aren't.
 #[test]
 fn contents(rt: HostRuntime) -> Result<(), Fail> {
     try_told(&rt, rt.alloc(), Told::Requests, PAIRS)

@@ -118,7 +118,8 @@ fn with_text(alloc: Global, bytes: &[u8]) -> Result<String, Fail> {
     outcome(alloc, text.as_slice())
 }
 
-/// Bytes in a text: a letter in UTF-8, a control byte, and a beginning, a surrogate and an overlong form that aren't UTF-8.
+/// Bytes in a text: a letter in UTF-8, a control byte, and a beginning, a surrogate and an overlong
+/// form that aren't UTF-8.
 #[test]
 fn texts_in_utf_8(rt: HostRuntime) -> Result<(), Fail> {
     let alloc = rt.alloc();
