@@ -1,14 +1,14 @@
-//! Streams of bytes: a line or so many bytes taken from any reader, a text written whole to any writer. A read or a write
-//! that is interrupted is tried again, up to 100 times.
+//! Streams of bytes: a line or so many bytes taken from any reader, a text written whole to any
+//! writer. A read or a write that is interrupted is tried again, up to 100 times.
 #![tactic(auto)]
 
-ghost use Rattle.std.specs.Prelude.{◌≡◌, ◌==◌, ◌≤◌, ◌<◌, ℕ, List, length, take, OnOk, OnErr, IfOk, IfNone, IfSome, option_to_list};
+ghost use Rattle.std.specs.Prelude.{◌≡◌, ◌≢◌, ◌==◌, ◌≤◌, ◌<◌, ◌-◌, ℕ, List, length, take, All, OnOk, OnErr, IfOk, IfNone, IfSome, option_to_list};
 ghost use Rattle.std.specs.Io.KnownBytes.{Appends, Consumes, IsAtEnd, Keeps};
 ghost use Rattle.byte_streams.specs.Lines.{IsLineOf};
-ghost use Rattle.byte_streams.specs.Parts.{IsPartOf};
+ghost use Rattle.byte_streams.specs.Parts.{IsPartOf, TakesPiece};
 
 use std::alloc::{AllocError, AllocFailed, Global};
-use std::io::{ErrorKind, Read, Write};
+use std::io::{BufRead, ErrorKind, Read, Write};
 use thiserror::Error;
 
 /// How often a read or a write is tried that is interrupted each time.
@@ -64,25 +64,84 @@ pub fn next_byte<R: Read>(reader: &mut R) -> Result<Option<u8>, StreamFault>
     Err(StreamFault::Read)
 }
 
-/// The greatest piece that is taken off a stream at once.
-const MAX_PIECE: usize = 1024;
+/// How many of the bytes that are shown to take: those up to and with the first one that stops, at
+/// most so many.
+fn count_taken(shown: &[u8], stop: Option<u8>, most: usize) -> usize
+    ensures within { result ≤ length shown.now }
+    ensures most { result ≤ most }
+    ensures some { 0 < length shown.now → 0 < most → 0 < result }
+    ensures before { IfSome stop (λ byte. All (λ b. b ≢ byte) (take (result - 1) shown.now)) }
+{
+    let most = most.min(shown.len());
+    match stop {
+        None => most,
+        Some(byte) => count_through(shown, byte, most),
+    }
+}
 
-/// Takes some bytes off a stream, at most those that there is place for, and answers how many; 0 at the end.
-fn read_some<R: Read>(reader: &mut R, place: &mut [u8]) -> Result<usize, StreamFault>
-    requires { 0 < length place.old }
-    ensures within { IfOk result (λ n. n ≤ length place.old) }
-    ensures length { length place.new ≡ length place.old }
-    ensures taken { IfOk result (λ n. Consumes (R.remaining reader.old) (R.remaining reader.new) (take n place.new)) }
-    ensures end { IfOk result (λ n. n ≡ 0 → IsAtEnd (R.remaining reader.new)) }
+/// How many bytes there are up to and with the first such one, at most so many.
+fn count_through(shown: &[u8], byte: u8, most: usize) -> usize
+    requires { most ≤ length shown.now }
+    ensures most { result ≤ most }
+    ensures some { 0 < most → 0 < result }
+    ensures before { All (λ b. b ≢ byte) (take (result - 1) shown.now) }
+{
+    for at in 0..most {
+        if shown[at] == byte {
+            return at + 1;
+        }
+    }
+    most
+}
+
+/// Adds bytes of a stream's buffer to a part, and answers how many; 0 at the end, None where the
+/// reader was interrupted.
+fn take_shown<R: BufRead>(
+    reader: &mut R,
+    part: &mut Vec<u8>,
+    stop: Option<u8>,
+    most: usize,
+) -> Result<Option<usize>, StreamFault>
+    requires { 0 < most }
+    ensures taken { IfOk result (λ taken. IfSome taken
+        (TakesPiece stop most part.old.items part.new.items (R.remaining reader.old) (R.remaining reader.new))) }
+    ensures interrupted { IfOk result (λ taken. IfNone taken
+        ((part.new.items ≡ part.old.items) × Keeps (R.remaining reader.old) (R.remaining reader.new))) }
+{
+    let shown = match reader.fill_buf() {
+        Ok(shown) => shown,
+        Err(error) => {
+            return if error.kind() == ErrorKind::Interrupted {
+                Ok(None)
+            } else {
+                Err(StreamFault::Read)
+            };
+        }
+    };
+    let count = count_taken(shown, stop, most);
+    part.extend_from_slice(&shown[..count])?;
+    reader.consume(count);
+    Ok(Some(count))
+}
+
+/// Adds the next bytes of a stream to a part, and answers how many: those that its buffer shows, up
+/// to and with the first one that stops, and at most so many. 0 at the end.
+///
+/// # Errors
+/// `Memory` where a growth was refused, `Read` where the reader failed, or was interrupted 100
+/// times.
+pub fn take_piece<R: BufRead>(
+    reader: &mut R,
+    part: &mut Vec<u8>,
+    stop: Option<u8>,
+    most: usize,
+) -> Result<usize, StreamFault>
+    requires { 0 < most }
+    ensures { IfOk result (TakesPiece stop most part.old.items part.new.items (R.remaining reader.old) (R.remaining reader.new)) }
 {
     for _attempt in 0..MAX_ATTEMPTS {
-        match reader.read(place) {
-            Ok(taken) => return Ok(taken),
-            Err(error) => {
-                if error.kind() != ErrorKind::Interrupted {
-                    return Err(StreamFault::Read);
-                }
-            }
+        if let Some(count) = take_shown(reader, part, stop, most)? {
+            return Ok(count);
         }
     }
     Err(StreamFault::Read)
@@ -92,7 +151,7 @@ fn read_some<R: Read>(reader: &mut R, place: &mut [u8]) -> Result<usize, StreamF
 ///
 /// # Errors
 /// `Memory` where a growth was refused, `Read` where the reader failed.
-pub fn next_bytes<R: Read>(
+pub fn next_bytes<R: BufRead>(
     alloc: Global,
     reader: &mut R,
     count: usize,
@@ -100,20 +159,15 @@ pub fn next_bytes<R: Read>(
     ensures { IfOk result (λ part. IfSome (R.remaining reader.old)
         (λ stream. IsPartOf count stream part (R.remaining reader.new))) }
 {
-    let mut part = Vec::new(alloc);
-    let mut piece = [0u8; MAX_PIECE];
+    let mut part = Vec::with_capacity(alloc, count)?;
     for _turn in 0..count {
         let left = count - part.len();
         if left == 0 {
             break;
         }
-        let taken = read_some(reader, &mut piece[..left.min(MAX_PIECE)])?;
-        if taken == 0 {
+        if take_piece(reader, &mut part, None, left)? == 0 {
             return Ok(None);
         }
-        let Ok(()) = part.extend_from_slice(&piece[..taken]) else {
-            return Err(StreamFault::Memory);
-        };
     }
     Ok(Some(part))
 }
@@ -125,8 +179,8 @@ fn ends_line(byte: u8) -> bool
     byte == b'\n'
 }
 
-/// The next line: the bytes before the next line feed, which is taken too, or before the end of the stream. None
-/// where the stream is at its end.
+/// The next line: the bytes before the next line feed, which is taken too, or before the end of the
+/// stream. None where the stream is at its end.
 pub fn next_line<R: Read>(alloc: Global, reader: &mut R) -> Result<Option<Vec<u8>>, StreamFault>
     ensures { IfOk result (λ line. IfSome (R.remaining reader.old)
         (λ stream. IsLineOf stream line (R.remaining reader.new))) }
@@ -170,7 +224,8 @@ fn write_some<W: Write>(writer: &mut W, text: &[u8]) -> Result<usize, StreamFaul
 /// Writes all of a text.
 ///
 /// # Errors
-/// `Write` where the writer failed, took nothing, or was interrupted 100 times. Then a beginning of the text is written.
+/// `Write` where the writer failed, took nothing, or was interrupted 100 times. Then a beginning of
+/// the text is written.
 pub fn write_whole<W: Write>(writer: &mut W, text: &[u8]) -> Result<(), StreamFault>
     ensures ok { OnOk result (Appends (W.contents writer.old) (W.contents writer.new) text.now) }
     ensures err { OnErr result ((n : ℕ) × Appends (W.contents writer.old) (W.contents writer.new) (take n text.now)) }

@@ -22,6 +22,9 @@ const UNABLE: &[u8] =
 const UNABLE_AT_LAST: &[u8] =
     b"HTTP/1.1 503 Service Unavailable\r\nContent-Type: application/json\r\nContent-Length: 20\r\nConnection: close\r\n\r\n{\"Result-Code\":5012}";
 
+/// The most bytes of an answer's head.
+const MOST_OF_HEAD: usize = 136;
+
 /// The code and the phrase of a status.
 fn status_line(status: Status) -> &'static str
     ensures { result.now ≡ status_line status }
@@ -53,9 +56,12 @@ fn response(alloc: Global, status: Status, closes: bool, body: &str) -> Result<S
     let line = status_line(status);
     let closing = closing_line(closes);
     let length = body.len();
-    format!(in alloc;
+    let mut text = String::with_capacity(alloc, MOST_OF_HEAD + length)?;
+    write!(
+        text,
         "HTTP/1.1 {line}\r\nContent-Type: application/json\r\nContent-Length: {length}\r\n{closing}\r\n{body}"
-    )
+    )?;
+    Ok(text)
 }
 
 /// The bytes of an answer where there is no memory, no store or no clock.
@@ -75,7 +81,8 @@ fn unable_at_last() -> &'static [u8]
 /// Writes an answer, its head and its body in one.
 ///
 /// # Errors
-/// `Memory` where the growth of its text was refused, `Write` where the writer failed. Then a beginning of it is written.
+/// `Memory` where the growth of its text was refused, `Write` where the writer failed. Then a
+/// beginning of it is written.
 pub fn tell<W: Write>(
     alloc: Global,
     writer: &mut W,

@@ -18,11 +18,12 @@ use std::io::Write;
 use tariffs::TariffBook;
 use wire::write_answer;
 
-/// Answers a request, and commits its command where it is accepted. The clock is asked once where it is a command.
+/// Answers a request, and commits its command where it is accepted. The clock is asked once where
+/// it is a command.
 ///
 /// # Errors
-/// `Memory` where the text of a command's answer wasn't made, `Write` where the writer failed: what is accepted stays so,
-/// and a beginning of the answer is written.
+/// `Memory` where the text of a command's answer wasn't made, `Write` where the writer failed: what
+/// is accepted stays so, and a beginning of the answer is written.
 pub(crate) fn answer_request<W: Write, K: Keeper, C: Clock>(
     alloc: Global,
     writer: &mut W,

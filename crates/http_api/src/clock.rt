@@ -4,8 +4,8 @@ use units::Moment;
 
 /// What tells the time.
 pub trait Clock {
-    /// A call gives this moment, in seconds since 1970, or none, and leaves the clock like this. A clock that says
-    /// nothing of its moments holds of all.
+    /// A call gives this moment, in seconds since 1970, or none, and leaves the clock like this. A
+    /// clock that says nothing of its moments holds of all.
     ghost gives: { Self → Option ℕ → Self → Type 0 };
 
     /// The moment now; None where the clock doesn't answer.

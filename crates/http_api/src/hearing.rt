@@ -8,7 +8,7 @@ use byte_streams::StreamFault;
 use http_answers::{Asked, Route, Router, ask};
 use http_heads::{HeaderSpan, Request, Taken, next_request};
 use std::alloc::Global;
-use std::io::Read;
+use std::io::BufRead;
 
 /// A request: what it asks, and whether the connection ends after it.
 #[derive(Drop)]
@@ -17,11 +17,12 @@ pub(crate) struct Heard {
     pub(crate) closes: bool,
 }
 
-/// Takes the next request off a stream, and tells what it asks; None where the stream ends before a request does.
+/// Takes the next request off a stream, and tells what it asks; None where the stream ends before a
+/// request does.
 ///
 /// # Errors
 /// `Memory` where a growth was refused, `Read` where the reader failed.
-pub(crate) fn hear<R: Read>(
+pub(crate) fn hear<R: BufRead>(
     alloc: Global,
     router: &Router<Route>,
     reader: &mut R,

@@ -1,5 +1,5 @@
-//! Serves connections of HTTP/1.1 over any keeper: what is written is a function of the bytes that are read and of the
-//! clock's moments.
+//! Serves connections of HTTP/1.1 over any keeper: what is written is a function of the bytes that
+//! are read and of the clock's moments.
 #![tactic(auto)]
 
 mod answering;

@@ -11,7 +11,7 @@ use http_answers::{Route, Router, known_router};
 use http_heads::{EMPTY_HEADER_SPAN, HeaderSpan, MAX_FIELDS};
 use keepers::Keeper;
 use std::alloc::Global;
-use std::io::{BufReader, Read, Write};
+use std::io::{BufRead, BufReader, Read, Write};
 use tariffs::TariffBook;
 
 /// The most requests of a connection.
@@ -24,14 +24,17 @@ pub struct Served {
     pub requests: u32,
 }
 
-/// Serves the requests of a connection, one after another (RFC 9112 section 9.3): each is taken off the reader with its
-/// body, answered at the clock's moment, and its answer written before the next is read. At most 1,000 are answered.
+/// Serves the requests of a connection, one after another (RFC 9112 section 9.3): each is taken off
+/// the reader with its body, answered at the clock's moment, and its answer written before the next
+/// is read. At most 1,000 are answered.
 ///
-/// Over a reader that doesn't tell its bytes, as a socket, the keeper's tables are still those of dated commands.
+/// Over a reader that doesn't tell its bytes, as a socket, the keeper's tables are still those of
+/// dated commands.
 ///
 /// # Errors
-/// `Memory` where a growth was refused for a head, a body or the text of a command's answer; `Read` where the reader
-/// failed; `Write` where the writer did. What was accepted stays so, and a beginning of the answers is written.
+/// `Memory` where a growth was refused for a head, a body or the text of a command's answer; `Read`
+/// where the reader failed; `Write` where the writer did. What was accepted stays so, and a
+/// beginning of the answers is written.
 pub fn serve<R: Read, W: Write, K: Keeper, C: Clock>(
     alloc: Global,
     reader: &mut R,
@@ -92,7 +95,7 @@ fn left_after(closes: bool, left: u32) -> u32
 }
 
 /// Serves the requests of a connection.
-fn serve_requests<R: Read, W: Write, K: Keeper, C: Clock>(
+fn serve_requests<R: BufRead, W: Write, K: Keeper, C: Clock>(
     alloc: Global,
     router: &Router<Route>,
     reader: &mut R,

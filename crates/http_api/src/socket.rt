@@ -14,8 +14,8 @@ use tariffs::TariffBook;
 /// How long a read or a write of a socket may take, in seconds (profile).
 pub const SOCKET_SECONDS: u64 = 30;
 
-/// Serves the requests of a socket, as `serve`. Answers leave it without delay, and a read or a write that takes more
-/// than 30 seconds is a fault.
+/// Serves the requests of a socket, as `serve`. Answers leave it without delay, and a read or a
+/// write that takes more than 30 seconds is a fault.
 ///
 /// # Errors
 /// As `serve`, and `Read` where the socket can't be set so; then nothing is read.

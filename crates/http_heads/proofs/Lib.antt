@@ -2,3 +2,4 @@ pub mod Counts
 pub mod Founds
 pub mod Digits
 pub mod Nexts
+pub mod Pieces

@@ -124,11 +124,13 @@ fn length_by(method: Method, part: &[u8], found: Found) -> Result<usize, Status>
     }
 }
 
-/// The length of a request's body by the fields of its head: 0 where they say none (RFC 9112 section 6.3).
+/// The length of a request's body by the fields of its head: 0 where they say none (RFC 9112
+/// section 6.3).
 ///
 /// # Errors
-/// `NotImplemented` at a Transfer-Encoding; `BadRequest` at more than one Content-Length or one that isn't 1 to 18
-/// digits; `ContentTooLarge` above 65,536; `LengthRequired` at a POST or a PUT without one.
+/// `NotImplemented` at a Transfer-Encoding; `BadRequest` at more than one Content-Length or one
+/// that isn't 1 to 18 digits; `ContentTooLarge` above 65,536; `LengthRequired` at a POST or a PUT
+/// without one.
 pub(crate) fn body_length(
     method: Method,
     part: &[u8],

@@ -1,9 +1,9 @@
 ghost use Rattle.std.specs.Prelude.{◌≡◌, ◌≤◌, IfOk, IfSome};
 ghost use Rattle.http_heads.specs.Parts.{first_part, IsHeadPart, IsShort};
 
-use byte_streams::{StreamFault, next_byte};
+use byte_streams::{StreamFault, take_piece};
 use std::alloc::Global;
-use std::io::Read;
+use std::io::BufRead;
 
 /// The longest head part, in bytes, with the empty line that ends it.
 pub const MAX_HEAD_PART: usize = 8192;
@@ -19,22 +19,26 @@ pub enum HeadPart {
     Ended,
 }
 
+/// How many bytes a head part mostly has at most: a longer one grows.
+const USUAL_HEAD_PART: usize = 512;
+
 /// Takes the next head part off a stream (RFC 9112 section 2.1; its greatest length: profile).
 ///
 /// # Errors
 /// `Memory` where a growth was refused, `Read` where the reader failed.
-pub fn next_head_part<R: Read>(alloc: Global, reader: &mut R) -> Result<HeadPart, StreamFault>
+pub fn next_head_part<R: BufRead>(alloc: Global, reader: &mut R) -> Result<HeadPart, StreamFault>
     ensures part { IfOk result (λ part. IfSome (R.remaining reader.old)
         (λ stream. IsHeadPart (first_part stream) part (R.remaining reader.new))) }
     ensures short { IfOk result IsShort }
 {
-    let mut part = Vec::new(alloc);
-    for _taken in 0..MAX_HEAD_PART {
-        let Some(byte) = next_byte(reader)? else {
+    let mut part = Vec::with_capacity(alloc, USUAL_HEAD_PART)?;
+    for _turn in 0..MAX_HEAD_PART {
+        let left = MAX_HEAD_PART - part.len();
+        if left == 0 {
+            break;
+        }
+        if take_piece(reader, &mut part, Some(b'\n'), left)? == 0 {
             return Ok(HeadPart::Ended);
-        };
-        if part.push(byte).is_err() {
-            return Err(StreamFault::Memory);
         }
         if part.as_slice().ends_with(b"\r\n\r\n".as_slice()) {
             return Ok(HeadPart::Whole(part));

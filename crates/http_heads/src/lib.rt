@@ -1,5 +1,5 @@
-//! Requests of HTTP/1.1 taken off a stream, one after another: the head part, the head that it is, the length of the
-//! body and the body (RFC 9112).
+//! Requests of HTTP/1.1 taken off a stream, one after another: the head part, the head that it is,
+//! the length of the body and the body (RFC 9112).
 #![tactic(auto)]
 
 mod fields;

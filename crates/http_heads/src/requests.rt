@@ -10,7 +10,7 @@ use crate::status::Status;
 use byte_streams::{StreamFault, next_bytes};
 use httparse::spans::HeaderSpan;
 use std::alloc::Global;
-use std::io::Read;
+use std::io::BufRead;
 
 /// How many fields a head part has room for: each takes at least 3 bytes.
 pub const MAX_FIELDS: usize = 2731;
@@ -39,12 +39,12 @@ pub enum Taken {
     Ended,
 }
 
-/// Takes the next request off a stream: its head part, and the body that the head tells of. `room` is for the places of
-/// the head's fields.
+/// Takes the next request off a stream: its head part, and the body that the head tells of. `room`
+/// is for the places of the head's fields.
 ///
 /// # Errors
 /// `Memory` where a growth was refused, `Read` where the reader failed.
-pub fn next_request<R: Read>(
+pub fn next_request<R: BufRead>(
     alloc: Global,
     reader: &mut R,
     room: &mut [HeaderSpan],
@@ -58,7 +58,7 @@ pub fn next_request<R: Read>(
 }
 
 /// The request that begins with what a stream begins with.
-fn after_part<R: Read>(
+fn after_part<R: BufRead>(
     alloc: Global,
     reader: &mut R,
     part: HeadPart,
@@ -76,7 +76,7 @@ fn after_part<R: Read>(
 }
 
 /// The request that begins with a head part.
-fn after_bytes<R: Read>(
+fn after_bytes<R: BufRead>(
     alloc: Global,
     reader: &mut R,
     part: &[u8],
@@ -95,7 +95,7 @@ fn after_bytes<R: Read>(
 }
 
 /// The request of a head, with its body.
-fn with_body<R: Read>(alloc: Global, reader: &mut R, head: Head) -> Result<Taken, StreamFault>
+fn with_body<R: BufRead>(alloc: Global, reader: &mut R, head: Head) -> Result<Taken, StreamFault>
     ensures { IfOk result (λ taken. IfSome (R.remaining reader.old)
         (λ rest. (said : RequestHead) → IsHeadOf said head → Tells (after_head said rest) taken (R.remaining reader.new))) }
 {
