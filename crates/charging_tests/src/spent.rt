@@ -3,7 +3,7 @@
 use crate::book::book;
 use crate::lines::{account, dated_commands};
 use crate::scenarios::whole_lines;
-use charging::{DatedCommand, run};
+use charging::run;
 use commands::{Answer, Command, Content, Request};
 use decisions::decide;
 use identifiers::AccountNumber;
@@ -63,13 +63,12 @@ fn turns(alloc: Global, count: u64) -> Result<String, AllocError> {
 /// The request of a debit, and its moment.
 fn request_of(alloc: Global, line: &str) -> Result<(Request, Moment), Fail> {
     let mut commands = dated_commands(alloc, line, 1)?;
-    match commands.pop() {
-        Some(
-            DatedCommand {
-                moment,
-                command: Command::Ccr(request),
-            },
-        ) => Ok((request, moment)),
+    let Some(dated) = commands.pop() else {
+        return Err(Fail::from("a debit"));
+    };
+    let moment = dated.moment;
+    match dated.command {
+        Command::Ccr(request) => Ok((request, moment)),
         _ => Err(Fail::from("a debit")),
     }
 }
@@ -163,10 +162,12 @@ fn told(
         let piece = format!(in alloc; " {}", bucket.number())?;
         text.push_str(piece.as_str())?;
     }
-    let moment = at.max(account.as_of());
-    let decided = decide(alloc, &mut account, &request, false, moment)?;
+    if at < account.as_of() {
+        return Err(Fail::from("a later moment"));
+    }
+    let decided = decide(alloc, &mut account, &request, false, at)?;
     let change = Change {
-        moment,
+        moment: at,
         number,
         after: account.into_stored(),
         before,
