@@ -1,0 +1,4 @@
+pub mod FieldLemmas
+pub mod RecordLemmas
+pub mod FileLemmas
+pub mod Examples

@@ -1,0 +1,142 @@
+ghost use Rattle.std.specs.Prelude.{◌≡◌, ◌≤◌, ◌==◌, ◌&&◌, IfOk, IfSome, length};
+ghost use Rattle.csv.specs.Records.{fields_of};
+ghost use Rattle.first_fault.specs.Steps.{Says, GivesUnless, where_holds};
+ghost use Rattle.identifiers.specs.Texts.{is_voucher_code};
+ghost use Rattle.operator.specs.Numbers.{number_of};
+ghost use Rattle.vouchers.specs.Rows.{IsVoucher, field, is_header, number_in, optional_in, voucher_of};
+ghost use Rattle.vouchers.specs.declared.fault.FaultKind.TheVariants.{Amount, Code, Days, Scope, Memory};
+
+use crate::fault::FaultKind;
+use crate::row::VoucherRow;
+use csv::ByteRecord;
+use identifiers::VoucherCode;
+use std::alloc::Global;
+use std::str;
+use units::Money;
+
+/// The field at a place, empty past the last.
+#[tactic(auto, using(crate::proofs::FieldLemmas::field_found, crate::proofs::FieldLemmas::field_missing))]
+fn field(fields: &ByteRecord, i: usize) -> &[u8]
+    ensures { result.now ≡ field (fields_of fields.now) i }
+{
+    match fields.get(i) {
+        Some(field) => field,
+        None => b"",
+    }
+}
+
+/// Whether a record is the header of a file of vouchers.
+pub(crate) fn is_header(fields: &ByteRecord) -> bool
+    ensures { result ≡ is_header (fields_of fields.now) }
+{
+    fields.len() == 4
+        && field(fields, 0) == b"code".as_slice()
+        && field(fields, 1) == b"amount".as_slice()
+        && field(fields, 2) == b"days".as_slice()
+        && field(fields, 3) == b"scope".as_slice()
+}
+
+/// The number that a field says: 1 to 16 digits without a sign.
+#[tactic(auto, using(crate::proofs::FieldLemmas::no_number))]
+fn number(field: &[u8]) -> Option<u64>
+    ensures { result ≡ number_of field.now }
+{
+    match str::from_utf8(field) {
+        Ok(text) => operator::number(text),
+        Err(_) => None,
+    }
+}
+
+/// The number that a field says, from `low` to `high`.
+#[tactic(auto, unfolding(crate::specs::Rows::number_in))]
+fn number_in(fault: FaultKind, low: u64, high: u64, field: &[u8]) -> Result<u64, FaultKind>
+    ensures value { Says (λ n. n) result (number_in fault low high field.now) }
+    ensures in_range { IfOk result (λ n. (low ≤ n) × (n ≤ high)) }
+{
+    let number = number(field).ok_or(fault)?;
+    if low <= number && number <= high {
+        Ok(number)
+    } else {
+        Err(fault)
+    }
+}
+
+/// The same, where the field isn't empty.
+#[tactic(auto, unfolding(crate::specs::Rows::optional_in))]
+fn optional_in(
+    fault: FaultKind,
+    low: u64,
+    high: u64,
+    field: &[u8],
+) -> Result<Option<u64>, FaultKind>
+    ensures value { Says (λ n. n) result (optional_in fault low high field.now) }
+    ensures in_range { IfOk result (λ o. IfSome o (λ n. (low ≤ n) × (n ≤ high))) }
+{
+    if field.is_empty() {
+        return Ok(None);
+    }
+    Ok(Some(number_in(fault, low, high, field)?))
+}
+
+/// The code that a field says.
+#[tactic(auto, using(crate::proofs::FieldLemmas::no_code))]
+fn code(alloc: Global, field: &[u8]) -> Result<VoucherCode, FaultKind>
+    ensures { GivesUnless Memory (λ c. c) result
+        (where_holds (is_voucher_code field.now) Code field.now) }
+{
+    let Ok(text) = str::from_utf8(field) else {
+        return Err(FaultKind::Code);
+    };
+    match VoucherCode::new(alloc, text) {
+        Ok(code) => code.ok_or(FaultKind::Code),
+        Err(_) => Err(FaultKind::Memory),
+    }
+}
+
+fn amount(field: &[u8]) -> Result<Money, FaultKind>
+    ensures value { Says (λ m. m) result (number_in Amount 1 1_000_000_000_000_000 field.now) }
+    ensures some { IfOk result (λ m. 1 ≤ m) }
+{
+    let micros = number_in(FaultKind::Amount, 1, 1_000_000_000_000_000, field)?;
+    Money::new(micros).ok_or(FaultKind::Amount)
+}
+
+fn days(field: &[u8]) -> Result<Option<u16>, FaultKind>
+    ensures value { Says (λ d. d) result (optional_in Days 1 3650 field.now) }
+    ensures in_range { IfOk result (λ o. IfSome o (λ n. (1 ≤ n) × (n ≤ 3650))) }
+{
+    match optional_in(FaultKind::Days, 1, 3650, field)? {
+        None => Ok(None),
+        Some(days) => Ok(Some(days as u16)),
+    }
+}
+
+fn scope(field: &[u8]) -> Result<Option<u32>, FaultKind>
+    ensures { Says (λ g. g) result (optional_in Scope 0 4_294_967_295 field.now) }
+{
+    match optional_in(FaultKind::Scope, 0, 4_294_967_295, field)? {
+        None => Ok(None),
+        Some(group) => Ok(Some(group as u32)),
+    }
+}
+
+/// The voucher that a record says, or its first fault from the left.
+#[tactic(auto, unfolding(crate::specs::Rows::voucher_of))]
+pub(crate) fn voucher(alloc: Global, fields: &ByteRecord) -> Result<VoucherRow, FaultKind>
+    ensures value { GivesUnless Memory (λ v. v) result (voucher_of (fields_of fields.now)) }
+    ensures in_range { IfOk result IsVoucher }
+{
+    if fields.len() != 4 {
+        return Err(FaultKind::FieldCount);
+    }
+    let code = code(alloc, field(fields, 0))?;
+    let amount = amount(field(fields, 1))?;
+    let days = days(field(fields, 2))?;
+    let scope = scope(field(fields, 3))?;
+    Ok(VoucherRow {
+        code,
+        amount,
+        days,
+        scope,
+    })
+}

@@ -1,0 +1,15 @@
+//! Files of vouchers: CSV with the header `code,amount,days,scope`, read to rows or to the first fault with its
+//! record's number.
+#![tactic(auto)]
+
+mod fault;
+mod fields;
+mod reading;
+mod row;
+
+pub use crate::fault::{FaultKind, VoucherFault};
+pub use crate::reading::read_vouchers;
+pub use crate::row::VoucherRow;
+
+#[cfg(test)]
+mod tests;
