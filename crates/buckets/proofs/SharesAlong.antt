@@ -24,62 +24,90 @@ sum_before_none f b (x ∷ xs) h =
     sum_by-cons (λ y. if precedes y b then f y else 0) x xs
     ∙ rw (precedes_asym b x h.0, sum_before_none f b xs h.1) refl
 
-sum_before_first : (f : Row → ℕ) (b : Row) (bs : List Row) → PrecedesAll b bs → sum_before f b (b ∷ bs) ≡ 0
+sum_before_first : (f : Row → ℕ) (b : Row) (bs : List Row) → PrecedesAll b bs →
+    sum_before f b (b ∷ bs) ≡ 0
 sum_before_first f b bs h =
     sum_by-cons (λ y. if precedes y b then f y else 0) b bs
     ∙ rw (precedes_irrefl b, sum_before_none f b bs h) refl
 
-sum_before_next : (f : Row → ℕ) (b x : Row) (bs : List Row) → precedes b x ≡ true → sum_before f x (b ∷ bs) ≡ f b + sum_before f x bs
+sum_before_next : (f : Row → ℕ) (b x : Row) (bs : List Row) → precedes b x ≡ true →
+    sum_before f x (b ∷ bs) ≡ f b + sum_before f x bs
 sum_before_next f b x bs h =
     sum_by-cons (λ y. if precedes y x then f y else 0) b bs
     ∙ rw h refl
 
-share_next : (f : Row → ℕ) (b x : Row) (bs : List Row) (c : ℕ) → precedes b x ≡ true → share f (b ∷ bs) c x ≡ share f bs (c - f b) x
+share_next : (f : Row → ℕ) (b x : Row) (bs : List Row) (c : ℕ) → precedes b x ≡ true →
+    share f (b ∷ bs) c x ≡ share f bs (c - f b) x
 share_next f b x bs c h = rw (sum_before_next f b x bs h) (ap (min (f x)) (omega arith))
 
 -- the shares of those behind the first
-map_next : (does : Row → ℕ → Row) (f : Row → ℕ) (b : Row) (bs ys : List Row) (c : ℕ) → PrecedesAll b ys → map (λ x. does x (share f (b ∷ bs) c x)) ys ≡ map (λ x. does x (share f bs (c - f b) x)) ys
+map_next : (does : Row → ℕ → Row) (f : Row → ℕ) (b : Row) (bs ys : List Row) (c : ℕ) →
+    PrecedesAll b ys →
+    map (λ x. does x (share f (b ∷ bs) c x)) ys ≡ map (λ x. does x (share f bs (c - f b) x)) ys
 map_next does f b bs [] c h = refl
-map_next does f b bs (y ∷ ys) c h = rw (share_next f b y bs c h.0, map_next does f b bs ys c h.1) refl
+map_next does f b bs (y ∷ ys) c h =
+    rw (share_next f b y bs c h.0, map_next does f b bs ys c h.1) refl
 
-pub by_shares-along : (does : Row → ℕ → Row) (f : Row → ℕ) (rows : List Row) (c : ℕ) → IsInOrder rows → by_shares does f rows c ≡ along does f c rows
+pub by_shares-along : (does : Row → ℕ → Row) (f : Row → ℕ) (rows : List Row) (c : ℕ) →
+    IsInOrder rows → by_shares does f rows c ≡ along does f c rows
 by_shares-along does f [] c h = refl
 by_shares-along does f (b ∷ bs) c h =
     let none : c - 0 ≡ c = omega arith in
-    rw (sum_before_first f b bs h.0, map_next does f b bs bs c h.0, by_shares-along does f bs (c - f b) h.1, none) refl
+    rw (
+      sum_before_first f b bs h.0,
+      map_next does f b bs bs c h.0,
+      by_shares-along does f bs (c - f b) h.1,
+      none,
+    ) refl
 
 -- what is done to a bucket leaves its place in the order
 pub record KeepsPlace (does : Row → Row) : Type 0 where
   pub number : (b : Row) → (does b).number ≡ b.number
   pub until : (b : Row) → (does b).until ≡ b.until
 
-precedes_kept : (a b c d : Row) → c.number ≡ a.number → c.until ≡ a.until → d.number ≡ b.number → d.until ≡ b.until → precedes a b ≡ true → precedes c d ≡ true
+precedes_kept : (a b c d : Row) → c.number ≡ a.number → c.until ≡ a.until → d.number ≡ b.number →
+    d.until ≡ b.until → precedes a b ≡ true → precedes c d ≡ true
 precedes_kept a b c d an au bn bu h = rw (an, au, bn, bu) h
 
 pub record KeepsPlaces (does : Row → ℕ → Row) : Type 0 where
   pub number : (b : Row) (n : ℕ) → (does b n).number ≡ b.number
   pub until : (b : Row) (n : ℕ) → (does b n).until ≡ b.until
 
-PrecedesAll-along : (does : Row → ℕ → Row) (f : Row → ℕ) (a c : Row) (rows : List Row) (left : ℕ) → KeepsPlaces does → c.number ≡ a.number → c.until ≡ a.until → PrecedesAll a rows → PrecedesAll c (along does f left rows)
+PrecedesAll-along : (does : Row → ℕ → Row) (f : Row → ℕ) (a c : Row) (rows : List Row) (left : ℕ) →
+    KeepsPlaces does → c.number ≡ a.number → c.until ≡ a.until → PrecedesAll a rows →
+    PrecedesAll c (along does f left rows)
 PrecedesAll-along does f a c [] left k n u h = tt
-PrecedesAll-along does f a c (b ∷ bs) left k n u h =
-    (precedes_kept a b c (does b (min (f b) left)) n u (k.number b (min (f b) left)) (k.until b (min (f b) left)) h.0, PrecedesAll-along does f a c bs (left - f b) k n u h.1)
+PrecedesAll-along does f a c (b ∷ bs) left k n u h = (
+  precedes_kept a b c (does b (min (f b) left)) n u (k.number b (min (f b) left))
+      (k.until b (min (f b) left)) h.0,
+  PrecedesAll-along does f a c bs (left - f b) k n u h.1,
+)
 
-pub IsInOrder-along : (does : Row → ℕ → Row) (f : Row → ℕ) (rows : List Row) (left : ℕ) → KeepsPlaces does → IsInOrder rows → IsInOrder (along does f left rows)
+pub IsInOrder-along : (does : Row → ℕ → Row) (f : Row → ℕ) (rows : List Row) (left : ℕ) →
+    KeepsPlaces does → IsInOrder rows → IsInOrder (along does f left rows)
 IsInOrder-along does f [] left k h = tt
-IsInOrder-along does f (b ∷ bs) left k h =
-    (PrecedesAll-along does f b (does b (min (f b) left)) bs left' k (k.number b (min (f b) left)) (k.until b (min (f b) left)) h.0, IsInOrder-along does f bs left' k h.1)
+IsInOrder-along does f (b ∷ bs) left k h = (
+  PrecedesAll-along does f b (does b (min (f b) left)) bs left' k (k.number b (min (f b) left))
+      (k.until b (min (f b) left)) h.0,
+  IsInOrder-along does f bs left' k h.1,
+)
   where
     left' : ℕ
     left' = left - f b
 
-PrecedesAll-map : (does : Row → Row) (a c : Row) (rows : List Row) → KeepsPlace does → c.number ≡ a.number → c.until ≡ a.until → PrecedesAll a rows → PrecedesAll c (map does rows)
+PrecedesAll-map : (does : Row → Row) (a c : Row) (rows : List Row) → KeepsPlace does →
+    c.number ≡ a.number → c.until ≡ a.until → PrecedesAll a rows → PrecedesAll c (map does rows)
 PrecedesAll-map does a c [] k n u h = tt
-PrecedesAll-map does a c (b ∷ bs) k n u h = (precedes_kept a b c (does b) n u (k.number b) (k.until b) h.0, PrecedesAll-map does a c bs k n u h.1)
+PrecedesAll-map does a c (b ∷ bs) k n u h = (
+  precedes_kept a b c (does b) n u (k.number b) (k.until b) h.0,
+  PrecedesAll-map does a c bs k n u h.1,
+)
 
-pub IsInOrder-map : (does : Row → Row) (rows : List Row) → KeepsPlace does → IsInOrder rows → IsInOrder (map does rows)
+pub IsInOrder-map : (does : Row → Row) (rows : List Row) → KeepsPlace does → IsInOrder rows →
+    IsInOrder (map does rows)
 IsInOrder-map does [] k h = tt
-IsInOrder-map does (b ∷ bs) k h = (PrecedesAll-map does b (does b) bs k (k.number b) (k.until b) h.0, IsInOrder-map does bs k h.1)
+IsInOrder-map does (b ∷ bs) k h =
+    (PrecedesAll-map does b (does b) bs k (k.number b) (k.until b) h.0, IsInOrder-map does bs k h.1)
 
 pub with_hold_keeps : KeepsPlaces with_hold
 with_hold_keeps = record { number = λ b n. refl; until = λ b n. refl }
@@ -91,39 +119,67 @@ pub with_charge_of_hold_keeps : KeepsPlaces with_charge_of_hold
 with_charge_of_hold_keeps = record { number = λ b n. refl; until = λ b n. refl }
 
 with_end_number : (at : ℕ) (b : Row) → (with_end at b).number ≡ b.number
-with_end_number at b = elim (nat_lt at b.until) as (λ t. (if t then b else record b { available = 0; expired = b.expired + b.available }).number ≡ b.number) [ true ↦ refl | false ↦ refl ]
+with_end_number at b =
+    elim (nat_lt at b.until) as
+    (λ t. (if t then b else record b { available = 0; expired = b.expired + b.available }).number
+    ≡ b.number) [ true ↦ refl | false ↦ refl ]
 
 with_end_until : (at : ℕ) (b : Row) → (with_end at b).until ≡ b.until
-with_end_until at b = elim (nat_lt at b.until) as (λ t. (if t then b else record b { available = 0; expired = b.expired + b.available }).until ≡ b.until) [ true ↦ refl | false ↦ refl ]
+with_end_until at b =
+    elim (nat_lt at b.until) as
+    (λ t. (if t then b else record b { available = 0; expired = b.expired + b.available }).until
+    ≡ b.until) [ true ↦ refl | false ↦ refl ]
 
 pub with_end_keeps : (at : ℕ) → KeepsPlace (with_end at)
 with_end_keeps at = record { number = with_end_number at; until = with_end_until at }
 
 -- the parts are the shares above 0
-parts_next : (of : Row → ℕ → ℕ) (f : Row → ℕ) (b : Row) (bs ys : List Row) (c : ℕ) → PrecedesAll b ys → parts (λ x. of x (share f (b ∷ bs) c x)) ys ≡ parts (λ x. of x (share f bs (c - f b) x)) ys
+parts_next : (of : Row → ℕ → ℕ) (f : Row → ℕ) (b : Row) (bs ys : List Row) (c : ℕ) →
+    PrecedesAll b ys →
+    parts (λ x. of x (share f (b ∷ bs) c x)) ys ≡ parts (λ x. of x (share f bs (c - f b) x)) ys
 parts_next of f b bs [] c h = refl
-parts_next of f b bs (y ∷ ys) c h = rw (share_next f b y bs c h.0, parts_next of f b bs ys c h.1) refl
+parts_next of f b bs (y ∷ ys) c h =
+    rw (share_next f b y bs c h.0, parts_next of f b bs ys c h.1) refl
 
-pub parts-along : (of : Row → ℕ → ℕ) (f : Row → ℕ) (rows : List Row) (c : ℕ) → IsInOrder rows → parts (λ b. of b (share f rows c b)) rows ≡ parts_along of f c rows
+pub parts-along : (of : Row → ℕ → ℕ) (f : Row → ℕ) (rows : List Row) (c : ℕ) → IsInOrder rows →
+    parts (λ b. of b (share f rows c b)) rows ≡ parts_along of f c rows
 parts-along of f [] c h = refl
 parts-along of f (b ∷ bs) c h =
     let none : c - 0 ≡ c = omega arith in
-    rw (sum_before_first f b bs h.0, parts_next of f b bs bs c h.0, parts-along of f bs (c - f b) h.1, none) refl
+    rw (
+      sum_before_first f b bs h.0,
+      parts_next of f b bs bs c h.0,
+      parts-along of f bs (c - f b) h.1,
+      none,
+    ) refl
 
 -- a new bucket at its place
-pub insert-place : (b : Row) (rows : List Row) → insert rows (place b.until rows) b ≡ inserted b rows
+pub insert-place : (b : Row) (rows : List Row) →
+    insert rows (place b.until rows) b ≡ inserted b rows
 insert-place b [] = refl
-insert-place b (x ∷ xs) = elim (nat_lt b.until x.until) as (λ t. insert (x ∷ xs) (if t then 0 else place b.until xs + 1) b ≡ (if t then b ∷ x ∷ xs else x ∷ inserted b xs)) [ true ↦ refl | false ↦ rw add-one (ap (λ ys. x ∷ ys) (insert-place b xs)) ]
+insert-place b (x ∷ xs) =
+    elim (nat_lt b.until x.until) as
+    (λ t. insert (x ∷ xs) (if t then 0 else place b.until xs + 1) b
+    ≡ (if t then b ∷ x ∷ xs else x ∷ inserted b xs))
+    [ true ↦ refl | false ↦ rw add-one (ap (λ ys. x ∷ ys) (insert-place b xs)) ]
 
-PrecedesAll-first : (b x : Row) (xs : List Row) → nat_lt b.until x.until ≡ true → PrecedesAll x xs → PrecedesAll b xs
+PrecedesAll-first : (b x : Row) (xs : List Row) → nat_lt b.until x.until ≡ true → PrecedesAll x xs →
+    PrecedesAll b xs
 PrecedesAll-first b x [] lt h = tt
-PrecedesAll-first b x (y ∷ ys) lt h = (grind (arith, nat_tests, h.0), PrecedesAll-first b x ys lt h.1)
+PrecedesAll-first b x (y ∷ ys) lt h =
+    (grind (arith, nat_tests, h.0), PrecedesAll-first b x ys lt h.1)
 
-PrecedesAll-inserted : (a b : Row) (rows : List Row) → precedes a b ≡ true → PrecedesAll a rows → PrecedesAll a (inserted b rows)
+PrecedesAll-inserted : (a b : Row) (rows : List Row) → precedes a b ≡ true → PrecedesAll a rows →
+    PrecedesAll a (inserted b rows)
 PrecedesAll-inserted a b [] p h = (p, tt)
-PrecedesAll-inserted a b (x ∷ xs) p h = elim (nat_lt b.until x.until) as (λ t. PrecedesAll a (if t then b ∷ x ∷ xs else x ∷ inserted b xs)) [ true ↦ (p, h) | false ↦ (h.0, PrecedesAll-inserted a b xs p h.1) ]
+PrecedesAll-inserted a b (x ∷ xs) p h =
+    elim (nat_lt b.until x.until) as
+    (λ t. PrecedesAll a (if t then b ∷ x ∷ xs else x ∷ inserted b xs))
+    [ true ↦ (p, h) | false ↦ (h.0, PrecedesAll-inserted a b xs p h.1) ]
 
-inserted_at : (t : Bool) (b x : Row) (xs : List Row) → nat_lt b.until x.until ≡ t → x.number < b.number → IsInOrder (x ∷ xs) → IsInOrder (inserted b xs) → IsInOrder (if t then b ∷ x ∷ xs else x ∷ inserted b xs)
+inserted_at : (t : Bool) (b x : Row) (xs : List Row) → nat_lt b.until x.until ≡ t →
+    x.number < b.number → IsInOrder (x ∷ xs) → IsInOrder (inserted b xs) →
+    IsInOrder (if t then b ∷ x ∷ xs else x ∷ inserted b xs)
 inserted_at true b x xs e new h rest =
     let first : precedes b x ≡ true = grind (arith, nat_tests) in
     ((first, PrecedesAll-first b x xs e h.0), h)
@@ -131,41 +187,71 @@ inserted_at false b x xs e new h rest =
     let behind : precedes x b ≡ true = grind (arith, nat_tests) in
     (PrecedesAll-inserted x b xs behind h.0, rest)
 
-pub IsInOrder-inserted : (b : Row) (rows : List Row) → IsBelow b.number rows → IsInOrder rows → IsInOrder (inserted b rows)
+pub IsInOrder-inserted : (b : Row) (rows : List Row) → IsBelow b.number rows → IsInOrder rows →
+    IsInOrder (inserted b rows)
 IsInOrder-inserted b [] new h = (tt, tt)
-IsInOrder-inserted b (x ∷ xs) new h = inserted_at (nat_lt b.until x.until) b x xs refl new.0 h (IsInOrder-inserted b xs new.1 h.1)
+IsInOrder-inserted b (x ∷ xs) new h =
+    inserted_at (nat_lt b.until x.until) b x xs refl new.0 h (IsInOrder-inserted b xs new.1 h.1)
 
 -- a release leaves each bucket's place too
 pub with_release_number : (at : ℕ) (b : Row) (n : ℕ) → (with_release at b n).number ≡ b.number
-with_release_number at b n = elim (nat_lt at b.until) as (λ t. (if t then record b { reserved = b.reserved - n; available = b.available + n } else record b { reserved = b.reserved - n; expired = b.expired + n }).number ≡ b.number) [ true ↦ refl | false ↦ refl ]
+with_release_number at b n =
+    elim (nat_lt at b.until) as
+    (λ t. (if t then record b { reserved = b.reserved - n; available = b.available + n }
+    else record b { reserved = b.reserved - n; expired = b.expired + n }).number ≡ b.number)
+    [ true ↦ refl | false ↦ refl ]
 
 pub with_release_until : (at : ℕ) (b : Row) (n : ℕ) → (with_release at b n).until ≡ b.until
-with_release_until at b n = elim (nat_lt at b.until) as (λ t. (if t then record b { reserved = b.reserved - n; available = b.available + n } else record b { reserved = b.reserved - n; expired = b.expired + n }).until ≡ b.until) [ true ↦ refl | false ↦ refl ]
+with_release_until at b n =
+    elim (nat_lt at b.until) as
+    (λ t. (if t then record b { reserved = b.reserved - n; available = b.available + n }
+    else record b { reserved = b.reserved - n; expired = b.expired + n }).until ≡ b.until)
+    [ true ↦ refl | false ↦ refl ]
 
-pub released_keeps : (holds : List Hold) (at : ℕ) → KeepsPlace (λ b. with_release at b (held_in holds b))
-released_keeps holds at = record { number = λ b. with_release_number at b (held_in holds b); until = λ b. with_release_until at b (held_in holds b) }
+pub released_keeps : (holds : List Hold) (at : ℕ) →
+    KeepsPlace (λ b. with_release at b (held_in holds b))
+released_keeps holds at =
+    record {
+      number = λ b. with_release_number at b (held_in holds b);
+      until = λ b. with_release_until at b (held_in holds b);
+    }
 
 -- charging holds leaves what is available
-eligible_kept : (group at : ℕ) (b : Row) (n : ℕ) → eligible_amount group at (with_charge_of_hold b n) ≡ eligible_amount group at b
+eligible_kept : (group at : ℕ) (b : Row) (n : ℕ) →
+    eligible_amount group at (with_charge_of_hold b n) ≡ eligible_amount group at b
 eligible_kept group at b n = refl
 
-pub funds-charged : (holds : List Hold) (group at left : ℕ) (rows : List Row) → funds group at (along with_charge_of_hold (held_in holds) left rows) ≡ funds group at rows
+pub funds-charged : (holds : List Hold) (group at left : ℕ) (rows : List Row) →
+    funds group at (along with_charge_of_hold (held_in holds) left rows) ≡ funds group at rows
 funds-charged holds group at left [] = refl
 funds-charged holds group at left (b ∷ bs) =
-    sum_by-cons (eligible_amount group at) (with_charge_of_hold b (min (held_in holds b) left)) (along with_charge_of_hold (held_in holds) (left - held_in holds b) bs)
-    ∙ ap (λ n. eligible_amount group at b + n) (funds-charged holds group at (left - held_in holds b) bs)
+    sum_by-cons (eligible_amount group at) (with_charge_of_hold b (min (held_in holds b) left))
+    (along with_charge_of_hold (held_in holds) (left - held_in holds b) bs)
+    ∙ ap (λ n. eligible_amount group at b + n)
+    (funds-charged holds group at (left - held_in holds b) bs)
     ∙ sym (sum_by-cons (eligible_amount group at) b bs)
 
 -- what is within at the bucket that is next
-pub within_at : (holds : List Hold) (rows : List Row) (i : ℕ) (d : Row) → i < length rows → IsWithin holds (drop i rows) → held_in holds (get_or rows i d) ≤ (get_or rows i d).reserved
+pub within_at : (holds : List Hold) (rows : List Row) (i : ℕ) (d : Row) → i < length rows →
+    IsWithin holds (drop i rows) → held_in holds (get_or rows i d) ≤ (get_or rows i d).reserved
 within_at holds rows i d lt h = (rw (drop_more rows i d lt) at h).0
 
 -- charged to the holds and then to what is eligible
-pub charged_rows-along : (holds : List Hold) (group at amount : ℕ) (rows : List Row) → IsInOrder rows → charged_rows holds group at amount rows ≡ along with_charge (eligible_amount group at) (amount - held_sum holds rows) (along with_charge_of_hold (held_in holds) amount rows)
+pub charged_rows-along : (holds : List Hold) (group at amount : ℕ) (rows : List Row) →
+    IsInOrder rows →
+    charged_rows holds group at amount rows
+    ≡ along with_charge (eligible_amount group at) (amount - held_sum holds rows)
+    (along with_charge_of_hold (held_in holds) amount rows)
 charged_rows-along holds group at amount rows h =
     rw (by_shares-along with_charge_of_hold (held_in holds) rows amount h)
-    (by_shares-along with_charge (eligible_amount group at) (along with_charge_of_hold (held_in holds) amount rows) (amount - held_sum holds rows) (IsInOrder-along with_charge_of_hold (held_in holds) rows amount with_charge_of_hold_keeps h))
+    (by_shares-along with_charge (eligible_amount group at)
+    (along with_charge_of_hold (held_in holds) amount rows) (amount - held_sum holds rows)
+    (IsInOrder-along with_charge_of_hold (held_in holds) rows amount with_charge_of_hold_keeps
+    h))
 
 -- what a later walk finds of the holds is what the first walk found
-pub left_within_at : (holds : List Hold) (left : ℕ) (rows : List Row) (i : ℕ) (d : Row) → i < length rows → IsLeftWithin holds left (drop i rows) → held_in holds (get_or rows i d) - min (held_in holds (get_or rows i d)) left ≤ (get_or rows i d).reserved
+pub left_within_at : (holds : List Hold) (left : ℕ) (rows : List Row) (i : ℕ) (d : Row) →
+    i < length rows → IsLeftWithin holds left (drop i rows) →
+    held_in holds (get_or rows i d) - min (held_in holds (get_or rows i d)) left
+    ≤ (get_or rows i d).reserved
 left_within_at holds left rows i d lt h = (rw (drop_more rows i d lt) at h).0

@@ -14,7 +14,8 @@ holds_of group at amount rows = parts (share (eligible_amount group at) rows amo
 -- each hold is above 0, and of another bucket than those after it
 abbrev pub AreHolds : List Hold → Type 0
 AreHolds [] = Unit {0}
-AreHolds (h ∷ hs) = (0 < h.amount) × AllByRecursion (λ other. other.bucket ≢ h.bucket) hs × AreHolds hs
+AreHolds (h ∷ hs) =
+    (0 < h.amount) × AllByRecursion (λ other. other.bucket ≢ h.bucket) hs × AreHolds hs
 
 -- what the holds have of a bucket
 abbrev pub held_in : List Hold → Row → ℕ
@@ -32,7 +33,8 @@ held_sum holds rows = sum_by (held_in holds) rows
 -- an amount is charged to the holds first, in order; what they don't reach, to what is eligible
 abbrev pub charged_rows : List Hold → ℕ → ℕ → ℕ → List Row → List Row
 charged_rows holds group at amount rows =
-    by_shares with_charge (eligible_amount group at) (by_shares with_charge_of_hold (held_in holds) rows amount) (amount - held_sum holds rows)
+    by_shares with_charge (eligible_amount group at)
+    (by_shares with_charge_of_hold (held_in holds) rows amount) (amount - held_sum holds rows)
 
 -- what neither reaches
 abbrev pub uncollected : List Hold → ℕ → ℕ → ℕ → List Row → ℕ
@@ -40,27 +42,34 @@ uncollected holds group at amount rows = amount - held_sum holds rows - funds gr
 
 -- what is left of the holds
 abbrev pub rest_of_holds : List Hold → ℕ → List Row → List Hold
-rest_of_holds holds amount rows = parts (λ b. held_in holds b - share (held_in holds) rows amount b) rows
+rest_of_holds holds amount rows =
+    parts (λ b. held_in holds b - share (held_in holds) rows amount b) rows
 
 -- what is held is given up
 abbrev pub released_rows : List Hold → ℕ → List Row → List Row
 released_rows holds at rows = map (λ b. with_release at b (held_in holds b)) rows
 
--- what a bucket pays of a rated amount: first of what the report's reservation holds of it, then of what it
--- has available
+-- what a bucket pays of a rated amount: first of what the report's reservation holds of it, then of
+-- what it has available
 abbrev pub paid_of_hold : List Hold → ℕ → List Row → Row → ℕ
 paid_of_hold holds amount rows b = share (held_in holds) rows amount b
 
 abbrev pub paid_of_rest : List Hold → ℕ → ℕ → ℕ → List Row → Row → ℕ
-paid_of_rest holds group at amount rows b = share (eligible_amount group at) rows (amount - held_sum holds rows) b
+paid_of_rest holds group at amount rows b =
+    share (eligible_amount group at) rows (amount - held_sum holds rows) b
 
 abbrev pub paid : List Hold → ℕ → ℕ → ℕ → List Row → Row → ℕ
-paid holds group at amount rows b = paid_of_hold holds amount rows b + paid_of_rest holds group at amount rows b
+paid holds group at amount rows b =
+    paid_of_hold holds amount rows b + paid_of_rest holds group at amount rows b
 
--- a bucket with a settlement: what it pays is charged, and the rest of what was held of it is given up
+-- a bucket with a settlement: what it pays is charged, and the rest of what was held of it is given
+-- up
 abbrev pub settled_row : List Hold → ℕ → ℕ → ℕ → List Row → Row → Row
 settled_row holds group at amount rows b =
-    with_release at (with_charge (with_charge_of_hold b (paid_of_hold holds amount rows b)) (paid_of_rest holds group at amount rows b)) (held_in holds b - paid_of_hold holds amount rows b)
+    with_release at
+    (with_charge (with_charge_of_hold b (paid_of_hold holds amount rows b))
+    (paid_of_rest holds group at amount rows b))
+    (held_in holds b - paid_of_hold holds amount rows b)
 
 abbrev pub settled_rows : List Hold → ℕ → ℕ → ℕ → List Row → List Row
 settled_rows holds group at amount rows = map (settled_row holds group at amount rows) rows
@@ -72,4 +81,6 @@ with_rest_released holds at b part = with_release at b (held_in holds b - part)
 -- what an amount that was charged to the holds leaves of them is within what is reserved
 abbrev pub IsLeftWithin : List Hold → ℕ → List Row → Type 0
 IsLeftWithin holds left [] = Unit {0}
-IsLeftWithin holds left (b ∷ bs) = (held_in holds b - min (held_in holds b) left ≤ b.reserved) × IsLeftWithin holds (left - held_in holds b) bs
+IsLeftWithin holds left (b ∷ bs) =
+    (held_in holds b - min (held_in holds b) left ≤ b.reserved) ×
+    IsLeftWithin holds (left - held_in holds b) bs

@@ -1,5 +1,6 @@
 -- A bucket as a caller sees it.
--- Source: TS 32.296, account balance management function; the four columns, scopes and the order of use: profile.
+-- Source: TS 32.296, account balance management function; the four columns, scopes and the order of
+-- use: profile.
 use Rattle.std.specs.Prelude.{◌≡◌, ℕ, ◌+◌, ◌-◌, ◌≤◌, Option, Some, None, Bool, true, ◌==◌, ◌&&◌, ◌||◌, nat_lt, nat_le, if◌then◌else◌}
 
 pub record Row : Type 0 where
@@ -40,7 +41,8 @@ abbrev pub with_hold : Row → ℕ → Row
 with_hold b amount = record b { available = b.available - amount; reserved = b.reserved + amount }
 
 abbrev pub with_charge_of_hold : Row → ℕ → Row
-with_charge_of_hold b amount = record b { reserved = b.reserved - amount; charged = b.charged + amount }
+with_charge_of_hold b amount =
+    record b { reserved = b.reserved - amount; charged = b.charged + amount }
 
 abbrev pub with_charge : Row → ℕ → Row
 with_charge b amount = record b { available = b.available - amount; charged = b.charged + amount }
@@ -53,7 +55,8 @@ with_release at b amount =
     else record b { reserved = b.reserved - amount; expired = b.expired + amount }
 
 abbrev pub with_end : ℕ → Row → Row
-with_end at b = if nat_lt at b.until then b else record b { available = 0; expired = b.expired + b.available }
+with_end at b =
+    if nat_lt at b.until then b else record b { available = 0; expired = b.expired + b.available }
 
 -- a bucket as it is credited
 abbrev pub new_row : ℕ → ℕ → ℕ → Option ℕ → ℕ → Row

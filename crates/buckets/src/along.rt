@@ -30,7 +30,8 @@ pub(crate) fn sum_of(buckets: &[Bucket], group: u32, at: Moment) -> u128
 }
 
 pub(crate) fn hold_along(buckets: &mut Vec<Bucket>, group: u32, at: Moment, amount: u128)
-    ensures { buckets.new.items ≡ along with_hold (eligible_amount group at) amount buckets.old.items }
+    ensures { buckets.new.items
+        ≡ along with_hold (eligible_amount group at) amount buckets.old.items }
 {
     let mut left = amount;
     for bucket in buckets.iter_mut() {
@@ -41,7 +42,8 @@ pub(crate) fn hold_along(buckets: &mut Vec<Bucket>, group: u32, at: Moment, amou
 }
 
 pub(crate) fn charge_along(buckets: &mut Vec<Bucket>, group: u32, at: Moment, amount: u128) -> u128
-    ensures rows { buckets.new.items ≡ along with_charge (eligible_amount group at) amount buckets.old.items }
+    ensures rows { buckets.new.items
+        ≡ along with_charge (eligible_amount group at) amount buckets.old.items }
     ensures left { result ≡ amount - funds group at buckets.old.items }
 {
     let mut left = amount;
@@ -71,7 +73,8 @@ pub(crate) fn write_parts(
 )
     requires empty { vec_len parts.old ≡ 0 }
     requires room { length buckets.now ≤ vec_capacity parts.old }
-    ensures { parts.new.items ≡ parts_along (λ b n. n) (eligible_amount group at) amount buckets.now }
+    ensures { parts.new.items
+        ≡ parts_along (λ b n. n) (eligible_amount group at) amount buckets.now }
 {
     let mut left = amount;
     for bucket in buckets {
@@ -121,7 +124,9 @@ pub(crate) fn rest_of(
     amount: u128,
 ) -> Result<Vec<Hold>, AllocError>
     requires { IsWithin holds.now buckets.now }
-    ensures { IfOk result (λ rest. rest.items ≡ parts_along (λ b n. held_in holds.now b - n) (held_in holds.now) amount buckets.now) }
+    ensures { IfOk result
+        (λ rest. rest.items
+        ≡ parts_along (λ b n. held_in holds.now b - n) (held_in holds.now) amount buckets.now) }
 {
     let mut rest = Vec::new(alloc);
     let mut left = amount;
@@ -150,7 +155,8 @@ fn held_within(holds: &[Hold], bucket: &Bucket) -> u64
 
 pub(crate) fn charge_holds_along(buckets: &mut Vec<Bucket>, holds: &[Hold], amount: u128) -> u128
     requires { IsWithin holds.now buckets.old.items }
-    ensures rows { buckets.new.items ≡ along with_charge_of_hold (held_in holds.now) amount buckets.old.items }
+    ensures rows { buckets.new.items
+        ≡ along with_charge_of_hold (held_in holds.now) amount buckets.old.items }
     ensures left { result ≡ amount - held_sum holds.now buckets.old.items }
 {
     let mut left = amount;
@@ -164,7 +170,8 @@ pub(crate) fn charge_holds_along(buckets: &mut Vec<Bucket>, holds: &[Hold], amou
 
 pub(crate) fn release_all(buckets: &mut Vec<Bucket>, holds: &[Hold], at: Moment)
     requires { IsWithin holds.now buckets.old.items }
-    ensures { buckets.new.items ≡ map (λ b. with_release at b (held_in holds.now b)) buckets.old.items }
+    ensures { buckets.new.items
+        ≡ map (λ b. with_release at b (held_in holds.now b)) buckets.old.items }
 {
     for bucket in buckets.iter_mut() {
         let amount = held_within(holds, bucket);
@@ -185,7 +192,8 @@ fn rest_within(holds: &[Hold], bucket: &Bucket, part: u128) -> u64
 /// Gives up what an amount that was charged to the holds leaves of them.
 pub(crate) fn release_rest(buckets: &mut Vec<Bucket>, holds: &[Hold], at: Moment, amount: u128)
     requires { IsLeftWithin holds.now amount buckets.old.items }
-    ensures { buckets.new.items ≡ along (with_rest_released holds.now at) (held_in holds.now) amount buckets.old.items }
+    ensures { buckets.new.items
+        ≡ along (with_rest_released holds.now at) (held_in holds.now) amount buckets.old.items }
 {
     let mut left = amount;
     for bucket in buckets.iter_mut() {

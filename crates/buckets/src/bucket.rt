@@ -4,10 +4,12 @@ ghost use Rattle.buckets.specs.Row.{is_eligible, eligible_amount, with_hold, wit
 use std::marker::Model;
 use units::{Moment, Money};
 
-/// Money that was credited at once, and what became of it (TS 32.296, account balance management function).
+/// Money that was credited at once, and what became of it (TS 32.296, account balance management
+/// function).
 ///
-/// The credited amount is the sum of four columns, which the type keeps: what is available, what is reserved
-/// for live sessions, what was charged, and what expired at the bucket's end. All are micro-units.
+/// The credited amount is the sum of four columns, which the type keeps: what is available, what is
+/// reserved for live sessions, what was charged, and what expired at the bucket's end. All are
+/// micro-units.
 #[derive(Clone, Debug, Drop)]
 pub struct Bucket {
     number: u32,
@@ -140,8 +142,8 @@ impl Bucket {
         }
     }
 
-    /// Whether it may be used for the rating group at the moment: between its beginning and its end, and where
-    /// its scope is none or the group.
+    /// Whether it may be used for the rating group at the moment: between its beginning and its
+    /// end, and where its scope is none or the group.
     pub fn is_eligible(&self, group: u32, at: Moment) -> bool
         ensures { result ≡ is_eligible group at self.now }
     {
@@ -152,8 +154,8 @@ impl Bucket {
         self.from <= at && at < self.until && covered
     }
 
-    /// What it has available for the rating group at the moment, in micro-units: nothing where it isn't
-    /// eligible.
+    /// What it has available for the rating group at the moment, in micro-units: nothing where it
+    /// isn't eligible.
     pub fn eligible_amount(&self, group: u32, at: Moment) -> u64
         ensures amount { result ≡ eligible_amount group at self.now }
         ensures most { result ≤ 1_000_000_000_000_000 }

@@ -1,5 +1,5 @@
-//! The buckets of an account, and what is done to them: credit, hold, charge, release and expiry, each in the
-//! order of the buckets' ends.
+//! The buckets of an account, and what is done to them: credit, hold, charge, release and expiry,
+//! each in the order of the buckets' ends.
 #![tactic(auto)]
 
 mod along;

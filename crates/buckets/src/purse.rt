@@ -42,8 +42,8 @@ pub struct Charged {
     ghost sum: { collected.0 + uncollected.0 < 2 ^ 128 },
 }
 
-/// The buckets of an account, by end and then by number: the order in which they are used (TS 32.296, account
-/// balance management function).
+/// The buckets of an account, by end and then by number: the order in which they are used (TS
+/// 32.296, account balance management function).
 #[derive(Clone, Drop)]
 pub struct Purse {
     buckets: Vec<Bucket>,
@@ -81,8 +81,8 @@ impl Purse {
         self.buckets.as_slice()
     }
 
-    /// Adds a bucket, all of it available, under a number above all others (TS 32.296, account balance management
-    /// function). The purse is unchanged at a fault, which is want of memory.
+    /// Adds a bucket, all of it available, under a number above all others (TS 32.296, account
+    /// balance management function). The purse is unchanged at a fault, which is want of memory.
     pub fn credit(
         &mut self,
         number: u32,
@@ -92,7 +92,8 @@ impl Purse {
         amount: Money,
     ) -> Result<(), PurseFault>
         requires { IsBelow number self.old }
-        ensures ok { OnOk result (self.new ≡ inserted (new_row number from until scope amount) self.old) }
+        ensures ok { OnOk result
+            (self.new ≡ inserted (new_row number from until scope amount) self.old) }
         ensures memory { OnErr result (result ≡ Err PurseFault.Memory) }
         ensures err { OnErr result (self.new ≡ self.old) }
     {
@@ -112,14 +113,15 @@ impl Purse {
         Amount(along::sum_of(&self.buckets, group, at))
     }
 
-    /// Holds the amount in the eligible buckets, in their order (TS 32.299, session charging with unit
-    /// reservation). The purse is unchanged at a fault: `NotCovered` where the amount exceeds the funds, else
-    /// `Memory`.
+    /// Holds the amount in the eligible buckets, in their order (TS 32.299, session charging with
+    /// unit reservation). The purse is unchanged at a fault: `NotCovered` where the amount exceeds
+    /// the funds, else `Memory`.
     pub fn hold(&mut self, group: u32, at: Moment, amount: Amount) -> Result<Holds, PurseFault>
         ensures rows { OnOk result (self.new ≡ held_rows group at amount.0 self.old) }
         ensures holds { IfOk result (λ h. h ≡ holds_of group at amount.0 self.old) }
         ensures within { IfOk result (λ h. IsWithin h self.new) }
-        ensures not_covered { IsErrOf result PurseFault.NotCovered ↔ (funds group at self.old < amount.0) }
+        ensures not_covered { IsErrOf result PurseFault.NotCovered
+            ↔ (funds group at self.old < amount.0) }
         ensures err { OnErr result (self.new ≡ self.old) }
     {
         if self.funds(group, at) < amount {
@@ -150,9 +152,9 @@ impl Purse {
         Holds { items }
     }
 
-    /// Charges an amount to the holds that are lent, and what they don't reach to the eligible buckets, each in
-    /// order. The holds are lowered by what was taken of them. Purse and holds are unchanged at a fault, which
-    /// is want of memory.
+    /// Charges an amount to the holds that are lent, and what they don't reach to the eligible
+    /// buckets, each in order. The holds are lowered by what was taken of them. Purse and holds are
+    /// unchanged at a fault, which is want of memory.
     pub fn charge(
         &mut self,
         holds: &mut Holds,
@@ -165,7 +167,8 @@ impl Purse {
         ensures rows { OnOk result (self.new ≡ charged_rows holds.old group at amount.0 self.old) }
         ensures holds { OnOk result (holds.new ≡ rest_of_holds holds.old amount.0 self.old) }
         ensures within { OnOk result (IsWithin holds.new self.new) }
-        ensures uncollected { IfOk result (λ c. c.uncollected.0 ≡ uncollected holds.old group at amount.0 self.old) }
+        ensures uncollected { IfOk result
+            (λ c. c.uncollected.0 ≡ uncollected holds.old group at amount.0 self.old) }
         ensures collected { IfOk result (λ c. c.collected.0 + c.uncollected.0 ≡ amount.0) }
         ensures memory { OnErr result (result ≡ Err PurseFault.Memory) }
         ensures err { OnErr result (self.new ≡ self.old) }
@@ -183,8 +186,8 @@ impl Purse {
         })
     }
 
-    /// Charges an amount as `charge` does and then gives up what is left of the holds: what a report's
-    /// settlement does to the purse. It takes no memory.
+    /// Charges an amount as `charge` does and then gives up what is left of the holds: what a
+    /// report's settlement does to the purse. It takes no memory.
     pub fn settle(&mut self, holds: Holds, group: u32, at: Moment, amount: Amount) -> Charged
         requires { IsWithin holds self.old }
         ensures sound { IsSound self.old }

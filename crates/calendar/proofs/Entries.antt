@@ -9,18 +9,22 @@ use Rattle.calendar.specs.Week.{covers, period_in}
 abbrev one_if : Bool → ℕ
 one_if b = if b then 1 else 0
 
-counted : (w m : ℕ) (e : Entry) (es : List Entry) → count_by (covers w m) (e ∷ es) ≡ one_if (covers w m e) + count_by (covers w m) es
+counted : (w m : ℕ) (e : Entry) (es : List Entry) →
+    count_by (covers w m) (e ∷ es) ≡ one_if (covers w m e) + count_by (covers w m) es
 counted w m e es = sum_by-cons (λ x. one_if (covers w m x)) e es
 
 -- where no entry is counted, none holds the minute
-uncounted : (w m i : ℕ) (es : List Entry) (d : Entry) → count_by (covers w m) es ≡ 0 → i < length es → covers w m (get_or es i d) ≡ true → ⊥
+uncounted : (w m i : ℕ) (es : List Entry) (d : Entry) → count_by (covers w m) es ≡ 0 →
+    i < length es → covers w m (get_or es i d) ≡ true → ⊥
 uncounted w m i [] d none within holds = absurd (omega arith)
 uncounted w m zero (e ∷ es) d none within holds =
     let here : one_if (covers w m e) ≡ 1 = rw holds refl in
     absurd (omega (arith, counted w m e es, here))
-uncounted w m (suc i) (e ∷ es) d none within holds = uncounted w m i es d (omega (arith, counted w m e es)) (omega arith) holds
+uncounted w m (suc i) (e ∷ es) d none within holds =
+    uncounted w m i es d (omega (arith, counted w m e es)) (omega arith) holds
 
-pub one_entry : (w m i : ℕ) (es : List Entry) (d : Entry) → count_by (covers w m) es ≡ 1 → i < length es → covers w m (get_or es i d) ≡ true
+pub one_entry : (w m i : ℕ) (es : List Entry) (d : Entry) → count_by (covers w m) es ≡ 1 →
+    i < length es → covers w m (get_or es i d) ≡ true
     → period_in es w m ≡ (get_or es i d).period
 one_entry w m i [] d once within holds = absurd (omega arith)
 one_entry w m zero (e ∷ es) d once within holds = rw holds refl

@@ -7,7 +7,8 @@ use Rattle.jiff.proofs.ZoneFacts.{offset_at-fixed_zone, picked_instant-fixed_zon
 use Rattle.calendar.specs.Plain.{IsFixed}
 
 -- the zone of an offset of whole minutes within 14 hours
-pub is_fixed : (o : Offset) (minutes : ℤ) → o.seconds ≡ minutes *ℤ pos 60 → IsWithin 840 minutes → IsFixed (fixed_zone o)
+pub is_fixed : (o : Offset) (minutes : ℤ) → o.seconds ≡ minutes *ℤ pos 60 → IsWithin 840 minutes →
+    IsFixed (fixed_zone o)
 is_fixed o minutes is near =
     let at : offset_at (fixed_zone o) (pos 0) ≡ o.seconds = offset_at-fixed_zone o (pos 0) in
     record {

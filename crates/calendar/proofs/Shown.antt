@@ -18,20 +18,26 @@ size_is (pos n) h = refl
 size_is (negsuc n) h = absurd (omega (arith, signed_arith))
 
 pub clock_parts : (zone : ZoneRule) (t : ℕ) (dt : DateTime) → Shows zone t dt
-    → (epoch_day dt.date *ℤ pos 86400 +ℤ pos (86400 + dt.time.hour * 3600 + dt.time.minute * 60 + dt.time.second) ≡ pos (clock zone t))
+    → (epoch_day dt.date *ℤ pos 86400 +ℤ pos
+    (86400 + dt.time.hour * 3600 + dt.time.minute * 60 + dt.time.second) ≡ pos (clock zone t))
 clock_parts zone t dt h =
     let near : IsWithin 50_400 (offset zone t) = h.near in
-    let size : pos (clock zone t) ≡ pos (t + 86400) +ℤ offset zone t = size_is _ (omega (arith, signed_arith)) in
+    let size : pos (clock zone t) ≡ pos (t + 86400) +ℤ offset zone t =
+    size_is _ (omega (arith, signed_arith)) in
     omega (arith, signed_arith, civil_nanos-parts dt, h.at)
 
-pub day_is : (zone : ZoneRule) (t : ℕ) (dt : DateTime) → Shows zone t dt → epoch_day dt.date +ℤ pos 1 ≡ pos (day zone t)
+pub day_is : (zone : ZoneRule) (t : ℕ) (dt : DateTime) → Shows zone t dt →
+    epoch_day dt.date +ℤ pos 1 ≡ pos (day zone t)
 day_is zone t dt h = omega (arith, signed_arith, clock_parts zone t dt h)
 
 -- the weekday of the date that the clock shows
-pub weekday_is : (zone : ZoneRule) (t : ℕ) (d : Date) → epoch_day d +ℤ pos 1 ≡ pos (day zone t) → weekday_of d ≡ weekday zone t
+pub weekday_is : (zone : ZoneRule) (t : ℕ) (d : Date) → epoch_day d +ℤ pos 1 ≡ pos (day zone t) →
+    weekday_of d ≡ weekday zone t
 weekday_is zone t d h = omega (arith, signed_arith, h, weekday_number-parts (epoch_day d))
 
-pub day_bound : (zone : ZoneRule) (t : ℕ) → IsWithin 50_400 (offset zone t) → t ≤ 4_102_488_000 → day zone t ≤ 50000
+pub day_bound : (zone : ZoneRule) (t : ℕ) → IsWithin 50_400 (offset zone t) → t ≤ 4_102_488_000 →
+    day zone t ≤ 50000
 day_bound zone t near h =
-    let size : pos (clock zone t) ≡ pos (t + 86400) +ℤ offset zone t = size_is _ (omega (arith, signed_arith)) in
+    let size : pos (clock zone t) ≡ pos (t + 86400) +ℤ offset zone t =
+    size_is _ (omega (arith, signed_arith)) in
     omega (arith, signed_arith, size)

@@ -20,12 +20,13 @@ pub record IsZone (zone : ZoneRule) : Type 0 where
   pub near : (t : ℕ) → IsWithin 50_400 (offset zone t)
   pub whole : (t : ℕ) → unsigned_abs (offset zone t) % 60 ≡ 0
 
--- the seconds from 1969-12-31 00:00 to what the zone's clock shows at a moment; no clock is 24 hours behind UTC
+-- the seconds from 1969-12-31 00:00 to what the zone's clock shows at a moment; no clock is 24
+-- hours behind UTC
 abbrev pub clock : ZoneRule → ℕ → ℕ
 clock zone t = unsigned_abs (pos (t + 86400) +ℤ offset zone t)
 
--- what a clock shows, in seconds since 1969-12-31 00:00: the day since then, the weekday from 0 for Monday
--- (1969-12-31 was a Wednesday), and the minute of the day
+-- what a clock shows, in seconds since 1969-12-31 00:00: the day since then, the weekday from 0 for
+-- Monday (1969-12-31 was a Wednesday), and the minute of the day
 abbrev pub shown_day : ℕ → ℕ
 shown_day shown = shown / 86400
 

@@ -8,7 +8,8 @@ use Rattle.calendar.specs.Clock.{ZoneRule, day}
 -- the last of the first n months of a year that has begun by a day, in days since 1970-01-01
 unfoldable pub last_begun : ℤ → ℕ → ℤ → ℕ
 last_begun year zero d = 0
-last_begun year (suc n) d = if int_le (days_from_civil year (suc n) 1) d then suc n else last_begun year n d
+last_begun year (suc n) d =
+    if int_le (days_from_civil year (suc n) 1) d then suc n else last_begun year n d
 
 -- the number of the civil month of a day: 12 * (year - 1969) + month - 1
 abbrev pub month_of_day : ℤ → ℕ

@@ -1,5 +1,6 @@
 -- Tariff periods, switches, validity times, cycles and day ends in the zone and the week of a book.
--- Source: RFC 8506 sections 5.1.1 (Tariff-Time-Change) and 8.33 (Validity-Time); cycles and days: profile.
+-- Source: RFC 8506 sections 5.1.1 (Tariff-Time-Change) and 8.33 (Validity-Time); cycles and days:
+-- profile.
 use Rattle.std.specs.Prelude.{◌≡◌, ◌≢◌, ℕ, zero, suc, ◌+◌, ◌-◌, ◌*◌, ◌/◌, ◌%◌, ◌<◌, ◌≤◌, ◌==◌, Bool, not, List, [], ◌∷◌, if◌then◌else◌, find, Option, Some, None, unwrap_or}
 use Rattle.std.specs.Option.{option_map}
 use Rattle.calendar.specs.declared.week.Entry.{Entry}
@@ -22,19 +23,23 @@ pub record IsTimetable (c : Timetable) : Type 0 where
 
 -- the timetable of a zone and the entries of a week; None where they aren't those of a week
 abbrev pub timetable_of : ZoneRule → List Entry → Option Timetable
-timetable_of zone entries = if is_week entries then Some (record { zone = zone; entries = entries }) else None
+timetable_of zone entries =
+    if is_week entries then Some (record { zone = zone; entries = entries }) else None
 
 -- the beginning of the moment's UTC minute
 abbrev pub minute_start : ℕ → ℕ
 minute_start t = 60 * (t / 60)
 
--- the tariff period at a moment: that of the civil weekday and minute of the beginning of its UTC minute
+-- the tariff period at a moment: that of the civil weekday and minute of the beginning of its UTC
+-- minute
 abbrev pub period_at : Timetable → ℕ → Period
-period_at c t = period_in c.entries (weekday c.zone (minute_start t)) (minute c.zone (minute_start t))
+period_at c t =
+    period_in c.entries (weekday c.zone (minute_start t)) (minute c.zone (minute_start t))
 
 -- an entry of the week that holds the civil minute of the beginning of the moment's UTC minute
 abbrev pub IsEntryAt : Timetable → ℕ → Entry → Type 0
-IsEntryAt c t e = IsEntryFor c.entries (weekday c.zone (minute_start t)) (minute c.zone (minute_start t)) e
+IsEntryAt c t e =
+    IsEntryFor c.entries (weekday c.zone (minute_start t)) (minute c.zone (minute_start t)) e
 
 -- a whole minute after t and before the end at which the period is another than that at t
 pub record IsChange (c : Timetable) (t end s : ℕ) : Type 0 where
@@ -56,15 +61,16 @@ minutes_between t end = minutes_from (60 * (t / 60 + 1)) ((end - 1) / 60 - t / 6
 abbrev pub is_other : Timetable → ℕ → ℕ → Bool
 is_other c t s = not ((period_at c s).0 == (period_at c t).0)
 
--- the tariff switch (Tariff-Time-Change): the first of the whole minutes after t and less than d seconds later
--- whose period is another than that at t
+-- the tariff switch (Tariff-Time-Change): the first of the whole minutes after t and less than d
+-- seconds later whose period is another than that at t
 unfoldable pub switch_within : Timetable → ℕ → ℕ → Option ℕ
 switch_within c t d = find (is_other c t) (minutes_between t (t + d))
 
 -- a validity of v seconds from t with the switch s: cut at the next switch after s
 abbrev pub cut_after : Timetable → ℕ → ℕ → Option ℕ → ℕ
 cut_after c t v None = v
-cut_after c t v (Some s) = unwrap_or (option_map (λ next. next - t) (switch_within c s (t + v - s))) v
+cut_after c t v (Some s) =
+    unwrap_or (option_map (λ next. next - t) (switch_within c s (t + v - s))) v
 
 -- the granted Validity-Time: the book's validity v, cut at the second switch after t
 abbrev pub validity_from : Timetable → ℕ → ℕ → ℕ
@@ -85,8 +91,8 @@ numbers_from m (suc n) = m ∷ numbers_from (m + 1) n
 abbrev pub is_day_after : ZoneRule → ℕ → ℕ → ℕ → Bool
 is_day_after zone t days s = day zone s == day zone t + days + 1
 
--- where the day `days` days after that of t ends: the least moment of a command at which the clock shows the day after
--- it; None where no moment of a command does
+-- where the day `days` days after that of t ends: the least moment of a command at which the clock
+-- shows the day after it; None where no moment of a command does
 unfoldable pub day_end : ZoneRule → ℕ → ℕ → Option ℕ
 day_end zone t days = find (is_day_after zone t days) (numbers_from 0 4_102_444_800)
 

@@ -31,8 +31,8 @@ impl Model for Calendar {
 }
 
 impl Calendar {
-    /// The calendar of a zone and the entries of a week; None where there are more than 64, where one ends after
-    /// 24:00, or where some minute of the week stands in no entry or in several.
+    /// The calendar of a zone and the entries of a week; None where there are more than 64, where
+    /// one ends after 24:00, or where some minute of the week stands in no entry or in several.
     pub fn new(zone: Zone, entries: Vec<Entry>) -> Option<Calendar>
         ensures week { IsSome result ↔ IsWeek entries.items }
         ensures value { result ≡ timetable_of zone entries.items }
@@ -46,8 +46,9 @@ impl Calendar {
         }
     }
 
-    /// The tariff period at a moment: that of the civil weekday and minute of the beginning of its UTC minute
-    /// (Tariff-Time-Change and rating by time, TS 32.296; the rule of the minute is profile).
+    /// The tariff period at a moment: that of the civil weekday and minute of the beginning of its
+    /// UTC minute (Tariff-Time-Change and rating by time, TS 32.296; the rule of the minute is
+    /// profile).
     pub fn period_at(&self, moment: Moment) -> Period
         ensures value { result ≡ period_at self.now moment }
         ensures entry { (e : Entry) → IsEntryAt self.now moment e → result ≡ e.period }
@@ -57,15 +58,17 @@ impl Calendar {
         covered::entry_at(&self.entries, self.zone.clock_at(minute)).period
     }
 
-    /// The tariff switch (Tariff-Time-Change, RFC 8506 section 8.20): the least whole minute after the moment, and
-    /// less than so many seconds later, whose period is another than that at the moment. At most 43,200 seconds are
-    /// asked for, up to the last moment that the type has: each moment of a command has that many after it.
+    /// The tariff switch (Tariff-Time-Change, RFC 8506 section 8.20): the least whole minute after
+    /// the moment, and less than so many seconds later, whose period is another than that at the
+    /// moment. At most 43,200 seconds are asked for, up to the last moment that the type has: each
+    /// moment of a command has that many after it.
     pub fn next_switch(&self, moment: Moment, seconds: u32) -> Option<Moment>
         requires seconds { seconds ≤ 43_200 }
         requires in_range { moment + seconds ≤ 4_102_488_000 }
         ensures value { result ≡ switch_within self.now moment seconds }
         ensures found { IfSome result (IsChange self.now moment (moment + seconds)) }
-        ensures least { IfSome result (λ s. (r : ℕ) → IsChange self.now moment (moment + seconds) r → s ≤ r) }
+        ensures least { IfSome result
+            (λ s. (r : ℕ) → IsChange self.now moment (moment + seconds) r → s ≤ r) }
         ensures none { IfNone result ((r : ℕ) → IsChange self.now moment (moment + seconds) r → ⊥) }
     {
         self.next_switch_steps(moment, seconds, &mut Steps::new())
@@ -83,7 +86,8 @@ impl Calendar {
         requires steps { steps.old ≤ 1_000_000_000 }
         ensures value { result ≡ switch_within self.now moment seconds }
         ensures found { IfSome result (IsChange self.now moment (moment + seconds)) }
-        ensures least { IfSome result (λ s. (r : ℕ) → IsChange self.now moment (moment + seconds) r → s ≤ r) }
+        ensures least { IfSome result
+            (λ s. (r : ℕ) → IsChange self.now moment (moment + seconds) r → s ≤ r) }
         ensures none { IfNone result ((r : ℕ) → IsChange self.now moment (moment + seconds) r → ⊥) }
         ensures steps { steps.new ≤ steps.old + 129 }
     {
@@ -93,13 +97,15 @@ impl Calendar {
         }
     }
 
-    /// The first whole minute after a moment, and less than so many seconds later, of another period.
+    /// The first whole minute after a moment, and less than so many seconds later, of another
+    /// period.
     fn change_after(&self, start: u64, seconds: u32, steps: &mut Steps) -> Option<u64>
         requires start { start < 2 ^ 33 }
         requires steps { steps.old ≤ 1_000_000_000 }
         ensures value { result ≡ switch_within self.now start seconds }
         ensures found { IfSome result (IsChange self.now start (start + seconds)) }
-        ensures least { IfSome result (λ s. (r : ℕ) → IsChange self.now start (start + seconds) r → s ≤ r) }
+        ensures least { IfSome result (λ s. (r : ℕ) → IsChange self.now start (start + seconds) r →
+            s ≤ r) }
         ensures none { IfNone result ((r : ℕ) → IsChange self.now start (start + seconds) r → ⊥) }
         ensures steps { seconds ≤ 43_200 → steps.new ≤ steps.old + 129 }
     {
@@ -120,8 +126,8 @@ impl Calendar {
         None
     }
 
-    /// The tariff switch within a validity from a moment on, and the validity that is granted with it, as
-    /// `next_switch` and `validity_from` tell them, by one walk over the week.
+    /// The tariff switch within a validity from a moment on, and the validity that is granted with
+    /// it, as `next_switch` and `validity_from` tell them, by one walk over the week.
     pub fn window_from(&self, moment: Moment, validity: u32) -> Window
         ensures switch { result.switch ≡ switch_within self.now moment validity }
         ensures found { IfSome result.switch (IsChange self.now moment (moment + validity)) }
@@ -155,16 +161,16 @@ impl Calendar {
         }
     }
 
-    /// The granted Validity-Time (RFC 8506 section 8.33), in seconds: the book's validity, cut at the next later
-    /// change of period after the switch that lies within it.
+    /// The granted Validity-Time (RFC 8506 section 8.33), in seconds: the book's validity, cut at
+    /// the next later change of period after the switch that lies within it.
     pub fn validity_from(&self, moment: Moment, validity: u32) -> u32
         ensures { result ≡ validity_from self.now moment validity }
     {
         self.window_from(moment, validity).validity
     }
 
-    /// The number of a counter's cycle at a moment, in the book's zone: 0 for none; days since 1969-12-31; months
-    /// since January 1969.
+    /// The number of a counter's cycle at a moment, in the book's zone: 0 for none; days since
+    /// 1969-12-31; months since January 1969.
     pub fn cycle_of(&self, cycle: Cycle, moment: Moment) -> u32
         ensures value { result ≡ cycle_of self.now.zone cycle moment }
         ensures month { (d : Date) → epoch_day d +ℤ pos 1 ≡ pos (day self.now.zone moment) →
@@ -177,12 +183,13 @@ impl Calendar {
         }
     }
 
-    /// Where the day so many days after that of the moment ends: the least moment of the civil day after it (a
-    /// voucher has 1 to 3,650 days); None past the last moment of commands.
+    /// Where the day so many days after that of the moment ends: the least moment of the civil day
+    /// after it (a voucher has 1 to 3,650 days); None past the last moment of commands.
     pub fn day_end(&self, moment: Moment, days: u32) -> Option<Moment>
         ensures value { result ≡ day_end self.now.zone moment days }
         ensures end { IfSome result (IsDayEnd self.now.zone moment days) }
-        ensures none { IfNone result ((s : ℕ) → IsDayEnd self.now.zone moment days s → 4_102_444_800 ≤ s) }
+        ensures none { IfNone result ((s : ℕ) → IsDayEnd self.now.zone moment days s →
+            4_102_444_800 ≤ s) }
     {
         self.zone.day_end(moment.seconds(), days)
     }

@@ -7,7 +7,8 @@ ghost use Rattle.calendar.specs.Week.{covers, CoversWeek, IsEntryFor, minutes_co
 
 use crate::week::Entry;
 
-/// The entry that holds the minute that a clock shows, in seconds since 1969-12-31 00:00, a Wednesday.
+/// The entry that holds the minute that a clock shows, in seconds since 1969-12-31 00:00, a
+/// Wednesday.
 pub(crate) fn entry_at(entries: &[Entry], shown: u64) -> Entry
     requires week { CoversWeek entries.now }
     ensures { IsEntryFor entries.now (shown_weekday shown) (shown_minute shown) result }

@@ -32,7 +32,8 @@ impl Model for Zone {
 }
 
 impl Zone {
-    /// The zone whose clock is always this many minutes ahead of UTC; None beyond 14 hours either way.
+    /// The zone whose clock is always this many minutes ahead of UTC; None beyond 14 hours either
+    /// way.
     pub fn fixed(minutes: i16) -> Option<Zone>
         ensures in_range { IsSome result ↔ IsWithin 840 minutes }
         ensures value { IfSome result (λ z. z ≡ minutes_ahead minutes) }
@@ -51,7 +52,8 @@ impl Zone {
     /// What its clock shows at a moment, in seconds since 1970.
     fn shown(&self, seconds: u64) -> DateTime
         requires { seconds ≤ 4_102_488_000 }
-        ensures at { civil_nanos result ≡ pos seconds *ℤ pos 1_000_000_000 +ℤ nanos_of_seconds (offset self.now seconds) }
+        ensures at { civil_nanos result
+            ≡ pos seconds *ℤ pos 1_000_000_000 +ℤ nanos_of_seconds (offset self.now seconds) }
         ensures near { IsWithin 50_400 (offset self.now seconds) }
     {
         match Timestamp::from_second(seconds as i64) {
@@ -95,7 +97,8 @@ impl Zone {
     pub(crate) fn month_at(&self, seconds: u64) -> u32
         requires { seconds ≤ 4_102_488_000 }
         ensures value { result ≡ month self.now seconds }
-        ensures date { (d : Date) → epoch_day d +ℤ pos 1 ≡ pos (day self.now seconds) → pos (result + 1 + 12 * 1969) ≡ pos 12 *ℤ d.year +ℤ pos d.month }
+        ensures date { (d : Date) → epoch_day d +ℤ pos 1 ≡ pos (day self.now seconds) →
+            pos (result + 1 + 12 * 1969) ≡ pos 12 *ℤ d.year +ℤ pos d.month }
     {
         let date = self.shown(seconds).date();
         let year = date.year();
@@ -107,7 +110,8 @@ impl Zone {
     /// What its clock shows at 00:00 of the civil day after the day so many days later.
     fn midnight_after(&self, seconds: u64, days: u32) -> Option<DateTime>
         requires { seconds ≤ 4_102_488_000 }
-        ensures some { IfSome result (λ dt. civil_nanos dt ≡ pos (day self.now seconds + days) *ℤ pos 86_400_000_000_000) }
+        ensures some { IfSome result
+            (λ dt. civil_nanos dt ≡ pos (day self.now seconds + days) *ℤ pos 86_400_000_000_000) }
         ensures none { IfNone result (2_932_896 < day self.now seconds + days) }
     {
         let today = self.shown(seconds).date().to_plain().to_unix_epoch_day();
@@ -122,7 +126,8 @@ impl Zone {
         requires { seconds ≤ 4_102_488_000 }
         ensures value { result ≡ day_end self.now seconds days }
         ensures end { IfSome result (IsDayEnd self.now seconds days) }
-        ensures none { IfNone result ((s : ℕ) → IsDayEnd self.now seconds days s → 4_102_444_800 ≤ s) }
+        ensures none { IfNone result ((s : ℕ) → IsDayEnd self.now seconds days s →
+            4_102_444_800 ≤ s) }
     {
         let time_zone = self.time_zone;
         let Some(midnight) = self.midnight_after(seconds, days) else {

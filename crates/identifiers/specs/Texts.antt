@@ -27,7 +27,8 @@ is_reference s = nat_le 1 (length s) && nat_le (length s) 64 && list_all is_visi
 abbrev pub is_voucher_code : List ℕ → Bool
 is_voucher_code s = (length s == 12) && list_all is_digit s
 
--- the URL of a redirection: 1 to 200 visible bytes (Redirect-Server-Address, RFC 8506 section 8.39; profile)
+-- the URL of a redirection: 1 to 200 visible bytes (Redirect-Server-Address, RFC 8506 section 8.39;
+-- profile)
 abbrev pub is_redirect_address : List ℕ → Bool
 is_redirect_address s = nat_le 1 (length s) && nat_le (length s) 200 && list_all is_visible s
 

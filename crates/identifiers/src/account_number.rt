@@ -29,7 +29,8 @@ impl Model for AccountNumber {
 impl AccountNumber {
     /// The number of an account that the text is; None where it is none.
     pub fn new(alloc: Global, text: &str) -> Result<Option<AccountNumber>, AllocError>
-        ensures { IfOk result (λ o. o ≡ if is_account_number text.now then Some text.now else None) }
+        ensures { IfOk result
+            (λ o. o ≡ if is_account_number text.now then Some text.now else None) }
     {
         if 1 <= text.len() && text.len() <= 15 && all_digits(text) {
             let text = String::from_str(alloc, text)?;

@@ -1,5 +1,5 @@
-//! The names by which the charging system knows sessions, accounts, credits and vouchers: texts, each with
-//! its rule. In a contract each is the list of its bytes.
+//! The names by which the charging system knows sessions, accounts, credits and vouchers: texts,
+//! each with its rule. In a contract each is the list of its bytes.
 #![tactic(auto)]
 
 mod account_number;

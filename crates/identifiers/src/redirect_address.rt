@@ -5,8 +5,8 @@ use crate::texts::all_visible;
 use std::alloc::{AllocError, Global};
 use std::marker::Model;
 
-/// The URL to which a user is sent when the granted units are used up: 1 to 200 bytes from 0x21 to 0x7E
-/// (Redirect-Server-Address, RFC 8506 section 8.39; length and bytes: profile).
+/// The URL to which a user is sent when the granted units are used up: 1 to 200 bytes from 0x21 to
+/// 0x7E (Redirect-Server-Address, RFC 8506 section 8.39; length and bytes: profile).
 ///
 /// Contracts see the list of its bytes.
 #[derive(Clone, Debug, Drop)]
@@ -28,7 +28,8 @@ impl Model for RedirectAddress {
 impl RedirectAddress {
     /// The address that the text is; None where it is none.
     pub fn new(alloc: Global, text: &str) -> Result<Option<RedirectAddress>, AllocError>
-        ensures { IfOk result (λ o. o ≡ if is_redirect_address text.now then Some text.now else None) }
+        ensures { IfOk result
+            (λ o. o ≡ if is_redirect_address text.now then Some text.now else None) }
     {
         if 1 <= text.len() && text.len() <= 200 && all_visible(text) {
             let text = String::from_str(alloc, text)?;

@@ -6,8 +6,8 @@ use std::alloc::{AllocError, Global};
 use std::hash::{Hash, Hasher};
 use std::marker::Model;
 
-/// The reference that an operator gives a credit or a redemption, so that it can be repeated: 1 to 64 bytes
-/// from 0x21 to 0x7E (profile).
+/// The reference that an operator gives a credit or a redemption, so that it can be repeated: 1 to
+/// 64 bytes from 0x21 to 0x7E (profile).
 ///
 /// Contracts see the list of its bytes.
 #[derive(Clone, Debug, Drop)]

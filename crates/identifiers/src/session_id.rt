@@ -6,8 +6,8 @@ use std::alloc::{AllocError, Global};
 use std::hash::{Hash, Hasher};
 use std::marker::Model;
 
-/// The name of a session: 1 to 128 bytes from 0x21 to 0x7E (Session-Id, RFC 6733 section 8.8; length and
-/// bytes: profile).
+/// The name of a session: 1 to 128 bytes from 0x21 to 0x7E (Session-Id, RFC 6733 section 8.8;
+/// length and bytes: profile).
 ///
 /// Contracts see the list of its bytes.
 #[derive(Clone, Debug, Drop)]

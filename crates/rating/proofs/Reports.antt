@@ -22,66 +22,97 @@ pub started_mod : (a units block : ℕ) → started (a % block) units block ≡ 
 started_mod a zero block = refl
 started_mod a (suc units) block = rw (started_mod a units block, mod_mod a units block) refl
 
-pub blocks_mod : (block a : ℕ) (parts : List Part) → report_blocks block (a % block) parts ≡ report_blocks block a parts
+pub blocks_mod : (block a : ℕ) (parts : List Part) →
+    report_blocks block (a % block) parts ≡ report_blocks block a parts
 unfolding report_blocks
 blocks_mod block a [] = refl
 blocks_mod block a (part ∷ parts) =
-    let rest : report_blocks block (a % block + part.units.0) parts ≡ report_blocks block (a + part.units.0) parts =
-    sym (blocks_mod block (a % block + part.units.0) parts) ∙ ap (λ u. report_blocks block u parts) (mod_mod a part.units.0 block) ∙ blocks_mod block (a + part.units.0) parts in
+    let rest : report_blocks block (a % block + part.units.0) parts
+    ≡ report_blocks block (a + part.units.0) parts =
+    sym (blocks_mod block (a % block + part.units.0) parts)
+    ∙ ap (λ u. report_blocks block u parts) (mod_mod a part.units.0 block)
+    ∙ blocks_mod block (a + part.units.0) parts in
     rw (started_mod a part.units.0 block, rest) refl
 
-pub amount_mod : (t : GroupTariff) (a place : ℕ) (parts : List Part) → report_amount t (a % t.block) place parts ≡ report_amount t a place parts
+pub amount_mod : (t : GroupTariff) (a place : ℕ) (parts : List Part) →
+    report_amount t (a % t.block) place parts ≡ report_amount t a place parts
 unfolding report_amount
 amount_mod t a place [] = refl
 amount_mod t a place (part ∷ parts) =
     let next = place + started a part.units.0 t.block in
-    let rest : report_amount t (a % t.block + part.units.0) next parts ≡ report_amount t (a + part.units.0) next parts =
-    sym (amount_mod t (a % t.block + part.units.0) next parts) ∙ ap (λ u. report_amount t u next parts) (mod_mod a part.units.0 t.block) ∙ amount_mod t (a + part.units.0) next parts in
+    let rest : report_amount t (a % t.block + part.units.0) next parts
+    ≡ report_amount t (a + part.units.0) next parts =
+    sym (amount_mod t (a % t.block + part.units.0) next parts)
+    ∙ ap (λ u. report_amount t u next parts) (mod_mod a part.units.0 t.block)
+    ∙ amount_mod t (a + part.units.0) next parts in
     rw (started_mod a part.units.0 t.block, rest) refl
 
 -- one more part of a report
 pub blocks_step : (block a i : ℕ) (parts : List Part) (d : Part) → i < length parts
-    → report_blocks block a (drop i parts) ≡ started a (get_or parts i d).units.0 block + report_blocks block ((a + (get_or parts i d).units.0) % block) (drop (i + 1) parts)
+    → report_blocks block a (drop i parts) ≡ started a (get_or parts i d).units.0 block
+    + report_blocks block ((a + (get_or parts i d).units.0) % block) (drop (i + 1) parts)
 unfolding report_blocks
 blocks_step block a i parts d within =
-    let e : report_blocks block a (drop i parts) ≡ report_blocks block a (get_or parts i d ∷ drop (i + 1) parts) = at_drop_more (report_blocks block a) parts i d within in
-    e ∙ ap (λ n. started a (get_or parts i d).units.0 block + n) (sym (blocks_mod block (a + (get_or parts i d).units.0) (drop (i + 1) parts)))
+    let e : report_blocks block a (drop i parts)
+    ≡ report_blocks block a (get_or parts i d ∷ drop (i + 1) parts) =
+    at_drop_more (report_blocks block a) parts i d within in
+    e ∙ ap (λ n. started a (get_or parts i d).units.0 block + n)
+    (sym (blocks_mod block (a + (get_or parts i d).units.0) (drop (i + 1) parts)))
 
-pub amount_step : (t : GroupTariff) (a place i : ℕ) (parts : List Part) (d : Part) → i < length parts
-    → report_amount t a place (drop i parts) ≡ rated_amount (tiers_at t (get_or parts i d).period.0) place (started a (get_or parts i d).units.0 t.block)
-    + report_amount t ((a + (get_or parts i d).units.0) % t.block) (place + started a (get_or parts i d).units.0 t.block) (drop (i + 1) parts)
+pub amount_step : (t : GroupTariff) (a place i : ℕ) (parts : List Part) (d : Part) →
+    i < length parts
+    → report_amount t a place (drop i parts)
+    ≡ rated_amount (tiers_at t (get_or parts i d).period.0) place
+    (started a (get_or parts i d).units.0 t.block)
+    + report_amount t ((a + (get_or parts i d).units.0) % t.block)
+    (place + started a (get_or parts i d).units.0 t.block) (drop (i + 1) parts)
 unfolding report_amount
 amount_step t a place i parts d within =
-    let e : report_amount t a place (drop i parts) ≡ report_amount t a place (get_or parts i d ∷ drop (i + 1) parts) = at_drop_more (report_amount t a place) parts i d within in
+    let e : report_amount t a place (drop i parts)
+    ≡ report_amount t a place (get_or parts i d ∷ drop (i + 1) parts) =
+    at_drop_more (report_amount t a place) parts i d within in
     let n = started a (get_or parts i d).units.0 t.block in
-    e ∙ ap (λ m. rated_amount (tiers_at t (get_or parts i d).period.0) place n + m) (sym (amount_mod t (a + (get_or parts i d).units.0) (place + n) (drop (i + 1) parts)))
+    e ∙ ap (λ m. rated_amount (tiers_at t (get_or parts i d).period.0) place n + m)
+    (sym (amount_mod t (a + (get_or parts i d).units.0) (place + n) (drop (i + 1) parts)))
 
 abbrev pub no_part : Part
 no_part = record { period = record { 0 = 0 }; units = record { 0 = 0 } }
 
 -- what a turn of the loop over the parts keeps
 pub blocks_after : (block a i done n into total : ℕ) (parts : List Part) → i < length parts
-    → n ≡ started a (get_or parts i no_part).units.0 block → into ≡ (a + (get_or parts i no_part).units.0) % block
-    → done + report_blocks block a (drop i parts) ≡ total → done + n + report_blocks block into (drop (i + 1) parts) ≡ total
+    → n ≡ started a (get_or parts i no_part).units.0 block →
+    into ≡ (a + (get_or parts i no_part).units.0) % block
+    → done + report_blocks block a (drop i parts) ≡ total →
+    done + n + report_blocks block into (drop (i + 1) parts) ≡ total
 blocks_after block a i done n into total parts within n_is into_is h =
-    let rest : report_blocks block into (drop (i + 1) parts) ≡ report_blocks block ((a + (get_or parts i no_part).units.0) % block) (drop (i + 1) parts) =
+    let rest : report_blocks block into (drop (i + 1) parts)
+    ≡ report_blocks block ((a + (get_or parts i no_part).units.0) % block) (drop (i + 1) parts)
+    =
     ap (λ u. report_blocks block u (drop (i + 1) parts)) into_is in
     omega (arith, blocks_step block a i parts no_part within, rest, n_is, h)
 
-pub amount_after : (t : GroupTariff) (a place i done sum n price into total : ℕ) (parts : List Part) → i < length parts
-    → n ≡ started a (get_or parts i no_part).units.0 t.block → into ≡ (a + (get_or parts i no_part).units.0) % t.block
+pub amount_after : (t : GroupTariff) (a place i done sum n price into total : ℕ) (parts : List Part)
+    → i < length parts
+    → n ≡ started a (get_or parts i no_part).units.0 t.block →
+    into ≡ (a + (get_or parts i no_part).units.0) % t.block
     → price ≡ rated_amount (tiers_at t (get_or parts i no_part).period.0) (place + done) n
-    → sum + report_amount t a (place + done) (drop i parts) ≡ total → sum + price + report_amount t into (place + (done + n)) (drop (i + 1) parts) ≡ total
+    → sum + report_amount t a (place + done) (drop i parts) ≡ total →
+    sum + price + report_amount t into (place + (done + n)) (drop (i + 1) parts) ≡ total
 amount_after t a place i done sum n price into total parts within n_is into_is price_is h =
-    let next : place + (done + n) ≡ place + done + started a (get_or parts i no_part).units.0 t.block = omega (arith, n_is) in
+    let next : place + (done + n)
+    ≡ place + done + started a (get_or parts i no_part).units.0 t.block = omega (arith, n_is) in
     let rest : report_amount t into (place + (done + n)) (drop (i + 1) parts)
-    ≡ report_amount t ((a + (get_or parts i no_part).units.0) % t.block) (place + done + started a (get_or parts i no_part).units.0 t.block) (drop (i + 1) parts) =
+    ≡ report_amount t ((a + (get_or parts i no_part).units.0) % t.block)
+    (place + done + started a (get_or parts i no_part).units.0 t.block) (drop (i + 1) parts) =
     λ j. report_amount t (into_is j) (next j) (drop (i + 1) parts) in
-    let here = price_is ∙ ap (rated_amount (tiers_at t (get_or parts i no_part).period.0) (place + done)) n_is in
+    let here =
+    price_is ∙ ap (rated_amount (tiers_at t (get_or parts i no_part).period.0) (place + done))
+    n_is in
     omega (arith, amount_step t a (place + done) i parts no_part within, rest, here, h)
 
 -- two reports after each other
-pub follows : (t : GroupTariff) (used place : ℕ) (parts more : List Part) → FollowsAt t used place parts more
+pub follows : (t : GroupTariff) (used place : ℕ) (parts more : List Part) →
+    FollowsAt t used place parts more
 unfolding report_blocks report_amount
 follows t used place [] more =
     let none : used + 0 ≡ used = add-zero used in
@@ -92,35 +123,53 @@ follows t used place [] more =
     }
 follows t used place (part ∷ parts) more =
     let n = started used part.units.0 t.block in
-    let rest : FollowsAt t (used + part.units.0) (place + n) parts more = follows t (used + part.units.0) (place + n) parts more in
-    let units : used + units_of (part ∷ parts) ≡ used + part.units.0 + units_of parts = omega (arith, sum_by-cons (λ (p : Part). p.units.0) part parts) in
-    let places : place + (n + report_blocks t.block (used + part.units.0) parts) ≡ place + n + report_blocks t.block (used + part.units.0) parts = omega arith in
+    let rest : FollowsAt t (used + part.units.0) (place + n) parts more =
+    follows t (used + part.units.0) (place + n) parts more in
+    let units : used + units_of (part ∷ parts) ≡ used + part.units.0 + units_of parts =
+    omega (arith, sum_by-cons (λ (p : Part). p.units.0) part parts) in
+    let places : place + (n + report_blocks t.block (used + part.units.0) parts)
+    ≡ place + n + report_blocks t.block (used + part.units.0) parts = omega arith in
     record {
       blocks = rw units (omega (arith, rest.blocks));
       amount = rw (units, places) (omega (arith, rest.amount));
     }
 
 -- a part in two
-cut_blocks : (t : GroupTariff) (used : ℕ) (period : Period) (one two : ℕ) (after : List Part) → 0 < t.block
-    → report_blocks t.block used (part_of period one ∷ part_of period two ∷ after) ≡ report_blocks t.block used (part_of period (one + two) ∷ after)
+cut_blocks : (t : GroupTariff) (used : ℕ) (period : Period) (one two : ℕ) (after : List Part) →
+    0 < t.block
+    → report_blocks t.block used (part_of period one ∷ part_of period two ∷ after)
+    ≡ report_blocks t.block used (part_of period (one + two) ∷ after)
 unfolding report_blocks
 cut_blocks t used period one two after some =
     let units : used + (one + two) ≡ used + one + two = omega arith in
     let cut = started-add used one two t.block some in
     rw units (omega (arith, cut))
 
-cut_amount : (t : GroupTariff) (used place : ℕ) (period : Period) (one two : ℕ) (after : List Part) → 0 < t.block
-    → report_amount t used place (part_of period one ∷ part_of period two ∷ after) ≡ report_amount t used place (part_of period (one + two) ∷ after)
+cut_amount : (t : GroupTariff) (used place : ℕ) (period : Period) (one two : ℕ) (after : List Part)
+    → 0 < t.block
+    → report_amount t used place (part_of period one ∷ part_of period two ∷ after)
+    ≡ report_amount t used place (part_of period (one + two) ∷ after)
 unfolding report_amount
 cut_amount t used place period one two after some =
     let units : used + (one + two) ≡ used + one + two = omega arith in
-    let cut : started used (one + two) t.block ≡ started used one t.block + started (used + one) two t.block = started-add used one two t.block some in
-    let places : place + (started used one t.block + started (used + one) two t.block) ≡ place + started used one t.block + started (used + one) two t.block = omega arith in
-    rw (units, cut, places) (omega (arith, rated_cut (tiers_at t period.0) place (started used one t.block) (started (used + one) two t.block)))
+    let cut : started used (one + two) t.block
+    ≡ started used one t.block + started (used + one) two t.block =
+    started-add used one two t.block some in
+    let places : place + (started used one t.block + started (used + one) two t.block)
+    ≡ place + started used one t.block + started (used + one) two t.block = omega arith in
+    rw (units, cut, places)
+    (omega (
+      arith,
+      rated_cut (tiers_at t period.0) place (started used one t.block)
+          (started (used + one) two t.block),
+    ))
 
-report_is : (t : GroupTariff) (used place : ℕ) (xs ys : List Part) → report_blocks t.block used xs ≡ report_blocks t.block used ys
-    → report_amount t used place xs ≡ report_amount t used place ys → rated_report t used place xs ≡ rated_report t used place ys
-report_is t used place xs ys blocks amount = λ i. record { amount = record { 0 = amount i }; blocks = blocks i }
+report_is : (t : GroupTariff) (used place : ℕ) (xs ys : List Part) →
+    report_blocks t.block used xs ≡ report_blocks t.block used ys
+    → report_amount t used place xs ≡ report_amount t used place ys →
+    rated_report t used place xs ≡ rated_report t used place ys
+report_is t used place xs ys blocks amount =
+    λ i. record { amount = record { 0 = amount i }; blocks = blocks i }
 
 -- anywhere in a report
 pub cuts_alike : CutsAlike
@@ -130,13 +179,26 @@ cuts_alike t used place before after period one two some =
     let x : FollowsAt t used place before xs = follows t used place before xs in
     let y : FollowsAt t used place before ys = follows t used place before ys in
     report_is t used place (before ++ xs) (before ++ ys)
-    (omega (arith, x.blocks, y.blocks, cut_blocks t (used + units_of before) period one two after some))
-    (omega (arith, x.amount, y.amount, cut_amount t (used + units_of before) (place + report_blocks t.block used before) period one two after some))
+    (omega (
+      arith,
+      x.blocks,
+      y.blocks,
+      cut_blocks t (used + units_of before) period one two after some,
+    ))
+    (omega (
+      arith,
+      x.amount,
+      y.amount,
+      cut_amount t (used + units_of before) (place + report_blocks t.block used before) period one
+          two after some,
+    ))
 
 -- after the last part
-pub report_by : (t : GroupTariff) (used place : ℕ) (parts : List Part) (a p amount blocks : ℕ) → blocks + report_blocks t.block a [] ≡ report_blocks t.block used parts
+pub report_by : (t : GroupTariff) (used place : ℕ) (parts : List Part) (a p amount blocks : ℕ) →
+    blocks + report_blocks t.block a [] ≡ report_blocks t.block used parts
     → amount + report_amount t a p [] ≡ report_amount t used place parts
-    → ◌≡◌ {A = Rated} (record { amount = record { 0 = amount }; blocks = blocks }) (rated_report t used place parts)
+    → ◌≡◌ {A = Rated} (record { amount = record { 0 = amount }; blocks = blocks })
+    (rated_report t used place parts)
 unfolding report_blocks report_amount
 report_by t used place parts a p amount blocks hb ha =
     let b : blocks ≡ report_blocks t.block used parts = omega (arith, hb) in

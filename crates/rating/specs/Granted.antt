@@ -10,13 +10,16 @@ use Rattle.rating.specs.declared.grant.Periods.{Periods}
 -- the sum of the dearer of two prices of n blocks, at the places after one on the counter
 unfoldable pub dearer : List Tier → List Tier → ℕ → ℕ → ℕ
 dearer before after place zero = 0
-dearer before after place (suc n) = dearer before after place n + max (block_price before (place + suc n)) (block_price after (place + suc n))
+dearer before after place (suc n) =
+    dearer before after place n
+    + max (block_price before (place + suc n)) (block_price after (place + suc n))
 
 -- the greatest number of blocks, at most so many, whose dearer prices the funds cover
 unfoldable pub greatest_covered : List Tier → List Tier → ℕ → ℕ → ℕ → ℕ
 greatest_covered before after place funds zero = 0
 greatest_covered before after place funds (suc most) =
-    if nat_le (dearer before after place (suc most)) funds then suc most else greatest_covered before after place funds most
+    if nat_le (dearer before after place (suc most)) funds then suc most
+    else greatest_covered before after place funds most
 
 -- n of the wanted blocks are covered, and no more of them are
 pub record IsGreatest (before after : List Tier) (place wanted funds n : ℕ) : Type 0 where
@@ -29,8 +32,8 @@ pub record IsGreatest (before after : List Tier) (place wanted funds n : ℕ) : 
 abbrev pub block_start : ℕ → ℕ → ℕ
 block_start used block = (used + (block - 1)) / block * block
 
--- the units granted with n covered blocks: all that are wanted where all their blocks are covered, else those up to
--- the end of the n-th new block
+-- the units granted with n covered blocks: all that are wanted where all their blocks are covered,
+-- else those up to the end of the n-th new block
 abbrev pub granted_units : ℕ → ℕ → ℕ → ℕ → ℕ
 granted_units block used wanted n =
     if n == started used wanted block then wanted else block_start used block + n * block - used
@@ -47,15 +50,20 @@ grant_of_blocks t periods used place wanted n = record {
 abbrev pub grant_of : GroupTariff → Periods → ℕ → ℕ → ℕ → ℕ → Grant
 grant_of t periods used place wanted funds =
     grant_of_blocks t periods used place wanted
-    (greatest_covered (tiers_at t periods.before.0) (tiers_at t periods.after.0) place funds (started used wanted t.block))
+    (greatest_covered (tiers_at t periods.before.0) (tiers_at t periods.after.0) place funds
+    (started used wanted t.block))
 
--- the grant of the wanted units: its number of blocks is the greatest that the funds cover, its units start just these
--- blocks and are no more than wanted, and where they are fewer, one unit more starts a block that the funds don't cover
-pub record IsGreatestGrant (t : GroupTariff) (periods : Periods) (used place wanted funds : ℕ) (grant : Grant) : Type 0 where
+-- the grant of the wanted units: its number of blocks is the greatest that the funds cover, its
+-- units start just these blocks and are no more than wanted, and where they are fewer, one unit
+-- more starts a block that the funds don't cover
+pub record IsGreatestGrant (t : GroupTariff) (periods : Periods) (used place wanted funds : ℕ)
+    (grant : Grant) : Type 0 where
   pub value : grant ≡ grant_of t periods used place wanted funds
-  pub greatest : IsGreatest (tiers_at t periods.before.0) (tiers_at t periods.after.0) place (started used wanted t.block) funds grant.blocks.0
+  pub greatest : IsGreatest (tiers_at t periods.before.0) (tiers_at t periods.after.0) place
+      (started used wanted t.block) funds grant.blocks.0
   pub starts : started used grant.units.0 t.block ≡ grant.blocks.0
   pub within : grant.units.0 ≤ wanted
   pub next : grant.units.0 < wanted → started used (grant.units.0 + 1) t.block ≡ grant.blocks.0 + 1
   pub most : grant.units.0 < wanted
-      → funds < dearer (tiers_at t periods.before.0) (tiers_at t periods.after.0) place (started used (grant.units.0 + 1) t.block)
+      → funds < dearer (tiers_at t periods.before.0) (tiers_at t periods.after.0) place
+      (started used (grant.units.0 + 1) t.block)

@@ -16,9 +16,11 @@ rated_amount tiers place (suc n) = rated_amount tiers place n + block_price tier
 -- the blocks that the parts of a report start, each after the use that the one before left
 unfoldable pub report_blocks : ℕ → ℕ → List Part → ℕ
 report_blocks block used [] = 0
-report_blocks block used (part ∷ parts) = started used part.units.0 block + report_blocks block (used + part.units.0) parts
+report_blocks block used (part ∷ parts) =
+    started used part.units.0 block + report_blocks block (used + part.units.0) parts
 
--- their rated amount: each part in its period, after the use and at the place that the one before left
+-- their rated amount: each part in its period, after the use and at the place that the one before
+-- left
 unfoldable pub report_amount : GroupTariff → ℕ → ℕ → List Part → ℕ
 report_amount t used place [] = 0
 report_amount t used place (part ∷ parts) =
@@ -36,10 +38,12 @@ rated_report t used place parts = record {
 abbrev pub part_of : Period → ℕ → Part
 part_of period units = record { period = period; units = record { 0 = units } }
 
--- the law of cutting: units used in two parts of one period, with nothing between, start and cost what they do as one
+-- the law of cutting: units used in two parts of one period, with nothing between, start and cost
+-- what they do as one
 abbrev pub CutsAlike : Type 0
 CutsAlike =
-    (t : GroupTariff) (used place : ℕ) (before after : List Part) (period : Period) (one two : ℕ) → 0 < t.block
+    (t : GroupTariff) (used place : ℕ) (before after : List Part) (period : Period) (one two : ℕ) →
+    0 < t.block
     → rated_report t used place (before ++ part_of period one ∷ part_of period two ∷ after)
     ≡ rated_report t used place (before ++ part_of period (one + two) ∷ after)
 
@@ -49,9 +53,12 @@ units_of parts = sum_by (λ part. part.units.0) parts
 
 -- two reports after each other start and cost what their parts do as one report
 pub record FollowsAt (t : GroupTariff) (used place : ℕ) (parts more : List Part) : Type 0 where
-  pub blocks : report_blocks t.block used (parts ++ more) ≡ report_blocks t.block used parts + report_blocks t.block (used + units_of parts) more
+  pub blocks : report_blocks t.block used (parts ++ more)
+      ≡ report_blocks t.block used parts + report_blocks t.block (used + units_of parts) more
   pub amount : report_amount t used place (parts ++ more)
-      ≡ report_amount t used place parts + report_amount t (used + units_of parts) (place + report_blocks t.block used parts) more
+      ≡ report_amount t used place parts
+      + report_amount t (used + units_of parts) (place + report_blocks t.block used parts) more
 
 abbrev pub FollowsOn : Type 0
-FollowsOn = (t : GroupTariff) (used place : ℕ) (parts more : List Part) → FollowsAt t used place parts more
+FollowsOn = (t : GroupTariff) (used place : ℕ) (parts more : List Part) →
+    FollowsAt t used place parts more

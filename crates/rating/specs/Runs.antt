@@ -3,7 +3,8 @@ use Rattle.std.specs.Prelude.{ℕ, ◌+◌, ◌-◌, min, max, nat_le, Bool, fal
 use Rattle.tariffs.specs.declared.tiers.Tier.{Tier}
 use Rattle.rating.specs.declared.runs.Run.{Run}
 
--- how many of the next blocks after a place lie within a tier's bound; all of them where it has none
+-- how many of the next blocks after a place lie within a tier's bound; all of them where it has
+-- none
 abbrev pub blocks_within : Option ℕ → ℕ → ℕ → ℕ
 blocks_within None place most = most
 blocks_within (Some bound) place most = min (bound - place) most
@@ -11,7 +12,8 @@ blocks_within (Some bound) place most = min (bound - place) most
 -- the next blocks after a place that the first tier prices; without a tier they all cost nothing
 abbrev pub first_run : List Tier → ℕ → ℕ → Run
 first_run [] place most = record { blocks = most; price = 0 }
-first_run (tier ∷ tiers) place most = record { blocks = blocks_within tier.upto place most; price = tier.price }
+first_run (tier ∷ tiers) place most =
+    record { blocks = blocks_within tier.upto place most; price = tier.price }
 
 -- those that the first tiers of two periods price, at the dearer of the two prices
 abbrev pub dearer_run : List Tier → List Tier → ℕ → ℕ → Run

@@ -1,25 +1,24 @@
 -- Groups of a book: none stands twice.
 use Rattle.std.proofs.Common.{◌≡◌, ◌≢◌, ℕ, zero, suc, ◌<◌, ◌==◌, ◌||◌, Bool, true, false, List, [], ◌∷◌, ◌++◌, length, get_or, refl, arith, inl, inr, sym}
 use Rattle.std.specs.List.{list_any}
-use Rattle.std.proofs.lemmas.Bool.{cases_lt}
+use Rattle.std.proofs.lemmas.Bool.{cases_lt, or_parts}
 use Rattle.std.proofs.lemmas.Bool.Decides.{nat_tests}
 use Rattle.std.proofs.lemmas.List.{get_or_append_left, get_or_push, length_push}
 use Rattle.tariffs.specs.Tariffs.{GroupTariff, AreOfOtherGroups}
 
-neither : (a b : Bool) → (a || b) ≡ false → (a ≡ false) × (b ≡ false)
-neither true b h = absurd (cc)
-neither false b h = (refl, h)
-
 -- a group that is found nowhere is another than each
-other_than : (ts : List GroupTariff) (g i : ℕ) (d : GroupTariff) → list_any (λ other. other.group == g) ts ≡ false → i < length ts → (get_or ts i d).group ≢ g
+other_than : (ts : List GroupTariff) (g i : ℕ) (d : GroupTariff) →
+    list_any (λ other. other.group == g) ts ≡ false → i < length ts → (get_or ts i d).group ≢ g
 other_than [] g i d none within = absurd (omega arith)
 other_than (t ∷ ts) g zero d none within =
-    let here = (neither (t.group == g) (list_any (λ other. other.group == g) ts) none).0 in
+    let here = (or_parts (t.group == g) (list_any (λ other. other.group == g) ts) none).0 in
     grind (arith, nat_tests)
 other_than (t ∷ ts) g (suc i) d none within =
-    other_than ts g i d (neither (t.group == g) (list_any (λ other. other.group == g) ts) none).1 (omega arith)
+    other_than ts g i d (or_parts (t.group == g) (list_any (λ other. other.group == g) ts) none).1
+    (omega arith)
 
-pub other_groups_push : (ts : List GroupTariff) (t : GroupTariff) → AreOfOtherGroups ts → list_any (λ other. other.group == t.group) ts ≡ false → AreOfOtherGroups (ts ++ t ∷ [])
+pub other_groups_push : (ts : List GroupTariff) (t : GroupTariff) → AreOfOtherGroups ts →
+    list_any (λ other. other.group == t.group) ts ≡ false → AreOfOtherGroups (ts ++ t ∷ [])
 other_groups_push ts t distinct new = λ i j d order within.
     let early : i < length ts = omega (arith, order, within, length_push ts t) in
     rw (get_or_append_left ts (t ∷ []) d i early)

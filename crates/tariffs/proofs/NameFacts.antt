@@ -15,41 +15,58 @@ same_itself (b ∷ text) =
     rw (here, same_itself text) refl
 
 -- an element of a list with one more is one of the list, or the last
-get_push : (names : List (List ℕ)) (last : List ℕ) (place : ℕ) (name : List ℕ) → slice_get (names ++ last ∷ []) place ≡ Some name → (slice_get names place ≡ Some name) ⊎ ((place ≡ length names) × (name ≡ last))
+get_push : (names : List (List ℕ)) (last : List ℕ) (place : ℕ) (name : List ℕ) →
+    slice_get (names ++ last ∷ []) place ≡ Some name →
+    (slice_get names place ≡ Some name) ⊎ ((place ≡ length names) × (name ≡ last))
 get_push [] last zero name h = inr (refl, (cc))
 get_push [] last (suc place) name h = absurd (cc)
 get_push (n ∷ names) last zero name h = inl h
-get_push (n ∷ names) last (suc place) name h = elim (get_push names last place name h) [ inl here ↦ inl here | inr end ↦ inr (ap suc end.0, end.1) ]
+get_push (n ∷ names) last (suc place) name h =
+    elim (get_push names last place name h)
+    [ inl here ↦ inl here | inr end ↦ inr (ap suc end.0, end.1) ]
 
-choice : (test : Bool) (here rest more : Option Period) (p : Period) → (rest ≡ Some p → more ≡ Some p) → (if test then here else rest) ≡ Some p → (if test then here else more) ≡ Some p
+choice : (test : Bool) (here rest more : Option Period) (p : Period) →
+    (rest ≡ Some p → more ≡ Some p) → (if test then here else rest) ≡ Some p →
+    (if test then here else more) ≡ Some p
 choice true here rest more p later h = h
 choice false here rest more p later h = later h
 
 -- what is found stays found
-found_push : (from : ℕ) (names : List (List ℕ)) (last text : List ℕ) (p : Period) → period_from from names text ≡ Some p → period_from from (names ++ last ∷ []) text ≡ Some p
+found_push : (from : ℕ) (names : List (List ℕ)) (last text : List ℕ) (p : Period) →
+    period_from from names text ≡ Some p → period_from from (names ++ last ∷ []) text ≡ Some p
 found_push from [] last text p h = absurd (cc)
-found_push from (n ∷ names) last text p h = choice (same_text n text) (Some (record { 0 = from })) (period_from (from + 1) names text) (period_from (from + 1) (names ++ last ∷ []) text) p (found_push (from + 1) names last text p) h
+found_push from (n ∷ names) last text p h =
+    choice (same_text n text) (Some (record { 0 = from })) (period_from (from + 1) names text)
+    (period_from (from + 1) (names ++ last ∷ []) text) p (found_push (from + 1) names last text p) h
 
 neither : (a b : Bool) → not (a || b) ≡ true → (a ≡ false) × (not b ≡ true)
 neither true b h = absurd (cc)
 neither false b h = (refl, h)
 
 -- a new name is found at the end
-new_found : (from : ℕ) (names : List (List ℕ)) (last : List ℕ) → not (list_any (λ other. same_text other last) names) ≡ true → period_from from (names ++ last ∷ []) last ≡ Some (record { 0 = from + length names })
+new_found : (from : ℕ) (names : List (List ℕ)) (last : List ℕ) →
+    not (list_any (λ other. same_text other last) names) ≡ true →
+    period_from from (names ++ last ∷ []) last ≡ Some (record { 0 = from + length names })
 new_found from [] last new = rw (same_itself last, add-zero from) refl
 new_found from (n ∷ names) last new =
     let parts = neither (same_text n last) (list_any (λ other. same_text other last) names) new in
     let e : from + 1 + length names ≡ from + suc (length names) = omega arith in
     rw (parts.0, ← e) (new_found (from + 1) names last parts.1)
 
-is_new : (before : List (List ℕ)) (name : List ℕ) → is_name before name ≡ true → not (list_any (λ other. same_text other name) before) ≡ true
-is_new before name h = (and_parts (nat_le 1 (length name) && nat_le (length name) 16 && list_all is_ascii_lowercase name) (not (list_any (λ other. same_text other name) before)) h).1
+is_new : (before : List (List ℕ)) (name : List ℕ) → is_name before name ≡ true →
+    not (list_any (λ other. same_text other name) before) ≡ true
+is_new before name h =
+    (and_parts
+    (nat_le 1 (length name) && nat_le (length name) 16 && list_all is_ascii_lowercase name)
+    (not (list_any (λ other. same_text other name) before)) h).1
 
-pub distinct_push : (names : List (List ℕ)) (last : List ℕ) → is_name names last ≡ true → AreDistinct names → AreDistinct (names ++ last ∷ [])
+pub distinct_push : (names : List (List ℕ)) (last : List ℕ) → is_name names last ≡ true →
+    AreDistinct names → AreDistinct (names ++ last ∷ [])
 distinct_push names last new distinct = λ place name at.
     elim (get_push names last place name at) [
       | inl here ↦ found_push 0 names last name (record { 0 = place }) (distinct place name here)
-      | inr end ↦ rw (end.0, end.1) (rw (zero-add (length names)) at (new_found 0 names last (is_new names last new)))
+      | inr end ↦ rw (end.0, end.1)
+          (rw (zero-add (length names)) at (new_found 0 names last (is_new names last new)))
     ]
 
 pub same_is : (a b : List ℕ) → same_text a b ≡ true → a ≡ b
@@ -66,9 +83,11 @@ same_is (x ∷ a) (y ∷ b) h =
 abbrev IsBack : ℕ → List (List ℕ) → List ℕ → Period → Type 0
 IsBack from names text p = (from ≤ p.0) × (slice_get names (p.0 - from) ≡ Some text)
 
-back_either : (test : Bool) (from : ℕ) (n : List ℕ) (names : List (List ℕ)) (text : List ℕ) (p : Period) → same_text n text ≡ test
+back_either : (test : Bool) (from : ℕ) (n : List ℕ) (names : List (List ℕ)) (text : List ℕ)
+    (p : Period) → same_text n text ≡ test
     → (period_from (from + 1) names text ≡ Some p → IsBack (from + 1) names text p)
-    → (if test then Some (record { 0 = from }) else period_from (from + 1) names text) ≡ Some p → IsBack from (n ∷ names) text p
+    → (if test then Some (record { 0 = from }) else period_from (from + 1) names text) ≡ Some p →
+    IsBack from (n ∷ names) text p
 back_either true from n names text p is later h =
     let here : from ≡ p.0 = ap (λ (o : Option Period). (unwrap_or o p).0) h in
     let first : p.0 - from ≡ 0 = omega (arith, here) in
@@ -78,12 +97,15 @@ back_either false from n names text p is later h =
     let next : p.0 - from ≡ suc (p.0 - (from + 1)) = omega (arith, after) in
     (omega (arith, after), rw next found)
 
-back_from : (from : ℕ) (names : List (List ℕ)) (text : List ℕ) (p : Period) → period_from from names text ≡ Some p → IsBack from names text p
+back_from : (from : ℕ) (names : List (List ℕ)) (text : List ℕ) (p : Period) →
+    period_from from names text ≡ Some p → IsBack from names text p
 back_from from [] text p h = absurd (cc)
-back_from from (n ∷ names) text p h = back_either (same_text n text) from n names text p refl (back_from (from + 1) names text p) h
+back_from from (n ∷ names) text p h =
+    back_either (same_text n text) from n names text p refl (back_from (from + 1) names text p) h
 
 -- the period of a name has this name
-pub named_back : (names : List (List ℕ)) (text : List ℕ) (r : Option Period) → r ≡ period_named names text → IfSome r (λ p. slice_get names p.0 ≡ Some text)
+pub named_back : (names : List (List ℕ)) (text : List ℕ) (r : Option Period) →
+    r ≡ period_named names text → IfSome r (λ p. slice_get names p.0 ≡ Some text)
 named_back names text None is = tt
 named_back names text (Some p) is =
     let e : p.0 - 0 ≡ p.0 = omega arith in

@@ -12,8 +12,9 @@ use Rattle.tariffs.specs.WeekFields.{zone_of, entries_of}
 use Rattle.tariffs.specs.Tariffs.{GroupTariff, IsTariff, AreOfOtherGroups}
 use Rattle.tariffs.specs.GroupFields.{groups_of}
 
--- a book: the text of its zone as it is written, its week in that zone, the ISO 4217 number of its currency, the
--- validity of a grant in seconds, the names of its periods and the tariffs of its groups
+-- a book: the text of its zone as it is written, its week in that zone, the ISO 4217 number of its
+-- currency, the validity of a grant in seconds, the names of its periods and the tariffs of its
+-- groups
 pub record Book : Type 0 where
   pub zone_text : List ℕ
   pub calendar : Timetable
@@ -48,7 +49,14 @@ book_of t = do
   entries ← entries_of periods t
   calendar ← or_fault WeekNotCovered (timetable_of zone entries)
   tariffs ← groups_of periods t
-  Ok (record { zone_text = zone_text; calendar = calendar; currency = currency; validity = validity; periods = periods; tariffs = tariffs })
+  Ok (record {
+    zone_text = zone_text;
+    calendar = calendar;
+    currency = currency;
+    validity = validity;
+    periods = periods;
+    tariffs = tariffs;
+  })
 
 -- the bytes are a TOML document with these members
 pub record IsDocument (bytes : List ℕ) (t : Members) : Type 0 where

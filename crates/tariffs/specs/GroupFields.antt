@@ -28,7 +28,8 @@ id_of before t = do
 abbrev pub unit_named : List ℕ → Option UnitKind
 unit_named text =
     if same_text text (codes "time") then Some Time
-    else (if same_text text (codes "octets") then Some TotalOctets else (if same_text text (codes "events") then Some ServiceSpecific else None))
+    else (if same_text text (codes "octets") then Some TotalOctets
+    else (if same_text text (codes "events") then Some ServiceSpecific else None))
 
 -- `unit`
 unfoldable pub unit_of : Members → Result UnitKind BookFault
@@ -46,13 +47,16 @@ most_units ServiceSpecific = 1_000_000_000_000_000
 unfoldable pub max_grant_of : UnitKind → ℕ → ℕ → Members → Result ℕ BookFault
 max_grant_of unit block slice t = do
   most ← number_in (codes "max_grant") 1 1_000_000_000_000_000 t
-  where_holds (nat_le most (most_units unit) && nat_le slice most && nat_le (most / block) 999_999_999) OutOfRange most
+  where_holds
+      (nat_le most (most_units unit) && nat_le slice most && nat_le (most / block) 999_999_999)
+      OutOfRange most
 
 -- the cycles by their words
 abbrev pub cycle_named : List ℕ → Option Cycle
 cycle_named text =
     if same_text text (codes "none") then Some cycles.None
-    else (if same_text text (codes "day") then Some cycles.Day else (if same_text text (codes "month") then Some cycles.Month else None))
+    else (if same_text text (codes "day") then Some cycles.Day
+    else (if same_text text (codes "month") then Some cycles.Month else None))
 
 -- `cycle`
 unfoldable pub cycle_of : Members → Result Cycle BookFault
@@ -70,7 +74,8 @@ redirect_of t = do
 unfoldable pub final_action_of : Members → Result FinalAction BookFault
 final_action_of t = do
   text ← text_of (codes "final") t
-  if same_text text (codes "terminate") then Ok Terminate else (if same_text text (codes "redirect") then redirect_of t else Err OutOfRange)
+  if same_text text (codes "terminate") then Ok Terminate
+      else (if same_text text (codes "redirect") then redirect_of t else Err OutOfRange)
 
 -- an entry of `group`, after those before it
 unfoldable pub group_of : List (List ℕ) → List GroupTariff → Data → Result GroupTariff BookFault
@@ -84,7 +89,16 @@ group_of names before d = do
   cycle ← cycle_of t
   final_action ← final_action_of t
   prices ← prices_of names t
-  Ok (record { group = id; unit = unit; block = block; slice = slice; max_grant = max_grant; cycle = cycle; final_action = final_action; prices = prices })
+  Ok (record {
+    group = id;
+    unit = unit;
+    block = block;
+    slice = slice;
+    max_grant = max_grant;
+    cycle = cycle;
+    final_action = final_action;
+    prices = prices;
+  })
 
 -- `group`: 1 to 64 of them
 unfoldable pub groups_of : List (List ℕ) → Members → Result (List GroupTariff) BookFault

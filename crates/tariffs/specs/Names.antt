@@ -22,12 +22,15 @@ texts strings = map string_bytes strings
 
 -- a name is 1 to 16 letters a to z, and none of those before it
 abbrev pub is_name : List (List ℕ) → List ℕ → Bool
-is_name before name = nat_le 1 (length name) && nat_le (length name) 16 && list_all is_ascii_lowercase name && not (list_any (λ other. same_text other name) before)
+is_name before name =
+    nat_le 1 (length name) && nat_le (length name) 16 && list_all is_ascii_lowercase name
+    && not (list_any (λ other. same_text other name) before)
 
 -- the names from a place of the book's list on: the period that has this one
 abbrev pub period_from : ℕ → List (List ℕ) → List ℕ → Option Period
 period_from place [] text = None
-period_from place (name ∷ names) text = if same_text name text then Some (record { 0 = place }) else period_from (place + 1) names text
+period_from place (name ∷ names) text =
+    if same_text name text then Some (record { 0 = place }) else period_from (place + 1) names text
 
 -- the period of a name
 abbrev pub period_named : List (List ℕ) → List ℕ → Option Period
@@ -35,7 +38,8 @@ period_named names text = period_from 0 names text
 
 -- each name is found at its own place
 abbrev pub AreDistinct : List (List ℕ) → Type 0
-AreDistinct names = (place : ℕ) (name : List ℕ) → slice_get names place ≡ Some name → period_named names name ≡ Some (record { 0 = place })
+AreDistinct names = (place : ℕ) (name : List ℕ) → slice_get names place ≡ Some name →
+    period_named names name ≡ Some (record { 0 = place })
 
 -- the names of a book's periods: 1 to 8, distinct
 pub record ArePeriods (names : List (List ℕ)) : Type 0 where

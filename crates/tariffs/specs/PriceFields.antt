@@ -14,7 +14,8 @@ use Rattle.tariffs.specs.Names.{period_of}
 
 -- the bound of the last of some tiers; 0 before the first
 abbrev pub last_bound : List Tier → ℕ
-last_bound tiers = unwrap_or (option_and_then (λ tier. tier.upto) (slice_get tiers (length tiers - 1))) 0
+last_bound tiers =
+    unwrap_or (option_and_then (λ tier. tier.upto) (slice_get tiers (length tiers - 1))) 0
 
 -- `upto`: above the bound of the tier before; in the last tier it is not read
 unfoldable pub bound_of : Bool → ℕ → Members → Result (Option ℕ) BookFault
@@ -42,7 +43,8 @@ tiers_of t = do
   collected (next_tier (item_count ds)) [] ds
 
 -- an entry of `price`: a period that has none yet, and its tiers
-unfoldable pub price_of : List (List ℕ) → List (List Tier) → Data → Result (Period × List Tier) BookFault
+unfoldable pub price_of : List (List ℕ) → List (List Tier) → Data →
+    Result (Period × List Tier) BookFault
 price_of names prices d = do
   t ← table_at d
   period ← period_of names t
@@ -51,8 +53,10 @@ price_of names prices d = do
   Ok (free, tiers)
 
 -- the tiers of each period with one more price
-abbrev pub with_price : List (List ℕ) → List (List Tier) → Data → Result (List (List Tier)) BookFault
-with_price names prices d = price_of names prices d >>= λ price. Ok (slice_set prices price.0.0 price.1)
+abbrev pub with_price : List (List ℕ) → List (List Tier) → Data →
+    Result (List (List Tier)) BookFault
+with_price names prices d =
+    price_of names prices d >>= λ price. Ok (slice_set prices price.0.0 price.1)
 
 -- `price`: at most 8 entries, which together give each period its tiers
 unfoldable pub prices_of : List (List ℕ) → Members → Result (List (List Tier)) BookFault

@@ -1,4 +1,5 @@
--- One price for each period: of the entries of a group's `price` exactly one names it, and its tiers are the period's.
+-- One price for each period: of the entries of a group's `price` exactly one names it, and its
+-- tiers are the period's.
 -- Source: profile.
 use Rattle.std.specs.Prelude.{◌≡◌, ℕ, Bool, List, [], ◌∷◌, Option, Some, Result, Ok, slice_get, slice_index_or, option_and_then, codes}
 use Rattle.std.specs.List.{filter}
@@ -32,6 +33,8 @@ pub record IsPricedOnce (name : List ℕ) (entries : List Data) (tiers : List Ti
 -- of the prices that are read of a group, each period's are those of the one entry that names it
 abbrev pub PricesAreOnce : Type 0
 PricesAreOnce =
-    (names : List (List ℕ)) (t : Members) (prices : List (List Tier)) → AreDistinct names → prices_of names t ≡ Ok prices →
+    (names : List (List ℕ)) (t : Members) (prices : List (List Tier)) → AreDistinct names →
+    prices_of names t ≡ Ok prices →
     (entries : Items) → array_of (codes "price") 8 t ≡ Ok entries →
-    (place : ℕ) (name : List ℕ) → slice_get names place ≡ Some name → IsPricedOnce name (item_list entries) (slice_index_or prices place [])
+    (place : ℕ) (name : List ℕ) → slice_get names place ≡ Some name →
+    IsPricedOnce name (item_list entries) (slice_index_or prices place [])

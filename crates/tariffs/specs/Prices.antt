@@ -9,10 +9,12 @@ abbrev pub reaches : Option ℕ → ℕ → Bool
 reaches None place = true
 reaches (Some bound) place = nat_le place bound
 
--- the price of the block at a place on the counter: that of the first tier whose bound is at least the place
+-- the price of the block at a place on the counter: that of the first tier whose bound is at least
+-- the place
 abbrev pub block_price : List Tier → ℕ → ℕ
 block_price [] place = 0
-block_price (tier ∷ tiers) place = if reaches tier.upto place then tier.price else block_price tiers place
+block_price (tier ∷ tiers) place =
+    if reaches tier.upto place then tier.price else block_price tiers place
 
 -- no price is above 10^9 micro-units
 abbrev pub ArePriced : List Tier → Type 0
@@ -29,9 +31,12 @@ abbrev pub IsRisingFrom : ℕ → List Tier → Type 0
 IsRisingFrom above [] = Unit {0}
 IsRisingFrom above (tier ∷ []) = Unit {0}
 IsRisingFrom above (tier ∷ next ∷ tiers) =
-    (bound : ℕ) × ((tier.upto ≡ Some bound) × (above < bound) × (bound ≤ 4_000_000_000_000_000_000) × IsRisingFrom bound (next ∷ tiers))
+    (bound : ℕ) ×
+    ((tier.upto ≡ Some bound) × (above < bound) × (bound ≤ 4_000_000_000_000_000_000) ×
+    IsRisingFrom bound (next ∷ tiers))
 
--- the tiers of a price: 1 to 8, rising, the last one open, none dearer than 10^9 micro-units a block
+-- the tiers of a price: 1 to 8, rising, the last one open, none dearer than 10^9 micro-units a
+-- block
 pub record AreTiers (tiers : List Tier) : Type 0 where
   pub few : length tiers ≤ 8
   pub priced : ArePriced tiers

@@ -8,9 +8,9 @@ use Rattle.tariffs.specs.declared.tiers.Tier.{Tier}
 use Rattle.tariffs.specs.declared.final_action.FinalAction.{FinalAction}
 use Rattle.tariffs.specs.Prices.{AreTiers}
 
--- a rating group: what it counts, in blocks of how many units, what is granted without a wish and at most,
--- the cycle of its counter, what follows the last units, and the tiers of each period, in the order of the
--- book's periods
+-- a rating group: what it counts, in blocks of how many units, what is granted without a wish and
+-- at most, the cycle of its counter, what follows the last units, and the tiers of each period, in
+-- the order of the book's periods
 pub record GroupTariff : Type 0 where
   pub group : ℕ
   pub unit : UnitKind

@@ -14,18 +14,23 @@ use Rattle.tariffs.specs.Names.{period_of}
 -- the minutes of hh:mm, with mm from 00 to 59
 unfoldable pub minutes_of : List ℕ → Option ℕ
 minutes_of (a ∷ b ∷ colon ∷ d ∷ e ∷ []) =
-    if is_ascii_digit a && is_ascii_digit b && (colon == 58) && is_ascii_digit d && is_ascii_digit e && nat_lt ((d - 48) * 10 + (e - 48)) 60
+    if is_ascii_digit a && is_ascii_digit b && (colon == 58) && is_ascii_digit d && is_ascii_digit e
+    && nat_lt ((d - 48) * 10 + (e - 48)) 60
     then Some (((a - 48) * 10 + (b - 48)) * 60 + ((d - 48) * 10 + (e - 48))) else None
 minutes_of _ = None
 
 -- minutes ahead of UTC after the sign + and behind it after -
 abbrev pub signed_minutes : ℕ → ℕ → Option ℤ
-signed_minutes sign minutes = if sign == 43 then Some (pos minutes) else (if sign == 45 then Some (neg_ℤ (pos minutes)) else None)
+signed_minutes sign minutes =
+    if sign == 43 then Some (pos minutes)
+    else (if sign == 45 then Some (neg_ℤ (pos minutes)) else None)
 
 -- the minutes by which the clock of +hh:mm or -hh:mm is ahead of UTC, at most 14 hours either way
 unfoldable pub zone_minutes : List ℕ → Option ℤ
 zone_minutes [] = None
-zone_minutes (sign ∷ text) = option_and_then (λ minutes. if nat_le minutes 840 then signed_minutes sign minutes else None) (minutes_of text)
+zone_minutes (sign ∷ text) =
+    option_and_then (λ minutes. if nat_le minutes 840 then signed_minutes sign minutes else None)
+    (minutes_of text)
 
 -- `zone`
 unfoldable pub zone_of : Members → Result ZoneRule BookFault

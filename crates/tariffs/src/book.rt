@@ -71,12 +71,15 @@ fn book(alloc: Global, table: &Table) -> Result<TariffBook, BookFault>
 impl TariffBook {
     /// Reads a book from a TOML document (profile).
     ///
-    /// Keys are read in the order `zone`, `currency`, `validity`, `periods`, `week`, `group`, arrays in their
-    /// order, and the first fault is answered; want of memory may be answered in place of it.
+    /// Keys are read in the order `zone`, `currency`, `validity`, `periods`, `week`, `group`,
+    /// arrays in their order, and the first fault is answered; want of memory may be answered in
+    /// place of it.
     pub fn read(alloc: Global, bytes: &[u8]) -> Result<TariffBook, BookFault>
-        ensures book { IfOk result (λ b. (t : Members) × IsDocument bytes.now t × (book_of t ≡ Ok b)) }
+        ensures book { IfOk result
+            (λ b. (t : Members) × IsDocument bytes.now t × (book_of t ≡ Ok b)) }
         ensures fault { (t : Members) → IsDocument bytes.now t → Gives (λ b. b) result (book_of t) }
-        ensures no_document { ((t : Members) → IsDocument bytes.now t → ⊥) → Gives (λ b. b) result (Err NotToml) }
+        ensures no_document { ((t : Members) → IsDocument bytes.now t → ⊥) →
+            Gives (λ b. b) result (Err NotToml) }
     {
         match toml::table_from_slice(alloc, bytes) {
             Ok(table) => book(alloc, &table),
@@ -90,7 +93,8 @@ impl TariffBook {
         }
     }
 
-    /// The text of its zone as it is written in the document: two books are of one zone where these are the same.
+    /// The text of its zone as it is written in the document: two books are of one zone where these
+    /// are the same.
     pub fn zone_text(&self) -> &str
         ensures { result.now ≡ self.now.zone_text }
     {
@@ -146,8 +150,9 @@ impl TariffBook {
         self.periods.named(name)
     }
 
-    /// The tariff period at a moment: that of the civil weekday and minute, in the book's zone, of the beginning
-    /// of the moment's UTC minute (rating by time, TS 32.296; the rule of the minute is profile).
+    /// The tariff period at a moment: that of the civil weekday and minute, in the book's zone, of
+    /// the beginning of the moment's UTC minute (rating by time, TS 32.296; the rule of the minute
+    /// is profile).
     pub fn period_at(&self, moment: Moment) -> Period
         ensures value { result ≡ period_at self.now.calendar moment }
         ensures entry { (e : Entry) → IsEntryAt self.now.calendar moment e → result ≡ e.period }
@@ -156,21 +161,25 @@ impl TariffBook {
         self.calendar.period_at(moment)
     }
 
-    /// The tariff switch (Tariff-Time-Change, RFC 8506 section 8.20): the least whole minute after the moment, and
-    /// less than so many seconds later, whose period is another than that at the moment. At most 43,200 seconds are
-    /// asked for, up to the last moment that the type has: each moment of a command has that many after it.
+    /// The tariff switch (Tariff-Time-Change, RFC 8506 section 8.20): the least whole minute after
+    /// the moment, and less than so many seconds later, whose period is another than that at the
+    /// moment. At most 43,200 seconds are asked for, up to the last moment that the type has: each
+    /// moment of a command has that many after it.
     pub fn next_switch(&self, moment: Moment, seconds: u32) -> Option<Moment>
         requires seconds { seconds ≤ 43_200 }
         requires in_range { moment + seconds ≤ 4_102_488_000 }
         ensures value { result ≡ switch_within self.now.calendar moment seconds }
         ensures found { IfSome result (IsChange self.now.calendar moment (moment + seconds)) }
-        ensures least { IfSome result (λ s. (r : ℕ) → IsChange self.now.calendar moment (moment + seconds) r → s ≤ r) }
-        ensures none { IfNone result ((r : ℕ) → IsChange self.now.calendar moment (moment + seconds) r → ⊥) }
+        ensures least { IfSome result
+            (λ s. (r : ℕ) → IsChange self.now.calendar moment (moment + seconds) r → s ≤ r) }
+        ensures none { IfNone result
+            ((r : ℕ) → IsChange self.now.calendar moment (moment + seconds) r → ⊥) }
     {
         self.calendar.next_switch(moment, seconds)
     }
 
-    /// `next_switch`, going from one entry's end of the week to the next: a step an entry, at most 129.
+    /// `next_switch`, going from one entry's end of the week to the next: a step an entry, at most
+    /// 129.
     pub fn next_switch_steps(
         &self,
         moment: Moment,
@@ -182,47 +191,53 @@ impl TariffBook {
         requires steps { steps.old ≤ 1_000_000_000 }
         ensures value { result ≡ switch_within self.now.calendar moment seconds }
         ensures found { IfSome result (IsChange self.now.calendar moment (moment + seconds)) }
-        ensures least { IfSome result (λ s. (r : ℕ) → IsChange self.now.calendar moment (moment + seconds) r → s ≤ r) }
-        ensures none { IfNone result ((r : ℕ) → IsChange self.now.calendar moment (moment + seconds) r → ⊥) }
+        ensures least { IfSome result
+            (λ s. (r : ℕ) → IsChange self.now.calendar moment (moment + seconds) r → s ≤ r) }
+        ensures none { IfNone result
+            ((r : ℕ) → IsChange self.now.calendar moment (moment + seconds) r → ⊥) }
         ensures steps { steps.new ≤ steps.old + 129 }
     {
         self.calendar.next_switch_steps(moment, seconds, steps)
     }
 
-    /// The tariff switch within so many seconds from a moment on (Tariff-Time-Change, RFC 8506 section 8.20), and
-    /// these seconds cut at the next later change of period after it (Validity-Time, section 8.33).
+    /// The tariff switch within so many seconds from a moment on (Tariff-Time-Change, RFC 8506
+    /// section 8.20), and these seconds cut at the next later change of period after it
+    /// (Validity-Time, section 8.33).
     pub fn window_from(&self, moment: Moment, seconds: u32) -> Window
         ensures switch { result.switch ≡ switch_within self.now.calendar moment seconds }
-        ensures found { IfSome result.switch (IsChange self.now.calendar moment (moment + seconds)) }
+        ensures found { IfSome result.switch
+            (IsChange self.now.calendar moment (moment + seconds)) }
         ensures validity { result.validity ≡ validity_from self.now.calendar moment seconds }
     {
         self.calendar.window_from(moment, seconds)
     }
 
-    /// The Validity-Time of a grant (RFC 8506 section 8.33), in seconds: the book's validity, cut at the next later
-    /// change of period after the switch that lies within it.
+    /// The Validity-Time of a grant (RFC 8506 section 8.33), in seconds: the book's validity, cut
+    /// at the next later change of period after the switch that lies within it.
     pub fn validity_from(&self, moment: Moment) -> u32
         ensures value { result ≡ validity_from self.now.calendar moment self.now.validity }
     {
         self.calendar.validity_from(moment, self.validity)
     }
 
-    /// The number of a counter's cycle at a moment, in the book's zone: 0 for none; days since 1969-12-31; months
-    /// since January 1969 (profile).
+    /// The number of a counter's cycle at a moment, in the book's zone: 0 for none; days since
+    /// 1969-12-31; months since January 1969 (profile).
     pub fn cycle_of(&self, cycle: Cycle, moment: Moment) -> u32
         ensures value { result ≡ cycle_of self.now.calendar.zone cycle moment }
-        ensures month { (d : Date) → epoch_day d +ℤ pos 1 ≡ pos (day self.now.calendar.zone moment) →
+        ensures month { (d : Date) →
+            epoch_day d +ℤ pos 1 ≡ pos (day self.now.calendar.zone moment) →
             cycle ≡ Cycle.Month → pos (result + 1 + 12 * 1969) ≡ pos 12 *ℤ d.year +ℤ pos d.month }
     {
         self.calendar.cycle_of(cycle, moment)
     }
 
-    /// Where the civil day so many days after that of the moment ends, in the book's zone: the least moment of the
-    /// day after it; None past the last moment of commands.
+    /// Where the civil day so many days after that of the moment ends, in the book's zone: the
+    /// least moment of the day after it; None past the last moment of commands.
     pub fn day_end(&self, moment: Moment, days: u32) -> Option<Moment>
         ensures value { result ≡ day_end self.now.calendar.zone moment days }
         ensures end { IfSome result (IsDayEnd self.now.calendar.zone moment days) }
-        ensures none { IfNone result ((s : ℕ) → IsDayEnd self.now.calendar.zone moment days s → 4_102_444_800 ≤ s) }
+        ensures none { IfNone result ((s : ℕ) → IsDayEnd self.now.calendar.zone moment days s →
+            4_102_444_800 ≤ s) }
     {
         self.calendar.day_end(moment, days)
     }

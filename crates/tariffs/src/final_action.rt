@@ -1,6 +1,7 @@
 use identifiers::RedirectAddress;
 
-/// What the client does when its last granted units are used (Final-Unit-Action, RFC 8506 section 8.35).
+/// What the client does when its last granted units are used (Final-Unit-Action, RFC 8506 section
+/// 8.35).
 #[derive(Clone, Debug, Drop, PartialEq, Eq)]
 pub enum FinalAction {
     /// TERMINATE: it ends the service.

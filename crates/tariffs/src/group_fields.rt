@@ -178,7 +178,8 @@ fn group_list(
     names: &PeriodNames,
     values: &[Value],
 ) -> Result<Vec<Tariff>, BookFault>
-    ensures value { Gives (λ v. v.items) result (collected (group_of names.now) [] (items_view values.now)) }
+    ensures value { Gives (λ v. v.items) result
+        (collected (group_of names.now) [] (items_view values.now)) }
     ensures count { IfOk result (λ v. length v.items ≡ length values.now) }
     ensures distinct { IfOk result (λ v. AreOfOtherGroups v.items) }
     ensures tariffs { IfOk result (λ v. All IsTariff v.items) }

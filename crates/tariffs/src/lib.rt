@@ -1,4 +1,5 @@
-//! The tariff book of an online charging system: rating groups with their prices by period and tier.
+//! The tariff book of an online charging system: rating groups with their prices by period and
+//! tier.
 #![tactic(auto)]
 
 mod book;

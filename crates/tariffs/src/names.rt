@@ -80,7 +80,8 @@ impl PeriodNames {
 }
 
 fn names(alloc: Global, values: &[Value]) -> Result<Vec<String>, BookFault>
-    ensures value { Gives (λ v. texts v.items) result (collected name_of [] (items_view values.now)) }
+    ensures value { Gives (λ v. texts v.items) result
+        (collected name_of [] (items_view values.now)) }
     ensures count { IfOk result (λ v. vec_len v ≡ length values.now) }
     ensures distinct { IfOk result (λ v. AreDistinct (texts v.items)) }
 {
@@ -94,7 +95,8 @@ fn names(alloc: Global, values: &[Value]) -> Result<Vec<String>, BookFault>
 
 #[tactic(auto, unfolding(crate::specs::Names::name_of))]
 fn name(alloc: Global, before: &[String], value: &Value) -> Result<String, BookFault>
-    ensures value { Gives (λ s. string_bytes s) result (name_of (texts before.now) (view value.now)) }
+    ensures value { Gives (λ s. string_bytes s) result
+        (name_of (texts before.now) (view value.now)) }
     ensures name { IfOk result (λ s. is_name (texts before.now) (string_bytes s) ≡ true) }
 {
     let text = book_fields::entry_text(value)?;

@@ -54,7 +54,8 @@ fn tier(last: bool, above: u64, value: &Value) -> Result<Tier, BookFault>
 fn rising_tiers(alloc: Global, values: &[Value]) -> Result<Vec<Tier>, BookFault>
     requires some { 1 ≤ length values.now }
     requires few { length values.now ≤ 8 }
-    ensures value { Gives (λ v. v.items) result (collected (next_tier (length values.now)) [] (items_view values.now)) }
+    ensures value { Gives (λ v. v.items) result
+        (collected (next_tier (length values.now)) [] (items_view values.now)) }
     ensures tiers { IfOk result (λ v. AreTiers v.items) }
 {
     let mut tiers = Vec::new(alloc);
@@ -85,7 +86,8 @@ fn price(
     value: &Value,
 ) -> Result<(Period, Vec<Tier>), BookFault>
     requires { length prices.now ≡ length names.now }
-    ensures value { Gives (λ p. (p.0, p.1.items)) result (price_of names.now (tier_lists prices.now) (view value.now)) }
+    ensures value { Gives (λ p. (p.0, p.1.items)) result
+        (price_of names.now (tier_lists prices.now) (view value.now)) }
     ensures in_range { IfOk result (λ p. p.0.0 < length names.now) }
     ensures tiers { IfOk result (λ p. AreTiers p.1.items) }
 {
@@ -113,7 +115,8 @@ fn price_list(
     names: &PeriodNames,
     values: &[Value],
 ) -> Result<Vec<Vec<Tier>>, BookFault>
-    ensures value { Gives (λ v. tier_lists v.items) result (each (with_price names.now) (replicate (length names.now) []) (items_view values.now)) }
+    ensures value { Gives (λ v. tier_lists v.items) result
+        (each (with_price names.now) (replicate (length names.now) []) (items_view values.now)) }
     ensures count { IfOk result (λ v. length v.items ≡ length names.now) }
     ensures tiers { IfOk result (λ v. AllByRecursion IsPriceOrNone (tier_lists v.items)) }
 {
@@ -143,7 +146,8 @@ pub(crate) fn prices(
     names: &PeriodNames,
     table: &Table,
 ) -> Result<Vec<Vec<Tier>>, BookFault>
-    ensures value { Gives (λ v. tier_lists v.items) result (prices_of names.now (table_view table.now)) }
+    ensures value { Gives (λ v. tier_lists v.items) result
+        (prices_of names.now (table_view table.now)) }
     ensures count { IfOk result (λ v. length v.items ≡ length names.now) }
     ensures tiers { IfOk result (λ v. AllByRecursion AreTiers (tier_lists v.items)) }
 {
@@ -156,7 +160,8 @@ pub(crate) fn prices(
     }
 }
 
-/// Of the entries of a group's `price` exactly one names each period of the book, and its tiers are the period's.
+/// Of the entries of a group's `price` exactly one names each period of the book, and its tiers are
+/// the period's.
 pub fn priced_once()
     ensures { PricesAreOnce }
 {}

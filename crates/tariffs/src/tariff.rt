@@ -55,7 +55,8 @@ impl Tariff {
         self.block
     }
 
-    /// The units that are granted where none are named (Requested-Service-Unit without a number), 1 to `max_grant`.
+    /// The units that are granted where none are named (Requested-Service-Unit without a number), 1
+    /// to `max_grant`.
     pub fn slice(&self) -> u64
         ensures value { result ≡ self.now.slice }
         ensures tariff { IsTariff self.now }

@@ -158,7 +158,8 @@ fn week_entries(
     names: &PeriodNames,
     values: &[Value],
 ) -> Result<Vec<Entry>, BookFault>
-    ensures value { Gives (λ v. v.items) result (collected (λ before. entry_of names.now) [] (items_view values.now)) }
+    ensures value { Gives (λ v. v.items) result
+        (collected (λ before. entry_of names.now) [] (items_view values.now)) }
     ensures count { IfOk result (λ v. length v.items ≡ length values.now) }
     ensures ends { IfOk result (λ v. All (λ e. e.to ≤ 1440) v.items) }
     ensures in_range { IfOk result (λ v. All (λ e. e.period.0 < length names.now) v.items) }

@@ -1,4 +1,5 @@
-//! Money, moments and blocks: the numbers of online charging, each with its range; and a count of steps.
+//! Money, moments and blocks: the numbers of online charging, each with its range; and a count of
+//! steps.
 #![tactic(auto)]
 
 mod blocks;

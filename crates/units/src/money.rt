@@ -19,7 +19,8 @@ pub enum UnitFault {
 #[derive(Clone, Copy, Debug, PartialEq, Eq, PartialOrd, Ord)]
 pub struct Amount(pub u128);
 
-/// An amount of money: 0 to 10^15 micro-units of the book's currency (CC-Money, RFC 8506 section 8.22).
+/// An amount of money: 0 to 10^15 micro-units of the book's currency (CC-Money, RFC 8506 section
+/// 8.22).
 #[derive(Clone, Copy, Debug, PartialEq, Eq, PartialOrd, Ord)]
 pub struct Money {
     micros: u64,
@@ -48,8 +49,9 @@ impl Money {
         }
     }
 
-    /// The amount that Value-Digits and Exponent say (Unit-Value, RFC 8506 section 8.8): the digits times
-    /// 10 to the exponent, in units of the currency. The exponent's fault is told before the value's.
+    /// The amount that Value-Digits and Exponent say (Unit-Value, RFC 8506 section 8.8): the digits
+    /// times 10 to the exponent, in units of the currency. The exponent's fault is told before the
+    /// value's.
     pub fn from_digits(digits: i64, exponent: i32) -> Result<Money, UnitFault>
         ensures value { IfOk result (λ m. pos m ≡ micros_of digits exponent) }
         ensures exponent { IsErrOf result UnitFault.Exponent → IsExponent exponent → ⊥ }

@@ -2,7 +2,8 @@ ghost use Rattle.std.specs.Prelude.{◌≡◌, ℕ, ◌+◌, ◌<◌, ◌^◌};
 
 use std::marker::Model;
 
-/// How many steps a walk has taken, for calls whose contracts bound their steps: `tick` alone adds one.
+/// How many steps a walk has taken, for calls whose contracts bound their steps: `tick` alone adds
+/// one.
 ///
 /// A call that counts takes `&mut Steps` last and wants at most 10^9 steps before it.
 #[derive(Debug, Drop)]

@@ -5,6 +5,8 @@ use Rattle.buckets.proofs.along.release_all.Given as goal
 
 abbrev pub invariant-loop-bucket : goal.invariant-loop-bucket
 invariant-loop-bucket l = record {
-  rows : take l.bucket-index l.bucket-items ++ map (λ b. with_release l.at b (held_in l.holds b)) (drop l.bucket-index l.bucket-items) ≡ map (λ b. with_release l.at b (held_in l.holds b)) l.fn.buckets.items;
+  rows : take l.bucket-index l.bucket-items
+      ++ map (λ b. with_release l.at b (held_in l.holds b)) (drop l.bucket-index l.bucket-items)
+      ≡ map (λ b. with_release l.at b (held_in l.holds b)) l.fn.buckets.items;
   within : IsWithin l.holds (drop l.bucket-index l.bucket-items);
 }

@@ -4,4 +4,7 @@ use Rattle.buckets.proofs.along.release_rest.Goals as goal
 
 pub rest_within-rest-requires-clause-rest : goal.rest_within-rest-requires-clause-rest
 rest_within-rest-requires-clause-rest c =
-    rw (c.min-part.ensures, c.held_in.ensures) (left_within_at c.args.holds.now c.loop-bucket.left c.loop-bucket.bucket-items c.loop-bucket.bucket-index c.bucket-item.result (omega arith) c.loop-bucket.invariant.within)
+    rw (c.min-part.ensures, c.held_in.ensures)
+    (left_within_at c.args.holds.now c.loop-bucket.left c.loop-bucket.bucket-items
+    c.loop-bucket.bucket-index c.bucket-item.result (omega arith)
+    c.loop-bucket.invariant.within)

@@ -5,6 +5,9 @@ use Rattle.buckets.proofs.along.release_rest.Given as goal
 
 abbrev pub invariant-loop-bucket : goal.invariant-loop-bucket
 invariant-loop-bucket l = record {
-  rows : take l.bucket-index l.bucket-items ++ along (with_rest_released l.holds l.at) (held_in l.holds) l.left (drop l.bucket-index l.bucket-items) ≡ along (with_rest_released l.holds l.at) (held_in l.holds) l.fn.amount l.fn.buckets.items;
+  rows : take l.bucket-index l.bucket-items
+      ++ along (with_rest_released l.holds l.at) (held_in l.holds) l.left
+      (drop l.bucket-index l.bucket-items)
+      ≡ along (with_rest_released l.holds l.at) (held_in l.holds) l.fn.amount l.fn.buckets.items;
   within : IsLeftWithin l.holds l.left (drop l.bucket-index l.bucket-items);
 }

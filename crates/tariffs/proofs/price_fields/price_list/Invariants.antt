@@ -9,7 +9,9 @@ use Rattle.tariffs.proofs.price_fields.price_list.Given as goal
 
 abbrev pub invariant-loop-value : goal.invariant-loop-value
 invariant-loop-value l = record {
-  reading : each (with_price l.names) (tier_lists l.prices.items) (items_view (drop l.value-index l.values)) ≡ each (with_price l.names) (replicate (length l.names) []) (items_view l.values);
+  reading : each (with_price l.names) (tier_lists l.prices.items)
+      (items_view (drop l.value-index l.values))
+      ≡ each (with_price l.names) (replicate (length l.names) []) (items_view l.values);
   count : length l.prices.items ≡ length l.names;
   tiers : AllByRecursion IsPriceOrNone (tier_lists l.prices.items);
 }

@@ -6,4 +6,6 @@ use Rattle.tariffs.specs.WeekFields.{with_day}
 use Rattle.tariffs.proofs.week_fields.week_days.Given as goal
 
 abbrev pub invariant-loop-value : goal.invariant-loop-value
-invariant-loop-value l = each with_day l.days (items_view (drop l.value-index l.values)) ≡ each with_day (replicate 7 false) (items_view l.values)
+invariant-loop-value l =
+    each with_day l.days (items_view (drop l.value-index l.values))
+    ≡ each with_day (replicate 7 false) (items_view l.values)

@@ -6,10 +6,18 @@ use Rattle.buckets.proofs.Kept.{IsSound-inserted}
 use Rattle.buckets.proofs.purse.Purse.credit.Goals as goal
 
 -- what the insertion leaves
-left : (c : goal.In-Ok) → c.insert.new.self.items ≡ inserted (new_row c.args.number c.args.from c.args.until c.args.scope c.args.amount) c.self.inside.buckets.items
+left : (c : goal.In-Ok) →
+    c.insert.new.self.items
+    ≡ inserted (new_row c.args.number c.args.from c.args.until c.args.scope c.args.amount)
+    c.self.inside.buckets.items
 left c =
     let b : Row = new_row c.args.number c.args.from c.args.until c.args.scope c.args.amount in
-    rw (c.in-Ok.ensures.items, c.place_of-place.ensures.place, c.deref.ensures.value, c.new-bucket.ensures.row)
+    rw (
+      c.in-Ok.ensures.items,
+      c.place_of-place.ensures.place,
+      c.deref.ensures.value,
+      c.new-bucket.ensures.row,
+    )
     (insert-place b c.self.inside.buckets.items)
 
 pub invariant_of-self-2 : goal.invariant_of-self-2

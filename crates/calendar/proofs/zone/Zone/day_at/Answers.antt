@@ -8,13 +8,17 @@ use Rattle.calendar.proofs.zone.Zone.day_at.Goals as goal
 pub overflow_cast-result : goal.overflow_cast-result
 overflow_cast-result c =
     let is : epoch_day c.to_plain.result +ℤ pos 1 ≡ pos (day c.args.self.now c.args.seconds) =
-    ap (λ d. epoch_day d +ℤ pos 1) (c.to_plain.ensures ∙ c.date-date.ensures) ∙ day_is _ _ c.shown.result (record { at = c.shown.ensures.at; near = c.shown.ensures.near }) in
+    ap (λ d. epoch_day d +ℤ pos 1) (c.to_plain.ensures ∙ c.date-date.ensures)
+    ∙ day_is _ _ c.shown.result
+    (record { at = c.shown.ensures.at; near = c.shown.ensures.near }) in
     let bound = day_bound c.args.self.now c.args.seconds c.shown.ensures.near c.requires in
     omega (arith, signed_casts, is, bound, c.to_unix_epoch_day.ensures.value)
 
 pub returns : goal.returns
 returns c =
     let is : epoch_day c.to_plain.result +ℤ pos 1 ≡ pos (day c.args.self.now c.args.seconds) =
-    ap (λ d. epoch_day d +ℤ pos 1) (c.to_plain.ensures ∙ c.date-date.ensures) ∙ day_is _ _ c.shown.result (record { at = c.shown.ensures.at; near = c.shown.ensures.near }) in
+    ap (λ d. epoch_day d +ℤ pos 1) (c.to_plain.ensures ∙ c.date-date.ensures)
+    ∙ day_is _ _ c.shown.result
+    (record { at = c.shown.ensures.at; near = c.shown.ensures.near }) in
     let bound = day_bound c.args.self.now c.args.seconds c.shown.ensures.near c.requires in
     omega (arith, signed_casts, is, bound, c.to_unix_epoch_day.ensures.value)
