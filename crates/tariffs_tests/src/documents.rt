@@ -3,13 +3,17 @@
 use std::alloc::Global;
 use std::test::Fail;
 
-/// A small book, each of whose members can be changed by a replacement of its text.
+/// A small book, each of whose members can be changed by a replacement of its text. A line that
+/// begins with two spaces goes on with the one before it.
 pub(crate) const SMALL: &str = r#"zone = "+00:00"
 currency = 978
 validity = 3600
 periods = ["off", "peak"]
-week = [{period = "off", days = [1, 2, 3, 4, 5, 6, 7], from = "00:00", to = "08:30"}, {period = "peak", days = [7, 6, 5, 4, 3, 2, 1], from = "08:30", to = "24:00"}]
-group = [{id = 10, unit = "time", block = 60, slice = 600, max_grant = 3600, cycle = "none", final = "terminate", price = [{period = "off", tiers = [{upto = 100, price = 1}, {upto = 200, price = 2}, {price = 3}]}, {period = "peak", tiers = [{price = 4}]}]}]
+week = [{period = "off", days = [1, 2, 3, 4, 5, 6, 7], from = "00:00", to = "08:30"},
+   {period = "peak", days = [7, 6, 5, 4, 3, 2, 1], from = "08:30", to = "24:00"}]
+group = [{id = 10, unit = "time", block = 60, slice = 600, max_grant = 3600, cycle = "none",
+   final = "terminate", price = [{period = "off", tiers = [{upto = 100, price = 1},
+   {upto = 200, price = 2}, {price = 3}]}, {period = "peak", tiers = [{price = 4}]}]}]
 "#;
 
 /// A minute of the day as `hh:mm`.
@@ -33,7 +37,8 @@ pub(crate) fn entry(
     Ok(format!(in alloc; "{head}from = \"{from}\"\nto = \"{to}\"\n")?)
 }
 
-/// So many entries of equal length in some days, numbered on; of each four the second and third are of one period.
+/// So many entries of equal length in some days, numbered on; of each four the second and third are
+/// of one period.
 fn slices(alloc: Global, days: &str, first: u32, count: u32) -> Result<String, Fail> {
     let mut text = String::new(alloc);
     let length = 1440_u32.checked_div(count).ok_or("a count")?;
@@ -85,5 +90,9 @@ slice = 1
 max_grant = 1
 cycle = \"none\"
 final = \"terminate\"
-price = [{period = \"a\", tiers = [{price = 1}]}, {period = \"b\", tiers = [{price = 2}]}, {period = \"c\", tiers = [{price = 3}]}]
+price = [
+  {period = \"a\", tiers = [{price = 1}]},
+  {period = \"b\", tiers = [{price = 2}]},
+  {period = \"c\", tiers = [{price = 3}]},
+]
 ";

@@ -1,12 +1,11 @@
 //! Each fault of each key, and which of two faults is told.
 //!
-//! A case is a line: the number of the fault (0: the document is read), and the texts of the document that are
-//! changed, joined by `&`. In the texts `|` stands for the end of a line. Expected faults are reckoned from the
-//! rules of the format.
+//! A case is the number of the fault (0: the document is read), and the texts of the document that
+//! are changed. Expected faults are reckoned from the rules of the format.
 
 use crate::documents::SMALL;
+use crate::tables::{joined, try_changes};
 use std::alloc::Global;
-use std::process::Abort;
 use std::test::Fail;
 use tariffs::TariffBook;
 use worked_book::BOOK;
@@ -17,32 +16,6 @@ pub(crate) fn outcome(alloc: Global, bytes: &[u8]) -> u8 {
         Ok(_) => 0,
         Err(fault) => fault.number(),
     }
-}
-
-/// The document with the changes of a case.
-fn changed(rt: &impl Abort, alloc: Global, document: &str, changes: &str) -> Result<String, Fail> {
-    let mut text = String::from_str(alloc, document)?;
-    for change in changes.split(" & ") {
-        let (old, new) = change.split_once(" -> ").ok_or("a change")?;
-        assert!(rt; text.as_str().contains(old), "{change}");
-        text = text.as_str().replace(alloc, old, new)?;
-    }
-    Ok(text)
-}
-
-/// Tries the cases.
-fn try_all(rt: &impl Abort, alloc: Global, document: &str, cases: &str) -> Result<(), Fail> {
-    for line in cases.lines() {
-        let line = line.replace(alloc, "|", "\n")?;
-        let (fault, changes) = line.as_str().split_once(": ").ok_or("a case")?;
-        let text = changed(rt, alloc, document, changes)?;
-        assert_eq!(rt;
-            outcome(alloc, text.as_str().as_bytes()),
-            fault.parse::<u8>()?,
-            "{changes}"
-        );
-    }
-    Ok(())
 }
 
 const ZONE_AND_NUMBERS: &str = r##"2: zone = "+00:00" -> zones = 5
@@ -75,7 +48,7 @@ const ZONE_AND_NUMBERS: &str = r##"2: zone = "+00:00" -> zones = 5
 
 #[test]
 fn zone_and_numbers_cases(rt: HostRuntime) -> Result<(), Fail> {
-    try_all(&rt, rt.alloc(), SMALL, ZONE_AND_NUMBERS)
+    try_changes(&rt, rt.alloc(), SMALL, ZONE_AND_NUMBERS)
 }
 
 const PERIODS: &str = r##"2: periods = ["off", "peak"] -> xperiods = ["off", "peak"]
@@ -95,15 +68,19 @@ const PERIODS: &str = r##"2: periods = ["off", "peak"] -> xperiods = ["off", "pe
 
 #[test]
 fn periods_cases(rt: HostRuntime) -> Result<(), Fail> {
-    try_all(&rt, rt.alloc(), SMALL, PERIODS)
+    try_changes(&rt, rt.alloc(), SMALL, PERIODS)
 }
 
 const WEEK: &str = r##"2: week = [ -> weeks = [
 3: week = [ -> week = 5 # [
 4: week = [ -> week = [] # [
 3: week = [ -> week = [5,
-8: week = [ -> week = [0, 0, 0, 0, 0, 0, 0, 0, 0, 0, 0, 0, 0, 0, 0, 0, 0, 0, 0, 0, 0, 0, 0, 0, 0, 0, 0, 0, 0, 0, 0, 0, 0, 0, 0, 0, 0, 0, 0, 0, 0, 0, 0, 0, 0, 0, 0, 0, 0, 0, 0, 0, 0, 0, 0, 0, 0, 0, 0, 0, 0, 0, 0,
-3: week = [ -> week = [0, 0, 0, 0, 0, 0, 0, 0, 0, 0, 0, 0, 0, 0, 0, 0, 0, 0, 0, 0, 0, 0, 0, 0, 0, 0, 0, 0, 0, 0, 0, 0, 0, 0, 0, 0, 0, 0, 0, 0, 0, 0, 0, 0, 0, 0, 0, 0, 0, 0, 0, 0, 0, 0, 0, 0, 0, 0, 0, 0, 0, 0,
+8: week = [ -> week = [0, 0, 0, 0, 0, 0, 0, 0, 0, 0, 0, 0, 0, 0, 0, 0, 0, 0, 0, 0, 0, 0, 0, 0, 0,
+   0, 0, 0, 0, 0, 0, 0, 0, 0, 0, 0, 0, 0, 0, 0, 0, 0, 0, 0, 0, 0, 0, 0, 0, 0, 0, 0, 0, 0, 0, 0, 0,
+   0, 0, 0, 0, 0, 0,
+3: week = [ -> week = [0, 0, 0, 0, 0, 0, 0, 0, 0, 0, 0, 0, 0, 0, 0, 0, 0, 0, 0, 0, 0, 0, 0, 0, 0,
+   0, 0, 0, 0, 0, 0, 0, 0, 0, 0, 0, 0, 0, 0, 0, 0, 0, 0, 0, 0, 0, 0, 0, 0, 0, 0, 0, 0, 0, 0, 0, 0,
+   0, 0, 0, 0, 0,
 2: {period = "off", days -> {days
 3: {period = "off", days -> {period = 5, days
 5: {period = "off", days -> {period = "night", days
@@ -121,7 +98,7 @@ const WEEK: &str = r##"2: week = [ -> weeks = [
 
 #[test]
 fn week_cases(rt: HostRuntime) -> Result<(), Fail> {
-    try_all(&rt, rt.alloc(), SMALL, WEEK)
+    try_changes(&rt, rt.alloc(), SMALL, WEEK)
 }
 
 const MINUTES: &str = r##"2: from = "00:00" -> xfrom = "00:00"
@@ -144,15 +121,19 @@ const MINUTES: &str = r##"2: from = "00:00" -> xfrom = "00:00"
 
 #[test]
 fn minutes_cases(rt: HostRuntime) -> Result<(), Fail> {
-    try_all(&rt, rt.alloc(), SMALL, MINUTES)
+    try_changes(&rt, rt.alloc(), SMALL, MINUTES)
 }
 
 const GROUP_HEAD: &str = r##"2: group = [ -> groups = [
 3: group = [ -> group = 5 # [
 4: group = [ -> group = [] # [
 3: group = [ -> group = [5,
-8: group = [ -> group = [0, 0, 0, 0, 0, 0, 0, 0, 0, 0, 0, 0, 0, 0, 0, 0, 0, 0, 0, 0, 0, 0, 0, 0, 0, 0, 0, 0, 0, 0, 0, 0, 0, 0, 0, 0, 0, 0, 0, 0, 0, 0, 0, 0, 0, 0, 0, 0, 0, 0, 0, 0, 0, 0, 0, 0, 0, 0, 0, 0, 0, 0, 0, 0,
-3: group = [ -> group = [0, 0, 0, 0, 0, 0, 0, 0, 0, 0, 0, 0, 0, 0, 0, 0, 0, 0, 0, 0, 0, 0, 0, 0, 0, 0, 0, 0, 0, 0, 0, 0, 0, 0, 0, 0, 0, 0, 0, 0, 0, 0, 0, 0, 0, 0, 0, 0, 0, 0, 0, 0, 0, 0, 0, 0, 0, 0, 0, 0, 0, 0, 0,
+8: group = [ -> group = [0, 0, 0, 0, 0, 0, 0, 0, 0, 0, 0, 0, 0, 0, 0, 0, 0, 0, 0, 0, 0, 0, 0, 0, 0,
+   0, 0, 0, 0, 0, 0, 0, 0, 0, 0, 0, 0, 0, 0, 0, 0, 0, 0, 0, 0, 0, 0, 0, 0, 0, 0, 0, 0, 0, 0, 0, 0,
+   0, 0, 0, 0, 0, 0, 0,
+3: group = [ -> group = [0, 0, 0, 0, 0, 0, 0, 0, 0, 0, 0, 0, 0, 0, 0, 0, 0, 0, 0, 0, 0, 0, 0, 0, 0,
+   0, 0, 0, 0, 0, 0, 0, 0, 0, 0, 0, 0, 0, 0, 0, 0, 0, 0, 0, 0, 0, 0, 0, 0, 0, 0, 0, 0, 0, 0, 0, 0,
+   0, 0, 0, 0, 0, 0,
 2: id = 10 -> xid = 10
 3: id = 10 -> id = "10"
 4: id = 10 -> id = -1
@@ -168,7 +149,7 @@ const GROUP_HEAD: &str = r##"2: group = [ -> groups = [
 
 #[test]
 fn group_head_cases(rt: HostRuntime) -> Result<(), Fail> {
-    try_all(&rt, rt.alloc(), SMALL, GROUP_HEAD)
+    try_changes(&rt, rt.alloc(), SMALL, GROUP_HEAD)
 }
 
 const AMOUNTS: &str = r##"2: block = 60 -> xblock = 60
@@ -192,15 +173,20 @@ const AMOUNTS: &str = r##"2: block = 60 -> xblock = 60
 4: max_grant = 3600 -> max_grant = 4294967296
 0: block = 60, slice = 600, max_grant = 3600 -> block = 1, slice = 600, max_grant = 999999999
 4: block = 60, slice = 600, max_grant = 3600 -> block = 1, slice = 600, max_grant = 1000000000
-0: unit = "time", block = 60, slice = 600, max_grant = 3600 -> unit = "octets", block = 1000001, slice = 600, max_grant = 1000000000000000
-4: unit = "time", block = 60, slice = 600, max_grant = 3600 -> unit = "octets", block = 1000000, slice = 600, max_grant = 1000000000000000
-0: unit = "time", block = 60, slice = 600, max_grant = 3600 -> unit = "octets", block = 1000000, slice = 600, max_grant = 999999999999999
-4: unit = "time", block = 60, slice = 600, max_grant = 3600 -> unit = "octets", block = 1000000000000000, slice = 600, max_grant = 1000000000000001
-0: unit = "time", block = 60, slice = 600, max_grant = 3600 -> unit = "events", block = 1000001, slice = 1000000000000000, max_grant = 1000000000000000"##;
+0: unit = "time", block = 60, slice = 600, max_grant = 3600 -> unit = "octets", block = 1000001,
+   slice = 600, max_grant = 1000000000000000
+4: unit = "time", block = 60, slice = 600, max_grant = 3600 -> unit = "octets", block = 1000000,
+   slice = 600, max_grant = 1000000000000000
+0: unit = "time", block = 60, slice = 600, max_grant = 3600 -> unit = "octets", block = 1000000,
+   slice = 600, max_grant = 999999999999999
+4: unit = "time", block = 60, slice = 600, max_grant = 3600 -> unit = "octets", block =
+   1000000000000000, slice = 600, max_grant = 1000000000000001
+0: unit = "time", block = 60, slice = 600, max_grant = 3600 -> unit = "events", block = 1000001,
+   slice = 1000000000000000, max_grant = 1000000000000000"##;
 
 #[test]
 fn amounts_cases(rt: HostRuntime) -> Result<(), Fail> {
-    try_all(&rt, rt.alloc(), SMALL, AMOUNTS)
+    try_changes(&rt, rt.alloc(), SMALL, AMOUNTS)
 }
 
 const CYCLE_AND_FINAL: &str = r##"2: cycle = "none" -> xcycle = "none"
@@ -218,13 +204,17 @@ const CYCLE_AND_FINAL: &str = r##"2: cycle = "none" -> xcycle = "none"
 4: final = "terminate" -> final = "redirect", redirect = "ü"
 0: final = "terminate" -> final = "redirect", redirect = "!"
 0: final = "terminate" -> final = "redirect", redirect = "~"
-0: final = "terminate" -> final = "redirect", redirect = "aaaaaaaaaaaaaaaaaaaaaaaaaaaaaaaaaaaaaaaaaaaaaaaaaaaaaaaaaaaaaaaaaaaaaaaaaaaaaaaaaaaaaaaaaaaaaaaaaaaaaaaaaaaaaaaaaaaaaaaaaaaaaaaaaaaaaaaaaaaaaaaaaaaaaaaaaaaaaaaaaaaaaaaaaaaaaaaaaaaaaaaaaaaaaaaaaaaaaaaa"
-4: final = "terminate" -> final = "redirect", redirect = "aaaaaaaaaaaaaaaaaaaaaaaaaaaaaaaaaaaaaaaaaaaaaaaaaaaaaaaaaaaaaaaaaaaaaaaaaaaaaaaaaaaaaaaaaaaaaaaaaaaaaaaaaaaaaaaaaaaaaaaaaaaaaaaaaaaaaaaaaaaaaaaaaaaaaaaaaaaaaaaaaaaaaaaaaaaaaaaaaaaaaaaaaaaaaaaaaaaaaaaaa"
+0: final = "terminate" -> final = "redirect", redirect = "aaaaaaaaaaaaaaaaaaaaaaaaaaaaaaaaaaaaaaaaaa
+  aaaaaaaaaaaaaaaaaaaaaaaaaaaaaaaaaaaaaaaaaaaaaaaaaaaaaaaaaaaaaaaaaaaaaaaaaaaaaaaaaaaaaaaaaaaaaaaaaa
+  aaaaaaaaaaaaaaaaaaaaaaaaaaaaaaaaaaaaaaaaaaaaaaaaaaaaaaaaaaaa"
+4: final = "terminate" -> final = "redirect", redirect = "aaaaaaaaaaaaaaaaaaaaaaaaaaaaaaaaaaaaaaaaaa
+  aaaaaaaaaaaaaaaaaaaaaaaaaaaaaaaaaaaaaaaaaaaaaaaaaaaaaaaaaaaaaaaaaaaaaaaaaaaaaaaaaaaaaaaaaaaaaaaaaa
+  aaaaaaaaaaaaaaaaaaaaaaaaaaaaaaaaaaaaaaaaaaaaaaaaaaaaaaaaaaaaa"
 0: final = "terminate" -> final = "terminate", redirect = 5"##;
 
 #[test]
 fn cycle_and_final_cases(rt: HostRuntime) -> Result<(), Fail> {
-    try_all(&rt, rt.alloc(), SMALL, CYCLE_AND_FINAL)
+    try_changes(&rt, rt.alloc(), SMALL, CYCLE_AND_FINAL)
 }
 
 const PRICES: &str = r##"2: "terminate", price -> "terminate", prices
@@ -239,12 +229,13 @@ const PRICES: &str = r##"2: "terminate", price -> "terminate", prices
 2: 3}]}, {period = "peak", tiers = [{price = 4}]} -> 3}]}
 4: {period = "peak", tiers = [{price = 4}]} -> {period = "off"}
 4: {period = "peak", tiers = [{price = 4}]} -> {period = "off", tiers = 4}
-4: {period = "peak", tiers = [{price = 4}]} -> {period = "off", tiers = [{upto = 2, price = 1}, {upto = 2, price = 1}, {price = 1}]}
+4: {period = "peak", tiers = [{price = 4}]} -> {period = "off", tiers = [{upto = 2, price = 1},
+   {upto = 2, price = 1}, {price = 1}]}
 2: {period = "peak", tiers = [{price = 4}]} -> {period = "peak"}"##;
 
 #[test]
 fn prices_cases(rt: HostRuntime) -> Result<(), Fail> {
-    try_all(&rt, rt.alloc(), SMALL, PRICES)
+    try_changes(&rt, rt.alloc(), SMALL, PRICES)
 }
 
 const TIERS: &str = r##"2: tiers = [{price = 4}] -> xtiers = [{price = 4}]
@@ -272,13 +263,15 @@ const TIERS: &str = r##"2: tiers = [{price = 4}] -> xtiers = [{price = 4}]
 
 #[test]
 fn tiers_cases(rt: HostRuntime) -> Result<(), Fail> {
-    try_all(&rt, rt.alloc(), SMALL, TIERS)
+    try_changes(&rt, rt.alloc(), SMALL, TIERS)
 }
 
 const THREE_GROUPS: &str =
-    r##"6: [[week]]|period = "off"|days = [6, 7]|from = "00:00"|to = "24:00"|[[group]]|id = 10 -> [[group]]|id = 10
+    r##"6: [[week]]|period = "off"|days = [6, 7]|from = "00:00"|to = "24:00"|[[group]]|id = 10 ->
+   [[group]]|id = 10
 4: zone = "+00:00" -> zone = "+14:30"
-7: {period = "off", tiers = [{upto = 100, price = 0}, {price -> {period = "off", tiers = [{upto = 100, price = 0}, {upto = 100, price = 0}, {price
+7: {period = "off", tiers = [{upto = 100, price = 0}, {price -> {period = "off", tiers = [{upto =
+   100, price = 0}, {upto = 100, price = 0}, {price
 2: 90000}]}, {period = "peak", tiers = [{price = 90000}]} -> 90000}]}
 5: [[week]]|period = "peak" -> [[week]]|period = "night"
 4: id = 20 -> id = 10
@@ -288,11 +281,11 @@ const THREE_GROUPS: &str =
 
 #[test]
 fn three_groups_cases(rt: HostRuntime) -> Result<(), Fail> {
-    try_all(&rt, rt.alloc(), BOOK, THREE_GROUPS)
+    try_changes(&rt, rt.alloc(), BOOK, THREE_GROUPS)
 }
 
-/// Keys that the format doesn't name, kinds that it has no key of, and what TOML refuses: a doubled key, a whole number
-/// of more than 64 bits.
+/// Keys that the format doesn't name, kinds that it has no key of, and what TOML refuses: a doubled
+/// key, a whole number of more than 64 bits.
 const OTHER_KEYS: &str = r##"0: {period = "off", days -> {more = 1, period = "off", days
 0: group = [{id = 10 -> group = [{more = "x", id = 10
 0: {period = "peak", tiers -> {more = [], period = "peak", tiers
@@ -307,7 +300,7 @@ const OTHER_KEYS: &str = r##"0: {period = "off", days -> {more = 1, period = "of
 
 #[test]
 fn other_keys_cases(rt: HostRuntime) -> Result<(), Fail> {
-    try_all(&rt, rt.alloc(), SMALL, OTHER_KEYS)
+    try_changes(&rt, rt.alloc(), SMALL, OTHER_KEYS)
 }
 
 const ORDER: &str = r##"4: +00:00 -> +14:30 & currency -> xcurrency
@@ -316,34 +309,42 @@ const ORDER: &str = r##"4: +00:00 -> +14:30 & currency -> xcurrency
 4: periods = ["off", "peak"] -> periods = ["off", "off"] & week = [ -> weeks = [
 6: 08:30"} -> 08:29"} & group = [ -> groups = [
 5: group = [ -> groups = [ & {period = "off", days -> {period = "night", days
-4: from = "00:00", to = "08:30" -> from = "00:00", to = "x" & {period = "peak", days -> {period = "night", days
-8: days = [1, 2, 3, 4, 5, 6, 7] -> days = [1, 2, 3, 4, 5, 6, 7, 7] & from = "00:00" -> xfrom = "00:00"
+4: from = "00:00", to = "08:30" -> from = "00:00", to = "x" & {period = "peak", days -> {period =
+   "night", days
+8: days = [1, 2, 3, 4, 5, 6, 7] -> days = [1, 2, 3, 4, 5, 6, 7, 7] & from = "00:00" -> xfrom =
+   "00:00"
 4: days = [1, 2, 3, 4, 5, 6, 7] -> days = [9] & from = "00:00" -> from = 0
 4: id = 10 -> id = -1 & unit = "time" -> unit = 5
 4: slice = 600 -> slice = 3601 & cycle -> xcycle
 2: slice = 600 -> slice = 3601 & max_grant -> xmax_grant
 4: max_grant = 3600 -> max_grant = 1 & cycle -> xcycle
-4: final = "terminate" -> final = "stop" & price = [{period = "off", tiers -> prices = [{period = "off", tiers
-4: final = "terminate" -> final = "redirect", redirect = "" & price = [{period = "off", tiers -> prices = [{period = "off", tiers
+4: final = "terminate" -> final = "stop" & price = [{period = "off", tiers -> prices = [{period =
+   "off", tiers
+4: final = "terminate" -> final = "redirect", redirect = "" & price = [{period = "off", tiers ->
+   prices = [{period = "off", tiers
 2: {upto = 100, price = 1} -> {upto = 100} & {period = "peak", tiers -> {period = "night", tiers
 7: {upto = 200, price = 2} -> {upto = 50, price = "2"} & 978 -> 977
-3: {upto = 100, price = 1} -> {upto = 100, price = "1"} & {upto = 200, price = 2} -> {upto = 50, price = 2}
-5: periods = ["off", "peak"] -> periods = ["off", "peak", "dusk"] & {period = "peak", tiers -> {period = "night", tiers
+3: {upto = 100, price = 1} -> {upto = 100, price = "1"} & {upto = 200, price = 2} -> {upto = 50,
+   price = 2}
+5: periods = ["off", "peak"] -> periods = ["off", "peak", "dusk"] & {period = "peak", tiers ->
+   {period = "night", tiers
 4: periods = ["off", "peak"] -> periods = ["off", "peak", "dusk"] & id = 10 -> id = -1
 1: zone =  -> zone = =  & currency -> xcurrency"##;
 
 /// Of two faults the first in the order of the keys is told.
 #[test]
 fn order_cases(rt: HostRuntime) -> Result<(), Fail> {
-    try_all(&rt, rt.alloc(), SMALL, ORDER)
+    try_changes(&rt, rt.alloc(), SMALL, ORDER)
 }
 
 #[test]
-fn no_document(rt: HostRuntime) {
+fn no_document(rt: HostRuntime) -> Result<(), Fail> {
     let alloc = rt.alloc();
+    let small = joined(alloc, SMALL)?;
     assert_eq!(rt; outcome(alloc, b""), 2);
     assert_eq!(rt; outcome(alloc, b"zone"), 1);
     assert_eq!(rt; outcome(alloc, &[0xFF]), 1);
-    assert_eq!(rt; outcome(alloc, SMALL.as_bytes()), 0);
+    assert_eq!(rt; outcome(alloc, small.as_str().as_bytes()), 0);
     assert_eq!(rt; outcome(alloc, BOOK.as_bytes()), 0);
+    Ok(())
 }

@@ -1,7 +1,9 @@
-//! What the look-ups say of the book of three groups. Expected values are the document's, and for moments those of
-//! Python's `datetime` with a fixed offset: the weekday and hour, the date's ordinal, its year and month, the
-//! timestamp of a midnight, and a search over each minute of the next hour.
+//! What the look-ups say of the book of three groups. Expected values are the document's, and for
+//! moments those of Python's `datetime` with a fixed offset: the weekday and hour, the date's
+//! ordinal, its year and month, the timestamp of a midnight, and a search over each minute of the
+//! next hour.
 
+use crate::tables::{Table, try_table};
 use calendar::{Cycle, Period};
 use std::alloc::Global;
 use std::test::Fail;
@@ -49,29 +51,28 @@ fn group(alloc: Global, book: &TariffBook, group: u32, period: u8) -> Result<Str
     }
 }
 
-/// A group, a period, and what the book says of them.
+/// What the worked book says of a case: a group and a period.
+pub(crate) fn group_of_case(alloc: Global, case: &str) -> Result<String, Fail> {
+    let (number, period) = case.split_once(" ").ok_or("a group and a period")?;
+    let book = TariffBook::read(alloc, BOOK.as_bytes())?;
+    group(alloc, &book, number.parse::<u32>()?, period.parse::<u8>()?)
+}
+
 const GROUPS: &str = "10 0 -> 10 60 600 3600 Time None Terminate / None 50000
 10 1 -> 10 60 600 3600 Time None Terminate / None 100000
 10 2 -> 10 60 600 3600 Time None Terminate
-20 0 -> 20 1048576 10485760 1048576000 TotalOctets Month Redirect(RedirectAddress { text: \"http://topup.example/\" }) / Some(100) 0 / None 10000
+20 0 -> 20 1048576 10485760 1048576000 TotalOctets Month
+   Redirect(RedirectAddress { text: \"http://topup.example/\" }) / Some(100) 0 / None 10000
 30 1 -> 30 1 1 100 ServiceSpecific None Terminate / None 90000
 99 0 -> none";
 
 #[test]
 fn groups(rt: HostRuntime) -> Result<(), Fail> {
-    let alloc = rt.alloc();
-    let book = TariffBook::read(alloc, BOOK.as_bytes())?;
-    for line in GROUPS.lines() {
-        let (of, expected) = line.split_once(" -> ").ok_or("a case")?;
-        let (number, period) = of.split_once(" ").ok_or("a group and a period")?;
-        let found = group(alloc, &book, number.parse::<u32>()?, period.parse::<u8>()?)?;
-        assert_eq!(rt; found.as_str(), expected);
-    }
-    Ok(())
+    try_table(&rt, rt.alloc(), Table::Groups, GROUPS)
 }
 
-/// What the book says of a moment: its period and the switch within an hour of it, the validity from it, the numbers
-/// of its cycles, and the end of its day and of the 30th day after it.
+/// What the book says of a moment: its period and the switch within an hour of it, the validity
+/// from it, the numbers of its cycles, and the end of its day and of the 30th day after it.
 fn moment(alloc: Global, book: &TariffBook, seconds: u64) -> Result<String, Fail> {
     let moment = Moment::of_command(seconds).ok_or("a moment")?;
     let Period(period) = book.period_at(moment);
@@ -87,7 +88,14 @@ fn moment(alloc: Global, book: &TariffBook, seconds: u64) -> Result<String, Fail
     Ok(format!(in alloc; "{first} {second}")?)
 }
 
-/// A zone, a moment, and what the book says of it.
+/// What the worked book says of a case: a zone and a moment.
+pub(crate) fn moment_of_case(alloc: Global, case: &str) -> Result<String, Fail> {
+    let (zone, seconds) = case.split_once(" ").ok_or("a zone and a moment")?;
+    let text = BOOK.replace(alloc, "+00:00", zone)?;
+    let book = TariffBook::read(alloc, text.as_str().as_bytes())?;
+    moment(alloc, &book, seconds.parse::<u64>()?)
+}
+
 const MOMENTS: &str =
     "+00:00 1767598200 -> 0 Some(1767600000) 3600 0 20459 684 Some(1767657600) Some(1770249600)
 -14:00 1767275999 -> 0 None 3600 0 20454 683 Some(1767276000) Some(1769868000)
@@ -126,16 +134,7 @@ const MOMENTS: &str =
 /// The edges of minutes, days, months and years in four zones.
 #[test]
 fn moments(rt: HostRuntime) -> Result<(), Fail> {
-    let alloc = rt.alloc();
-    for line in MOMENTS.lines() {
-        let (at, expected) = line.split_once(" -> ").ok_or("a case")?;
-        let (zone, seconds) = at.split_once(" ").ok_or("a zone and a moment")?;
-        let text = BOOK.replace(alloc, "+00:00", zone)?;
-        let book = TariffBook::read(alloc, text.as_bytes())?;
-        let found = moment(alloc, &book, seconds.parse::<u64>()?)?;
-        assert_eq!(rt; found.as_str(), expected, "{zone} {seconds}");
-    }
-    Ok(())
+    try_table(&rt, rt.alloc(), Table::Moments, MOMENTS)
 }
 
 /// From 07:50 the period changes at 08:00 and 08:20: the validity ends at the second change.

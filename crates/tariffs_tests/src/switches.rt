@@ -1,6 +1,8 @@
-//! Switches and validity times beside a search over each minute, and those of a book as Python's `datetime` has them.
+//! Switches and validity times beside a search over each minute, and those of a book as Python's
+//! `datetime` has them.
 
 use crate::documents::{sliced, whole_week};
+use crate::tables::{Table, try_table};
 use std::alloc::Global;
 use std::process::Abort;
 use std::test::Fail;
@@ -52,7 +54,8 @@ fn agrees(book: &TariffBook, start: u64, seconds: u32) -> Option<bool> {
     Some(switch == found && window.switch == found && u64::from(window.validity) == validity)
 }
 
-/// From a Friday's and a Sunday's last hours on, over midnight: 2026-01-02 and 2026-01-04; and near the last moment.
+/// From a Friday's and a Sunday's last hours on, over midnight: 2026-01-02 and 2026-01-04; and near
+/// the last moment.
 const STARTS: [u64; 6] = [
     1_767_394_740,
     1_767_398_399,
@@ -111,8 +114,19 @@ fn window(alloc: Global, book: &TariffBook, start: u64, seconds: u32) -> Result<
     Ok(format!(in alloc; "{:?} {}", window.switch, window.validity)?)
 }
 
-/// A zone, a moment and a length, the switch and the seconds: of a Friday's evening and its last second before 20:00, a
-/// Saturday's noon, a Sunday's last second, other zones' Sunday to Monday, and the last moment of commands.
+/// What is said of a case: a zone, a moment and a length. The book is the worked one with weekends
+/// of the weekdays' dear period, so that it changes at two midnights of a week.
+pub(crate) fn window_of_case(alloc: Global, case: &str) -> Result<String, Fail> {
+    let (zone, at) = case.split_once(" ").ok_or("a zone and a moment")?;
+    let (start, seconds) = at.split_once(" ").ok_or("a moment and a length")?;
+    let weekend = BOOK.replace(alloc, "\"off\"\ndays = [6, 7]", "\"peak\"\ndays = [6, 7]")?;
+    let text = weekend.as_str().replace(alloc, "+00:00", zone)?;
+    let book = TariffBook::read(alloc, text.as_str().as_bytes())?;
+    window(alloc, &book, start.parse::<u64>()?, seconds.parse::<u32>()?)
+}
+
+/// A Friday's evening and its last second before 20:00, a Saturday's noon, a Sunday's last second,
+/// other zones' Sunday to Monday, and the last moment of commands.
 const WINDOWS: &str = "+00:00 1767985200 0 -> None 0
 +00:00 1767985200 1 -> None 1
 +00:00 1767985200 3600 -> None 3600
@@ -144,19 +158,7 @@ const WINDOWS: &str = "+00:00 1767985200 0 -> None 0
 +14:00 4102444799 60 -> None 60
 +14:00 4102444799 43200 -> Some(4102466400) 36001";
 
-/// The worked book with weekends of the weekdays' dear period, so that it changes at two midnights of a week.
 #[test]
 fn windows(rt: HostRuntime) -> Result<(), Fail> {
-    let alloc = rt.alloc();
-    let weekend = BOOK.replace(alloc, "\"off\"\ndays = [6, 7]", "\"peak\"\ndays = [6, 7]")?;
-    for line in WINDOWS.lines() {
-        let (at, expected) = line.split_once(" -> ").ok_or("a case")?;
-        let (zone, at) = at.split_once(" ").ok_or("a zone and a moment")?;
-        let (start, seconds) = at.split_once(" ").ok_or("a moment and a length")?;
-        let text = weekend.as_str().replace(alloc, "+00:00", zone)?;
-        let book = TariffBook::read(alloc, text.as_str().as_bytes())?;
-        let found = window(alloc, &book, start.parse::<u64>()?, seconds.parse::<u32>()?)?;
-        assert_eq!(rt; found.as_str(), expected, "{line}");
-    }
-    Ok(())
+    try_table(&rt, rt.alloc(), Table::Windows, WINDOWS)
 }

@@ -1,0 +1,80 @@
+//! Tables of cases: a case is a line of a constant text, and a line that begins with two spaces
+//! goes on with the one before it.
+
+use crate::faults::outcome;
+use crate::lookups::{group_of_case, moment_of_case};
+use crate::switches::window_of_case;
+use std::alloc::Global;
+use std::process::Abort;
+use std::test::Fail;
+
+/// The text on fewer lines: one that begins with two spaces goes on with the one before it.
+pub(crate) fn joined(alloc: Global, text: &str) -> Result<String, Fail> {
+    Ok(text.replace(alloc, "\n  ", "")?)
+}
+
+/// The document with the changes of a case, joined by `&`, each `OLD -> NEW`.
+fn changed(rt: &impl Abort, alloc: Global, document: &str, changes: &str) -> Result<String, Fail> {
+    let mut text = joined(alloc, document)?;
+    for change in changes.split(" & ") {
+        let (old, new) = change.split_once(" -> ").ok_or("a change")?;
+        assert!(rt; text.as_str().contains(old), "{change}");
+        text = text.as_str().replace(alloc, old, new)?;
+    }
+    Ok(text)
+}
+
+/// What the cases of a table tell.
+#[derive(Clone, Copy)]
+pub(crate) enum Table {
+    /// What the worked book says of a group in a period.
+    Groups,
+    /// What the worked book says of a moment, in a zone.
+    Moments,
+    /// The switch within so many seconds of a moment, in a zone.
+    Windows,
+}
+
+/// What is said of a case.
+fn said(alloc: Global, table: Table, case: &str) -> Result<String, Fail> {
+    match table {
+        Table::Groups => group_of_case(alloc, case),
+        Table::Moments => moment_of_case(alloc, case),
+        Table::Windows => window_of_case(alloc, case),
+    }
+}
+
+/// Tries the cases of a table, each `CASE -> WHAT IS SAID OF IT`.
+pub(crate) fn try_table(
+    rt: &impl Abort,
+    alloc: Global,
+    table: Table,
+    cases: &str,
+) -> Result<(), Fail> {
+    let cases = joined(alloc, cases)?;
+    for line in cases.as_str().lines() {
+        let (case, expected) = line.split_once(" -> ").ok_or("a case")?;
+        let found = said(alloc, table, case)?;
+        assert_eq!(rt; found.as_str(), expected, "{case}");
+    }
+    Ok(())
+}
+
+/// Tries the cases of a document, each `FAULT: CHANGES`, in whose texts `|` stands for the end of a
+/// line.
+pub(crate) fn try_changes(
+    rt: &impl Abort,
+    alloc: Global,
+    document: &str,
+    cases: &str,
+) -> Result<(), Fail> {
+    let cases = joined(alloc, cases)?;
+    for line in cases.as_str().lines() {
+        let line = line.replace(alloc, "|", "\n")?;
+        let (fault, changes) = line.as_str().split_once(": ").ok_or("a case")?;
+        let text = changed(rt, alloc, document, changes)?;
+        let told = outcome(alloc, text.as_str().as_bytes());
+        assert_eq!(rt; told, fault.parse::<u8>()?, "{changes}");
+    }
+    Ok(())
+}
