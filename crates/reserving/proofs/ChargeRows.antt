@@ -1,4 +1,5 @@
--- The charge rows of a ledger with more facts: a report and a debit add one each, and nothing else adds any.
+-- The charge rows of a ledger with more facts: a report and a debit add one each, and nothing else
+-- adds any.
 use Rattle.std.proofs.Common.{◌≡◌, ℕ, ◌+◌, ◌-◌, ◌≤◌, Bool, false, List, [], ◌∷◌, ◌++◌, refl, sym, ap, ◌∙◌, arith, Option}
 use Rattle.std.proofs.lemmas.Bool.Decides.{nat_tests}
 use Rattle.std.proofs.lemmas.List.{append-nil}
@@ -26,33 +27,49 @@ use Rattle.reserving.proofs.SettledFacts.{total-front, each_charge, each_hold}
 
 -- ---- facts that are no use
 
-charge_rows-front : (front ledger : Ledger) → EachIn (λ d. (n : ℕ) → charge_of n d ≡ []) front → charge_rows (front ++ ledger) ≡ charge_rows ledger
+charge_rows-front : (front ledger : Ledger) → EachIn (λ d. (n : ℕ) → charge_of n d ≡ []) front →
+    charge_rows (front ++ ledger) ≡ charge_rows ledger
 charge_rows-front [] ledger h = refl
-charge_rows-front (d ∷ ds) ledger h = (λ i. charge_rows-front ds ledger h.1 i ++ h.0 (next_charge (ds ++ ledger)) i) ∙ append-nil (charge_rows ledger)
+charge_rows-front (d ∷ ds) ledger h =
+    (λ i. charge_rows-front ds ledger h.1 i ++ h.0 (next_charge (ds ++ ledger)) i)
+    ∙ append-nil (charge_rows ledger)
 
-pub charge_rows-recorded : (t : ℕ) (s : List ℕ) (n : ℕ) (ledger : Ledger) → charge_rows (recorded t s n ledger) ≡ charge_rows ledger
+pub charge_rows-recorded : (t : ℕ) (s : List ℕ) (n : ℕ) (ledger : Ledger) →
+    charge_rows (recorded t s n ledger) ≡ charge_rows ledger
 charge_rows-recorded t s n ledger = append-nil (charge_rows ledger)
 
-pub charge_rows-touched : (t : ℕ) (s : List ℕ) (n : ℕ) (ledger : Ledger) → charge_rows (touched t s n ledger) ≡ charge_rows ledger
-charge_rows-touched t s n ledger = append-nil (charge_rows ledger ++ []) ∙ append-nil (charge_rows ledger)
+pub charge_rows-touched : (t : ℕ) (s : List ℕ) (n : ℕ) (ledger : Ledger) →
+    charge_rows (touched t s n ledger) ≡ charge_rows ledger
+charge_rows-touched t s n ledger =
+    append-nil (charge_rows ledger ++ []) ∙ append-nil (charge_rows ledger)
 
-pub charge_rows-closed : (t : ℕ) (s : List ℕ) (ledger : Ledger) → charge_rows (closed t s ledger) ≡ charge_rows ledger
+pub charge_rows-closed : (t : ℕ) (s : List ℕ) (ledger : Ledger) →
+    charge_rows (closed t s ledger) ≡ charge_rows ledger
 charge_rows-closed t s ledger = append-nil (charge_rows ledger)
 
-pub charge_rows-credited : (t from until : ℕ) (scope : Option ℕ) (amount : ℕ) (ledger : Ledger) → charge_rows (credited t from until scope amount ledger) ≡ charge_rows ledger
+pub charge_rows-credited : (t from until : ℕ) (scope : Option ℕ) (amount : ℕ) (ledger : Ledger) →
+    charge_rows (credited t from until scope amount ledger) ≡ charge_rows ledger
 charge_rows-credited t from until scope amount ledger = append-nil (charge_rows ledger)
 
-pub charge_rows-barred : (t : ℕ) (barred : Bool) (ledger : Ledger) → charge_rows (with_bar t barred ledger) ≡ charge_rows ledger
+pub charge_rows-barred : (t : ℕ) (barred : Bool) (ledger : Ledger) →
+    charge_rows (with_bar t barred ledger) ≡ charge_rows ledger
 charge_rows-barred t barred ledger = append-nil (charge_rows ledger)
 
 -- a reservation ends
-pub charge_rows-ended : (t : ℕ) (s : List ℕ) (g : ℕ) (ledger : Ledger) → charge_rows (record { at = t; fact = End s g } ∷ ledger) ≡ charge_rows ledger
+pub charge_rows-ended : (t : ℕ) (s : List ℕ) (g : ℕ) (ledger : Ledger) →
+    charge_rows (record { at = t; fact = End s g } ∷ ledger) ≡ charge_rows ledger
 charge_rows-ended t s g ledger = append-nil (charge_rows ledger)
 
-pub charge_rows-reserved : (b : Book) (t : ℕ) (s : List ℕ) (g units amount : ℕ) (ledger : Ledger) → charge_rows (reserved b t s g units amount ledger) ≡ charge_rows ledger
+pub charge_rows-reserved : (b : Book) (t : ℕ) (s : List ℕ) (g units amount : ℕ) (ledger : Ledger) →
+    charge_rows (reserved b t s g units amount ledger) ≡ charge_rows ledger
 charge_rows-reserved b t s g units amount ledger =
     let hs : List Hold = holds_of g t amount (buckets_at b.validity t ledger) in
-    let before : Ledger = record { at = t; fact = Grant s g (periods_at b t) units (counter (cycle_at b g) g (cycle_at b g t) ledger) } ∷ ledger in
+    let before : Ledger =
+    record {
+      at = t;
+      fact = Grant s g (periods_at b t) units (counter (cycle_at b g) g (cycle_at b g t) ledger);
+    }
+    ∷ ledger in
     charge_rows-front (hold_facts t s g hs) before (each_hold _ t s g hs (λ k n m. refl))
     ∙ append-nil (charge_rows ledger)
 
@@ -73,23 +90,36 @@ charge_row n t s g blocks rated uncollected = record {
 
 -- a use in front of what the buckets paid for it
 used_row : (t : ℕ) (hs : List Hold) (s : List ℕ) (g units blocks rated left : ℕ) (ledger : Ledger) →
-    charge_rows (record { at = t; fact = Use s g units blocks rated left } ∷ charge_facts t hs ++ ledger) ≡ charge_rows ledger ++ charge_row (next_charge ledger) t s g blocks rated left ∷ []
+    charge_rows
+    (record { at = t; fact = Use s g units blocks rated left } ∷ charge_facts t hs ++ ledger)
+    ≡ charge_rows ledger ++ charge_row (next_charge ledger) t s g blocks rated left ∷ []
 used_row t hs s g units blocks rated left ledger =
-    let rows : charge_rows (charge_facts t hs ++ ledger) ≡ charge_rows ledger = charge_rows-front (charge_facts t hs) ledger (each_charge _ t hs (λ k n m. refl)) in
-    let number : next_charge (charge_facts t hs ++ ledger) ≡ next_charge ledger = ap (λ n. n + 1) (total-front (λ d. uses_in d.fact) (charge_facts t hs) ledger (each_charge _ t hs (λ k n. refl))) in
+    let rows : charge_rows (charge_facts t hs ++ ledger) ≡ charge_rows ledger =
+    charge_rows-front (charge_facts t hs) ledger (each_charge _ t hs (λ k n m. refl)) in
+    let number : next_charge (charge_facts t hs ++ ledger) ≡ next_charge ledger =
+    ap (λ n. n + 1)
+    (total-front (λ d. uses_in d.fact) (charge_facts t hs) ledger
+    (each_charge _ t hs (λ k n. refl))) in
     λ i. rows i ++ charge_row (number i) t s g blocks rated left ∷ []
 
 pub charge_rows-settled : (v t : ℕ) (s : List ℕ) (g units blocks rated : ℕ) (ledger : Ledger) →
-    charge_rows (settled v t s g units blocks rated ledger) ≡ charge_rows ledger ++ charge_row (next_charge ledger) t s g blocks rated (uncollected (holds_at v t s g ledger) g t rated (buckets_at v t ledger)) ∷ []
+    charge_rows (settled v t s g units blocks rated ledger)
+    ≡ charge_rows ledger
+    ++ charge_row (next_charge ledger) t s g blocks rated
+    (uncollected (holds_at v t s g ledger) g t rated (buckets_at v t ledger)) ∷ []
 charge_rows-settled v t s g units blocks rated ledger =
     let rows : List Row = buckets_at v t ledger in
     let holds : List Hold = holds_at v t s g ledger in
     let hs : List Hold = parts (paid holds g t rated rows) rows in
-    append-nil (charge_rows (record { at = t; fact = Use s g units blocks rated (uncollected holds g t rated rows) } ∷ charge_facts t hs ++ ledger))
+    append-nil
+    (charge_rows
+    (record { at = t; fact = Use s g units blocks rated (uncollected holds g t rated rows) }
+    ∷ charge_facts t hs ++ ledger))
     ∙ used_row t hs s g units blocks rated (uncollected holds g t rated rows) ledger
 
 pub charge_rows-charged_use : (v t : ℕ) (s : List ℕ) (g units blocks rated : ℕ) (ledger : Ledger) →
-    charge_rows (charged_use v t s g units blocks rated ledger) ≡ charge_rows ledger ++ charge_row (next_charge ledger) t s g blocks rated 0 ∷ []
+    charge_rows (charged_use v t s g units blocks rated ledger)
+    ≡ charge_rows ledger ++ charge_row (next_charge ledger) t s g blocks rated 0 ∷ []
 charge_rows-charged_use v t s g units blocks rated ledger =
     let rows : List Row = buckets_at v t ledger in
     used_row t (parts (paid [] g t rated rows) rows) s g units blocks rated 0 ledger
@@ -97,13 +127,20 @@ charge_rows-charged_use v t s g units blocks rated ledger =
 -- ---- reports
 
 -- a group that is named without a report is charged nothing
-pub charge_rows-unreported : (b : Book) (t : ℕ) (s : List ℕ) (g : ℕ) (ledger : Ledger) → charge_rows (settled_by b t s g [] ledger) ≡ charge_rows ledger
+pub charge_rows-unreported : (b : Book) (t : ℕ) (s : List ℕ) (g : ℕ) (ledger : Ledger) →
+    charge_rows (settled_by b t s g [] ledger) ≡ charge_rows ledger
 charge_rows-unreported b t s g ledger = charge_rows-ended t s g ledger
 
-pub charge_rows-reported : (b : Book) (t : ℕ) (s : List ℕ) (g : ℕ) (p : UsedPart) (ps : List UsedPart) (ledger : Ledger) →
-    charge_rows (settled_by b t s g (p ∷ ps) ledger) ≡ charge_rows ledger ++ charge_row (next_charge ledger) t s g (report_price b t s g (p ∷ ps) ledger).blocks (report_price b t s g (p ∷ ps) ledger).amount.0 (missing b t s g (p ∷ ps) ledger) ∷ []
+pub charge_rows-reported : (b : Book) (t : ℕ) (s : List ℕ) (g : ℕ) (p : UsedPart)
+    (ps : List UsedPart) (ledger : Ledger) →
+    charge_rows (settled_by b t s g (p ∷ ps) ledger)
+    ≡ charge_rows ledger
+    ++ charge_row (next_charge ledger) t s g (report_price b t s g (p ∷ ps) ledger).blocks
+    (report_price b t s g (p ∷ ps) ledger).amount.0 (missing b t s g (p ∷ ps) ledger) ∷ []
 charge_rows-reported b t s g p ps ledger =
-    charge_rows-settled b.validity t s g (reported (p ∷ ps)) (report_price b t s g (p ∷ ps) ledger).blocks (report_price b t s g (p ∷ ps) ledger).amount.0 ledger
+    charge_rows-settled b.validity t s g (reported (p ∷ ps))
+    (report_price b t s g (p ∷ ps) ledger).blocks
+    (report_price b t s g (p ∷ ps) ledger).amount.0 ledger
 
 -- ---- the rows, with what the calls answer
 
@@ -120,7 +157,9 @@ told_row n t s g x = record {
   uncollected = x.uncollected;
 }
 
-told_is : (n t : ℕ) (s : List ℕ) (g blocks rated left : ℕ) (x : Settled) → x.blocks.0 ≡ blocks → x.rated.0 ≡ rated → x.uncollected.0 ≡ left → x.collected.0 ≡ rated - left → charge_row n t s g blocks rated left ≡ told_row n t s g x
+told_is : (n t : ℕ) (s : List ℕ) (g blocks rated left : ℕ) (x : Settled) → x.blocks.0 ≡ blocks →
+    x.rated.0 ≡ rated → x.uncollected.0 ≡ left → x.collected.0 ≡ rated - left →
+    charge_row n t s g blocks rated left ≡ told_row n t s g x
 told_is n t s g blocks rated left x eb er eu ec = λ i. record {
   number = n;
   moment = t;
@@ -133,28 +172,42 @@ told_is n t s g blocks rated left x eb er eu ec = λ i. record {
 }
 
 -- a settled report adds the row that its answer tells
-pub charge_rows-settlement : (b : Book) (t n : ℕ) (s : List ℕ) (g : ℕ) (p : UsedPart) (ps : List UsedPart) (ledger : Ledger) (x : Settled) → n ≡ next_charge ledger → IsSettlementOf b t s g (p ∷ ps) ledger x →
+pub charge_rows-settlement : (b : Book) (t n : ℕ) (s : List ℕ) (g : ℕ) (p : UsedPart)
+    (ps : List UsedPart) (ledger : Ledger) (x : Settled) → n ≡ next_charge ledger →
+    IsSettlementOf b t s g (p ∷ ps) ledger x →
     charge_rows (settled_by b t s g (p ∷ ps) ledger) ≡ charge_rows ledger ++ told_row n t s g x ∷ []
 charge_rows-settlement b t n s g p ps ledger x number is =
     let rated : ℕ = (report_price b t s g (p ∷ ps) ledger).amount.0 in
     let left : ℕ = missing b t s g (p ∷ ps) ledger in
-    let collected : x.collected.0 ≡ rated - left = omega (arith, is.collected, is.rated, is.uncollected) in
+    let collected : x.collected.0 ≡ rated - left =
+    omega (arith, is.collected, is.rated, is.uncollected) in
     charge_rows-reported b t s g p ps ledger
-    ∙ (λ i. charge_rows ledger ++ charge_row (sym number i) t s g (report_price b t s g (p ∷ ps) ledger).blocks rated left ∷ [])
-    ∙ ap (λ r. charge_rows ledger ++ r ∷ []) (told_is n t s g (report_price b t s g (p ∷ ps) ledger).blocks rated left x is.blocks is.rated is.uncollected collected)
+    ∙ (λ i. charge_rows ledger
+    ++ charge_row (sym number i) t s g (report_price b t s g (p ∷ ps) ledger).blocks rated left
+    ∷ [])
+    ∙ ap (λ r. charge_rows ledger ++ r ∷ [])
+    (told_is n t s g (report_price b t s g (p ∷ ps) ledger).blocks rated left x is.blocks
+    is.rated is.uncollected collected)
 
 -- so does a debit
-pub charge_rows-debit : (b : Book) (t n : ℕ) (s : List ℕ) (g units : ℕ) (ledger : Ledger) (after : AccountRows) (x : Settled) → n ≡ next_charge ledger → IsDebitOf b t s g units ledger after x →
+pub charge_rows-debit : (b : Book) (t n : ℕ) (s : List ℕ) (g units : ℕ) (ledger : Ledger)
+    (after : AccountRows) (x : Settled) → n ≡ next_charge ledger →
+    IsDebitOf b t s g units ledger after x →
     charge_rows (debited b t s g units ledger) ≡ charge_rows ledger ++ told_row n t s g x ∷ []
 charge_rows-debit b t n s g units ledger after x number is =
     let rated : ℕ = (event_price b t g units ledger).amount.0 in
     let collected : x.collected.0 ≡ rated - 0 = omega (arith, is.collected, is.rated) in
-    charge_rows-charged_use b.validity t s g units (event_price b t g units ledger).blocks rated ledger
-    ∙ (λ i. charge_rows ledger ++ charge_row (sym number i) t s g (event_price b t g units ledger).blocks rated 0 ∷ [])
-    ∙ ap (λ r. charge_rows ledger ++ r ∷ []) (told_is n t s g (event_price b t g units ledger).blocks rated 0 x is.blocks is.rated is.uncollected collected)
+    charge_rows-charged_use b.validity t s g units (event_price b t g units ledger).blocks rated
+    ledger
+    ∙ (λ i. charge_rows ledger
+    ++ charge_row (sym number i) t s g (event_price b t g units ledger).blocks rated 0 ∷ [])
+    ∙ ap (λ r. charge_rows ledger ++ r ∷ [])
+    (told_is n t s g (event_price b t g units ledger).blocks rated 0 x is.blocks is.rated
+    is.uncollected collected)
 
 -- ---- numbers
 
 -- a charge that passes no limit has a number
-pub charge-numbered : (before units count blocks charge : ℕ) → passes before units count blocks charge ≡ false → charge ≤ 4294967295
+pub charge-numbered : (before units count blocks charge : ℕ) →
+    passes before units count blocks charge ≡ false → charge ≤ 4294967295
 charge-numbered before units count blocks charge h = grind (arith, nat_tests)

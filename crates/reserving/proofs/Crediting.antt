@@ -23,21 +23,38 @@ use Rattle.reserving.proofs.Advancing.{held_by-split, IsRowsOf-advanced}
 
 -- ---- at its place
 
-map-inserted : (f : Row → Row) (b : Row) (rows : List Row) → ((x : Row) → (f x).until ≡ x.until) → map f (inserted b rows) ≡ inserted (f b) (map f rows)
+map-inserted : (f : Row → Row) (b : Row) (rows : List Row) → ((x : Row) → (f x).until ≡ x.until) →
+    map f (inserted b rows) ≡ inserted (f b) (map f rows)
 map-inserted f b [] k = refl
 map-inserted f b (x ∷ xs) k = at (nat_lt b.until x.until) refl (map-inserted f b xs k)
   where
     test : nat_lt (f b).until (f x).until ≡ nat_lt b.until x.until
     test = λ i. nat_lt (k b i) (k x i)
 
-    at : (e : Bool) → nat_lt b.until x.until ≡ e → map f (inserted b xs) ≡ inserted (f b) (map f xs) → map f (if e then b ∷ x ∷ xs else x ∷ inserted b xs) ≡ inserted (f b) (f x ∷ map f xs)
-    at true e rest = sym (ap (λ t. if t then f b ∷ f x ∷ map f xs else f x ∷ inserted (f b) (map f xs)) (test ∙ e))
-    at false e rest = ap (λ ys. f x ∷ ys) rest ∙ sym (ap (λ t. if t then f b ∷ f x ∷ map f xs else f x ∷ inserted (f b) (map f xs)) (test ∙ e))
+    at : (e : Bool) → nat_lt b.until x.until ≡ e →
+        map f (inserted b xs) ≡ inserted (f b) (map f xs) →
+        map f (if e then b ∷ x ∷ xs else x ∷ inserted b xs) ≡ inserted (f b) (f x ∷ map f xs)
+    at true e rest =
+        sym (ap (λ t. if t then f b ∷ f x ∷ map f xs else f x ∷ inserted (f b) (map f xs))
+        (test ∙ e))
+    at false e rest =
+        ap (λ ys. f x ∷ ys) rest
+        ∙ sym (ap (λ t. if t then f b ∷ f x ∷ map f xs else f x ∷ inserted (f b) (map f xs))
+        (test ∙ e))
 
-pub IsBelow-inserted : (next : ℕ) (b : Row) (rows : List Row) → b.number < next + 1 → IsBelow next rows → IsBelow (next + 1) (inserted b rows)
+pub IsBelow-inserted : (next : ℕ) (b : Row) (rows : List Row) → b.number < next + 1 →
+    IsBelow next rows → IsBelow (next + 1) (inserted b rows)
 IsBelow-inserted next b [] lt h = (lt, tt)
-IsBelow-inserted next b (x ∷ xs) lt h = elim (nat_lt b.until x.until) as (λ e. IsBelow (next + 1) (if e then b ∷ x ∷ xs else x ∷ inserted b xs))
-    [ true ↦ (lt, (let less : x.number < next = h.0 in omega arith, more xs h.1)) | false ↦ (let less : x.number < next = h.0 in omega arith, IsBelow-inserted next b xs lt h.1) ]
+IsBelow-inserted next b (x ∷ xs) lt h =
+    elim (nat_lt b.until x.until) as
+    (λ e. IsBelow (next + 1) (if e then b ∷ x ∷ xs else x ∷ inserted b xs)) [
+      | true ↦ (lt, (let less : x.number < next = h.0 in omega arith, more xs h.1))
+      | false ↦ (
+        let less : x.number < next = h.0 in
+            omega arith,
+        IsBelow-inserted next b xs lt h.1,
+      )
+    ]
   where
     more : (ys : List Row) → IsBelow next ys → IsBelow (next + 1) ys
     more [] q = tt
@@ -45,12 +62,15 @@ IsBelow-inserted next b (x ∷ xs) lt h = elim (nat_lt b.until x.until) as (λ e
 
 -- ---- what each account keeps
 
-pub IsAccount-credited : (a : AccountRows) (from until : ℕ) (scope : Option ℕ) (amount : ℕ) → a.next_bucket ≤ 4294967295 → amount ≤ 1000000000000000 → IsAccount a → IsAccount (credited_account from until scope amount a)
+pub IsAccount-credited : (a : AccountRows) (from until : ℕ) (scope : Option ℕ) (amount : ℕ) →
+    a.next_bucket ≤ 4294967295 → amount ≤ 1000000000000000 → IsAccount a →
+    IsAccount (credited_account from until scope amount a)
 IsAccount-credited a from until scope amount le most is =
     let b : Row = new_row a.next_bucket from until scope amount in
     record {
       book = is.book;
-      sound = IsSound-inserted b a.buckets is.below (record { sum = omega arith; most = most }) is.sound;
+      sound = IsSound-inserted b a.buckets is.below (record { sum = omega arith; most = most })
+          is.sound;
       below = IsBelow-inserted a.next_bucket b a.buckets (omega arith) is.below;
       next_bucket = omega arith;
       next_charge = is.next_charge;
@@ -59,7 +79,8 @@ IsAccount-credited a from until scope amount le most is =
       counters = is.counters;
       used = is.used;
       counted = is.counted;
-      held = Each-inserted (λ x. held_by (λ s. true) a.groups x ≡ x.reserved) b a.buckets (is.named b (omega arith)) is.held;
+      held = Each-inserted (λ x. held_by (λ s. true) a.groups x ≡ x.reserved) b a.buckets
+          (is.named b (omega arith)) is.held;
       named = λ x h. is.named x (omega arith);
       order = order_inserted b a.buckets a.groups (is.named b (omega arith)) is.order;
     }
@@ -67,24 +88,44 @@ IsAccount-credited a from until scope amount le most is =
 -- ---- the ledger
 
 abbrev later_row : AccountRows → ℕ → Row → Row
-later_row a t b = with_end t (with_release t b (lapsed_in (is_live_in a.book.validity t a.sessions) a.groups b))
+later_row a t b =
+    with_end t (with_release t b (lapsed_in (is_live_in a.book.validity t a.sessions) a.groups b))
 
 -- a new bucket at a moment
-new_later : (t n from until : ℕ) (scope : Option ℕ) (amount lapsed ch h : ℕ) → lapsed ≡ 0 → ch ≡ 0 → h ≡ 0 → with_end t (with_release t (new_row n from until scope amount) lapsed) ≡ balance_of t (new_row n from until scope amount) ch h
-new_later t n from until scope amount lapsed ch h el ec eh = rw (el, ec, eh) (at (nat_lt t until) refl)
+new_later : (t n from until : ℕ) (scope : Option ℕ) (amount lapsed ch h : ℕ) → lapsed ≡ 0 → ch ≡ 0 →
+    h ≡ 0 → with_end t (with_release t (new_row n from until scope amount) lapsed)
+    ≡ balance_of t (new_row n from until scope amount) ch h
+new_later t n from until scope amount lapsed ch h el ec eh =
+    rw (el, ec, eh) (at (nat_lt t until) refl)
   where
     b : Row
     b = new_row n from until scope amount
 
     at : (e : Bool) → nat_lt t until ≡ e →
-        with_end t (if e then record b { reserved = 0 - 0; available = amount + 0 } else record b { reserved = 0 - 0; expired = 0 + 0 }) ≡ record b { available = (if e then amount - 0 - 0 else 0); reserved = 0; charged = 0; expired = (if e then 0 else amount - 0 - 0) }
-    at true e = rw e (with_columns b (amount + 0) (amount - 0 - 0) (0 - 0) 0 0 0 0 0 (omega arith) (omega arith) refl refl)
-    at false e = rw e (with_columns b 0 0 (0 - 0) 0 0 0 (0 + 0 + amount) (amount - 0 - 0) refl (omega arith) refl (omega arith))
+        with_end t (if e then record b { reserved = 0 - 0; available = amount + 0 }
+        else record b { reserved = 0 - 0; expired = 0 + 0 })
+        ≡ record b {
+          available = (if e then amount - 0 - 0 else 0);
+          reserved = 0;
+          charged = 0;
+          expired = (if e then 0 else amount - 0 - 0);
+        }
+    at true e =
+        rw e (with_columns b (amount + 0) (amount - 0 - 0) (0 - 0) 0 0 0 0 0 (omega arith)
+        (omega arith) refl refl)
+    at false e =
+        rw e (with_columns b 0 0 (0 - 0) 0 0 0 (0 + 0 + amount) (amount - 0 - 0) refl (omega arith)
+        refl (omega arith))
 
-pub IsRowsOf-credited : (ledger : Ledger) (a : AccountRows) (t from until : ℕ) (scope : Option ℕ) (amount : ℕ) → IsAccount a → IsRowsOf ledger a → a.as_of ≤ t → IsRowsOf (credited t from until scope amount ledger) (advanced t (credited_account from until scope amount a))
+pub IsRowsOf-credited : (ledger : Ledger) (a : AccountRows) (t from until : ℕ) (scope : Option ℕ)
+    (amount : ℕ) → IsAccount a → IsRowsOf ledger a → a.as_of ≤ t →
+    IsRowsOf (credited t from until scope amount ledger)
+    (advanced t (credited_account from until scope amount a))
 IsRowsOf-credited ledger a t from until scope amount is rows le = record {
   barred = rows.barred;
-  buckets = map-inserted (later_row a t) b a.buckets (λ x. (ends_keep t (lapsed_in (is_live_in v t a.sessions) a.groups)).until x)
+  buckets =
+      map-inserted (later_row a t) b a.buckets
+      (λ x. (ends_keep t (lapsed_in (is_live_in v t a.sessions) a.groups)).until x)
       ∙ (λ i. inserted (first i) (later.buckets i))
       ∙ (λ i. inserted (bucket_at v t more b') (others (credits ledger) i))
       ∙ sym (map-inserted (bucket_at v t more) b' (credits ledger) (λ x. refl));
@@ -94,7 +135,8 @@ IsRowsOf-credited ledger a t from until scope amount is rows le = record {
   next_bucket = omega (arith, rows.next_bucket);
   next_charge = omega (arith, rows.next_charge);
   touched = rows.touched;
-  unknown = λ s e. let u : IsUnknown s ledger = rows.unknown s e in record { closed = u.closed; held = λ n. omega (arith, u.held n); granted = u.granted };
+  unknown = λ s e. let u : IsUnknown s ledger = rows.unknown s e in
+      record { closed = u.closed; held = λ n. omega (arith, u.held n); granted = u.granted };
   fresh = λ n h. omega (arith, rows.fresh n (omega arith));
   free = λ n p h. omega (arith, rows.free n p (omega arith));
 }
@@ -121,24 +163,37 @@ IsRowsOf-credited ledger a t from until scope amount is rows le = record {
     unheld p = rows.free (next_bucket ledger) p next
 
     given : lapsed_in (is_live_in v t a.sessions) a.groups b ≡ 0
-    given = omega (arith, is.named b (omega arith), held_by-split (is_live_in v t a.sessions) b a.groups)
+    given = omega (
+      arith,
+      is.named b (omega arith),
+      held_by-split (is_live_in v t a.sessions) b a.groups,
+    )
 
     first : later_row a t b ≡ bucket_at v t more b'
-    first = new_later t a.next_bucket from until scope amount (lapsed_in (is_live_in v t a.sessions) a.groups b) (charged (next_bucket ledger) more) (held (λ s g. is_live v t more s) (next_bucket ledger) more) given (omega (arith, rows.fresh (next_bucket ledger) next)) (omega (arith, unheld (λ s g. is_live v t more s)))
-        ∙ ap (λ n. balance_of t (new_row n from until scope amount) (charged (next_bucket ledger) more) (held (λ s g. is_live v t more s) (next_bucket ledger) more)) rows.next_bucket
+    first = new_later t a.next_bucket from until scope amount
+        (lapsed_in (is_live_in v t a.sessions) a.groups b) (charged (next_bucket ledger) more)
+        (held (λ s g. is_live v t more s) (next_bucket ledger) more) given
+        (omega (arith, rows.fresh (next_bucket ledger) next))
+        (omega (arith, unheld (λ s g. is_live v t more s)))
+        ∙ ap (λ n. balance_of t (new_row n from until scope amount)
+        (charged (next_bucket ledger) more)
+        (held (λ s g. is_live v t more s) (next_bucket ledger) more)) rows.next_bucket
 
     others : (cs : List Row) → map (bucket_at v t ledger) cs ≡ map (bucket_at v t more) cs
     others [] = refl
     others (c ∷ cs) =
         let ch : charged c.number ledger ≡ charged c.number more = omega arith in
-        let h : held (λ s g. is_live v t ledger s) c.number ledger ≡ held (λ s g. is_live v t more s) c.number more = omega arith in
+        let h : held (λ s g. is_live v t ledger s) c.number ledger
+        ≡ held (λ s g. is_live v t more s) c.number more = omega arith in
         λ i. balance_of t c (ch i) (h i) ∷ others cs i
 
     holds : (s : List ℕ) (g : ℕ) → holds_at v t s g ledger ≡ holds_at v t s g more
     holds s g =
         parts-at (λ n. held (only s g) n ledger) v t ledger (credits ledger)
-        ∙ sym (parts-inserted (λ x. held (only s g) x.number ledger) b' (credits ledger) (unheld (only s g)))
-        ∙ (λ i. parts (λ x. plain (held (only s g) x.number ledger) i) (inserted b' (credits ledger)))
+        ∙ sym (parts-inserted (λ x. held (only s g) x.number ledger) b' (credits ledger)
+        (unheld (only s g)))
+        ∙ (λ i. parts (λ x. plain (held (only s g) x.number ledger) i)
+        (inserted b' (credits ledger)))
         ∙ sym (parts-at (λ n. held (only s g) n more) v t more (credits more))
       where
         plain : (n : ℕ) → n ≡ 0 + n
@@ -147,12 +202,24 @@ IsRowsOf-credited ledger a t from until scope amount is rows le = record {
     grouped : (s : List ℕ) (g : ℕ) → group_at v t ledger s g ≡ group_at v t more s g
     grouped s g =
         let number : used s g ledger ≡ used s g more = omega arith in
-        λ i. if has_group s g ledger then Some (record { session = s; group = g; used = number i; reservation = (if is_live v t ledger s then reservation_of (holds s g i) (open_grant s g ledger) else None) }) else None
+        λ i. if has_group s g ledger
+        then Some
+        (record {
+          session = s;
+          group = g;
+          used = number i;
+          reservation =
+              (if is_live v t ledger s then reservation_of (holds s g i) (open_grant s g ledger)
+              else None);
+        }) else None
 
-    counted : (g c : ℕ) → counter_at (cycle_at a.book g) ledger g c ≡ counter_at (cycle_at a.book g) more g c
+    counted : (g c : ℕ) →
+        counter_at (cycle_at a.book g) ledger g c ≡ counter_at (cycle_at a.book g) more g c
     counted g c =
-        let number : counter (cycle_at a.book g) g c ledger ≡ counter (cycle_at a.book g) g c more = plain (cycle_at a.book g t == c) (counter (cycle_at a.book g) g c ledger) in
-        λ i. if has_counter (cycle_at a.book g) g c ledger then Some (record { group = g; cycle = c; blocks = number i }) else None
+        let number : counter (cycle_at a.book g) g c ledger ≡ counter (cycle_at a.book g) g c more =
+        plain (cycle_at a.book g t == c) (counter (cycle_at a.book g) g c ledger) in
+        λ i. if has_counter (cycle_at a.book g) g c ledger
+        then Some (record { group = g; cycle = c; blocks = number i }) else None
       where
         plain : (e : Bool) (n : ℕ) → n ≡ (if e then 0 else 0) + n
         plain true n = omega arith

@@ -15,13 +15,16 @@ one_if b = if b then 1 else 0
 abbrev pub IsSplit : (List ℕ → ℕ → Bool) → (List ℕ → ℕ → Bool) → (List ℕ → ℕ → Bool) → Type 0
 IsSplit p q r = (s : List ℕ) (g : ℕ) → one_if (p s g) ≡ one_if (q s g) + one_if (r s g)
 
-split_cases : (p q r b : Bool) (a : ℕ) → one_if p ≡ one_if q + one_if r → (if p && b then a else 0) ≡ (if q && b then a else 0) + (if r && b then a else 0)
+split_cases : (p q r b : Bool) (a : ℕ) → one_if p ≡ one_if q + one_if r →
+    (if p && b then a else 0) ≡ (if q && b then a else 0) + (if r && b then a else 0)
 split_cases p q r b a h = grind (arith, nat_tests)
 
-split_and : (p q r b : Bool) → one_if p ≡ one_if q + one_if r → one_if (p && b) ≡ one_if (q && b) + one_if (r && b)
+split_and : (p q r b : Bool) → one_if p ≡ one_if q + one_if r →
+    one_if (p && b) ≡ one_if (q && b) + one_if (r && b)
 split_and p q r b h = grind (arith, nat_tests)
 
-hold_split : (p q r : List ℕ → ℕ → Bool) (n : ℕ) (f : Fact) → IsSplit p q r → hold_of p n f ≡ hold_of q n f + hold_of r n f
+hold_split : (p q r : List ℕ → ℕ → Bool) (n : ℕ) (f : Fact) → IsSplit p q r →
+    hold_of p n f ≡ hold_of q n f + hold_of r n f
 hold_split p q r n (HoldFact s g b a) h = split_cases (p s g) (q s g) (r s g) (b == n) a (h s g)
 hold_split p q r n (Credit a b c d e) h = refl
 hold_split p q r n (Grant a b c d e) h = refl
@@ -33,8 +36,10 @@ hold_split p q r n (Close a) h = refl
 hold_split p q r n (Recorded a b) h = refl
 hold_split p q r n (Barred a) h = refl
 
-before_split : (p q r : List ℕ → ℕ → Bool) (f : Fact) → IsSplit p q r → IsSplit (counts_before f p) (counts_before f q) (counts_before f r)
-before_split p q r (End s' g') h = λ s g. split_and (p s g) (q s g) (r s g) (not (is_same s s' && g == g')) (h s g)
+before_split : (p q r : List ℕ → ℕ → Bool) (f : Fact) → IsSplit p q r →
+    IsSplit (counts_before f p) (counts_before f q) (counts_before f r)
+before_split p q r (End s' g') h =
+    λ s g. split_and (p s g) (q s g) (r s g) (not (is_same s s' && g == g')) (h s g)
 before_split p q r (HoldFact s g b a) h = h
 before_split p q r (Credit a b c d e) h = h
 before_split p q r (Grant a b c d e) h = h
@@ -45,15 +50,21 @@ before_split p q r (Close a) h = h
 before_split p q r (Recorded a b) h = h
 before_split p q r (Barred a) h = h
 
-pub held_split : (p q r : List ℕ → ℕ → Bool) (n : ℕ) (ledger : Ledger) → IsSplit p q r → held p n ledger ≡ held q n ledger + held r n ledger
+pub held_split : (p q r : List ℕ → ℕ → Bool) (n : ℕ) (ledger : Ledger) → IsSplit p q r →
+    held p n ledger ≡ held q n ledger + held r n ledger
 held_split p q r n [] h = refl
 held_split p q r n (d ∷ older) h =
-    let now : hold_of p n d.fact ≡ hold_of q n d.fact + hold_of r n d.fact = hold_split p q r n d.fact h in
-    let rest : held (counts_before d.fact p) n older ≡ held (counts_before d.fact q) n older + held (counts_before d.fact r) n older = held_split (counts_before d.fact p) (counts_before d.fact q) (counts_before d.fact r) n older (before_split p q r d.fact h) in
+    let now : hold_of p n d.fact ≡ hold_of q n d.fact + hold_of r n d.fact =
+    hold_split p q r n d.fact h in
+    let rest : held (counts_before d.fact p) n older ≡ held (counts_before d.fact q) n older
+    + held (counts_before d.fact r) n older =
+    held_split (counts_before d.fact p) (counts_before d.fact q) (counts_before d.fact r) n
+    older (before_split p q r d.fact h) in
     omega arith
 
 -- those that count for p, and of them those that count for q
-pub split_by : (p q : List ℕ → ℕ → Bool) → IsSplit p (λ s g. p s g && q s g) (λ s g. p s g && not (q s g))
+pub split_by : (p q : List ℕ → ℕ → Bool) →
+    IsSplit p (λ s g. p s g && q s g) (λ s g. p s g && not (q s g))
 split_by p q s g = one (p s g) (q s g)
   where
     one : (a b : Bool) → one_if a ≡ one_if (a && b) + one_if (a && not b)
@@ -62,16 +73,19 @@ split_by p q s g = one (p s g) (q s g)
     one false b = refl
 
 -- the same reservations hold the same
-pub held_same : (p q : List ℕ → ℕ → Bool) (n : ℕ) (ledger : Ledger) → ((s : List ℕ) (g : ℕ) → p s g ≡ q s g) → held p n ledger ≡ held q n ledger
+pub held_same : (p q : List ℕ → ℕ → Bool) (n : ℕ) (ledger : Ledger) →
+    ((s : List ℕ) (g : ℕ) → p s g ≡ q s g) → held p n ledger ≡ held q n ledger
 held_same p q n ledger h = let same : p ≡ q = λ i s g. h s g i in ap (λ c. held c n ledger) same
 
 -- where none counts, nothing is held
-pub held_none : (p : List ℕ → ℕ → Bool) (n : ℕ) (ledger : Ledger) → ((s : List ℕ) (g : ℕ) → p s g ≡ false) → held p n ledger ≡ 0
+pub held_none : (p : List ℕ → ℕ → Bool) (n : ℕ) (ledger : Ledger) →
+    ((s : List ℕ) (g : ℕ) → p s g ≡ false) → held p n ledger ≡ 0
 held_none p n ledger h =
     let twice : IsSplit p p p = λ s g. rw (h s g) refl in
     omega (arith, held_split p p p n ledger twice)
 
-split_one : (l t x : Bool) → (t ≡ true → l ≡ true) → one_if l ≡ one_if (l && not (t && x)) + one_if (t && x)
+split_one : (l t x : Bool) → (t ≡ true → l ≡ true) →
+    one_if l ≡ one_if (l && not (t && x)) + one_if (t && x)
 split_one l true true h = rw (h refl) refl
 split_one l true false h = rw (h refl) refl
 split_one true false x h = refl
@@ -84,8 +98,11 @@ split_less true false h = refl
 split_less false false h = refl
 
 -- a live session's reservations, and one of them
-pub one_split : (live : List ℕ → Bool) (session : List ℕ) (group : ℕ) → live session ≡ true → IsSplit (λ s g. live s) (λ s g. live s && not (is_same s session && g == group)) (only session group)
-one_split live session group h s g = split_one (live s) (is_same s session) (g == group) (λ e. ap live (equal_names s session e) ∙ h)
+pub one_split : (live : List ℕ → Bool) (session : List ℕ) (group : ℕ) → live session ≡ true →
+    IsSplit (λ s g. live s) (λ s g. live s && not (is_same s session && g == group))
+    (only session group)
+one_split live session group h s g =
+    split_one (live s) (is_same s session) (g == group) (λ e. ap live (equal_names s session e) ∙ h)
 
 -- ---- names of sessions
 

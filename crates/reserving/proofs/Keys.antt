@@ -2,7 +2,8 @@
 use Rattle.std.proofs.Common.{◌≡◌, ℕ, Bool, true, false, cond, List, [], ◌∷◌, refl, sym, ap, ◌∙◌, Some}
 use Rattle.std.specs.Prelude.{◌==◌, ◌&&◌}
 use Rattle.std.specs.List.{find}
-pub use Rattle.std.proofs.lemmas.Bool.{and_from as both_true}
+use Rattle.std.proofs.lemmas.Bool.{and_parts}
+pub use Rattle.std.proofs.lemmas.Bool.{and_from as both_true, eqb-true as same_number, false_from_ne_true as not_true}
 use Rattle.std.proofs.lemmas.Bool.Decides.{nat_tests}
 use Rattle.std.proofs.Common.{arith}
 use Rattle.identifiers.proofs.Equality.{equal_names, names_equal}
@@ -18,22 +19,13 @@ same_tests false true f g = g refl
 same_tests false false f g = refl
 
 pub first_true : (a b : Bool) → (a && b) ≡ true → a ≡ true
-first_true true b h = refl
-first_true false b h = h
+first_true a b h = (and_parts a b h).0
 
 pub second_true : (a b : Bool) → (a && b) ≡ true → b ≡ true
-second_true true b h = h
-second_true false b h = cc
-
-pub same_number : (a b : ℕ) → (a == b) ≡ true → a ≡ b
-same_number a b h = grind (arith, nat_tests)
+second_true a b h = (and_parts a b h).1
 
 pub number_same : (a : ℕ) → (a == a) ≡ true
 number_same a = grind (arith, nat_tests)
-
-pub not_true : (a : Bool) → (a ≡ true → ⊥) → a ≡ false
-not_true true h = absurd (h refl)
-not_true false h = refl
 
 -- ---- names
 
@@ -41,7 +33,9 @@ pub is_same-refl : (s : List ℕ) → is_same s s ≡ true
 is_same-refl s = names_equal s s refl
 
 pub is_same-sym : (a b : List ℕ) → is_same a b ≡ is_same b a
-is_same-sym a b = same_tests (is_same a b) (is_same b a) (λ h. names_equal b a (sym (equal_names a b h))) (λ h. names_equal a b (sym (equal_names b a h)))
+is_same-sym a b =
+    same_tests (is_same a b) (is_same b a) (λ h. names_equal b a (sym (equal_names a b h)))
+    (λ h. names_equal a b (sym (equal_names b a h)))
 
 -- ---- a session's group
 
@@ -66,21 +60,32 @@ is_key-sym s g s' g' = same_tests (is_key s g s' g') (is_key s' g' s g)
     (λ h. key_of s g s' g' (sym (key_session s' g' s g h)) (sym (key_group s' g' s g h)))
 
 -- a row of one key is not of another
-pub other_row : (s : List ℕ) (g : ℕ) (s' : List ℕ) (g' : ℕ) → is_key s g s' g' ≡ false → (y : SessionGroup) → is_of s g y ≡ true → is_of s' g' y ≡ false
+pub other_row : (s : List ℕ) (g : ℕ) (s' : List ℕ) (g' : ℕ) → is_key s g s' g' ≡ false →
+    (y : SessionGroup) → is_of s g y ≡ true → is_of s' g' y ≡ false
 other_row s g s' g' h y e =
-    (λ i. is_key (key_session y.session y.group s g e i) (key_group y.session y.group s g e i) s' g') ∙ h
+    (λ i. is_key (key_session y.session y.group s g e i) (key_group y.session y.group s g e i) s'
+    g') ∙ h
 
 -- each row is found by its own key
-found_later : (x : SessionGroup) (xs ys : List SessionGroup) → EachIn (λ y. is_of x.session x.group y ≡ false) ys → EachIn (λ r. find (is_of r.session r.group) xs ≡ Some r) ys → EachIn (λ r. find (is_of r.session r.group) (x ∷ xs) ≡ Some r) ys
+found_later : (x : SessionGroup) (xs ys : List SessionGroup) →
+    EachIn (λ y. is_of x.session x.group y ≡ false) ys →
+    EachIn (λ r. find (is_of r.session r.group) xs ≡ Some r) ys →
+    EachIn (λ r. find (is_of r.session r.group) (x ∷ xs) ≡ Some r) ys
 found_later x xs [] a h = tt
 found_later x xs (y ∷ ys) a h =
-    let away : is_of y.session y.group x ≡ false = is_key-sym x.session x.group y.session y.group ∙ a.0 in
-    (ap (λ t. cond t (Some x) (find (is_of y.session y.group) xs)) away ∙ h.0, found_later x xs ys a.1 h.1)
+    let away : is_of y.session y.group x ≡ false =
+    is_key-sym x.session x.group y.session y.group ∙ a.0 in (
+      ap (λ t. cond t (Some x) (find (is_of y.session y.group) xs)) away ∙ h.0,
+      found_later x xs ys a.1 h.1,
+    )
 
-pub found_own : (rows : List SessionGroup) → AreApart (λ x y. is_of x.session x.group y) rows → EachIn (λ r. find (is_of r.session r.group) rows ≡ Some r) rows
+pub found_own : (rows : List SessionGroup) → AreApart (λ x y. is_of x.session x.group y) rows →
+    EachIn (λ r. find (is_of r.session r.group) rows ≡ Some r) rows
 found_own [] h = tt
-found_own (x ∷ xs) h =
-    (ap (λ t. cond t (Some x) (find (is_of x.session x.group) xs)) (own_key x.session x.group), found_later x xs xs h.0 (found_own xs h.1))
+found_own (x ∷ xs) h = (
+  ap (λ t. cond t (Some x) (find (is_of x.session x.group) xs)) (own_key x.session x.group),
+  found_later x xs xs h.0 (found_own xs h.1),
+)
 
 -- ---- a group's cycle
 
@@ -96,6 +101,8 @@ cycle_group g c g' c' h = same_number g g' (first_true (g == g') (c == c') h)
 pub cycle_cycle : (g c g' c' : ℕ) → is_cycle g c g' c' ≡ true → c ≡ c'
 cycle_cycle g c g' c' h = same_number c c' (second_true (g == g') (c == c') h)
 
-pub other_counter : (g c g' c' : ℕ) → is_cycle g c g' c' ≡ false → (y : Counter) → is_counter g c y ≡ true → is_counter g' c' y ≡ false
+pub other_counter : (g c g' c' : ℕ) → is_cycle g c g' c' ≡ false → (y : Counter) →
+    is_counter g c y ≡ true → is_counter g' c' y ≡ false
 other_counter g c g' c' h y e =
-    (λ i. is_cycle (cycle_group y.group y.cycle g c e i) (cycle_cycle y.group y.cycle g c e i) g' c') ∙ h
+    (λ i. is_cycle (cycle_group y.group y.cycle g c e i) (cycle_cycle y.group y.cycle g c e i) g'
+    c') ∙ h

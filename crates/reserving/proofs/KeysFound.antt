@@ -15,27 +15,34 @@ use Rattle.reserving.proofs.Lists.{IsPlace, IsPlaceFrom, position_is, position_n
 use Rattle.reserving.proofs.Keys.{is_key, key_session, key_group, cycle_group, cycle_cycle}
 
 -- a row that is put where it was
-pub put-same : {A : Type 0} (p : A → Bool) (x : A) (xs : List A) → find p xs ≡ Some x → put p x xs ≡ xs
+pub put-same : {A : Type 0} (p : A → Bool) (x : A) (xs : List A) → find p xs ≡ Some x →
+    put p x xs ≡ xs
 put-same p x [] h = absurd (no_some x h)
 put-same p x (y ∷ ys) h = by_test (p y) refl h (λ g. put-same p x ys g)
   where
-    by_test : (t : Bool) → p y ≡ t → cond t (Some y) (find p ys) ≡ Some x → (find p ys ≡ Some x → put p x ys ≡ ys) → put p x (y ∷ ys) ≡ y ∷ ys
-    by_test true e g rest = (λ i. if e i then x ∷ ys else y ∷ put p x ys) ∙ (λ i. sym (some_of y x g) i ∷ ys)
+    by_test : (t : Bool) → p y ≡ t → cond t (Some y) (find p ys) ≡ Some x →
+        (find p ys ≡ Some x → put p x ys ≡ ys) → put p x (y ∷ ys) ≡ y ∷ ys
+    by_test true e g rest =
+        (λ i. if e i then x ∷ ys else y ∷ put p x ys) ∙ (λ i. sym (some_of y x g) i ∷ ys)
     by_test false e g rest = (λ i. if e i then x ∷ ys else y ∷ put p x ys) ∙ (λ i. y ∷ rest g i)
 
-pub put-none : {A : Type 0} (p : A → Bool) (x : A) (xs : List A) → find p xs ≡ None → put p x xs ≡ xs ++ x ∷ []
+pub put-none : {A : Type 0} (p : A → Bool) (x : A) (xs : List A) → find p xs ≡ None →
+    put p x xs ≡ xs ++ x ∷ []
 put-none p x [] h = refl
 put-none p x (y ∷ ys) h = by_test (p y) refl h (λ g. put-none p x ys g)
   where
-    by_test : (t : Bool) → p y ≡ t → cond t (Some y) (find p ys) ≡ None → (find p ys ≡ None → put p x ys ≡ ys ++ x ∷ []) → put p x (y ∷ ys) ≡ y ∷ (ys ++ x ∷ [])
+    by_test : (t : Bool) → p y ≡ t → cond t (Some y) (find p ys) ≡ None →
+        (find p ys ≡ None → put p x ys ≡ ys ++ x ∷ []) → put p x (y ∷ ys) ≡ y ∷ (ys ++ x ∷ [])
     by_test true e g rest = absurd (no_some y (sym g))
     by_test false e g rest = (λ i. if e i then x ∷ ys else y ∷ put p x ys) ∙ (λ i. y ∷ rest g i)
 
 -- ---- the row at a place
 
-pub placed : {A : Type 0} (p : A → Bool) (x : A) (place : ℕ) (xs : List A) → position p xs ≡ Some place → IsPlace p x xs place
+pub placed : {A : Type 0} (p : A → Bool) (x : A) (place : ℕ) (xs : List A) →
+    position p xs ≡ Some place → IsPlace p x xs place
 placed p x place xs h =
-    let r : IsPlaceFrom p x 0 place xs = position_is p x 0 place xs (sym (position_from-zero p xs) ∙ h) in
+    let r : IsPlaceFrom p x 0 place xs =
+    position_is p x 0 place xs (sym (position_from-zero p xs) ∙ h) in
     let same : r.steps ≡ place = omega (arith, r.sum) in
     subst (IsPlace p x xs) same r.place
 
@@ -49,107 +56,173 @@ is_none_is (Some x) h = cc
 
 -- ---- a session's group
 
-pub found_group : (s : List ℕ) (g place : ℕ) (rows : List SessionGroup) (d : SessionGroup) → position (is_of s g) rows ≡ Some place → group_in s g rows ≡ Some (get_or rows place d)
+pub found_group : (s : List ℕ) (g place : ℕ) (rows : List SessionGroup) (d : SessionGroup) →
+    position (is_of s g) rows ≡ Some place → group_in s g rows ≡ Some (get_or rows place d)
 found_group s g place rows d h = (placed (is_of s g) d place rows h).found d
 
-pub used_at : (s : List ℕ) (g place : ℕ) (rows : List SessionGroup) (d : SessionGroup) → position (is_of s g) rows ≡ Some place → (get_or rows place d).used ≡ used_in s g rows
-used_at s g place rows d h = sym (ap (λ o. (unwrap_or o (new_group s g)).used) (found_group s g place rows d h))
+pub used_at : (s : List ℕ) (g place : ℕ) (rows : List SessionGroup) (d : SessionGroup) →
+    position (is_of s g) rows ≡ Some place → (get_or rows place d).used ≡ used_in s g rows
+used_at s g place rows d h =
+    sym (ap (λ o. (unwrap_or o (new_group s g)).used) (found_group s g place rows d h))
 
-pub unused : (s : List ℕ) (g : ℕ) (rows : List SessionGroup) → position (is_of s g) rows ≡ None → 0 ≡ used_in s g rows
+pub unused : (s : List ℕ) (g : ℕ) (rows : List SessionGroup) → position (is_of s g) rows ≡ None →
+    0 ≡ used_in s g rows
 unused s g rows h = sym (ap (λ o. (unwrap_or o (new_group s g)).used) (unplaced (is_of s g) rows h))
 
-pub reservation_at_place : (s : List ℕ) (g place : ℕ) (rows : List SessionGroup) (d : SessionGroup) → position (is_of s g) rows ≡ Some place → (get_or rows place d).reservation ≡ (unwrap_or (group_in s g rows) (new_group s g)).reservation
-reservation_at_place s g place rows d h = sym (ap (λ o. (unwrap_or o (new_group s g)).reservation) (found_group s g place rows d h))
+pub reservation_at_place : (s : List ℕ) (g place : ℕ) (rows : List SessionGroup) (d : SessionGroup)
+    → position (is_of s g) rows ≡ Some place →
+    (get_or rows place d).reservation ≡ (unwrap_or (group_in s g rows) (new_group s g)).reservation
+reservation_at_place s g place rows d h =
+    sym (ap (λ o. (unwrap_or o (new_group s g)).reservation) (found_group s g place rows d h))
 
-pub reserved_at : (s : List ℕ) (g place : ℕ) (rows : List SessionGroup) (d : SessionGroup) → position (is_of s g) rows ≡ Some place → holds_in (get_or rows place d).reservation ≡ reserved_in s g rows
-reserved_at s g place rows d h = sym (ap (λ o. holds_in (unwrap_or o (new_group s g)).reservation) (found_group s g place rows d h))
+pub reserved_at : (s : List ℕ) (g place : ℕ) (rows : List SessionGroup) (d : SessionGroup) →
+    position (is_of s g) rows ≡ Some place →
+    holds_in (get_or rows place d).reservation ≡ reserved_in s g rows
+reserved_at s g place rows d h =
+    sym (ap (λ o. holds_in (unwrap_or o (new_group s g)).reservation)
+    (found_group s g place rows d h))
 
-pub periods_at_place : (s : List ℕ) (g place : ℕ) (rows : List SessionGroup) (d : SessionGroup) → position (is_of s g) rows ≡ Some place → option_map (λ (r : Reservation). r.periods) (get_or rows place d).reservation ≡ periods_in s g rows
-periods_at_place s g place rows d h = sym (ap (λ o. option_map (λ (r : Reservation). r.periods) (unwrap_or o (new_group s g)).reservation) (found_group s g place rows d h))
+pub periods_at_place : (s : List ℕ) (g place : ℕ) (rows : List SessionGroup) (d : SessionGroup) →
+    position (is_of s g) rows ≡ Some place →
+    option_map (λ (r : Reservation). r.periods) (get_or rows place d).reservation
+    ≡ periods_in s g rows
+periods_at_place s g place rows d h =
+    sym (ap (λ o. option_map (λ (r : Reservation). r.periods)
+    (unwrap_or o (new_group s g)).reservation) (found_group s g place rows d h))
 
-pub no_periods : (s : List ℕ) (g : ℕ) (rows : List SessionGroup) → position (is_of s g) rows ≡ None → None ≡ periods_in s g rows
-no_periods s g rows h = sym (ap (λ o. option_map (λ (r : Reservation). r.periods) (unwrap_or o (new_group s g)).reservation) (unplaced (is_of s g) rows h))
+pub no_periods : (s : List ℕ) (g : ℕ) (rows : List SessionGroup) →
+    position (is_of s g) rows ≡ None → None ≡ periods_in s g rows
+no_periods s g rows h =
+    sym (ap (λ o. option_map (λ (r : Reservation). r.periods)
+    (unwrap_or o (new_group s g)).reservation) (unplaced (is_of s g) rows h))
 
-pub unreserved : (s : List ℕ) (g : ℕ) (rows : List SessionGroup) → position (is_of s g) rows ≡ None → [] ≡ reserved_in s g rows
-unreserved s g rows h = sym (ap (λ o. holds_in (unwrap_or o (new_group s g)).reservation) (unplaced (is_of s g) rows h))
+pub unreserved : (s : List ℕ) (g : ℕ) (rows : List SessionGroup) →
+    position (is_of s g) rows ≡ None → [] ≡ reserved_in s g rows
+unreserved s g rows h =
+    sym (ap (λ o. holds_in (unwrap_or o (new_group s g)).reservation) (unplaced (is_of s g) rows h))
 
 -- a row that is found has its key
-pub found_session : (s : List ℕ) (g : ℕ) (rows : List SessionGroup) (x : SessionGroup) → group_in s g rows ≡ Some x → x.session ≡ s
+pub found_session : (s : List ℕ) (g : ℕ) (rows : List SessionGroup) (x : SessionGroup) →
+    group_in s g rows ≡ Some x → x.session ≡ s
 found_session s g rows x h = key_session x.session x.group s g (find-passes (is_of s g) rows x h)
 
-key_at : (s : List ℕ) (g place : ℕ) (rows : List SessionGroup) (d : SessionGroup) → position (is_of s g) rows ≡ Some place → is_of s g (get_or rows place d) ≡ true
-key_at s g place rows d h = find-passes (is_of s g) rows (get_or rows place d) (found_group s g place rows d h)
+key_at : (s : List ℕ) (g place : ℕ) (rows : List SessionGroup) (d : SessionGroup) →
+    position (is_of s g) rows ≡ Some place → is_of s g (get_or rows place d) ≡ true
+key_at s g place rows d h =
+    find-passes (is_of s g) rows (get_or rows place d) (found_group s g place rows d h)
 
 -- the row at a place, written, is the row that is put
-pub put_at : (s : List ℕ) (g place : ℕ) (rows : List SessionGroup) (now : SessionGroup) (used : ℕ) (reservation : Option Reservation) →
+pub put_at : (s : List ℕ) (g place : ℕ) (rows : List SessionGroup) (now : SessionGroup) (used : ℕ)
+    (reservation : Option Reservation) →
     now ≡ get_or rows place now → position (is_of s g) rows ≡ Some place →
-    set rows place (record { session = now.session; group = now.group; used = used; reservation = reservation }) ≡ put (is_of s g) (record { session = s; group = g; used = used; reservation = reservation }) rows
+    set rows place
+    (record {
+      session = now.session;
+      group = now.group;
+      used = used;
+      reservation = reservation;
+    })
+    ≡ put (is_of s g)
+    (record { session = s; group = g; used = used; reservation = reservation }) rows
 put_at s g place rows now used reservation is h =
     let key : is_of s g now ≡ true = ap (is_of s g) is ∙ key_at s g place rows now h in
     let es : now.session ≡ s = key_session now.session now.group s g key in
     let eg : now.group ≡ g = key_group now.session now.group s g key in
-    let x : SessionGroup = record { session = s; group = g; used = used; reservation = reservation } in
-    (λ i. set rows place (record { session = es i; group = eg i; used = used; reservation = reservation }))
+    let x : SessionGroup =
+    record { session = s; group = g; used = used; reservation = reservation } in
+    (λ i. set rows place
+    (record { session = es i; group = eg i; used = used; reservation = reservation }))
     ∙ sym (placed (is_of s g) x place rows h).put
 
-pub not_there : (s : List ℕ) (g : ℕ) (rows : List SessionGroup) → position (is_of s g) rows ≡ None → is_some (group_in s g rows) ≡ true → ⊥
-not_there s g rows h e = let none : is_some (group_in s g rows) ≡ false = ap is_some (unplaced (is_of s g) rows h) in cc
+pub not_there : (s : List ℕ) (g : ℕ) (rows : List SessionGroup) → position (is_of s g) rows ≡ None →
+    is_some (group_in s g rows) ≡ true → ⊥
+not_there s g rows h e = let none : is_some (group_in s g rows) ≡ false =
+    ap is_some (unplaced (is_of s g) rows h) in cc
 
 -- a row is made where there is none
-pub made_group : (s : List ℕ) (g : ℕ) (rows : List SessionGroup) → position (is_of s g) rows ≡ None → rows ++ new_group s g ∷ [] ≡ with_group s g rows
+pub made_group : (s : List ℕ) (g : ℕ) (rows : List SessionGroup) →
+    position (is_of s g) rows ≡ None → rows ++ new_group s g ∷ [] ≡ with_group s g rows
 made_group s g rows h =
     let none : group_in s g rows ≡ None = unplaced (is_of s g) rows h in
-    sym (ap (λ o. put (is_of s g) (unwrap_or o (new_group s g)) rows) none ∙ put-none (is_of s g) (new_group s g) rows none)
+    sym (ap (λ o. put (is_of s g) (unwrap_or o (new_group s g)) rows) none
+    ∙ put-none (is_of s g) (new_group s g) rows none)
 
-pub kept_group : (s : List ℕ) (g : ℕ) (rows : List SessionGroup) (x : SessionGroup) → group_in s g rows ≡ Some x → rows ≡ with_group s g rows
-kept_group s g rows x h = sym (ap (λ o. put (is_of s g) (unwrap_or o (new_group s g)) rows) h ∙ put-same (is_of s g) x rows h)
+pub kept_group : (s : List ℕ) (g : ℕ) (rows : List SessionGroup) (x : SessionGroup) →
+    group_in s g rows ≡ Some x → rows ≡ with_group s g rows
+kept_group s g rows x h =
+    sym (ap (λ o. put (is_of s g) (unwrap_or o (new_group s g)) rows) h
+    ∙ put-same (is_of s g) x rows h)
 
-pub there_kept : (s : List ℕ) (g : ℕ) (rows : List SessionGroup) → is_some (position (is_of s g) rows) ≡ true → rows ≡ with_group s g rows
+pub there_kept : (s : List ℕ) (g : ℕ) (rows : List SessionGroup) →
+    is_some (position (is_of s g) rows) ≡ true → rows ≡ with_group s g rows
 there_kept s g rows h = by_place (position (is_of s g) rows) refl h
   where
-    by_place : (o : Option ℕ) → position (is_of s g) rows ≡ o → is_some o ≡ true → rows ≡ with_group s g rows
+    by_place : (o : Option ℕ) → position (is_of s g) rows ≡ o → is_some o ≡ true →
+        rows ≡ with_group s g rows
     by_place None e q = cc
     by_place (Some place) e q = kept_group s g rows _ (found_group s g place rows (new_group s g) e)
 
 -- ---- the reservation of one row alone
 
-ended_others : (s : List ℕ) (g : ℕ) (rows : List SessionGroup) → EachIn (λ y. is_of s g y ≡ false) rows → map (ended_group s g) rows ≡ rows
+ended_others : (s : List ℕ) (g : ℕ) (rows : List SessionGroup) →
+    EachIn (λ y. is_of s g y ≡ false) rows → map (ended_group s g) rows ≡ rows
 ended_others s g [] h = refl
-ended_others s g (y ∷ ys) h = λ i. (if h.0 i then record y { reservation = None } else y) ∷ ended_others s g ys h.1 i
+ended_others s g (y ∷ ys) h =
+    λ i. (if h.0 i then record y { reservation = None } else y) ∷ ended_others s g ys h.1 i
 
-unnamed : (s : List ℕ) (g : ℕ) (rows : List SessionGroup) → group_in s g rows ≡ None → EachIn (λ y. is_of s g y ≡ false) rows
+unnamed : (s : List ℕ) (g : ℕ) (rows : List SessionGroup) → group_in s g rows ≡ None →
+    EachIn (λ y. is_of s g y ≡ false) rows
 unnamed s g [] h = tt
 unnamed s g (y ∷ ys) h = by_test (is_of s g y) refl h (λ q. unnamed s g ys q)
   where
-    by_test : (t : Bool) → is_of s g y ≡ t → cond t (Some y) (group_in s g ys) ≡ None → (group_in s g ys ≡ None → EachIn (λ y. is_of s g y ≡ false) ys) → EachIn (λ y. is_of s g y ≡ false) (y ∷ ys)
+    by_test : (t : Bool) → is_of s g y ≡ t → cond t (Some y) (group_in s g ys) ≡ None →
+        (group_in s g ys ≡ None → EachIn (λ y. is_of s g y ≡ false) ys) →
+        EachIn (λ y. is_of s g y ≡ false) (y ∷ ys)
     by_test true e q rest = absurd (no_some y (sym q))
     by_test false e q rest = (e, rest q)
 
-pub ended_unnamed : (s : List ℕ) (g : ℕ) (rows : List SessionGroup) → group_in s g rows ≡ None → map (ended_group s g) rows ≡ rows
+pub ended_unnamed : (s : List ℕ) (g : ℕ) (rows : List SessionGroup) → group_in s g rows ≡ None →
+    map (ended_group s g) rows ≡ rows
 ended_unnamed s g rows h = ended_others s g rows (unnamed s g rows h)
 
-pub ended_none : (s : List ℕ) (g : ℕ) (rows : List SessionGroup) → position (is_of s g) rows ≡ None → rows ≡ map (ended_group s g) rows
+pub ended_none : (s : List ℕ) (g : ℕ) (rows : List SessionGroup) →
+    position (is_of s g) rows ≡ None → rows ≡ map (ended_group s g) rows
 ended_none s g rows h = sym (ended_others s g rows (unnamed s g rows (unplaced (is_of s g) rows h)))
 
-others_of : (s : List ℕ) (g : ℕ) (x : SessionGroup) (rows : List SessionGroup) → is_of s g x ≡ true → EachIn (λ y. is_of x.session x.group y ≡ false) rows → EachIn (λ y. is_of s g y ≡ false) rows
+others_of : (s : List ℕ) (g : ℕ) (x : SessionGroup) (rows : List SessionGroup) →
+    is_of s g x ≡ true → EachIn (λ y. is_of x.session x.group y ≡ false) rows →
+    EachIn (λ y. is_of s g y ≡ false) rows
 others_of s g x [] k h = tt
-others_of s g x (y ∷ ys) k h = ((λ i. is_key y.session y.group (sym (key_session x.session x.group s g k) i) (sym (key_group x.session x.group s g k) i)) ∙ h.0, others_of s g x ys k h.1)
+others_of s g x (y ∷ ys) k h = (
+  (λ i. is_key y.session y.group (sym (key_session x.session x.group s g k) i)
+      (sym (key_group x.session x.group s g k) i)) ∙ h.0,
+  others_of s g x ys k h.1,
+)
 
-pub ended_put : (s : List ℕ) (g : ℕ) (x : SessionGroup) (rows : List SessionGroup) → AreApart (λ x y. is_of x.session x.group y) rows → group_in s g rows ≡ Some x → map (ended_group s g) rows ≡ put (is_of s g) (record x { reservation = None }) rows
+pub ended_put : (s : List ℕ) (g : ℕ) (x : SessionGroup) (rows : List SessionGroup) →
+    AreApart (λ x y. is_of x.session x.group y) rows → group_in s g rows ≡ Some x →
+    map (ended_group s g) rows ≡ put (is_of s g) (record x { reservation = None }) rows
 ended_put s g x [] apart h = absurd (no_some x h)
 ended_put s g x (y ∷ ys) apart h = by_test (is_of s g y) refl h (λ q. ended_put s g x ys apart.1 q)
   where
-    by_test : (t : Bool) → is_of s g y ≡ t → cond t (Some y) (group_in s g ys) ≡ Some x → (group_in s g ys ≡ Some x → map (ended_group s g) ys ≡ put (is_of s g) (record x { reservation = None }) ys) → map (ended_group s g) (y ∷ ys) ≡ put (is_of s g) (record x { reservation = None }) (y ∷ ys)
+    by_test : (t : Bool) → is_of s g y ≡ t → cond t (Some y) (group_in s g ys) ≡ Some x →
+        (group_in s g ys ≡ Some x →
+        map (ended_group s g) ys ≡ put (is_of s g) (record x { reservation = None }) ys) →
+        map (ended_group s g) (y ∷ ys) ≡ put (is_of s g) (record x { reservation = None }) (y ∷ ys)
     by_test true e q rest =
         let same : y ≡ x = some_of y x q in
-        (λ i. (if e i then record y { reservation = None } else y) ∷ ended_others s g ys (others_of s g y ys e apart.0) i)
+        (λ i. (if e i then record y { reservation = None } else y)
+        ∷ ended_others s g ys (others_of s g y ys e apart.0) i)
         ∙ (λ i. record (same i) { reservation = None } ∷ ys)
-        ∙ sym (λ i. if e i then record x { reservation = None } ∷ ys else y ∷ put (is_of s g) (record x { reservation = None }) ys)
+        ∙ sym (λ i. if e i then record x { reservation = None } ∷ ys
+        else y ∷ put (is_of s g) (record x { reservation = None }) ys)
     by_test false e q rest =
         (λ i. (if e i then record y { reservation = None } else y) ∷ rest q i)
-        ∙ sym (λ i. if e i then record x { reservation = None } ∷ ys else y ∷ put (is_of s g) (record x { reservation = None }) ys)
+        ∙ sym (λ i. if e i then record x { reservation = None } ∷ ys
+        else y ∷ put (is_of s g) (record x { reservation = None }) ys)
 
-pub ended_at : (s : List ℕ) (g place : ℕ) (rows : List SessionGroup) (now : SessionGroup) → AreApart (λ x y. is_of x.session x.group y) rows →
+pub ended_at : (s : List ℕ) (g place : ℕ) (rows : List SessionGroup) (now : SessionGroup) →
+    AreApart (λ x y. is_of x.session x.group y) rows →
     now ≡ get_or rows place now → position (is_of s g) rows ≡ Some place →
     set rows place (record now { reservation = None }) ≡ map (ended_group s g) rows
 ended_at s g place rows now apart is h =
@@ -159,44 +232,63 @@ ended_at s g place rows now apart is h =
 
 -- ---- a counter
 
-pub found_counter : (g c place : ℕ) (rows : List Counter) (d : Counter) → position (is_counter g c) rows ≡ Some place → counter_in g c rows ≡ Some (get_or rows place d)
+pub found_counter : (g c place : ℕ) (rows : List Counter) (d : Counter) →
+    position (is_counter g c) rows ≡ Some place → counter_in g c rows ≡ Some (get_or rows place d)
 found_counter g c place rows d h = (placed (is_counter g c) d place rows h).found d
 
-pub count_at : (g c place : ℕ) (rows : List Counter) (d : Counter) → position (is_counter g c) rows ≡ Some place → (get_or rows place d).blocks ≡ count_in g c rows
-count_at g c place rows d h = sym (ap (λ o. unwrap_or (option_map (λ (r : Counter). r.blocks) o) 0) (found_counter g c place rows d h))
+pub count_at : (g c place : ℕ) (rows : List Counter) (d : Counter) →
+    position (is_counter g c) rows ≡ Some place → (get_or rows place d).blocks ≡ count_in g c rows
+count_at g c place rows d h =
+    sym (ap (λ o. unwrap_or (option_map (λ (r : Counter). r.blocks) o) 0)
+    (found_counter g c place rows d h))
 
-pub uncounted : (g c : ℕ) (rows : List Counter) → position (is_counter g c) rows ≡ None → 0 ≡ count_in g c rows
-uncounted g c rows h = sym (ap (λ o. unwrap_or (option_map (λ (r : Counter). r.blocks) o) 0) (unplaced (is_counter g c) rows h))
+pub uncounted : (g c : ℕ) (rows : List Counter) → position (is_counter g c) rows ≡ None →
+    0 ≡ count_in g c rows
+uncounted g c rows h =
+    sym (ap (λ o. unwrap_or (option_map (λ (r : Counter). r.blocks) o) 0)
+    (unplaced (is_counter g c) rows h))
 
 pub put_counter_at : (g c place : ℕ) (rows : List Counter) (now : Counter) (blocks : ℕ) →
     now ≡ get_or rows place now → position (is_counter g c) rows ≡ Some place →
-    set rows place (record { group = now.group; cycle = now.cycle; blocks = blocks }) ≡ put (is_counter g c) (record { group = g; cycle = c; blocks = blocks }) rows
+    set rows place (record { group = now.group; cycle = now.cycle; blocks = blocks })
+    ≡ put (is_counter g c) (record { group = g; cycle = c; blocks = blocks }) rows
 put_counter_at g c place rows now blocks is h =
-    let key : is_counter g c now ≡ true = ap (is_counter g c) is ∙ find-passes (is_counter g c) rows (get_or rows place now) (found_counter g c place rows now h) in
+    let key : is_counter g c now ≡ true =
+    ap (is_counter g c) is
+    ∙ find-passes (is_counter g c) rows (get_or rows place now)
+    (found_counter g c place rows now h) in
     let eg : now.group ≡ g = cycle_group now.group now.cycle g c key in
     let ec : now.cycle ≡ c = cycle_cycle now.group now.cycle g c key in
     let x : Counter = record { group = g; cycle = c; blocks = blocks } in
     (λ i. set rows place (record { group = eg i; cycle = ec i; blocks = blocks }))
     ∙ sym (placed (is_counter g c) x place rows h).put
 
-pub counter_not_there : (g c : ℕ) (rows : List Counter) → position (is_counter g c) rows ≡ None → is_some (counter_in g c rows) ≡ true → ⊥
-counter_not_there g c rows h e = let none : is_some (counter_in g c rows) ≡ false = ap is_some (unplaced (is_counter g c) rows h) in cc
+pub counter_not_there : (g c : ℕ) (rows : List Counter) → position (is_counter g c) rows ≡ None →
+    is_some (counter_in g c rows) ≡ true → ⊥
+counter_not_there g c rows h e = let none : is_some (counter_in g c rows) ≡ false =
+    ap is_some (unplaced (is_counter g c) rows h) in cc
 
-pub made_counter : (g c : ℕ) (rows : List Counter) → position (is_counter g c) rows ≡ None → rows ++ record { group = g; cycle = c; blocks = 0 } ∷ [] ≡ with_counter g c rows
+pub made_counter : (g c : ℕ) (rows : List Counter) → position (is_counter g c) rows ≡ None →
+    rows ++ record { group = g; cycle = c; blocks = 0 } ∷ [] ≡ with_counter g c rows
 made_counter g c rows h =
     let none : counter_in g c rows ≡ None = unplaced (is_counter g c) rows h in
     let new : Counter = record { group = g; cycle = c; blocks = 0 } in
-    sym (ap (λ o. put (is_counter g c) (unwrap_or o new) rows) none ∙ put-none (is_counter g c) new rows none)
+    sym (ap (λ o. put (is_counter g c) (unwrap_or o new) rows) none
+    ∙ put-none (is_counter g c) new rows none)
 
-pub counter_there_kept : (g c : ℕ) (rows : List Counter) → is_some (position (is_counter g c) rows) ≡ true → rows ≡ with_counter g c rows
+pub counter_there_kept : (g c : ℕ) (rows : List Counter) →
+    is_some (position (is_counter g c) rows) ≡ true → rows ≡ with_counter g c rows
 counter_there_kept g c rows h = by_place (position (is_counter g c) rows) refl h
   where
     new : Counter
     new = record { group = g; cycle = c; blocks = 0 }
 
     kept : (x : Counter) → counter_in g c rows ≡ Some x → rows ≡ with_counter g c rows
-    kept x q = sym (ap (λ o. put (is_counter g c) (unwrap_or o new) rows) q ∙ put-same (is_counter g c) x rows q)
+    kept x q =
+        sym (ap (λ o. put (is_counter g c) (unwrap_or o new) rows) q
+        ∙ put-same (is_counter g c) x rows q)
 
-    by_place : (o : Option ℕ) → position (is_counter g c) rows ≡ o → is_some o ≡ true → rows ≡ with_counter g c rows
+    by_place : (o : Option ℕ) → position (is_counter g c) rows ≡ o → is_some o ≡ true →
+        rows ≡ with_counter g c rows
     by_place None e q = cc
     by_place (Some place) e q = kept (get_or rows place new) (found_counter g c place rows new e)

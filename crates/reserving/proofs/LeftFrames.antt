@@ -29,7 +29,8 @@ use Rattle.reserving.proofs.LeftMerged.{map_merged, each_map, each_both, each_le
 use Rattle.reserving.proofs.LeftJoined.{find_behind, put_behind, map_behind, each_in_map, held_behind, live_behind}
 
 -- a group that holds nothing stays as it is
-pub lapse_free : (keeps : List ℕ → Bool) (r : SessionGroup) → r.reservation ≡ None → lapse_group keeps r ≡ r
+pub lapse_free : (keeps : List ℕ → Bool) (r : SessionGroup) → r.reservation ≡ None →
+    lapse_group keeps r ≡ r
 lapse_free keeps r e = at (keeps r.session)
   where
     at : (k : Bool) → (if k then r else record r { reservation = None }) ≡ r
@@ -37,39 +38,57 @@ lapse_free keeps r e = at (keeps r.session)
     at false = λ i. record r { reservation = sym e i }
 
 -- nothing of a live session was left
-pub differs_from : (v t : ℕ) (rows : List Session) (s x : List ℕ) → is_live_in v t rows s ≡ true → session_in x rows ≡ None → is_same x s ≡ false
+pub differs_from : (v t : ℕ) (rows : List Session) (s x : List ℕ) → is_live_in v t rows s ≡ true →
+    session_in x rows ≡ None → is_same x s ≡ false
 differs_from v t rows s x alive none = at (is_same x s) refl
   where
     at : (b : Bool) → is_same x s ≡ b → b ≡ false
-    at true e = absurd (not_both (sym (ap (is_live_row v t) (ap (λ n. session_in n rows) (sym (same_from x s e)) ∙ none)) ∙ alive))
+    at true e =
+        absurd (not_both
+        (sym (ap (is_live_row v t) (ap (λ n. session_in n rows) (sym (same_from x s e)) ∙ none))
+        ∙ alive))
     at false e = refl
 
-pub not_of_live : (left : LeftRows) (a : AccountRows) (t : ℕ) (s : List ℕ) (g : ℕ) → IsLeft left a → is_live_in a.book.validity t a.sessions s ≡ true → EachIn (λ r. is_of s g r ≡ false) left.groups
-not_of_live left a t s g h alive = each_in_map _ _ left.groups (λ r e. ap (λ b. b && r.group == g) (differs_from a.book.validity t a.sessions s r.session alive e)) h.others
+pub not_of_live : (left : LeftRows) (a : AccountRows) (t : ℕ) (s : List ℕ) (g : ℕ) → IsLeft left a →
+    is_live_in a.book.validity t a.sessions s ≡ true → EachIn (λ r. is_of s g r ≡ false) left.groups
+not_of_live left a t s g h alive =
+    each_in_map _ _ left.groups
+    (λ r e. ap (λ b. b && r.group == g)
+    (differs_from a.book.validity t a.sessions s r.session alive e)) h.others
 
 -- no counter of the cycle was left
-pub not_counted : (book : Book) (t g : ℕ) (rows : List Counter) → AreOfOtherCycles book t rows → EachIn (λ r. is_counter g (cycle_at book g t) r ≡ false) rows
+pub not_counted : (book : Book) (t g : ℕ) (rows : List Counter) → AreOfOtherCycles book t rows →
+    EachIn (λ r. is_counter g (cycle_at book g t) r ≡ false) rows
 not_counted book t g rows cycles = each_in_map _ _ rows other cycles
   where
-    other : (r : Counter) → (r.cycle == cycle_at book r.group t) ≡ false → is_counter g (cycle_at book g t) r ≡ false
+    other : (r : Counter) → (r.cycle == cycle_at book r.group t) ≡ false →
+        is_counter g (cycle_at book g t) r ≡ false
     other r e = at (r.group == g) refl
       where
         at : (b : Bool) → (r.group == g) ≡ b → (b && r.cycle == cycle_at book g t) ≡ false
         at true k = ap (λ n. r.cycle == cycle_at book n t) (sym (number_from r.group g k)) ∙ e
         at false k = refl
 
-pub count_beside : (book : Book) (t g : ℕ) (left rows : List Counter) → AreOfOtherCycles book t left → count_in g (cycle_at book g t) (left ++ rows) ≡ count_in g (cycle_at book g t) rows
-count_beside book t g left rows cycles = ap (λ o. unwrap_or (option_map (λ (r : Counter). r.blocks) o) 0) (find_behind (is_counter g (cycle_at book g t)) left rows (not_counted book t g left cycles))
+pub count_beside : (book : Book) (t g : ℕ) (left rows : List Counter) →
+    AreOfOtherCycles book t left →
+    count_in g (cycle_at book g t) (left ++ rows) ≡ count_in g (cycle_at book g t) rows
+count_beside book t g left rows cycles =
+    ap (λ o. unwrap_or (option_map (λ (r : Counter). r.blocks) o) 0)
+    (find_behind (is_counter g (cycle_at book g t)) left rows (not_counted book t g left cycles))
 
 module _ (left : LeftRows) (a : AccountRows) (h : IsLeft left a) where
-  pub live : (t : ℕ) (s : List ℕ) → is_live_in a.book.validity t (left.sessions ++ a.sessions) s ≡ is_live_in a.book.validity t a.sessions s
+  pub live : (t : ℕ) (s : List ℕ) →
+      is_live_in a.book.validity t (left.sessions ++ a.sessions) s
+      ≡ is_live_in a.book.validity t a.sessions s
   live t s = live_behind a.book.validity t left.sessions a.sessions s h.over h.apart
 
   -- no reservation holds anything of a dead bucket
   pub unheld : Each (λ b. held_by (λ s. true) a.groups b ≡ 0) left.buckets
-  unheld = each_both (λ b. held_by (λ s. true) (left.groups ++ a.groups) b ≡ b.reserved) IsDead (λ b. held_by (λ s. true) a.groups b ≡ 0) left.buckets
+  unheld = each_both (λ b. held_by (λ s. true) (left.groups ++ a.groups) b ≡ b.reserved) IsDead
+      (λ b. held_by (λ s. true) a.groups b ≡ 0) left.buckets
       (λ b e d. sym (held_behind (λ s. true) left.groups a.groups b h.free) ∙ e ∙ d.reserved)
-      (each_left (λ b. held_by (λ s. true) (left.groups ++ a.groups) b ≡ b.reserved) left.buckets a.buckets h.whole.held) h.dead
+      (each_left (λ b. held_by (λ s. true) (left.groups ++ a.groups) b ≡ b.reserved) left.buckets
+      a.buckets h.whole.held) h.dead
 
   -- ---- time goes on
 
@@ -83,49 +102,84 @@ module _ (left : LeftRows) (a : AccountRows) (h : IsLeft left a) where
     abbrev later : Row → Row
     later b = with_end t (with_release t b (lapsed_in keeps a.groups b))
 
-    lapsed_same : (b : Row) → lapsed_in whole_keeps (left.groups ++ a.groups) b ≡ lapsed_in keeps a.groups b
-    lapsed_same b = (λ i. held_by (λ s. not (live t s i)) (left.groups ++ a.groups) b) ∙ held_behind (λ s. not (keeps s)) left.groups a.groups b h.free
+    lapsed_same : (b : Row) →
+        lapsed_in whole_keeps (left.groups ++ a.groups) b ≡ lapsed_in keeps a.groups b
+    lapsed_same b =
+        (λ i. held_by (λ s. not (live t s i)) (left.groups ++ a.groups) b)
+        ∙ held_behind (λ s. not (keeps s)) left.groups a.groups b h.free
 
     later_keeps : KeepsPlace later
     later_keeps = record {
-      number = λ b. (with_end_keeps t).number (with_release t b (lapsed_in keeps a.groups b)) ∙ with_release_number t b (lapsed_in keeps a.groups b);
-      until = λ b. (with_end_keeps t).until (with_release t b (lapsed_in keeps a.groups b)) ∙ with_release_until t b (lapsed_in keeps a.groups b);
+      number = λ b. (with_end_keeps t).number (with_release t b (lapsed_in keeps a.groups b))
+          ∙ with_release_number t b (lapsed_in keeps a.groups b);
+      until = λ b. (with_end_keeps t).until (with_release t b (lapsed_in keeps a.groups b))
+          ∙ with_release_until t b (lapsed_in keeps a.groups b);
     }
 
     later_dead : (b : Row) → held_by (λ s. true) a.groups b ≡ 0 → IsDead b → later b ≡ b
     later_dead b e d =
-        let none : lapsed_in keeps a.groups b ≡ 0 = omega (arith, e, held_by-split keeps b a.groups) in
+        let none : lapsed_in keeps a.groups b ≡ 0 =
+        omega (arith, e, held_by-split keeps b a.groups) in
         ap (with_end t) (release_none t b (lapsed_in keeps a.groups b) none) ∙ end_dead t b d
 
-    buckets_later : (advanced t (joined left a)).buckets ≡ merged left.buckets (advanced t a).buckets
+    buckets_later : (advanced t (joined left a)).buckets
+        ≡ merged left.buckets (advanced t a).buckets
     buckets_later =
-        (λ i. map (λ b. with_end t (with_release t b (lapsed_same b i))) (merged left.buckets a.buckets))
-        ∙ map_merged later later_keeps left.buckets a.buckets (each_both (λ b. held_by (λ s. true) a.groups b ≡ 0) IsDead (λ b. later b ≡ b) left.buckets later_dead unheld h.dead)
+        (λ i. map (λ b. with_end t (with_release t b (lapsed_same b i)))
+        (merged left.buckets a.buckets))
+        ∙ map_merged later later_keeps left.buckets a.buckets
+        (each_both (λ b. held_by (λ s. true) a.groups b ≡ 0) IsDead (λ b. later b ≡ b)
+        left.buckets later_dead unheld h.dead)
 
     lapse_over : (r : Session) → is_open r.state ≡ false → lapse a.book.validity t r ≡ r
     lapse_over r e = rw e refl
 
-    sessions_later : map (lapse a.book.validity t) (left.sessions ++ a.sessions) ≡ left.sessions ++ map (lapse a.book.validity t) a.sessions
-    sessions_later = map_behind (lapse a.book.validity t) left.sessions a.sessions (each_in_map _ _ left.sessions lapse_over h.over)
+    sessions_later : map (lapse a.book.validity t) (left.sessions ++ a.sessions)
+        ≡ left.sessions ++ map (lapse a.book.validity t) a.sessions
+    sessions_later =
+        map_behind (lapse a.book.validity t) left.sessions a.sessions
+        (each_in_map _ _ left.sessions lapse_over h.over)
 
-    groups_later : map (lapse_group whole_keeps) (left.groups ++ a.groups) ≡ left.groups ++ map (lapse_group keeps) a.groups
+    groups_later : map (lapse_group whole_keeps) (left.groups ++ a.groups)
+        ≡ left.groups ++ map (lapse_group keeps) a.groups
     groups_later =
         (λ i. map (lapse_group (λ s. live t s i)) (left.groups ++ a.groups))
-        ∙ map_behind (lapse_group keeps) left.groups a.groups (each_in_map _ _ left.groups (lapse_free keeps) h.free)
+        ∙ map_behind (lapse_group keeps) left.groups a.groups
+        (each_in_map _ _ left.groups (lapse_free keeps) h.free)
 
   pub advanced_joined' : (t : ℕ) → advanced t (joined left a) ≡ joined left (advanced t a)
-  advanced_joined' t = λ i. record (joined left a) { as_of = t; buckets = buckets_later t i; sessions = sessions_later t i; groups = groups_later t i }
+  advanced_joined' t =
+      λ i. record (joined left a) {
+        as_of = t;
+        buckets = buckets_later t i;
+        sessions = sessions_later t i;
+        groups = groups_later t i;
+      }
 
   -- ---- the groups of a session of which none was left, and counters of the cycle on
 
   module _ (s : List ℕ) (g : ℕ) (not_of : EachIn (λ r. is_of s g r ≡ false) left.groups) where
     pub row_same : group_or_new s g (left.groups ++ a.groups) ≡ group_or_new s g a.groups
-    row_same = ap (λ o. unwrap_or o (new_group s g)) (find_behind (is_of s g) left.groups a.groups not_of)
+    row_same =
+        ap (λ o. unwrap_or o (new_group s g)) (find_behind (is_of s g) left.groups a.groups not_of)
 
-    pub use_joined : (units : ℕ) → with_use s g units (left.groups ++ a.groups) ≡ left.groups ++ with_use s g units a.groups
+    pub use_joined : (units : ℕ) →
+        with_use s g units (left.groups ++ a.groups) ≡ left.groups ++ with_use s g units a.groups
     use_joined units =
-        (λ i. put (is_of s g) (record { session = s; group = g; used = (row_same i).used + units; reservation = None }) (left.groups ++ a.groups))
-        ∙ put_behind (is_of s g) (record { session = s; group = g; used = used_in s g a.groups + units; reservation = None }) left.groups a.groups not_of
+        (λ i. put (is_of s g)
+        (record {
+          session = s;
+          group = g;
+          used = (row_same i).used + units;
+          reservation = None;
+        }) (left.groups ++ a.groups))
+        ∙ put_behind (is_of s g)
+        (record {
+          session = s;
+          group = g;
+          used = used_in s g a.groups + units;
+          reservation = None;
+        }) left.groups a.groups not_of
 
     abbrev holds : List Hold
     holds = reserved_in s g a.groups
@@ -133,68 +187,120 @@ module _ (left : LeftRows) (a : AccountRows) (h : IsLeft left a) where
     pub holds_same : reserved_in s g (left.groups ++ a.groups) ≡ holds
     holds_same = ap (λ (r : SessionGroup). holds_in r.reservation) row_same
 
-    one_held : (rows : List SessionGroup) (b : Row) → held_in (reserved_in s g rows) b ≤ held_by (λ x. true) rows b
+    one_held : (rows : List SessionGroup) (b : Row) →
+        held_in (reserved_in s g rows) b ≤ held_by (λ x. true) rows b
     one_held [] b = omega arith
     one_held (r ∷ rs) b = at (is_of s g r) (one_held rs b)
       where
         at : (t : Bool) → held_in (reserved_in s g rs) b ≤ held_by (λ x. true) rs b →
-            held_in (holds_in (unwrap_or (if t then Some r else group_in s g rs) (new_group s g)).reservation) b ≤ held_in (holds_in r.reservation) b + held_by (λ x. true) rs b
+            held_in (holds_in
+            (unwrap_or (if t then Some r else group_in s g rs) (new_group s g)).reservation) b
+            ≤ held_in (holds_in r.reservation) b + held_by (λ x. true) rs b
         at true le = omega arith
         at false le = omega (arith, le)
 
     pub holds_none : Each (λ b. held_in holds b ≡ 0) left.buckets
-    holds_none = each_map (λ b. held_by (λ x. true) a.groups b ≡ 0) (λ b. held_in holds b ≡ 0) left.buckets (λ b e. omega (arith, e, one_held a.groups b)) unheld
+    holds_none =
+        each_map (λ b. held_by (λ x. true) a.groups b ≡ 0) (λ b. held_in holds b ≡ 0) left.buckets
+        (λ b e. omega (arith, e, one_held a.groups b)) unheld
 
-    settled_buckets : (rated : ℕ) → settled_rows (reserved_in s g (left.groups ++ a.groups)) g a.as_of rated (merged left.buckets a.buckets) ≡ merged left.buckets (settled_rows holds g a.as_of rated a.buckets)
+    settled_buckets : (rated : ℕ) →
+        settled_rows (reserved_in s g (left.groups ++ a.groups)) g a.as_of rated
+        (merged left.buckets a.buckets)
+        ≡ merged left.buckets (settled_rows holds g a.as_of rated a.buckets)
     settled_buckets rated =
         (λ i. settled_rows (holds_same i) g a.as_of rated (merged left.buckets a.buckets))
         ∙ settled_merged holds g a.as_of rated left.buckets a.buckets h.dead holds_none
 
     ended_joined : ended_rows s g (joined left a) ≡ joined left (ended_rows s g a)
     ended_joined =
-        let buckets : released_rows (reserved_in s g (left.groups ++ a.groups)) a.as_of (merged left.buckets a.buckets) ≡ merged left.buckets (released_rows holds a.as_of a.buckets) =
-        (λ i. released_rows (holds_same i) a.as_of (merged left.buckets a.buckets)) ∙ released_merged holds a.as_of left.buckets a.buckets holds_none in
-        let groups : map (ended_group s g) (left.groups ++ a.groups) ≡ left.groups ++ map (ended_group s g) a.groups =
-        map_behind (ended_group s g) left.groups a.groups (each_in_map _ _ left.groups (λ r e. ap (λ t. if t then record r { reservation = None } else r) e) not_of) in
+        let buckets : released_rows (reserved_in s g (left.groups ++ a.groups)) a.as_of
+        (merged left.buckets a.buckets)
+        ≡ merged left.buckets (released_rows holds a.as_of a.buckets) =
+        (λ i. released_rows (holds_same i) a.as_of (merged left.buckets a.buckets))
+        ∙ released_merged holds a.as_of left.buckets a.buckets holds_none in
+        let groups : map (ended_group s g) (left.groups ++ a.groups)
+        ≡ left.groups ++ map (ended_group s g) a.groups =
+        map_behind (ended_group s g) left.groups a.groups
+        (each_in_map _ _ left.groups
+        (λ r e. ap (λ t. if t then record r { reservation = None } else r) e) not_of) in
         λ i. record (joined left a) { buckets = buckets i; groups = groups i }
 
     module _ (cycles : AreOfOtherCycles a.book a.as_of left.counters) where
-      pub count_same : count_in g (cycle_at a.book g a.as_of) (left.counters ++ a.counters) ≡ count_in g (cycle_at a.book g a.as_of) a.counters
+      pub count_same : count_in g (cycle_at a.book g a.as_of) (left.counters ++ a.counters)
+          ≡ count_in g (cycle_at a.book g a.as_of) a.counters
       count_same = count_beside a.book a.as_of g left.counters a.counters cycles
 
-      pub count_joined : (blocks : ℕ) → with_count g (cycle_at a.book g a.as_of) blocks (left.counters ++ a.counters) ≡ left.counters ++ with_count g (cycle_at a.book g a.as_of) blocks a.counters
+      pub count_joined : (blocks : ℕ) →
+          with_count g (cycle_at a.book g a.as_of) blocks (left.counters ++ a.counters)
+          ≡ left.counters ++ with_count g (cycle_at a.book g a.as_of) blocks a.counters
       count_joined blocks =
-          (λ i. put (is_counter g (cycle_at a.book g a.as_of)) (record { group = g; cycle = cycle_at a.book g a.as_of; blocks = count_same i + blocks }) (left.counters ++ a.counters))
-          ∙ put_behind (is_counter g (cycle_at a.book g a.as_of)) (record { group = g; cycle = cycle_at a.book g a.as_of; blocks = count_in g (cycle_at a.book g a.as_of) a.counters + blocks }) left.counters a.counters (not_counted a.book a.as_of g left.counters cycles)
+          (λ i. put (is_counter g (cycle_at a.book g a.as_of))
+          (record {
+            group = g;
+            cycle = cycle_at a.book g a.as_of;
+            blocks = count_same i + blocks;
+          }) (left.counters ++ a.counters))
+          ∙ put_behind (is_counter g (cycle_at a.book g a.as_of))
+          (record {
+            group = g;
+            cycle = cycle_at a.book g a.as_of;
+            blocks = count_in g (cycle_at a.book g a.as_of) a.counters + blocks;
+          }) left.counters
+          a.counters (not_counted a.book a.as_of g left.counters cycles)
 
-      pub settled_joined : (units blocks rated : ℕ) → settled_account s g units blocks rated (joined left a) ≡ joined left (settled_account s g units blocks rated a)
+      pub settled_joined : (units blocks rated : ℕ) →
+          settled_account s g units blocks rated (joined left a)
+          ≡ joined left (settled_account s g units blocks rated a)
       settled_joined units blocks rated =
-          λ i. record (joined left a) { buckets = settled_buckets rated i; counters = count_joined blocks i; groups = use_joined units i; next_charge = a.next_charge + 1 }
+          λ i. record (joined left a) {
+            buckets = settled_buckets rated i;
+            counters = count_joined blocks i;
+            groups = use_joined units i;
+            next_charge =
+                a.next_charge + 1;
+          }
 
-      price_same : (used_parts : List UsedPart) → price_in s g a.as_of used_parts (joined left a) ≡ price_in s g a.as_of used_parts a
+      price_same : (used_parts : List UsedPart) →
+          price_in s g a.as_of used_parts (joined left a) ≡ price_in s g a.as_of used_parts a
       price_same used_parts =
-          λ i. price_of a.book a.as_of g (option_map (λ (r : Reservation). r.periods) (row_same i).reservation) (row_same i).used (count_same i) used_parts
+          λ i. price_of a.book a.as_of g
+          (option_map (λ (r : Reservation). r.periods) (row_same i).reservation)
+          (row_same i).used (count_same i) used_parts
 
-      pub by_parts : (used_parts : List UsedPart) → settled_by_rows s g used_parts (joined left a) ≡ joined left (settled_by_rows s g used_parts a)
+      pub by_parts : (used_parts : List UsedPart) →
+          settled_by_rows s g used_parts (joined left a)
+          ≡ joined left (settled_by_rows s g used_parts a)
       by_parts [] = ended_joined
       by_parts (p ∷ ps) =
           let x : Rated = price_in s g a.as_of (p ∷ ps) a in
-          (λ i. settled_account s g (reported (p ∷ ps)) (price_same (p ∷ ps) i).blocks (price_same (p ∷ ps) i).amount.0 (joined left a))
+          (λ i. settled_account s g (reported (p ∷ ps)) (price_same (p ∷ ps) i).blocks
+          (price_same (p ∷ ps) i).amount.0 (joined left a))
           ∙ settled_joined (reported (p ∷ ps)) x.blocks x.amount.0
 
-pub advanced_joined : (t : ℕ) (left : LeftRows) (a : AccountRows) → IsLeft left a → advanced t (joined left a) ≡ joined left (advanced t a)
+pub advanced_joined : (t : ℕ) (left : LeftRows) (a : AccountRows) → IsLeft left a →
+    advanced t (joined left a) ≡ joined left (advanced t a)
 advanced_joined t left a h = advanced_joined' left a h t
 
-pub settled_by_joined : (left : LeftRows) (a : AccountRows) (s : List ℕ) (g : ℕ) (used_parts : List UsedPart) → IsLeft left a → AreOfOtherCycles a.book a.as_of left.counters →
-    is_live_in a.book.validity a.as_of a.sessions s ≡ true → settled_by_rows s g used_parts (joined left a) ≡ joined left (settled_by_rows s g used_parts a)
-settled_by_joined left a s g used_parts h cycles alive = by_parts left a h s g (not_of_live left a a.as_of s g h alive) cycles used_parts
+pub settled_by_joined : (left : LeftRows) (a : AccountRows) (s : List ℕ) (g : ℕ)
+    (used_parts : List UsedPart) → IsLeft left a → AreOfOtherCycles a.book a.as_of left.counters →
+    is_live_in a.book.validity a.as_of a.sessions s ≡ true →
+    settled_by_rows s g used_parts (joined left a)
+    ≡ joined left (settled_by_rows s g used_parts a)
+settled_by_joined left a s g used_parts h cycles alive =
+    by_parts left a h s g (not_of_live left a a.as_of s g h alive) cycles used_parts
 
 -- the old theorem, at the whole account
-pub settled_with_left : (ledger : Ledger) (left : LeftRows) (a : AccountRows) (s : List ℕ) (g : ℕ) (used_parts : List UsedPart) → IsLeft left a → AreOfOtherCycles a.book a.as_of left.counters →
+pub settled_with_left : (ledger : Ledger) (left : LeftRows) (a : AccountRows) (s : List ℕ) (g : ℕ)
+    (used_parts : List UsedPart) → IsLeft left a → AreOfOtherCycles a.book a.as_of left.counters →
     is_live_in a.book.validity a.as_of a.sessions s ≡ true → IsRowsOf ledger (joined left a) →
-    IsRowsOf (settled_by a.book a.as_of s g used_parts ledger) (joined left (settled_by_rows s g used_parts a))
+    IsRowsOf (settled_by a.book a.as_of s g used_parts ledger)
+    (joined left (settled_by_rows s g used_parts a))
 settled_with_left ledger left a s g used_parts h cycles alive rows =
     let now : a.as_of ≤ a.as_of = omega arith in
-    let whole_live : is_live a.book.validity a.as_of ledger s ≡ true = sym (is_live_in-is ledger (joined left a) a.as_of s rows now) ∙ live left a h a.as_of s ∙ alive in
-    subst (IsRowsOf (settled_by a.book a.as_of s g used_parts ledger)) (settled_by_joined left a s g used_parts h cycles alive)
+    let whole_live : is_live a.book.validity a.as_of ledger s ≡ true =
+    sym (is_live_in-is ledger (joined left a) a.as_of s rows now) ∙ live left a h a.as_of s
+    ∙ alive in
+    subst (IsRowsOf (settled_by a.book a.as_of s g used_parts ledger))
+    (settled_by_joined left a s g used_parts h cycles alive)
     (IsRowsOf-settled_by ledger (joined left a) s g used_parts h.whole rows whole_live)

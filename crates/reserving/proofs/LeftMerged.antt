@@ -15,32 +15,48 @@ use Rattle.reserving.specs.Left.{placed, merged, IsDead}
 precedes_same : (f : Row → Row) → KeepsPlace f → (a b : Row) → precedes (f a) (f b) ≡ precedes a b
 precedes_same f k a b = rw (k.number a, k.until a, k.number b, k.until b) refl
 
-map_placed : (f : Row → Row) → KeepsPlace f → (b : Row) (xs : List Row) → map f (placed b xs) ≡ placed (f b) (map f xs)
+map_placed : (f : Row → Row) → KeepsPlace f → (b : Row) (xs : List Row) →
+    map f (placed b xs) ≡ placed (f b) (map f xs)
 map_placed f k b [] = refl
 map_placed f k b (x ∷ xs) =
-    elim (precedes b x) as (λ t. map f (if t then b ∷ x ∷ xs else x ∷ placed b xs) ≡ (if t then f b ∷ f x ∷ map f xs else f x ∷ placed (f b) (map f xs))) [ true ↦ refl | false ↦ ap (λ ys. f x ∷ ys) (map_placed f k b xs) ]
-    ∙ ap (λ t. if t then f b ∷ f x ∷ map f xs else f x ∷ placed (f b) (map f xs)) (sym (precedes_same f k b x))
+    elim (precedes b x) as
+    (λ t. map f (if t then b ∷ x ∷ xs else x ∷ placed b xs)
+    ≡ (if t then f b ∷ f x ∷ map f xs else f x ∷ placed (f b) (map f xs)))
+    [ true ↦ refl | false ↦ ap (λ ys. f x ∷ ys) (map_placed f k b xs) ]
+    ∙ ap (λ t. if t then f b ∷ f x ∷ map f xs else f x ∷ placed (f b) (map f xs))
+    (sym (precedes_same f k b x))
 
 -- what keeps places and leaves dead buckets as they are is done to the loaded ones alone
-pub map_merged : (f : Row → Row) → KeepsPlace f → (left rows : List Row) → Each (λ b. f b ≡ b) left → map f (merged left rows) ≡ merged left (map f rows)
+pub map_merged : (f : Row → Row) → KeepsPlace f → (left rows : List Row) →
+    Each (λ b. f b ≡ b) left → map f (merged left rows) ≡ merged left (map f rows)
 map_merged f k [] rows h = refl
-map_merged f k (b ∷ bs) rows h = map_placed f k b (merged bs rows) ∙ (λ i. placed (h.0 i) (map_merged f k bs rows h.1 i))
+map_merged f k (b ∷ bs) rows h =
+    map_placed f k b (merged bs rows) ∙ (λ i. placed (h.0 i) (map_merged f k bs rows h.1 i))
 
 -- ---- sums
 
 sum_placed : (f : Row → ℕ) (b : Row) (xs : List Row) → sum_by f (placed b xs) ≡ f b + sum_by f xs
 sum_placed f b [] = sum_by-cons f b []
-sum_placed f b (x ∷ xs) = elim (precedes b x) as (λ t. sum_by f (if t then b ∷ x ∷ xs else x ∷ placed b xs) ≡ f b + sum_by f (x ∷ xs)) [ true ↦ sum_by-cons f b (x ∷ xs) | false ↦ omega (arith, sum_by-cons f x (placed b xs), sum_placed f b xs, sum_by-cons f x xs) ]
+sum_placed f b (x ∷ xs) =
+    elim (precedes b x) as
+    (λ t. sum_by f (if t then b ∷ x ∷ xs else x ∷ placed b xs) ≡ f b + sum_by f (x ∷ xs)) [
+      | true ↦ sum_by-cons f b (x ∷ xs)
+      | false ↦ omega (arith, sum_by-cons f x (placed b xs), sum_placed f b xs, sum_by-cons f x xs)
+    ]
 
-pub sum_merged : (f : Row → ℕ) (left rows : List Row) → Each (λ b. f b ≡ 0) left → sum_by f (merged left rows) ≡ sum_by f rows
+pub sum_merged : (f : Row → ℕ) (left rows : List Row) → Each (λ b. f b ≡ 0) left →
+    sum_by f (merged left rows) ≡ sum_by f rows
 sum_merged f [] rows h = refl
-sum_merged f (b ∷ bs) rows h = omega (arith, sum_placed f b (merged bs rows), sum_merged f bs rows h.1, h.0)
+sum_merged f (b ∷ bs) rows h =
+    omega (arith, sum_placed f b (merged bs rows), sum_merged f bs rows h.1, h.0)
 
-pub each_map : (P Q : Row → Type 0) (xs : List Row) → ((b : Row) → P b → Q b) → Each P xs → Each Q xs
+pub each_map : (P Q : Row → Type 0) (xs : List Row) → ((b : Row) → P b → Q b) → Each P xs →
+    Each Q xs
 each_map P Q [] k h = tt
 each_map P Q (x ∷ xs) k h = (k x h.0, each_map P Q xs k h.1)
 
-pub each_both : (P Q R : Row → Type 0) (xs : List Row) → ((b : Row) → P b → Q b → R b) → Each P xs → Each Q xs → Each R xs
+pub each_both : (P Q R : Row → Type 0) (xs : List Row) → ((b : Row) → P b → Q b → R b) → Each P xs →
+    Each Q xs → Each R xs
 each_both P Q R [] k h g = tt
 each_both P Q R (x ∷ xs) k h g = (k x h.0 g.0, each_both P Q R xs k h.1 g.1)
 
@@ -49,19 +65,30 @@ if_zero true n e = e
 if_zero false n e = refl
 
 -- dead buckets stand before none, as far as money goes
-pub before_merged : (f : Row → ℕ) (left rows : List Row) (b : Row) → Each (λ x. f x ≡ 0) left → sum_before f b (merged left rows) ≡ sum_before f b rows
-before_merged f left rows b h = sum_merged (λ x. if precedes x b then f x else 0) left rows (each_map (λ x. f x ≡ 0) (λ x. (if precedes x b then f x else 0) ≡ 0) left (λ x e. if_zero (precedes x b) (f x) e) h)
+pub before_merged : (f : Row → ℕ) (left rows : List Row) (b : Row) → Each (λ x. f x ≡ 0) left →
+    sum_before f b (merged left rows) ≡ sum_before f b rows
+before_merged f left rows b h =
+    sum_merged (λ x. if precedes x b then f x else 0) left rows
+    (each_map (λ x. f x ≡ 0) (λ x. (if precedes x b then f x else 0) ≡ 0) left
+    (λ x e. if_zero (precedes x b) (f x) e) h)
 
-pub share_merged : (f : Row → ℕ) (left rows : List Row) (amount : ℕ) (b : Row) → Each (λ x. f x ≡ 0) left → share f (merged left rows) amount b ≡ share f rows amount b
-share_merged f left rows amount b h = ap (λ n. min (f b) (amount - n)) (before_merged f left rows b h)
+pub share_merged : (f : Row → ℕ) (left rows : List Row) (amount : ℕ) (b : Row) →
+    Each (λ x. f x ≡ 0) left → share f (merged left rows) amount b ≡ share f rows amount b
+share_merged f left rows amount b h =
+    ap (λ n. min (f b) (amount - n)) (before_merged f left rows b h)
 
 -- ---- dead buckets
 
-pub dead_amount : (group at : ℕ) (left : List Row) → Each IsDead left → Each (λ b. eligible_amount group at b ≡ 0) left
-dead_amount group at left h = each_map IsDead (λ b. eligible_amount group at b ≡ 0) left (λ b d. if_zero (is_eligible group at b) b.available d.available) h
+pub dead_amount : (group at : ℕ) (left : List Row) → Each IsDead left →
+    Each (λ b. eligible_amount group at b ≡ 0) left
+dead_amount group at left h =
+    each_map IsDead (λ b. eligible_amount group at b ≡ 0) left
+    (λ b d. if_zero (is_eligible group at b) b.available d.available) h
 
-pub funds_merged : (group at : ℕ) (left rows : List Row) → Each IsDead left → funds group at (merged left rows) ≡ funds group at rows
-funds_merged group at left rows h = sum_merged (eligible_amount group at) left rows (dead_amount group at left h)
+pub funds_merged : (group at : ℕ) (left rows : List Row) → Each IsDead left →
+    funds group at (merged left rows) ≡ funds group at rows
+funds_merged group at left rows h =
+    sum_merged (eligible_amount group at) left rows (dead_amount group at left h)
 
 pub release_none : (at : ℕ) (b : Row) (n : ℕ) → n ≡ 0 → with_release at b n ≡ b
 release_none at b n e = ap (with_release at b) e ∙ by_end (nat_lt at b.until)
@@ -75,7 +102,9 @@ release_none at b n e = ap (with_release at b) e ∙ by_end (nat_lt at b.until)
     x : b.expired + 0 ≡ b.expired
     x = omega arith
 
-    by_end : (t : Bool) → (if t then record b { reserved = b.reserved - 0; available = b.available + 0 } else record b { reserved = b.reserved - 0; expired = b.expired + 0 }) ≡ b
+    by_end : (t : Bool) →
+        (if t then record b { reserved = b.reserved - 0; available = b.available + 0 }
+        else record b { reserved = b.reserved - 0; expired = b.expired + 0 }) ≡ b
     by_end true = λ i. record b { reserved = r i; available = a i }
     by_end false = λ i. record b { reserved = r i; expired = x i }
 
@@ -85,25 +114,39 @@ end_dead at b d = by_end (nat_lt at b.until)
     x : b.expired + b.available ≡ b.expired
     x = omega (arith, d.available)
 
-    by_end : (t : Bool) → (if t then b else record b { available = 0; expired = b.expired + b.available }) ≡ b
+    by_end : (t : Bool) →
+        (if t then b else record b { available = 0; expired = b.expired + b.available }) ≡ b
     by_end true = refl
     by_end false = λ i. record b { available = sym d.available i; expired = x i }
 
-settled_keeps : (holds : List Hold) (group at amount : ℕ) (rows : List Row) → KeepsPlace (settled_row holds group at amount rows)
+settled_keeps : (holds : List Hold) (group at amount : ℕ) (rows : List Row) →
+    KeepsPlace (settled_row holds group at amount rows)
 settled_keeps holds group at amount rows = record {
-  number = λ b. with_release_number at (with_charge (with_charge_of_hold b (paid_of_hold holds amount rows b)) (paid_of_rest holds group at amount rows b)) (held_in holds b - paid_of_hold holds amount rows b);
-  until = λ b. with_release_until at (with_charge (with_charge_of_hold b (paid_of_hold holds amount rows b)) (paid_of_rest holds group at amount rows b)) (held_in holds b - paid_of_hold holds amount rows b);
+  number = λ b. with_release_number at
+      (with_charge (with_charge_of_hold b (paid_of_hold holds amount rows b))
+      (paid_of_rest holds group at amount rows b))
+      (held_in holds b - paid_of_hold holds amount rows b);
+  until = λ b. with_release_until at
+      (with_charge (with_charge_of_hold b (paid_of_hold holds amount rows b))
+      (paid_of_rest holds group at amount rows b))
+      (held_in holds b - paid_of_hold holds amount rows b);
 }
 
 -- ---- what calls do to buckets
 
-settled_row_merged : (holds : List Hold) (group at amount : ℕ) (left rows : List Row) → Each IsDead left → Each (λ b. held_in holds b ≡ 0) left → (b : Row) →
-    settled_row holds group at amount (merged left rows) b ≡ settled_row holds group at amount rows b
+settled_row_merged : (holds : List Hold) (group at amount : ℕ) (left rows : List Row) →
+    Each IsDead left → Each (λ b. held_in holds b ≡ 0) left → (b : Row) →
+    settled_row holds group at amount (merged left rows) b
+    ≡ settled_row holds group at amount rows b
 settled_row_merged holds group at amount left rows dead none b =
-    let p : paid_of_hold holds amount (merged left rows) b ≡ paid_of_hold holds amount rows b = share_merged (held_in holds) left rows amount b none in
-    let sum : held_sum holds (merged left rows) ≡ held_sum holds rows = sum_merged (held_in holds) left rows none in
-    let q : paid_of_rest holds group at amount (merged left rows) b ≡ paid_of_rest holds group at amount rows b =
-    share_merged (eligible_amount group at) left rows (amount - held_sum holds (merged left rows)) b (dead_amount group at left dead)
+    let p : paid_of_hold holds amount (merged left rows) b ≡ paid_of_hold holds amount rows b =
+    share_merged (held_in holds) left rows amount b none in
+    let sum : held_sum holds (merged left rows) ≡ held_sum holds rows =
+    sum_merged (held_in holds) left rows none in
+    let q : paid_of_rest holds group at amount (merged left rows) b
+    ≡ paid_of_rest holds group at amount rows b =
+    share_merged (eligible_amount group at) left rows (amount - held_sum holds (merged left rows)) b
+    (dead_amount group at left dead)
     ∙ ap (λ n. share (eligible_amount group at) rows (amount - n) b) sum in
     λ i. with_release at (with_charge (with_charge_of_hold b (p i)) (q i)) (held_in holds b - p i)
 
@@ -111,10 +154,13 @@ min_none : (m n : ℕ) → m ≡ 0 → min m n ≡ 0
 min_none m n e = omega (arith, e)
 
 -- a dead bucket pays nothing
-pub settled_dead : (holds : List Hold) (group at amount : ℕ) (rows : List Row) (b : Row) → IsDead b → held_in holds b ≡ 0 → settled_row holds group at amount rows b ≡ b
+pub settled_dead : (holds : List Hold) (group at amount : ℕ) (rows : List Row) (b : Row) →
+    IsDead b → held_in holds b ≡ 0 → settled_row holds group at amount rows b ≡ b
 settled_dead holds group at amount rows b dead none =
     let p : paid_of_hold holds amount rows b ≡ 0 = min_none (held_in holds b) _ none in
-    let q : paid_of_rest holds group at amount rows b ≡ 0 = min_none (eligible_amount group at b) _ (if_zero (is_eligible group at b) b.available dead.available) in
+    let q : paid_of_rest holds group at amount rows b ≡ 0 =
+    min_none (eligible_amount group at b) _
+    (if_zero (is_eligible group at b) b.available dead.available) in
     let rest : held_in holds b - paid_of_hold holds amount rows b ≡ 0 = omega (arith, none) in
     let r0 : b.reserved - 0 ≡ b.reserved = omega arith in
     let a0 : b.available - 0 ≡ b.available = omega arith in
@@ -123,18 +169,25 @@ settled_dead holds group at amount rows b dead none =
     ∙ release_none at (with_charge (with_charge_of_hold b 0) 0) 0 refl
     ∙ (λ i. record b { reserved = r0 i; available = a0 i; charged = c0 i })
 
-pub settled_merged : (holds : List Hold) (group at amount : ℕ) (left rows : List Row) → Each IsDead left → Each (λ b. held_in holds b ≡ 0) left →
-    settled_rows holds group at amount (merged left rows) ≡ merged left (settled_rows holds group at amount rows)
+pub settled_merged : (holds : List Hold) (group at amount : ℕ) (left rows : List Row) →
+    Each IsDead left → Each (λ b. held_in holds b ≡ 0) left →
+    settled_rows holds group at amount (merged left rows)
+    ≡ merged left (settled_rows holds group at amount rows)
 settled_merged holds group at amount left rows dead none =
-    (λ i. map (λ b. settled_row_merged holds group at amount left rows dead none b i) (merged left rows))
-    ∙ map_merged (settled_row holds group at amount rows) (settled_keeps holds group at amount rows) left rows
-    (each_both IsDead (λ b. held_in holds b ≡ 0) (λ b. settled_row holds group at amount rows b ≡ b) left (λ b d n. settled_dead holds group at amount rows b d n) dead none)
+    (λ i. map (λ b. settled_row_merged holds group at amount left rows dead none b i)
+    (merged left rows))
+    ∙ map_merged (settled_row holds group at amount rows) (settled_keeps holds group at amount rows)
+    left rows
+    (each_both IsDead (λ b. held_in holds b ≡ 0) (λ b. settled_row holds group at amount rows b ≡ b)
+    left (λ b d n. settled_dead holds group at amount rows b d n) dead none)
 
-pub released_merged : (holds : List Hold) (at : ℕ) (left rows : List Row) → Each (λ b. held_in holds b ≡ 0) left →
+pub released_merged : (holds : List Hold) (at : ℕ) (left rows : List Row) →
+    Each (λ b. held_in holds b ≡ 0) left →
     released_rows holds at (merged left rows) ≡ merged left (released_rows holds at rows)
 released_merged holds at left rows none =
     map_merged (λ b. with_release at b (held_in holds b)) (released_keeps holds at) left rows
-    (each_map (λ b. held_in holds b ≡ 0) (λ b. with_release at b (held_in holds b) ≡ b) left (λ b e. release_none at b (held_in holds b) e) none)
+    (each_map (λ b. held_in holds b ≡ 0) (λ b. with_release at b (held_in holds b) ≡ b) left
+    (λ b e. release_none at b (held_in holds b) e) none)
 
 -- ---- what each bucket is
 
@@ -142,10 +195,12 @@ each_placed : (P : Row → Type 0) (b : Row) (xs : List Row) → Each P (placed 
 each_placed P b [] h = h
 each_placed P b (x ∷ xs) h = at (precedes b x) h (each_placed P b xs)
   where
-    at : (t : Bool) → Each P (if t then b ∷ x ∷ xs else x ∷ placed b xs) → (Each P (placed b xs) → P b × Each P xs) → P b × Each P (x ∷ xs)
+    at : (t : Bool) → Each P (if t then b ∷ x ∷ xs else x ∷ placed b xs) →
+        (Each P (placed b xs) → P b × Each P xs) → P b × Each P (x ∷ xs)
     at true k rest = k
     at false k rest = let r : P b × Each P xs = rest k.1 in (r.0, (k.0, r.1))
 
 pub each_left : (P : Row → Type 0) (left rows : List Row) → Each P (merged left rows) → Each P left
 each_left P [] rows h = tt
-each_left P (b ∷ bs) rows h = let r : P b × Each P (merged bs rows) = each_placed P b (merged bs rows) h in (r.0, each_left P bs rows r.1)
+each_left P (b ∷ bs) rows h = let r : P b × Each P (merged bs rows) =
+    each_placed P b (merged bs rows) h in (r.0, each_left P bs rows r.1)

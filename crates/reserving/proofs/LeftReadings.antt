@@ -31,80 +31,143 @@ use Rattle.reserving.proofs.LeftFrames.{live, not_of_live, row_same, count_besid
 
 -- ---- funds
 
-pub funds_joined : (left : LeftRows) (a : AccountRows) (g t : ℕ) → IsLeft left a → funds g t (advanced t (joined left a)).buckets ≡ funds g t (advanced t a).buckets
-funds_joined left a g t h = ap (λ (x : AccountRows). funds g t x.buckets) (advanced_joined t left a h) ∙ funds_merged g t left.buckets (advanced t a).buckets h.dead
+pub funds_joined : (left : LeftRows) (a : AccountRows) (g t : ℕ) → IsLeft left a →
+    funds g t (advanced t (joined left a)).buckets ≡ funds g t (advanced t a).buckets
+funds_joined left a g t h =
+    ap (λ (x : AccountRows). funds g t x.buckets) (advanced_joined t left a h)
+    ∙ funds_merged g t left.buckets (advanced t a).buckets h.dead
 
-pub funds_told : (ledger : Ledger) (left : LeftRows) (t : ℕ) (a : AccountRows) (g : ℕ) → a.as_of ≤ t → IsWith ledger left t a → funds g t (advanced t a).buckets ≡ funds g t (buckets_at a.book.validity t ledger)
-funds_told ledger left t a g le h = sym (funds_joined left a g t h.apart) ∙ ap (funds g t) (IsRowsOf-advanced ledger (joined left a) t h.apart.whole h.rows le).buckets
+pub funds_told : (ledger : Ledger) (left : LeftRows) (t : ℕ) (a : AccountRows) (g : ℕ) →
+    a.as_of ≤ t → IsWith ledger left t a →
+    funds g t (advanced t a).buckets ≡ funds g t (buckets_at a.book.validity t ledger)
+funds_told ledger left t a g le h =
+    sym (funds_joined left a g t h.apart)
+    ∙ ap (funds g t) (IsRowsOf-advanced ledger (joined left a) t h.apart.whole h.rows le).buckets
 
 -- ---- whether a session is live
 
-pub live_told : (ledger : Ledger) (left : LeftRows) (t u : ℕ) (a : AccountRows) (s : List ℕ) → a.as_of ≤ u → IsWith ledger left t a → is_live_in a.book.validity u a.sessions s ≡ is_live a.book.validity u ledger s
-live_told ledger left t u a s le h = sym (live left a h.apart u s) ∙ is_live_in-is ledger (joined left a) u s h.rows le
+pub live_told : (ledger : Ledger) (left : LeftRows) (t u : ℕ) (a : AccountRows) (s : List ℕ) →
+    a.as_of ≤ u → IsWith ledger left t a →
+    is_live_in a.book.validity u a.sessions s ≡ is_live a.book.validity u ledger s
+live_told ledger left t u a s le h =
+    sym (live left a h.apart u s) ∙ is_live_in-is ledger (joined left a) u s h.rows le
 
 -- ---- an event
 
-pub event_price_joined : (left : LeftRows) (a : AccountRows) (g units t : ℕ) → AreOfOtherCycles a.book t left.counters → event_price_in g units t (joined left a) ≡ event_price_in g units t a
-event_price_joined left a g units t cycles = λ i. price_of a.book t g None 0 (count_beside a.book t g left.counters a.counters cycles i) (untagged units)
+pub event_price_joined : (left : LeftRows) (a : AccountRows) (g units t : ℕ) →
+    AreOfOtherCycles a.book t left.counters →
+    event_price_in g units t (joined left a) ≡ event_price_in g units t a
+event_price_joined left a g units t cycles =
+    λ i. price_of a.book t g None 0 (count_beside a.book t g left.counters a.counters cycles i)
+    (untagged units)
 
-pub event_price_told : (ledger : Ledger) (left : LeftRows) (t : ℕ) (a : AccountRows) (g units : ℕ) → IsWith ledger left t a → event_price_in g units t a ≡ event_price a.book t g units ledger
-event_price_told ledger left t a g units h = sym (event_price_joined left a g units t h.cycles) ∙ event_price_is ledger (joined left a) g units t h.rows
+pub event_price_told : (ledger : Ledger) (left : LeftRows) (t : ℕ) (a : AccountRows) (g units : ℕ) →
+    IsWith ledger left t a → event_price_in g units t a ≡ event_price a.book t g units ledger
+event_price_told ledger left t a g units h =
+    sym (event_price_joined left a g units t h.cycles)
+    ∙ event_price_is ledger (joined left a) g units t h.rows
 
-pub used_joined : (left : LeftRows) (a : AccountRows) (s : List ℕ) (g : ℕ) → IsLeft left a → EachIn (λ r. is_of s g r ≡ false) left.groups → used_in s g (joined left a).groups ≡ used_in s g a.groups
+pub used_joined : (left : LeftRows) (a : AccountRows) (s : List ℕ) (g : ℕ) → IsLeft left a →
+    EachIn (λ r. is_of s g r ≡ false) left.groups →
+    used_in s g (joined left a).groups ≡ used_in s g a.groups
 used_joined left a s g h not_of = ap (λ (r : SessionGroup). r.used) (row_same left a h s g not_of)
 
-pub debit_passes_told : (ledger : Ledger) (left : LeftRows) (t : ℕ) (a : AccountRows) (s : List ℕ) (g units : ℕ) → EachIn (λ r. is_of s g r ≡ false) left.groups → IsWith ledger left t a →
-    debit_passes a.book t s g units ledger ≡ passes (used_in s g a.groups) units (count_in g (cycle_at a.book g t) a.counters) (event_price_in g units t a).blocks a.next_charge
+pub debit_passes_told : (ledger : Ledger) (left : LeftRows) (t : ℕ) (a : AccountRows) (s : List ℕ)
+    (g units : ℕ) → EachIn (λ r. is_of s g r ≡ false) left.groups → IsWith ledger left t a →
+    debit_passes a.book t s g units ledger
+    ≡ passes (used_in s g a.groups) units (count_in g (cycle_at a.book g t) a.counters)
+    (event_price_in g units t a).blocks a.next_charge
 debit_passes_told ledger left t a s g units not_of h =
     debit_passes_is ledger (joined left a) s g units t h.rows
-    ∙ (λ i. passes (used_joined left a s g h.apart not_of i) units (count_beside a.book t g left.counters a.counters h.cycles i) (event_price_joined left a g units t h.cycles i).blocks a.next_charge)
+    ∙ (λ i. passes (used_joined left a s g h.apart not_of i) units
+    (count_beside a.book t g left.counters a.counters h.cycles i)
+    (event_price_joined left a g units t h.cycles i).blocks a.next_charge)
 
 -- ---- a report
 
-pub price_joined : (left : LeftRows) (a : AccountRows) (s : List ℕ) (g t : ℕ) (used_parts : List UsedPart) → IsLeft left a → AreOfOtherCycles a.book t left.counters → EachIn (λ r. is_of s g r ≡ false) left.groups →
+pub price_joined : (left : LeftRows) (a : AccountRows) (s : List ℕ) (g t : ℕ)
+    (used_parts : List UsedPart) → IsLeft left a → AreOfOtherCycles a.book t left.counters →
+    EachIn (λ r. is_of s g r ≡ false) left.groups →
     price_in s g t used_parts (joined left a) ≡ price_in s g t used_parts a
 price_joined left a s g t used_parts h cycles not_of =
-    λ i. price_of a.book t g (option_map (λ (r : Reservation). r.periods) (row_same left a h s g not_of i).reservation) (row_same left a h s g not_of i).used (count_beside a.book t g left.counters a.counters cycles i) used_parts
+    λ i. price_of a.book t g
+    (option_map (λ (r : Reservation). r.periods) (row_same left a h s g not_of i).reservation)
+    (row_same left a h s g not_of i).used
+    (count_beside a.book t g left.counters a.counters cycles i) used_parts
 
-pub passes_after_told : (charges : ℕ) (ledger : Ledger) (left : LeftRows) (t : ℕ) (a : AccountRows) (s : List ℕ) (g : ℕ) (used_parts : List UsedPart) → a.as_of ≤ t → IsWith ledger left t a → is_live_in a.book.validity t a.sessions s ≡ true → (used_parts ≡ [] → ⊥) →
-    passes_after charges a.book t s g used_parts ledger ≡ passes (used_in s g a.groups) (reported used_parts) (count_in g (cycle_at a.book g t) a.counters) (price_in s g t used_parts a).blocks (a.next_charge + charges)
+pub passes_after_told : (charges : ℕ) (ledger : Ledger) (left : LeftRows) (t : ℕ) (a : AccountRows)
+    (s : List ℕ) (g : ℕ) (used_parts : List UsedPart) → a.as_of ≤ t → IsWith ledger left t a →
+    is_live_in a.book.validity t a.sessions s ≡ true → (used_parts ≡ [] → ⊥) →
+    passes_after charges a.book t s g used_parts ledger
+    ≡ passes (used_in s g a.groups) (reported used_parts)
+    (count_in g (cycle_at a.book g t) a.counters) (price_in s g t used_parts a).blocks
+    (a.next_charge + charges)
 passes_after_told charges ledger left t a s g used_parts le h alive some =
-    let not_of : EachIn (λ r. is_of s g r ≡ false) left.groups = not_of_live left a t s g h.apart alive in
-    passes_after_is charges ledger (joined left a) s g t used_parts h.apart.whole h.rows le (live left a h.apart t s ∙ alive) some
-    ∙ (λ i. passes (used_joined left a s g h.apart not_of i) (reported used_parts) (count_beside a.book t g left.counters a.counters h.cycles i) (price_joined left a s g t used_parts h.apart h.cycles not_of i).blocks (a.next_charge + charges))
+    let not_of : EachIn (λ r. is_of s g r ≡ false) left.groups =
+    not_of_live left a t s g h.apart alive in
+    passes_after_is charges ledger (joined left a) s g t used_parts h.apart.whole h.rows le
+    (live left a h.apart t s ∙ alive) some
+    ∙ (λ i. passes (used_joined left a s g h.apart not_of i) (reported used_parts)
+    (count_beside a.book t g left.counters a.counters h.cycles i)
+    (price_joined left a s g t used_parts h.apart h.cycles not_of i).blocks
+    (a.next_charge + charges))
 
-pub passes_told : (ledger : Ledger) (left : LeftRows) (t : ℕ) (a : AccountRows) (s : List ℕ) (g : ℕ) (used_parts : List UsedPart) → a.as_of ≤ t → IsWith ledger left t a → is_live_in a.book.validity t a.sessions s ≡ true → (used_parts ≡ [] → ⊥) →
-    passes_limit a.book t s g used_parts ledger ≡ passes (used_in s g a.groups) (reported used_parts) (count_in g (cycle_at a.book g t) a.counters) (price_in s g t used_parts a).blocks a.next_charge
+pub passes_told : (ledger : Ledger) (left : LeftRows) (t : ℕ) (a : AccountRows) (s : List ℕ) (g : ℕ)
+    (used_parts : List UsedPart) → a.as_of ≤ t → IsWith ledger left t a →
+    is_live_in a.book.validity t a.sessions s ≡ true → (used_parts ≡ [] → ⊥) →
+    passes_limit a.book t s g used_parts ledger
+    ≡ passes (used_in s g a.groups) (reported used_parts)
+    (count_in g (cycle_at a.book g t) a.counters) (price_in s g t used_parts a).blocks
+    a.next_charge
 passes_told ledger left t a s g used_parts le h alive some =
     let next : a.next_charge + 0 ≡ a.next_charge = omega arith in
     sym (passes_after-none a.book t s g used_parts ledger)
     ∙ passes_after_told 0 ledger left t a s g used_parts le h alive some
-    ∙ ap (passes (used_in s g a.groups) (reported used_parts) (count_in g (cycle_at a.book g t) a.counters) (price_in s g t used_parts a).blocks) next
+    ∙ ap (passes (used_in s g a.groups) (reported used_parts)
+    (count_in g (cycle_at a.book g t) a.counters) (price_in s g t used_parts a).blocks) next
 
 -- what is collected of an amount doesn't know of dead buckets
-pub uncollected_merged : (holds : List Hold) (g t amount : ℕ) (left rows : List Row) → Each IsDead left → Each (λ b. held_in holds b ≡ 0) left → uncollected holds g t amount (merged left rows) ≡ uncollected holds g t amount rows
+pub uncollected_merged : (holds : List Hold) (g t amount : ℕ) (left rows : List Row) →
+    Each IsDead left → Each (λ b. held_in holds b ≡ 0) left →
+    uncollected holds g t amount (merged left rows) ≡ uncollected holds g t amount rows
 uncollected_merged holds g t amount left rows dead none =
     λ i. amount - sum_merged (held_in holds) left rows none i - funds_merged g t left rows dead i
 
 -- ---- a quota
 
-pub quota_joined : (left : LeftRows) (a : AccountRows) (used used' g t : ℕ) (requested : Option ℕ) (units : ℕ) (grant : Grant) → IsLeft left a → AreOfOtherCycles a.book t left.counters → used' ≡ used →
-    IsQuota a.book used g requested (periods_at a.book t) (count_in g (cycle_at a.book g t) a.counters) (funds g t (advanced t a).buckets) units grant →
-    IsQuota a.book used' g requested (periods_at a.book t) (count_in g (cycle_at a.book g t) (joined left a).counters) (funds g t (advanced t (joined left a)).buckets) units grant
+pub quota_joined : (left : LeftRows) (a : AccountRows) (used used' g t : ℕ) (requested : Option ℕ)
+    (units : ℕ) (grant : Grant) → IsLeft left a → AreOfOtherCycles a.book t left.counters →
+    used' ≡ used →
+    IsQuota a.book used g requested (periods_at a.book t)
+    (count_in g (cycle_at a.book g t) a.counters) (funds g t (advanced t a).buckets) units grant
+    →
+    IsQuota a.book used' g requested (periods_at a.book t)
+    (count_in g (cycle_at a.book g t) (joined left a).counters)
+    (funds g t (advanced t (joined left a)).buckets) units grant
 quota_joined left a used used' g t requested units grant h cycles e q =
     let p : Periods = periods_at a.book t in
     let c : ℕ = cycle_at a.book g t in
-    subst (λ n. IsQuota a.book n g requested p (count_in g c (joined left a).counters) (funds g t (advanced t (joined left a)).buckets) units grant) (sym e)
-    (subst (λ n. IsQuota a.book used g requested p n (funds g t (advanced t (joined left a)).buckets) units grant) (sym (count_beside a.book t g left.counters a.counters cycles))
-    (subst (λ n. IsQuota a.book used g requested p (count_in g c a.counters) n units grant) (sym (funds_joined left a g t h)) q))
+    subst (λ n. IsQuota a.book n g requested p (count_in g c (joined left a).counters)
+    (funds g t (advanced t (joined left a)).buckets) units grant) (sym e)
+    (subst (λ n. IsQuota a.book used g requested p n
+    (funds g t (advanced t (joined left a)).buckets) units grant)
+    (sym (count_beside a.book t g left.counters a.counters cycles))
+    (subst (λ n. IsQuota a.book used g requested p (count_in g c a.counters) n units grant)
+    (sym (funds_joined left a g t h)) q))
 
-pub new_told_beside : (ledger : Ledger) (left : LeftRows) (t : ℕ) (a : AccountRows) (g : ℕ) (requested : Option ℕ) (units : ℕ) (grant : Grant) → a.as_of ≤ t → IsWith ledger left t a →
-    IsQuota a.book 0 g requested (periods_at a.book t) (count_in g (cycle_at a.book g t) a.counters) (funds g t (advanced t a).buckets) units grant →
+pub new_told_beside : (ledger : Ledger) (left : LeftRows) (t : ℕ) (a : AccountRows) (g : ℕ)
+    (requested : Option ℕ) (units : ℕ) (grant : Grant) → a.as_of ≤ t → IsWith ledger left t a →
+    IsQuota a.book 0 g requested (periods_at a.book t) (count_in g (cycle_at a.book g t) a.counters)
+    (funds g t (advanced t a).buckets) units grant →
     grant ≡ grant_for a.book t g 0 requested ledger
 new_told_beside ledger left t a g requested units grant le h q =
-    new_told ledger (joined left a) g t requested units grant h.apart.whole h.rows le (quota_joined left a 0 0 g t requested units grant h.apart h.cycles refl q)
+    new_told ledger (joined left a) g t requested units grant h.apart.whole h.rows le
+    (quota_joined left a 0 0 g t requested units grant h.apart h.cycles refl q)
 
-pub quota_of_joined : (left : LeftRows) (a : AccountRows) (s : List ℕ) (g t : ℕ) (requested : Option ℕ) (units : ℕ) (grant : Grant) → IsLeft left a → AreOfOtherCycles a.book t left.counters → EachIn (λ r. is_of s g r ≡ false) left.groups →
+pub quota_of_joined : (left : LeftRows) (a : AccountRows) (s : List ℕ) (g t : ℕ)
+    (requested : Option ℕ) (units : ℕ) (grant : Grant) → IsLeft left a →
+    AreOfOtherCycles a.book t left.counters → EachIn (λ r. is_of s g r ≡ false) left.groups →
     QuotaOf a s g t requested units grant → QuotaOf (joined left a) s g t requested units grant
 quota_of_joined left a s g t requested units grant h cycles not_of q =
-    quota_joined left a (used_in s g a.groups) (used_in s g (joined left a).groups) g t requested units grant h cycles (used_joined left a s g h not_of) q
+    quota_joined left a (used_in s g a.groups) (used_in s g (joined left a).groups) g t requested
+    units grant h cycles (used_joined left a s g h not_of) q

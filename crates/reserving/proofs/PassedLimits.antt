@@ -1,4 +1,5 @@
--- The limits of a report's stored numbers, before and after the settlement of another group of its session.
+-- The limits of a report's stored numbers, before and after the settlement of another group of its
+-- session.
 use Rattle.std.proofs.Common.{◌≡◌, ℕ, ◌+◌, Bool, true, false, List, [], ◌∷◌, refl, ap, ◌∙◌, arith, Some, None}
 use Rattle.std.specs.Prelude.{if◌then◌else◌, ◌==◌, ◌&&◌, nat_lt}
 use Rattle.std.proofs.Math.Bool.{and-false}
@@ -21,57 +22,86 @@ none_counted : (t u : Bool) (n : ℕ) → u ≡ false → (if t then (if u then 
 none_counted true u n e = rw e refl
 none_counted false u n e = refl
 
-next_settled : (v t : ℕ) (s : List ℕ) (g units blocks rated : ℕ) (ledger : Ledger) → next_charge (settled v t s g units blocks rated ledger) ≡ next_charge ledger + 1
+next_settled : (v t : ℕ) (s : List ℕ) (g units blocks rated : ℕ) (ledger : Ledger) →
+    next_charge (settled v t s g units blocks rated ledger) ≡ next_charge ledger + 1
 next_settled v t s g units blocks rated ledger =
-    omega (arith, total-front (λ d. uses_in d.fact) (charge_facts t (parts_paid v t s g rated ledger)) ledger (each_charge _ t (parts_paid v t s g rated ledger) (λ b n. refl)))
+    omega (
+      arith,
+      total-front (λ d. uses_in d.fact) (charge_facts t (parts_paid v t s g rated ledger)) ledger
+          (each_charge _ t (parts_paid v t s g rated ledger) (λ b n. refl)),
+    )
 
 -- what the settlement of another group leaves of all that limits a report
-record IsBefore (b : Book) (t : ℕ) (s : List ℕ) (g charges : ℕ) (ledger after : Ledger) : Type 0 where
-  pub used : used s g after ≡ used s g ledger
-  pub count : counter (cycle_at b g) g (cycle_at b g t) after ≡ counter (cycle_at b g) g (cycle_at b g t) ledger
-  pub grant : open_grant s g after ≡ open_grant s g ledger
-  pub next : next_charge after ≡ next_charge ledger + charges
+record IsBefore (b : Book) (t : ℕ) (s : List ℕ) (g charges : ℕ) (ledger after : Ledger) : Type 0
+  where
+    pub used : used s g after ≡ used s g ledger
+    pub count : counter (cycle_at b g) g (cycle_at b g t) after
+        ≡ counter (cycle_at b g) g (cycle_at b g t) ledger
+    pub grant : open_grant s g after ≡ open_grant s g ledger
+    pub next : next_charge after ≡ next_charge ledger + charges
 
-before_other : (b : Book) (t : ℕ) (s : List ℕ) (g h : ℕ) (parts : List UsedPart) (ledger : Ledger) → (h == g) ≡ false → IsBefore b t s g (charge_count parts) ledger (settled_by b t s h parts ledger)
+before_other : (b : Book) (t : ℕ) (s : List ℕ) (g h : ℕ) (parts : List UsedPart) (ledger : Ledger) →
+    (h == g) ≡ false →
+    IsBefore b t s g (charge_count parts) ledger (settled_by b t s h parts ledger)
 before_other b t s g h [] ledger e =
     let key : is_key s h s g ≡ false = other_key s h g e in
     record {
       used = omega arith;
       count = omega (arith, if_none (cycle_at b g t == cycle_at b g t));
-      grant = λ i. inner (or_else (if key i then Some None else None) (newest (grant_in s g) ledger));
+      grant = λ i. inner
+          (or_else (if key i then Some None else None) (newest (grant_in s g) ledger));
       next = omega arith;
     }
 before_other b t s g h (p ∷ ps) ledger e =
     let key : is_key s h s g ≡ false = other_key s h g e in
     let price : Rated = report_price b t s h (p ∷ ps) ledger in
-    let same = other_settled b.validity t s h (reported (p ∷ ps)) price.blocks price.amount.0 ledger s g key in
+    let same =
+    other_settled b.validity t s h (reported (p ∷ ps)) price.blocks price.amount.0 ledger s g
+    key in
     let cycle : ℕ = cycle_at b g t in
     record {
       used = same.used;
-      count = omega (arith, counter-settled (cycle_at b g) g cycle b.validity t s h (reported (p ∷ ps)) price.blocks price.amount.0 ledger, none_counted (cycle == cycle) (h == g) price.blocks e);
+      count = omega (
+        arith,
+        counter-settled (cycle_at b g) g cycle b.validity t s h (reported (p ∷ ps))
+            price.blocks price.amount.0 ledger,
+        none_counted (cycle == cycle) (h == g) price.blocks e,
+      );
       grant = same.grant;
       next = next_settled b.validity t s h (reported (p ∷ ps)) price.blocks price.amount.0 ledger;
     }
 
 -- so it passes a limit after the settlement where it did before, behind the settlement's charge
-pub passes_after-other : (charges : ℕ) (b : Book) (t : ℕ) (s : List ℕ) (g : ℕ) (parts : List UsedPart) (h : ℕ) (others : List UsedPart) (ledger : Ledger) → (h == g) ≡ false →
-    passes_after charges b t s g parts (settled_by b t s h others ledger) ≡ passes_after (charge_count others + charges) b t s g parts ledger
+pub passes_after-other : (charges : ℕ) (b : Book) (t : ℕ) (s : List ℕ) (g : ℕ)
+    (parts : List UsedPart) (h : ℕ) (others : List UsedPart) (ledger : Ledger) → (h == g) ≡ false →
+    passes_after charges b t s g parts (settled_by b t s h others ledger)
+    ≡ passes_after (charge_count others + charges) b t s g parts ledger
 passes_after-other charges b t s g [] h others ledger e = refl
 passes_after-other charges b t s g (p ∷ ps) h others ledger e =
-    let k : IsBefore b t s g (charge_count others) ledger (settled_by b t s h others ledger) = before_other b t s g h others ledger e in
-    let next : next_charge (settled_by b t s h others ledger) + charges ≡ next_charge ledger + (charge_count others + charges) = omega (arith, k.next) in
-    λ i. passes (k.used i) (reported (p ∷ ps)) (k.count i) (price_of b t g (k.grant i) (k.used i) (k.count i) (p ∷ ps)).blocks (next i)
+    let k : IsBefore b t s g (charge_count others) ledger (settled_by b t s h others ledger) =
+    before_other b t s g h others ledger e in
+    let next : next_charge (settled_by b t s h others ledger) + charges
+    ≡ next_charge ledger + (charge_count others + charges) = omega (arith, k.next) in
+    λ i. passes (k.used i) (reported (p ∷ ps)) (k.count i)
+    (price_of b t g (k.grant i) (k.used i) (k.count i) (p ∷ ps)).blocks (next i)
 
-pub passes_after-none : (b : Book) (t : ℕ) (s : List ℕ) (g : ℕ) (parts : List UsedPart) (ledger : Ledger) → passes_after 0 b t s g parts ledger ≡ passes_limit b t s g parts ledger
+pub passes_after-none : (b : Book) (t : ℕ) (s : List ℕ) (g : ℕ) (parts : List UsedPart)
+    (ledger : Ledger) → passes_after 0 b t s g parts ledger ≡ passes_limit b t s g parts ledger
 passes_after-none b t s g [] ledger = refl
 passes_after-none b t s g (p ∷ ps) ledger =
     let next : next_charge ledger + 0 ≡ next_charge ledger = omega arith in
-    λ i. passes (used s g ledger) (reported (p ∷ ps)) (counter (cycle_at b g) g (cycle_at b g t) ledger) (report_price b t s g (p ∷ ps) ledger).blocks (next i)
+    λ i. passes (used s g ledger) (reported (p ∷ ps))
+    (counter (cycle_at b g) g (cycle_at b g t) ledger)
+    (report_price b t s g (p ∷ ps) ledger).blocks (next i)
 
 -- ---- the numbers of charges alone
 
-pub passes_later : (before units count blocks next charges : ℕ) → passes before units count blocks next ≡ true → passes before units count blocks (next + charges) ≡ true
+pub passes_later : (before units count blocks next charges : ℕ) →
+    passes before units count blocks next ≡ true →
+    passes before units count blocks (next + charges) ≡ true
 passes_later before units count blocks next charges h = grind (arith, nat_tests)
 
-pub passes_numbered : (before units count blocks next charges : ℕ) → passes before units count blocks next ≡ false → passes before units count blocks (next + charges) ≡ nat_lt 4294967295 (next + charges)
+pub passes_numbered : (before units count blocks next charges : ℕ) →
+    passes before units count blocks next ≡ false →
+    passes before units count blocks (next + charges) ≡ nat_lt 4294967295 (next + charges)
 passes_numbered before units count blocks next charges h = grind (arith, nat_tests)

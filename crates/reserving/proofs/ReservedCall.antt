@@ -30,74 +30,131 @@ use Rattle.reserving.proofs.SettledRows.{used_in_is, count_in_is}
 use Rattle.reserving.proofs.calls.RowParts.{or_new_later, group_later, put_later, key_kept, held_by-with_group}
 use Rattle.reserving.proofs.rows.Reserved.{IsRowsOf-reserved}
 
-pub reserved_parts : (a : AccountRows) (s : List ℕ) (g amount : ℕ) (periods : Periods) (holds : List Hold) (buckets : List Row) (groups : List SessionGroup) →
-    periods ≡ periods_at a.book a.as_of → buckets ≡ held_rows g a.as_of amount a.buckets → holds ≡ holds_of g a.as_of amount a.buckets → groups ≡ with_reservation s g periods holds a.groups →
-    (let x : AccountRows = record a { buckets = buckets; groups = groups } in x) ≡ reserved_account s g amount a
+pub reserved_parts : (a : AccountRows) (s : List ℕ) (g amount : ℕ) (periods : Periods)
+    (holds : List Hold) (buckets : List Row) (groups : List SessionGroup) →
+    periods ≡ periods_at a.book a.as_of → buckets ≡ held_rows g a.as_of amount a.buckets →
+    holds ≡ holds_of g a.as_of amount a.buckets →
+    groups ≡ with_reservation s g periods holds a.groups →
+    (let x : AccountRows = record a { buckets = buckets; groups = groups } in x)
+    ≡ reserved_account s g amount a
 reserved_parts a s g amount periods holds buckets groups p b h k =
-    let all : groups ≡ with_reservation s g (periods_at a.book a.as_of) (holds_of g a.as_of amount a.buckets) a.groups = k ∙ (λ i. with_reservation s g (p i) (h i) a.groups) in
+    let all : groups
+    ≡ with_reservation s g (periods_at a.book a.as_of) (holds_of g a.as_of amount a.buckets)
+    a.groups = k ∙ (λ i. with_reservation s g (p i) (h i) a.groups) in
     λ i. record a { buckets = b i; groups = all i }
 
 -- ---- rows without facts
 
-buckets_later : (a : AccountRows) (s : List ℕ) (g t : ℕ) → (advanced t (with_group_row s g a)).buckets ≡ (advanced t a).buckets
+buckets_later : (a : AccountRows) (s : List ℕ) (g t : ℕ) →
+    (advanced t (with_group_row s g a)).buckets ≡ (advanced t a).buckets
 buckets_later a s g t =
     let keeps : List ℕ → Bool = is_live_in a.book.validity t a.sessions in
-    let given : (y : Row) → lapsed_in keeps (with_group s g a.groups) y ≡ lapsed_in keeps a.groups y = λ y. held_by-with_group (λ z. not (keeps z)) s g a.groups y in
+    let given : (y : Row) →
+    lapsed_in keeps (with_group s g a.groups) y ≡ lapsed_in keeps a.groups y =
+    λ y. held_by-with_group (λ z. not (keeps z)) s g a.groups y in
     λ i. map (λ y. with_end t (with_release t y (given y i))) a.buckets
 
-pub reserved_later : (a : AccountRows) (s : List ℕ) (g t amount : ℕ) → reserved_account s g amount (advanced t (with_group_row s g a)) ≡ reserved_account s g amount (advanced t a)
+pub reserved_later : (a : AccountRows) (s : List ℕ) (g t amount : ℕ) →
+    reserved_account s g amount (advanced t (with_group_row s g a))
+    ≡ reserved_account s g amount (advanced t a)
 reserved_later a s g t amount =
     let keeps : List ℕ → Bool = is_live_in a.book.validity t a.sessions in
     let x : AccountRows = reserved_account s g amount (advanced t a) in
-    let same : (advanced t (with_group_row s g a)).buckets ≡ (advanced t a).buckets = buckets_later a s g t in
-    let row : group_or_new s g (map (lapse_group keeps) (with_group s g a.groups)) ≡ group_or_new s g (map (lapse_group keeps) a.groups) = or_new_later keeps s g a.groups in
+    let same : (advanced t (with_group_row s g a)).buckets ≡ (advanced t a).buckets =
+    buckets_later a s g t in
+    let row : group_or_new s g (map (lapse_group keeps) (with_group s g a.groups))
+    ≡ group_or_new s g (map (lapse_group keeps) a.groups) = or_new_later keeps s g a.groups in
     let p : Periods = periods_at a.book t in
-    let groups : with_reservation s g p (holds_of g t amount (advanced t (with_group_row s g a)).buckets) (map (lapse_group keeps) (with_group s g a.groups)) ≡ with_reservation s g p (holds_of g t amount (advanced t a).buckets) (map (lapse_group keeps) a.groups) =
-    (λ i. put (is_of s g) (record { session = s; group = g; used = (row i).used; reservation = Some (record { periods = p; holds = holds_of g t amount (same i) }) }) (map (lapse_group keeps) (with_group s g a.groups)))
-    ∙ put_later keeps s g (record { session = s; group = g; used = used_in s g (map (lapse_group keeps) a.groups); reservation = Some (record { periods = p; holds = holds_of g t amount (advanced t a).buckets }) }) a.groups in
+    let groups : with_reservation s g p
+    (holds_of g t amount (advanced t (with_group_row s g a)).buckets)
+    (map (lapse_group keeps) (with_group s g a.groups))
+    ≡ with_reservation s g p (holds_of g t amount (advanced t a).buckets)
+    (map (lapse_group keeps) a.groups) =
+    (λ i. put (is_of s g)
+    (record {
+      session = s;
+      group = g;
+      used = (row i).used;
+      reservation = Some (record { periods = p; holds = holds_of g t amount (same i) });
+    })
+    (map (lapse_group keeps) (with_group s g a.groups)))
+    ∙ put_later keeps s g
+    (record {
+      session = s;
+      group = g;
+      used = used_in s g (map (lapse_group keeps) a.groups);
+      reservation =
+          Some (record { periods = p; holds = holds_of g t amount (advanced t a).buckets });
+    })
+    a.groups in
     λ i. record x { buckets = held_rows g t amount (same i); groups = groups i }
 
-lapsed_free : (t : Bool) (r : SessionGroup) → r.reservation ≡ None → (if t then r else record r { reservation = None }).reservation ≡ None
+lapsed_free : (t : Bool) (r : SessionGroup) → r.reservation ≡ None →
+    (if t then r else record r { reservation = None }).reservation ≡ None
 lapsed_free true r h = h
 lapsed_free false r h = refl
 
-pub free_later : (keeps : List ℕ → Bool) (s : List ℕ) (g : ℕ) (rows : List SessionGroup) → reservation_in s g rows ≡ None → reservation_in s g (map (lapse_group keeps) rows) ≡ None
+pub free_later : (keeps : List ℕ → Bool) (s : List ℕ) (g : ℕ) (rows : List SessionGroup) →
+    reservation_in s g rows ≡ None → reservation_in s g (map (lapse_group keeps) rows) ≡ None
 free_later keeps s g rows h =
-    ap (λ o. (unwrap_or o (new_group s g)).reservation) (find-map (is_of s g) (lapse_group keeps) rows (key_kept keeps s g))
+    ap (λ o. (unwrap_or o (new_group s g)).reservation)
+    (find-map (is_of s g) (lapse_group keeps) rows (key_kept keeps s g))
     ∙ by_row (group_in s g rows) h
   where
-    by_row : (o : Option SessionGroup) → (unwrap_or o (new_group s g)).reservation ≡ None → (unwrap_or (option_map (lapse_group keeps) o) (new_group s g)).reservation ≡ None
+    by_row : (o : Option SessionGroup) → (unwrap_or o (new_group s g)).reservation ≡ None →
+        (unwrap_or (option_map (lapse_group keeps) o) (new_group s g)).reservation ≡ None
     by_row (Some x) e = lapsed_free (keeps x.session) x e
     by_row None e = refl
 
-pub group_there : (a middle : AccountRows) (s : List ℕ) (g t : ℕ) → middle ≡ advanced t (with_group_row s g a) → is_some (group_in s g middle.groups) ≡ true
-group_there a middle s g t m = ap (λ x. is_some (group_in s g x.groups)) m ∙ ap is_some (group_later (is_live_in a.book.validity t a.sessions) s g a.groups)
+pub group_there : (a middle : AccountRows) (s : List ℕ) (g t : ℕ) →
+    middle ≡ advanced t (with_group_row s g a) → is_some (group_in s g middle.groups) ≡ true
+group_there a middle s g t m =
+    ap (λ x. is_some (group_in s g x.groups)) m
+    ∙ ap is_some (group_later (is_live_in a.book.validity t a.sessions) s g a.groups)
 
-pub free_middle : (a middle : AccountRows) (s : List ℕ) (g t : ℕ) → reservation_in s g a.groups ≡ None → middle ≡ advanced t (with_group_row s g a) → reservation_in s g middle.groups ≡ None
+pub free_middle : (a middle : AccountRows) (s : List ℕ) (g t : ℕ) →
+    reservation_in s g a.groups ≡ None → middle ≡ advanced t (with_group_row s g a) →
+    reservation_in s g middle.groups ≡ None
 free_middle a middle s g t none m =
     let keeps : List ℕ → Bool = is_live_in a.book.validity t a.sessions in
-    ap (λ x. reservation_in s g x.groups) m ∙ ap (λ (r : SessionGroup). r.reservation) (or_new_later keeps s g a.groups) ∙ free_later keeps s g a.groups none
+    ap (λ x. reservation_in s g x.groups) m
+    ∙ ap (λ (r : SessionGroup). r.reservation) (or_new_later keeps s g a.groups)
+    ∙ free_later keeps s g a.groups none
 
-pub covered_middle : (a middle : AccountRows) (s : List ℕ) (g t amount : ℕ) → amount ≤ funds g t (advanced t a).buckets → middle ≡ advanced t (with_group_row s g a) → amount ≤ funds g middle.as_of middle.buckets
+pub covered_middle : (a middle : AccountRows) (s : List ℕ) (g t amount : ℕ) →
+    amount ≤ funds g t (advanced t a).buckets → middle ≡ advanced t (with_group_row s g a) →
+    amount ≤ funds g middle.as_of middle.buckets
 covered_middle a middle s g t amount le m =
-    subst (λ (x : AccountRows). amount ≤ funds g x.as_of x.buckets) (sym m) (subst (λ xs. amount ≤ funds g t xs) (sym (buckets_later a s g t)) le)
+    subst (λ (x : AccountRows). amount ≤ funds g x.as_of x.buckets) (sym m)
+    (subst (λ xs. amount ≤ funds g t xs) (sym (buckets_later a s g t)) le)
 
 -- ---- the ledger with the grant
 
-pub rows_granted : (ledger : Ledger) (a middle after : AccountRows) (s : List ℕ) (g t units amount : ℕ) →
-    IsAccount a → IsRowsOf ledger a → a.as_of ≤ t → is_live_in a.book.validity t a.sessions s ≡ true → reservation_in s g a.groups ≡ None →
+pub rows_granted : (ledger : Ledger) (a middle after : AccountRows) (s : List ℕ)
+    (g t units amount : ℕ) →
+    IsAccount a → IsRowsOf ledger a → a.as_of ≤ t →
+    is_live_in a.book.validity t a.sessions s ≡ true → reservation_in s g a.groups ≡ None →
     middle ≡ advanced t (with_group_row s g a) → after ≡ reserved_account s g amount middle →
     IsRowsOf (reserved a.book t s g units amount ledger) after
 rows_granted ledger a middle after s g t units amount account rows le live_in none m e =
-    let live : is_live a.book.validity t ledger s ≡ true = sym (is_live_in-is ledger a t s rows le) ∙ live_in in
+    let live : is_live a.book.validity t ledger s ≡ true =
+    sym (is_live_in-is ledger a t s rows le) ∙ live_in in
     let later : AccountRows = advanced t a in
-    subst (IsRowsOf (reserved a.book t s g units amount ledger)) (sym (e ∙ ap (reserved_account s g amount) m ∙ reserved_later a s g t amount))
-    (IsRowsOf-reserved ledger later s g units amount (IsAccount-advanced a t account) (IsRowsOf-advanced ledger a t account rows le) live (free_later (is_live_in a.book.validity t a.sessions) s g a.groups none))
+    subst (IsRowsOf (reserved a.book t s g units amount ledger))
+    (sym (e ∙ ap (reserved_account s g amount) m ∙ reserved_later a s g t amount))
+    (IsRowsOf-reserved ledger later s g units amount (IsAccount-advanced a t account)
+    (IsRowsOf-advanced ledger a t account rows le) live
+    (free_later (is_live_in a.book.validity t a.sessions) s g a.groups none))
 
 -- ---- the greatest grant, by the book's look-up
 
-pub quota_none : (b : Book) (before g : ℕ) (requested : Option ℕ) (periods : Periods) (place money units : ℕ) (grant : Grant) → None ≡ tariff_of b g → units ≡ 0 →
-    grant ≡ record { blocks = record { 0 = 0 }; units = record { 0 = 0 }; amount = record { 0 = 0 } } → IsQuota b before g requested periods place money units grant
+pub quota_none : (b : Book) (before g : ℕ) (requested : Option ℕ) (periods : Periods)
+    (place money units : ℕ) (grant : Grant) → None ≡ tariff_of b g → units ≡ 0 →
+    grant ≡ record {
+      blocks = record { 0 = 0 };
+      units = record { 0 = 0 };
+      amount = record { 0 = 0 };
+    } → IsQuota b before g requested periods place money units grant
 quota_none b before g requested periods place money units grant none zero is =
     record {
       wanted = zero ∙ ap (λ o. wanted_with o requested) none;
@@ -105,64 +162,106 @@ quota_none b before g requested periods place money units grant none zero is =
       greatest = λ x e. absurd (no_some x (none ∙ e));
     }
 
-pub quota_some : (b : Book) (before g : ℕ) (requested : Option ℕ) (periods : Periods) (place money units : ℕ) (grant : Grant) (x : GroupTariff) → Some x ≡ tariff_of b g →
-    units ≡ wanted_units x requested → units ≤ x.max_grant → grant ≡ grant_of x periods before place units money →
-    IsGreatest (tiers_at x periods.before.0) (tiers_at x periods.after.0) place (started before units x.block) money grant.blocks.0 → grant.units.0 ≤ units →
+pub quota_some : (b : Book) (before g : ℕ) (requested : Option ℕ) (periods : Periods)
+    (place money units : ℕ) (grant : Grant) (x : GroupTariff) → Some x ≡ tariff_of b g →
+    units ≡ wanted_units x requested → units ≤ x.max_grant →
+    grant ≡ grant_of x periods before place units money →
+    IsGreatest (tiers_at x periods.before.0) (tiers_at x periods.after.0) place
+    (started before units x.block) money grant.blocks.0 → grant.units.0 ≤ units →
     IsQuota b before g requested periods place money units grant
-quota_some b before g requested periods place money units grant x some wanted most is greatest within =
-    let reckoned : grant ≡ grant_of x periods before place (wanted_units x requested) money = is ∙ ap (λ n. grant_of x periods before place n money) wanted in
-    let price : grant.amount.0 ≡ dearer (tiers_at x periods.before.0) (tiers_at x periods.after.0) place grant.blocks.0 =
-    ap (λ (y : Grant). y.amount.0) is ∙ ap (dearer (tiers_at x periods.before.0) (tiers_at x periods.after.0) place) (sym (ap (λ (y : Grant). y.blocks.0) is)) in
+quota_some b before g requested periods place money units grant x some wanted most is greatest
+    within =
+    let reckoned : grant ≡ grant_of x periods before place (wanted_units x requested) money =
+    is ∙ ap (λ n. grant_of x periods before place n money) wanted in
+    let price : grant.amount.0
+    ≡ dearer (tiers_at x periods.before.0) (tiers_at x periods.after.0) place grant.blocks.0 =
+    ap (λ (y : Grant). y.amount.0) is
+    ∙ ap (dearer (tiers_at x periods.before.0) (tiers_at x periods.after.0) place)
+    (sym (ap (λ (y : Grant). y.blocks.0) is)) in
     let found : IsGreatestFor x periods before place requested money grant = record {
-      greatest = subst (λ n. IsGreatest (tiers_at x periods.before.0) (tiers_at x periods.after.0) place (started before n x.block) money grant.blocks.0) wanted greatest;
+      greatest =
+          subst (λ n. IsGreatest (tiers_at x periods.before.0) (tiers_at x periods.after.0) place
+          (started before n x.block) money grant.blocks.0) wanted greatest;
       within = omega (arith, within, most);
       covered = omega (arith, price, greatest.covered);
     } in
     record {
       wanted = wanted ∙ ap (λ o. wanted_with o requested) some;
       grant = reckoned ∙ ap (λ o. grant_with o periods before place requested money) some;
-      greatest = λ y e. subst (λ (z : GroupTariff). IsGreatestFor z periods before place requested money grant) (some_of x y (some ∙ e)) found;
+      greatest =
+          λ y e. subst
+          (λ (z : GroupTariff). IsGreatestFor z periods before place requested money grant)
+          (some_of x y (some ∙ e)) found;
     }
 
 -- ---- the greatest grant, told from the rows and from the ledger
 
 abbrev pub QuotaOf : AccountRows → List ℕ → ℕ → ℕ → Option ℕ → ℕ → Grant → Type 0
 QuotaOf a s g t requested units grant =
-    IsQuota a.book (used_in s g a.groups) g requested (periods_at a.book t) (count_in g (cycle_at a.book g t) a.counters) (funds g t (advanced t a).buckets) units grant
+    IsQuota a.book (used_in s g a.groups) g requested (periods_at a.book t)
+    (count_in g (cycle_at a.book g t) a.counters) (funds g t (advanced t a).buckets) units grant
 
-pub grant_told : (ledger : Ledger) (a : AccountRows) (s : List ℕ) (g t : ℕ) (requested : Option ℕ) (units : ℕ) (grant : Grant) → IsAccount a → IsRowsOf ledger a → a.as_of ≤ t →
-    QuotaOf a s g t requested units grant → grant ≡ grant_for a.book t g (used s g ledger) requested ledger
+pub grant_told : (ledger : Ledger) (a : AccountRows) (s : List ℕ) (g t : ℕ) (requested : Option ℕ)
+    (units : ℕ) (grant : Grant) → IsAccount a → IsRowsOf ledger a → a.as_of ≤ t →
+    QuotaOf a s g t requested units grant →
+    grant ≡ grant_for a.book t g (used s g ledger) requested ledger
 grant_told ledger a s g t requested units grant account rows le q =
-    q.grant ∙ (λ i. grant_with (tariff_of a.book g) (periods_at a.book t) (used_in_is ledger a s g rows i) (count_in_is ledger a g (cycle_at a.book g t) rows i) requested (funds g t ((IsRowsOf-advanced ledger a t account rows le).buckets i)))
+    q.grant ∙
+    (λ i. grant_with (tariff_of a.book g) (periods_at a.book t) (used_in_is ledger a s g rows i)
+    (count_in_is ledger a g (cycle_at a.book g t) rows i) requested
+    (funds g t ((IsRowsOf-advanced ledger a t account rows le).buckets i)))
 
 -- a session that used nothing yet
-pub new_told : (ledger : Ledger) (a : AccountRows) (g t : ℕ) (requested : Option ℕ) (units : ℕ) (grant : Grant) → IsAccount a → IsRowsOf ledger a → a.as_of ≤ t →
-    IsQuota a.book 0 g requested (periods_at a.book t) (count_in g (cycle_at a.book g t) a.counters) (funds g t (advanced t a).buckets) units grant →
+pub new_told : (ledger : Ledger) (a : AccountRows) (g t : ℕ) (requested : Option ℕ) (units : ℕ)
+    (grant : Grant) → IsAccount a → IsRowsOf ledger a → a.as_of ≤ t →
+    IsQuota a.book 0 g requested (periods_at a.book t) (count_in g (cycle_at a.book g t) a.counters)
+    (funds g t (advanced t a).buckets) units grant →
     grant ≡ grant_for a.book t g 0 requested ledger
 new_told ledger a g t requested units grant account rows le q =
-    q.grant ∙ (λ i. grant_with (tariff_of a.book g) (periods_at a.book t) 0 (count_in_is ledger a g (cycle_at a.book g t) rows i) requested (funds g t ((IsRowsOf-advanced ledger a t account rows le).buckets i)))
+    q.grant ∙
+    (λ i. grant_with (tariff_of a.book g) (periods_at a.book t) 0
+    (count_in_is ledger a g (cycle_at a.book g t) rows i) requested
+    (funds g t ((IsRowsOf-advanced ledger a t account rows le).buckets i)))
 
 -- a grant that is covered stays within the funds, also of a group without a tariff
-pub quota_covered : (a : AccountRows) (s : List ℕ) (g t : ℕ) (requested : Option ℕ) (units : ℕ) (grant : Grant) → QuotaOf a s g t requested units grant → grant.amount.0 ≤ funds g t (advanced t a).buckets
+pub quota_covered : (a : AccountRows) (s : List ℕ) (g t : ℕ) (requested : Option ℕ) (units : ℕ)
+    (grant : Grant) → QuotaOf a s g t requested units grant →
+    grant.amount.0 ≤ funds g t (advanced t a).buckets
 quota_covered a s g t requested units grant q = by_tariff (tariff_of a.book g) refl
   where
-    by_tariff : (o : Option GroupTariff) → tariff_of a.book g ≡ o → grant.amount.0 ≤ funds g t (advanced t a).buckets
+    by_tariff : (o : Option GroupTariff) → tariff_of a.book g ≡ o →
+        grant.amount.0 ≤ funds g t (advanced t a).buckets
     by_tariff None e =
-        let same : grant ≡ grant_with None (periods_at a.book t) (used_in s g a.groups) (count_in g (cycle_at a.book g t) a.counters) requested (funds g t (advanced t a).buckets) = q.grant ∙ ap (λ o. grant_with o (periods_at a.book t) (used_in s g a.groups) (count_in g (cycle_at a.book g t) a.counters) requested (funds g t (advanced t a).buckets)) e in
+        let same : grant
+        ≡ grant_with None (periods_at a.book t) (used_in s g a.groups)
+        (count_in g (cycle_at a.book g t) a.counters) requested
+        (funds g t (advanced t a).buckets) =
+        q.grant ∙ ap
+        (λ o. grant_with o (periods_at a.book t) (used_in s g a.groups)
+        (count_in g (cycle_at a.book g t) a.counters) requested
+        (funds g t (advanced t a).buckets)) e in
         let none : grant.amount.0 ≡ 0 = ap (λ (x : Grant). x.amount.0) same in
         omega (arith, none)
     by_tariff (Some x) e = (q.greatest x e).covered
 
-pub grant_is : (ledger : Ledger) (a middle after : AccountRows) (s : List ℕ) (g t : ℕ) (requested : Option ℕ) (wanted : ℕ) (grant : Grant) (at : Option ℕ) (validity : ℕ) (fewer : Bool) →
-    IsAccount a → IsRowsOf ledger a → a.as_of ≤ t → is_live_in a.book.validity t a.sessions s ≡ true → reservation_in s g a.groups ≡ None →
+pub grant_is : (ledger : Ledger) (a middle after : AccountRows) (s : List ℕ) (g t : ℕ)
+    (requested : Option ℕ) (wanted : ℕ) (grant : Grant) (at : Option ℕ) (validity : ℕ)
+    (fewer : Bool) →
+    IsAccount a → IsRowsOf ledger a → a.as_of ≤ t →
+    is_live_in a.book.validity t a.sessions s ≡ true → reservation_in s g a.groups ≡ None →
     QuotaOf a s g t requested wanted grant →
-    0 < grant.units.0 → at ≡ switch_at a.book t → validity ≡ validity_at a.book t → fewer ≡ nat_lt grant.units.0 wanted →
-    middle ≡ advanced t (with_group_row s g a) → after ≡ reserved_account s g grant.amount.0 middle →
+    0 < grant.units.0 → at ≡ switch_at a.book t → validity ≡ validity_at a.book t →
+    fewer ≡ nat_lt grant.units.0 wanted →
+    middle ≡ advanced t (with_group_row s g a) →
+    after ≡ reserved_account s g grant.amount.0 middle →
     IsGrantOf a.book t s g requested ledger after grant.units.0 at validity fewer
-grant_is ledger a middle after s g t requested wanted grant at validity fewer account rows le live none q some switch valid few m e =
+grant_is ledger a middle after s g t requested wanted grant at validity fewer account rows le live
+    none q some switch valid few m e =
     let book : Book = a.book in
-    let now : (advanced t a).buckets ≡ buckets_at book.validity t ledger = (IsRowsOf-advanced ledger a t account rows le).buckets in
-    let told : grant ≡ grant_for book t g (used s g ledger) requested ledger = grant_told ledger a s g t requested wanted grant account rows le q in
+    let now : (advanced t a).buckets ≡ buckets_at book.validity t ledger =
+    (IsRowsOf-advanced ledger a t account rows le).buckets in
+    let told : grant ≡ grant_for book t g (used s g ledger) requested ledger =
+    grant_told ledger a s g t requested wanted grant account rows le q in
     record {
       some = some;
       units = ap (λ (x : Grant). x.units.0) told;
@@ -170,21 +269,47 @@ grant_is ledger a middle after s g t requested wanted grant at validity fewer ac
       validity = valid;
       fewer = few ∙ ap (nat_lt grant.units.0) q.wanted;
       greatest = λ x k.
-          subst (λ (n : ℕ). IsGreatest (tiers_at x (periods_at book t).before.0) (tiers_at x (periods_at book t).after.0) (counter (cycle_at book g) g (cycle_at book g t) ledger) (started (used s g ledger) (wanted_units x requested) x.block) (funds g t (buckets_at book.validity t ledger)) n) (ap (λ (y : Grant). y.blocks.0) told)
-          (subst (λ xs. IsGreatest (tiers_at x (periods_at book t).before.0) (tiers_at x (periods_at book t).after.0) (counter (cycle_at book g) g (cycle_at book g t) ledger) (started (used s g ledger) (wanted_units x requested) x.block) (funds g t xs) grant.blocks.0) now
-          (subst (λ n. IsGreatest (tiers_at x (periods_at book t).before.0) (tiers_at x (periods_at book t).after.0) n (started (used s g ledger) (wanted_units x requested) x.block) (funds g t (advanced t a).buckets) grant.blocks.0) (count_in_is ledger a g (cycle_at book g t) rows)
-          (subst (λ n. IsGreatest (tiers_at x (periods_at book t).before.0) (tiers_at x (periods_at book t).after.0) (count_in g (cycle_at book g t) a.counters) (started n (wanted_units x requested) x.block) (funds g t (advanced t a).buckets) grant.blocks.0) (used_in_is ledger a s g rows)
+          subst (λ (n : ℕ). IsGreatest (tiers_at x (periods_at book t).before.0)
+          (tiers_at x (periods_at book t).after.0)
+          (counter (cycle_at book g) g (cycle_at book g t) ledger)
+          (started (used s g ledger) (wanted_units x requested) x.block)
+          (funds g t (buckets_at book.validity t ledger)) n)
+          (ap (λ (y : Grant). y.blocks.0) told)
+          (subst (λ xs. IsGreatest (tiers_at x (periods_at book t).before.0)
+          (tiers_at x (periods_at book t).after.0)
+          (counter (cycle_at book g) g (cycle_at book g t) ledger)
+          (started (used s g ledger) (wanted_units x requested) x.block) (funds g t xs)
+          grant.blocks.0) now
+          (subst (λ n. IsGreatest (tiers_at x (periods_at book t).before.0)
+          (tiers_at x (periods_at book t).after.0) n
+          (started (used s g ledger) (wanted_units x requested) x.block)
+          (funds g t (advanced t a).buckets) grant.blocks.0)
+          (count_in_is ledger a g (cycle_at book g t) rows)
+          (subst (λ n. IsGreatest (tiers_at x (periods_at book t).before.0)
+          (tiers_at x (periods_at book t).after.0) (count_in g (cycle_at book g t) a.counters)
+          (started n (wanted_units x requested) x.block) (funds g t (advanced t a).buckets)
+          grant.blocks.0) (used_in_is ledger a s g rows)
           (q.greatest x k).greatest)));
-      rows = subst (λ n. IsRowsOf (reserved book t s g grant.units.0 n ledger) after) (ap (λ (x : Grant). x.amount.0) told) (rows_granted ledger a middle after s g t grant.units.0 grant.amount.0 account rows le live none m e);
+      rows = subst (λ n. IsRowsOf (reserved book t s g grant.units.0 n ledger) after)
+          (ap (λ (x : Grant). x.amount.0) told)
+          (rows_granted ledger a middle after s g t grant.units.0 grant.amount.0 account rows le
+          live none m e);
     }
 
 -- a grant of some units is of a group with a tariff, within its greatest grant
-pub within_grant : (b : Book) (before g : ℕ) (requested : Option ℕ) (periods : Periods) (place money units : ℕ) (grant : Grant) → IsQuota b before g requested periods place money units grant → 0 < grant.units.0 → IsWithin (tariff_of b g) grant.units.0
-within_grant b before g requested periods place money units grant q some = by_tariff (tariff_of b g) refl
+pub within_grant : (b : Book) (before g : ℕ) (requested : Option ℕ) (periods : Periods)
+    (place money units : ℕ) (grant : Grant) →
+    IsQuota b before g requested periods place money units grant → 0 < grant.units.0 →
+    IsWithin (tariff_of b g) grant.units.0
+within_grant b before g requested periods place money units grant q some =
+    by_tariff (tariff_of b g) refl
   where
-    by_tariff : (o : Option GroupTariff) → tariff_of b g ≡ o → IsWithin (tariff_of b g) grant.units.0
+    by_tariff : (o : Option GroupTariff) → tariff_of b g ≡ o →
+        IsWithin (tariff_of b g) grant.units.0
     by_tariff None e =
-        let same : grant ≡ grant_with None periods before place requested money = q.grant ∙ ap (λ o. grant_with o periods before place requested money) e in
+        let same : grant ≡ grant_with None periods before place requested money =
+        q.grant ∙ ap (λ o. grant_with o periods before place requested money) e in
         let none : grant.units.0 ≡ 0 = ap (λ (x : Grant). x.units.0) same in
         absurd (omega (arith, none))
-    by_tariff (Some x) e = record { some = some; tariff = x; known = e; most = (q.greatest x e).within }
+    by_tariff (Some x) e =
+        record { some = some; tariff = x; known = e; most = (q.greatest x e).within }

@@ -46,32 +46,55 @@ none_units s g (Close a) h = refl
 none_units s g (Recorded a b) h = refl
 none_units s g (Barred a) h = refl
 
-used_none : (s : List ℕ) (g : ℕ) (ledger : Ledger) → has_group s g ledger ≡ false → used s g ledger ≡ 0
+used_none : (s : List ℕ) (g : ℕ) (ledger : Ledger) → has_group s g ledger ≡ false →
+    used s g ledger ≡ 0
 used_none s g [] h = refl
 used_none s g (d ∷ older) h =
-    omega (arith, none_units s g d.fact (or_parts (names_group s g d.fact) (has_group s g older) h).0, used_none s g older (or_parts (names_group s g d.fact) (has_group s g older) h).1)
+    omega (
+      arith,
+      none_units s g d.fact (or_parts (names_group s g d.fact) (has_group s g older) h).0,
+      used_none s g older (or_parts (names_group s g d.fact) (has_group s g older) h).1,
+    )
 
-either_used : (h : Bool) (x : SessionGroup) (s : List ℕ) (g : ℕ) → (h ≡ false → x.used ≡ 0) → (unwrap_or (if h then Some x else None) (new_group s g)).used ≡ x.used
+either_used : (h : Bool) (x : SessionGroup) (s : List ℕ) (g : ℕ) → (h ≡ false → x.used ≡ 0) →
+    (unwrap_or (if h then Some x else None) (new_group s g)).used ≡ x.used
 either_used true x s g k = refl
 either_used false x s g k = sym (k refl)
 
 -- a session's use so far
-pub used_in_is : (ledger : Ledger) (a : AccountRows) (s : List ℕ) (g : ℕ) → IsRowsOf ledger a → used_in s g a.groups ≡ used s g ledger
+pub used_in_is : (ledger : Ledger) (a : AccountRows) (s : List ℕ) (g : ℕ) → IsRowsOf ledger a →
+    used_in s g a.groups ≡ used s g ledger
 used_in_is ledger a s g rows =
     ap (λ o. (unwrap_or o (new_group s g)).used) (rows.groups s g)
-    ∙ either_used (has_group s g ledger) (record { session = s; group = g; used = used s g ledger; reservation = reservation_at a.book.validity a.as_of ledger s g }) s g (used_none s g ledger)
+    ∙ either_used (has_group s g ledger)
+    (record {
+      session = s;
+      group = g;
+      used = used s g ledger;
+      reservation = reservation_at a.book.validity a.as_of ledger s g;
+    }) s g
+    (used_none s g ledger)
 
 -- without a grant or a use of the group there is no open grant
-grant_ended : (k : Bool) (o : Option (Option Periods)) → inner o ≡ None → inner (or_else (if k then Some None else None) o) ≡ None
+grant_ended : (k : Bool) (o : Option (Option Periods)) → inner o ≡ None →
+    inner (or_else (if k then Some None else None) o) ≡ None
 grant_ended true o h = refl
 grant_ended false o h = h
 
-pub open_none : (s : List ℕ) (g : ℕ) (ledger : Ledger) → has_group s g ledger ≡ false → open_grant s g ledger ≡ None
+pub open_none : (s : List ℕ) (g : ℕ) (ledger : Ledger) → has_group s g ledger ≡ false →
+    open_grant s g ledger ≡ None
 open_none s g [] h = refl
-open_none s g (d ∷ older) h = by_fact d.at d.fact (or_parts (names_group s g d.fact) (has_group s g older) h).0 (open_none s g older (or_parts (names_group s g d.fact) (has_group s g older) h).1)
+open_none s g (d ∷ older) h =
+    by_fact d.at d.fact (or_parts (names_group s g d.fact) (has_group s g older) h).0
+    (open_none s g older (or_parts (names_group s g d.fact) (has_group s g older) h).1)
   where
-    by_fact : (at : ℕ) (fact : Fact) → names_group s g fact ≡ false → inner (newest (grant_in s g) older) ≡ None → inner (or_else (grant_in s g (record { at = at; fact = fact })) (newest (grant_in s g) older)) ≡ None
-    by_fact at (Grant a b p c e) k r = (λ i. inner (or_else (if k i then Some (Some p) else None) (newest (grant_in s g) older))) ∙ r
+    by_fact : (at : ℕ) (fact : Fact) → names_group s g fact ≡ false →
+        inner (newest (grant_in s g) older) ≡ None →
+        inner (or_else (grant_in s g (record { at = at; fact = fact }))
+        (newest (grant_in s g) older)) ≡ None
+    by_fact at (Grant a b p c e) k r =
+        (λ i. inner (or_else (if k i then Some (Some p) else None) (newest (grant_in s g) older)))
+        ∙ r
     by_fact at (End a b) k r = grant_ended (is_same a s && b == g) (newest (grant_in s g) older) r
     by_fact at (Use a b c e x y) k r = r
     by_fact at (HoldFact a b c e) k r = r
@@ -82,25 +105,40 @@ open_none s g (d ∷ older) h = by_fact d.at d.fact (or_parts (names_group s g d
     by_fact at (Recorded a b) k r = r
     by_fact at (Barred a) k r = r
 
-either_periods : (h l : Bool) (hs : List Hold) (p : Option Periods) (used : ℕ) (s : List ℕ) (g : ℕ) → l ≡ true → (h ≡ false → p ≡ None) →
-    (let x : SessionGroup = record { session = s; group = g; used = used; reservation = if l then reservation_of hs p else None } in
-    option_map (λ (r : Reservation). r.periods) (unwrap_or (if h then Some x else None) (new_group s g)).reservation ≡ p)
+either_periods : (h l : Bool) (hs : List Hold) (p : Option Periods) (used : ℕ) (s : List ℕ) (g : ℕ)
+    → l ≡ true → (h ≡ false → p ≡ None) →
+    (let x : SessionGroup =
+    record {
+      session = s;
+      group = g;
+      used = used;
+      reservation = if l then reservation_of hs p
+          else None;
+    } in
+    option_map (λ (r : Reservation). r.periods)
+    (unwrap_or (if h then Some x else None) (new_group s g)).reservation ≡ p)
 either_periods true true hs None used s g e k = refl
 either_periods true true hs (Some p) used s g e k = refl
 either_periods true false hs p used s g e k = cc
 either_periods false l hs p used s g e k = sym (k refl)
 
 -- the periods of a live session's reservation
-pub periods_in_is : (ledger : Ledger) (a : AccountRows) (s : List ℕ) (g : ℕ) → IsRowsOf ledger a → is_live a.book.validity a.as_of ledger s ≡ true → periods_in s g a.groups ≡ open_grant s g ledger
+pub periods_in_is : (ledger : Ledger) (a : AccountRows) (s : List ℕ) (g : ℕ) → IsRowsOf ledger a →
+    is_live a.book.validity a.as_of ledger s ≡ true →
+    periods_in s g a.groups ≡ open_grant s g ledger
 periods_in_is ledger a s g rows live =
-    ap (λ o. option_map (λ (r : Reservation). r.periods) (unwrap_or o (new_group s g)).reservation) (rows.groups s g)
-    ∙ either_periods (has_group s g ledger) (is_live a.book.validity a.as_of ledger s) (holds_at a.book.validity a.as_of s g ledger) (open_grant s g ledger) (used s g ledger) s g live (open_none s g ledger)
+    ap (λ o. option_map (λ (r : Reservation). r.periods) (unwrap_or o (new_group s g)).reservation)
+    (rows.groups s g)
+    ∙ either_periods (has_group s g ledger) (is_live a.book.validity a.as_of ledger s)
+    (holds_at a.book.validity a.as_of s g ledger) (open_grant s g ledger) (used s g ledger) s g
+    live (open_none s g ledger)
 
 pub if_none : (t : Bool) → (let z : ℕ = 0 in (if t then z else z) ≡ z)
 if_none true = refl
 if_none false = refl
 
-none_blocks : (f : ℕ → ℕ) (g c : ℕ) (d : Dated) → counts_group f g c d ≡ false → (if f d.at == c then blocks_in g d.fact else 0) ≡ 0
+none_blocks : (f : ℕ → ℕ) (g c : ℕ) (d : Dated) → counts_group f g c d ≡ false →
+    (if f d.at == c then blocks_in g d.fact else 0) ≡ 0
 none_blocks f g c d h = by_fact d.at d.fact h
   where
     both : (t u : Bool) (n : ℕ) → (u && t) ≡ false → (if t then (if u then n else 0) else 0) ≡ 0
@@ -108,7 +146,9 @@ none_blocks f g c d h = by_fact d.at d.fact h
     both true false n e = refl
     both false u n e = refl
 
-    by_fact : (at : ℕ) (fact : Fact) → counts_group f g c (record { at = at; fact = fact }) ≡ false → (if f at == c then blocks_in g fact else 0) ≡ 0
+    by_fact : (at : ℕ) (fact : Fact) →
+        counts_group f g c (record { at = at; fact = fact }) ≡ false →
+        (if f at == c then blocks_in g fact else 0) ≡ 0
     by_fact at (Use s' g' u b r x) e = both (f at == c) (g' == g) b e
     by_fact at (HoldFact s' g' b n) e = if_none (f at == c)
     by_fact at (Credit n a b x y) e = if_none (f at == c)
@@ -120,26 +160,39 @@ none_blocks f g c d h = by_fact d.at d.fact h
     by_fact at (Recorded s' n) e = if_none (f at == c)
     by_fact at (Barred b) e = if_none (f at == c)
 
-counter_none : (f : ℕ → ℕ) (g c : ℕ) (ledger : Ledger) → has_counter f g c ledger ≡ false → counter f g c ledger ≡ 0
+counter_none : (f : ℕ → ℕ) (g c : ℕ) (ledger : Ledger) → has_counter f g c ledger ≡ false →
+    counter f g c ledger ≡ 0
 counter_none f g c [] h = refl
 counter_none f g c (d ∷ older) h =
-    omega (arith, none_blocks f g c d (or_parts (counts_group f g c d) (has_counter f g c older) h).0, counter_none f g c older (or_parts (counts_group f g c d) (has_counter f g c older) h).1)
+    omega (
+      arith,
+      none_blocks f g c d (or_parts (counts_group f g c d) (has_counter f g c older) h).0,
+      counter_none f g c older (or_parts (counts_group f g c d) (has_counter f g c older) h).1,
+    )
 
-either_count : (h : Bool) (x : Counter) → (h ≡ false → x.blocks ≡ 0) → unwrap_or (option_map (λ (r : Counter). r.blocks) (if h then Some x else None)) 0 ≡ x.blocks
+either_count : (h : Bool) (x : Counter) → (h ≡ false → x.blocks ≡ 0) →
+    unwrap_or (option_map (λ (r : Counter). r.blocks) (if h then Some x else None)) 0 ≡ x.blocks
 either_count true x k = refl
 either_count false x k = sym (k refl)
 
 -- the account's counter of a group and cycle
-pub count_in_is : (ledger : Ledger) (a : AccountRows) (g c : ℕ) → IsRowsOf ledger a → count_in g c a.counters ≡ counter (cycle_at a.book g) g c ledger
+pub count_in_is : (ledger : Ledger) (a : AccountRows) (g c : ℕ) → IsRowsOf ledger a →
+    count_in g c a.counters ≡ counter (cycle_at a.book g) g c ledger
 count_in_is ledger a g c rows =
     ap (λ o. unwrap_or (option_map (λ (r : Counter). r.blocks) o) 0) (rows.counters g c)
-    ∙ either_count (has_counter (cycle_at a.book g) g c ledger) (record { group = g; cycle = c; blocks = counter (cycle_at a.book g) g c ledger }) (counter_none (cycle_at a.book g) g c ledger)
+    ∙ either_count (has_counter (cycle_at a.book g) g c ledger)
+    (record { group = g; cycle = c; blocks = counter (cycle_at a.book g) g c ledger })
+    (counter_none (cycle_at a.book g) g c ledger)
 
 -- ---- the groups of the ledger with the settlement
 
 -- an end of one reservation leaves the others
-ended_other : (s : List ℕ) (g : ℕ) (s' : List ℕ) (g' : ℕ) → is_key s g s' g' ≡ false → (a : List ℕ) (b : ℕ) → (only s' g' a b && not (is_same a s && b == g)) ≡ only s' g' a b
-ended_other s g s' g' h a b = same_tests (only s' g' a b && not (is_same a s && b == g)) (only s' g' a b) (λ e. first (only s' g' a b) (is_same a s && b == g) e) (λ e. whole (only s' g' a b) (is_same a s && b == g) e (conflict e))
+ended_other : (s : List ℕ) (g : ℕ) (s' : List ℕ) (g' : ℕ) → is_key s g s' g' ≡ false →
+    (a : List ℕ) (b : ℕ) → (only s' g' a b && not (is_same a s && b == g)) ≡ only s' g' a b
+ended_other s g s' g' h a b =
+    same_tests (only s' g' a b && not (is_same a s && b == g)) (only s' g' a b)
+    (λ e. first (only s' g' a b) (is_same a s && b == g) e)
+    (λ e. whole (only s' g' a b) (is_same a s && b == g) e (conflict e))
   where
     first : (x y : Bool) → (x && not y) ≡ true → x ≡ true
     first true y e = refl
@@ -152,7 +205,9 @@ ended_other s g s' g' h a b = same_tests (only s' g' a b && not (is_same a s && 
 
     conflict : only s' g' a b ≡ true → (is_same a s && b == g) ≡ true → ⊥
     conflict e q =
-        let same : is_key s g s' g' ≡ true = key_of s g s' g' (sym (key_session a b s g q) ∙ key_session a b s' g' e) (sym (key_group a b s g q) ∙ key_group a b s' g' e) in
+        let same : is_key s g s' g' ≡ true =
+        key_of s g s' g' (sym (key_session a b s g q) ∙ key_session a b s' g' e)
+        (sym (key_group a b s g q) ∙ key_group a b s' g' e) in
         cc
 
 and_not : (x : Bool) → (x && not x) ≡ false
@@ -160,58 +215,144 @@ and_not true = refl
 and_not false = refl
 
 abbrev pub parts_paid : ℕ → ℕ → List ℕ → ℕ → ℕ → Ledger → List Hold
-parts_paid v t session group rated ledger = parts (paid (holds_at v t session group ledger) group t rated (buckets_at v t ledger)) (buckets_at v t ledger)
+parts_paid v t session group rated ledger =
+    parts (paid (holds_at v t session group ledger) group t rated (buckets_at v t ledger))
+    (buckets_at v t ledger)
 
-pub other_settled : (v t : ℕ) (session : List ℕ) (group units blocks rated : ℕ) (ledger : Ledger) (s : List ℕ) (g : ℕ) → is_key session group s g ≡ false → SameGroup s g ledger (settled v t session group units blocks rated ledger)
+pub other_settled : (v t : ℕ) (session : List ℕ) (group units blocks rated : ℕ) (ledger : Ledger)
+    (s : List ℕ) (g : ℕ) → is_key session group s g ≡ false →
+    SameGroup s g ledger (settled v t session group units blocks rated ledger)
 other_settled v t session group units blocks rated ledger s g h =
     let hs : List Hold = parts_paid v t session group rated ledger in
     let none : (if is_same session s && group == g then units else 0) ≡ 0 = rw h refl in
     record {
-      named = (λ i. h i || any (names_group s g) (charge_facts t hs ++ ledger)) ∙ any-front (names_group s g) (charge_facts t hs) ledger (each_charge _ t hs (λ b n. refl));
-      used = omega (arith, total-front (λ d. units_in s g d.fact) (charge_facts t hs) ledger (each_charge _ t hs (λ b n. refl)));
-      grant = (λ i. inner (or_else (if h i then Some None else None) (newest (grant_in s g) (charge_facts t hs ++ ledger)))) ∙ ap inner (newest-front (grant_in s g) (charge_facts t hs) ledger (each_charge _ t hs (λ b n. refl)));
-      held = λ n. omega (arith, held_same (λ a b. only s g a b && not (is_same a session && b == group)) (only s g) n (charge_facts t hs ++ ledger) (ended_other session group s g h), held-charge_facts (only s g) n t hs ledger);
+      named = (λ i. h i || any (names_group s g) (charge_facts t hs ++ ledger))
+          ∙ any-front (names_group s g) (charge_facts t hs) ledger
+          (each_charge _ t hs (λ b n. refl));
+      used = omega (
+        arith,
+        total-front (λ d. units_in s g d.fact) (charge_facts t hs) ledger
+            (each_charge _ t hs (λ b n. refl)),
+      );
+      grant = (λ i. inner
+          (or_else (if h i then Some None else None)
+          (newest (grant_in s g) (charge_facts t hs ++ ledger))))
+          ∙ ap inner
+          (newest-front (grant_in s g) (charge_facts t hs) ledger
+          (each_charge _ t hs (λ b n. refl)));
+      held = λ n. omega (
+        arith,
+        held_same (λ a b. only s g a b && not (is_same a session && b == group))
+            (only s g) n (charge_facts t hs ++ ledger) (ended_other session group s g h),
+        held-charge_facts (only s g) n t hs ledger,
+      );
     }
 
-settled_number : (holds : List Hold) (group t rated : ℕ) (rows : List Row) (b : Row) → (settled_row holds group t rated rows b).number ≡ b.number
-settled_number holds group t rated rows b = with_release_number t (with_charge (with_charge_of_hold b (paid_of_hold holds rated rows b)) (paid_of_rest holds group t rated rows b)) (held_in holds b - paid_of_hold holds rated rows b)
+settled_number : (holds : List Hold) (group t rated : ℕ) (rows : List Row) (b : Row) →
+    (settled_row holds group t rated rows b).number ≡ b.number
+settled_number holds group t rated rows b =
+    with_release_number t
+    (with_charge (with_charge_of_hold b (paid_of_hold holds rated rows b))
+    (paid_of_rest holds group t rated rows b)) (held_in holds b - paid_of_hold holds rated rows b)
 
-either_none : (l : Bool) (hs : List Hold) (p : Option (Option _)) → p ≡ Some None → (if l then reservation_of hs (inner p) else None) ≡ None
+either_none : (l : Bool) (hs : List Hold) (p : Option (Option _)) → p ≡ Some None →
+    (if l then reservation_of hs (inner p) else None) ≡ None
 either_none true hs p e = ap (λ x. reservation_of hs (inner x)) e
 either_none false hs p e = refl
 
 own_settled : (v t : ℕ) (session : List ℕ) (group units blocks rated : ℕ) (ledger : Ledger) →
-    group_at v t (settled v t session group units blocks rated ledger) session group ≡ Some (record { session = session; group = group; used = used session group ledger + units; reservation = None })
+    group_at v t (settled v t session group units blocks rated ledger) session group
+    ≡ Some (record {
+      session = session;
+      group = group;
+      used = used session group ledger + units;
+      reservation = None;
+    })
 own_settled v t session group units blocks rated ledger =
     let after : Ledger = settled v t session group units blocks rated ledger in
     let hs : List Hold = parts_paid v t session group rated ledger in
     let own : is_key session group session group ≡ true = own_key session group in
-    let named : has_group session group after ≡ true = λ i. own i || any (names_group session group) (charge_facts t hs ++ ledger) in
-    let all : (if is_same session session && group == group then units else 0) ≡ units = rw own refl in
-    let so_far : used session group after ≡ used session group ledger + units = omega (arith, total-front (λ d. units_in session group d.fact) (charge_facts t hs) ledger (each_charge _ t hs (λ b n. refl))) in
-    let none : reservation_at v t after session group ≡ None = either_none (is_live v t after session) (holds_at v t session group after) (newest (grant_in session group) after) (λ i. or_else (if own i then Some None else None) (newest (grant_in session group) (charge_facts t hs ++ ledger))) in
-    let row : (let r : SessionGroup = record { session = session; group = group; used = used session group after; reservation = reservation_at v t after session group } in r) ≡ (let r : SessionGroup = record { session = session; group = group; used = used session group ledger + units; reservation = None } in r) =
+    let named : has_group session group after ≡ true =
+    λ i. own i || any (names_group session group) (charge_facts t hs ++ ledger) in
+    let all : (if is_same session session && group == group then units else 0) ≡ units =
+    rw own refl in
+    let so_far : used session group after ≡ used session group ledger + units =
+    omega (
+      arith,
+      total-front (λ d. units_in session group d.fact) (charge_facts t hs) ledger
+          (each_charge _ t hs (λ b n. refl)),
+    ) in
+    let none : reservation_at v t after session group ≡ None =
+    either_none (is_live v t after session) (holds_at v t session group after)
+    (newest (grant_in session group) after)
+    (λ i. or_else (if own i then Some None else None)
+    (newest (grant_in session group) (charge_facts t hs ++ ledger))) in
+    let row :
+    (let r : SessionGroup =
+    record {
+      session = session;
+      group = group;
+      used = used session group after;
+      reservation = reservation_at v t after session group;
+    } in r)
+    ≡ (let r : SessionGroup =
+    record {
+      session = session;
+      group = group;
+      used = used session group ledger + units;
+      reservation = None;
+    } in r) =
     λ i. record { session = session; group = group; used = so_far i; reservation = none i } in
     λ i. (if named i then Some (row i) else None)
 
-groups-settled : (v t : ℕ) (session : List ℕ) (group units blocks rated : ℕ) (ledger : Ledger) (does : Row → Row) (rows : List SessionGroup) →
+groups-settled : (v t : ℕ) (session : List ℕ) (group units blocks rated : ℕ) (ledger : Ledger)
+    (does : Row → Row) (rows : List SessionGroup) →
     IsMoved does v t ledger (settled v t session group units blocks rated ledger) →
     used_in session group rows ≡ used session group ledger →
     ((s : List ℕ) (g : ℕ) → group_in s g rows ≡ group_at v t ledger s g) →
-    (s : List ℕ) (g : ℕ) → group_in s g (with_use session group units rows) ≡ group_at v t (settled v t session group units blocks rated ledger) s g
-groups-settled v t session group units blocks rated ledger does rows moved so_far h s g = by_test (is_key session group s g) refl
+    (s : List ℕ) (g : ℕ) →
+    group_in s g (with_use session group units rows)
+    ≡ group_at v t (settled v t session group units blocks rated ledger) s g
+groups-settled v t session group units blocks rated ledger does rows moved so_far h s g =
+    by_test (is_key session group s g) refl
   where
     after : Ledger
     after = settled v t session group units blocks rated ledger
 
     row : SessionGroup
-    row = record { session = session; group = group; used = used_in session group rows + units; reservation = None }
+    row = record {
+      session = session;
+      group = group;
+      used = used_in session group rows + units;
+      reservation = None;
+    }
 
-    by_test : (e : Bool) → is_key session group s g ≡ e → group_in s g (put (is_of session group) row rows) ≡ group_at v t after s g
+    by_test : (e : Bool) → is_key session group s g ≡ e →
+        group_in s g (put (is_of session group) row rows) ≡ group_at v t after s g
     by_test true q =
         let es : session ≡ s = key_session session group s g q in
         let eg : group ≡ g = key_group session group s g q in
-        let used_is : (let r : SessionGroup = record { session = session; group = group; used = used_in session group rows + units; reservation = None } in r) ≡ (let r : SessionGroup = record { session = session; group = group; used = used session group ledger + units; reservation = None } in r) = λ i. record { session = session; group = group; used = so_far i + units; reservation = None } in
+        let used_is :
+        (let r : SessionGroup =
+        record {
+          session = session;
+          group = group;
+          used = used_in session group rows + units;
+          reservation = None;
+        } in r)
+        ≡ (let r : SessionGroup =
+        record {
+          session = session;
+          group = group;
+          used = used session group ledger + units;
+          reservation = None;
+        } in r) =
+        λ i. record {
+          session = session;
+          group = group;
+          used = so_far i + units;
+          reservation = None;
+        } in
         (λ i. group_in (sym es i) (sym eg i) (put (is_of session group) row rows))
         ∙ find-put (is_of session group) row rows (own_key session group)
         ∙ (λ i. Some (used_is i))
@@ -220,7 +361,9 @@ groups-settled v t session group units blocks rated ledger does rows moved so_fa
     by_test false q =
         find-put_other (is_of session group) (is_of s g) row rows q (other_row session group s g q)
         ∙ h s g
-        ∙ sym (same_group does v t ledger after s g moved (same_sessions-settled v t session group units blocks rated ledger) (other_settled v t session group units blocks rated ledger s g q))
+        ∙ sym (same_group does v t ledger after s g moved
+        (same_sessions-settled v t session group units blocks rated ledger)
+        (other_settled v t session group units blocks rated ledger s g q))
 
 -- ---- its counters
 
@@ -235,13 +378,28 @@ counted_once true false n e = cc
 counted_once false true n e = cc
 counted_once false false n e = cc
 
-pub counter-settled : (f : ℕ → ℕ) (g c v t : ℕ) (session : List ℕ) (group units blocks rated : ℕ) (ledger : Ledger) → counter f g c (settled v t session group units blocks rated ledger) ≡ counter f g c ledger + (if f t == c then (if group == g then blocks else 0) else 0)
+pub counter-settled : (f : ℕ → ℕ) (g c v t : ℕ) (session : List ℕ) (group units blocks rated : ℕ)
+    (ledger : Ledger) →
+    counter f g c (settled v t session group units blocks rated ledger)
+    ≡ counter f g c ledger + (if f t == c then (if group == g then blocks else 0) else 0)
 counter-settled f g c v t session group units blocks rated ledger =
-    omega (arith, if_none (f t == c), total-front (λ d. if f d.at == c then blocks_in g d.fact else 0) (charge_facts t (parts_paid v t session group rated ledger)) ledger (each_charge _ t (parts_paid v t session group rated ledger) (λ b n. if_none (f t == c))))
+    omega (
+      arith,
+      if_none (f t == c),
+      total-front (λ d. if f d.at == c then blocks_in g d.fact else 0)
+          (charge_facts t (parts_paid v t session group rated ledger)) ledger
+          (each_charge _ t (parts_paid v t session group rated ledger) (λ b n. if_none (f t == c))),
+    )
 
-has_counter-settled : (f : ℕ → ℕ) (g c v t : ℕ) (session : List ℕ) (group units blocks rated : ℕ) (ledger : Ledger) → has_counter f g c (settled v t session group units blocks rated ledger) ≡ ((group == g && f t == c) || has_counter f g c ledger)
+has_counter-settled : (f : ℕ → ℕ) (g c v t : ℕ) (session : List ℕ) (group units blocks rated : ℕ)
+    (ledger : Ledger) →
+    has_counter f g c (settled v t session group units blocks rated ledger)
+    ≡ ((group == g && f t == c) || has_counter f g c ledger)
 has_counter-settled f g c v t session group units blocks rated ledger =
-    ap (λ x. (group == g && f t == c) || x) (any_dated-front (counts_group f g c) (charge_facts t (parts_paid v t session group rated ledger)) ledger (each_charge _ t (parts_paid v t session group rated ledger) (λ b n. refl)))
+    ap (λ x. (group == g && f t == c) || x)
+    (any_dated-front (counts_group f g c)
+    (charge_facts t (parts_paid v t session group rated ledger)) ledger
+    (each_charge _ t (parts_paid v t session group rated ledger) (λ b n. refl)))
 
 -- the cycle of a group is that of an equal group
 same_cycle : (f : ℕ → ℕ) (group g c : ℕ) → is_cycle group (f group) g c ≡ (group == g && f g == c)
@@ -250,13 +408,21 @@ same_cycle f group g c = same_tests (is_cycle group (f group) g c) (group == g &
     (λ q. (λ i. is_cycle group (f (cycle_group group (f g) g c q i)) g c) ∙ q)
 
 -- the counters of a ledger with one use more
-pub counters_used : (cycle_of : ℕ → ℕ → ℕ) (t group blocks : ℕ) (ledger after : Ledger) (rows : List Counter) →
-    ((f : ℕ → ℕ) (g c : ℕ) → counter f g c after ≡ counter f g c ledger + (if f t == c then (if group == g then blocks else 0) else 0)) →
-    ((f : ℕ → ℕ) (g c : ℕ) → has_counter f g c after ≡ ((group == g && f t == c) || has_counter f g c ledger)) →
-    count_in group (cycle_of group t) rows ≡ counter (cycle_of group) group (cycle_of group t) ledger →
+pub counters_used : (cycle_of : ℕ → ℕ → ℕ) (t group blocks : ℕ) (ledger after : Ledger)
+    (rows : List Counter) →
+    ((f : ℕ → ℕ) (g c : ℕ) →
+    counter f g c after
+    ≡ counter f g c ledger + (if f t == c then (if group == g then blocks else 0) else 0)) →
+    ((f : ℕ → ℕ) (g c : ℕ) →
+    has_counter f g c after ≡ ((group == g && f t == c) || has_counter f g c ledger)) →
+    count_in group (cycle_of group t) rows
+    ≡ counter (cycle_of group) group (cycle_of group t) ledger →
     ((g c : ℕ) → counter_in g c rows ≡ counter_at (cycle_of g) ledger g c) →
-    (g c : ℕ) → counter_in g c (with_count group (cycle_of group t) blocks rows) ≡ counter_at (cycle_of g) after g c
-counters_used cycle_of t group blocks ledger after rows counts names so_far h g c = by_test (is_cycle group (cycle_of group t) g c) refl
+    (g c : ℕ) →
+    counter_in g c (with_count group (cycle_of group t) blocks rows)
+    ≡ counter_at (cycle_of g) after g c
+counters_used cycle_of t group blocks ledger after rows counts names so_far h g c =
+    by_test (is_cycle group (cycle_of group t) g c) refl
   where
     cycle : ℕ
     cycle = cycle_of group t
@@ -267,12 +433,26 @@ counters_used cycle_of t group blocks ledger after rows counts names so_far h g 
     own : counter_at (cycle_of group) after group cycle ≡ Some row
     own =
         let key : (group == group && cycle_of group t == cycle) ≡ true = own_cycle group cycle in
-        let named : has_counter (cycle_of group) group cycle after ≡ true = names (cycle_of group) group cycle ∙ ap (λ x. x || has_counter (cycle_of group) group cycle ledger) key in
-        let count : counter (cycle_of group) group cycle after ≡ count_in group cycle rows + blocks = counts (cycle_of group) group cycle ∙ (λ i. sym so_far i + counted_once (cycle_of group t == cycle) (group == group) blocks key i) in
-        let same : (let r : Counter = record { group = group; cycle = cycle; blocks = counter (cycle_of group) group cycle after } in r) ≡ row = λ i. record { group = group; cycle = cycle; blocks = count i } in
+        let named : has_counter (cycle_of group) group cycle after ≡ true =
+        names (cycle_of group) group cycle
+        ∙ ap (λ x. x || has_counter (cycle_of group) group cycle ledger) key in
+        let count : counter (cycle_of group) group cycle after
+        ≡ count_in group cycle rows + blocks =
+        counts (cycle_of group) group cycle
+        ∙ (λ i. sym so_far i
+        + counted_once (cycle_of group t == cycle) (group == group) blocks key i) in
+        let same :
+        (let r : Counter =
+        record {
+          group = group;
+          cycle = cycle;
+          blocks = counter (cycle_of group) group cycle after;
+        } in r)
+        ≡ row = λ i. record { group = group; cycle = cycle; blocks = count i } in
         λ i. (if named i then Some (same i) else None)
 
-    by_test : (e : Bool) → is_cycle group cycle g c ≡ e → counter_in g c (put (is_counter group cycle) row rows) ≡ counter_at (cycle_of g) after g c
+    by_test : (e : Bool) → is_cycle group cycle g c ≡ e →
+        counter_in g c (put (is_counter group cycle) row rows) ≡ counter_at (cycle_of g) after g c
     by_test true q =
         let eg : group ≡ g = cycle_group group cycle g c q in
         let ec : cycle ≡ c = cycle_cycle group cycle g c q in
@@ -281,30 +461,49 @@ counters_used cycle_of t group blocks ledger after rows counts names so_far h g 
         ∙ sym own
         ∙ (λ i. counter_at (cycle_of (eg i)) after (eg i) (ec i))
     by_test false q =
-        let key : (group == g && cycle_of g t == c) ≡ false = sym (same_cycle (λ x. cycle_of x t) group g c) ∙ q in
-        let named : has_counter (cycle_of g) g c after ≡ has_counter (cycle_of g) g c ledger = names (cycle_of g) g c ∙ ap (λ x. x || has_counter (cycle_of g) g c ledger) key in
-        let none : (if cycle_of g t == c then (if group == g then blocks else 0) else 0) ≡ 0 = not_counted (cycle_of g t == c) (group == g) blocks key in
-        let count : counter (cycle_of g) g c after ≡ counter (cycle_of g) g c ledger = omega (arith, counts (cycle_of g) g c, none) in
-        let same : (let r : Counter = record { group = g; cycle = c; blocks = counter (cycle_of g) g c after } in r) ≡ (let r : Counter = record { group = g; cycle = c; blocks = counter (cycle_of g) g c ledger } in r) = λ i. record { group = g; cycle = c; blocks = count i } in
-        find-put_other (is_counter group cycle) (is_counter g c) row rows q (other_counter group cycle g c q)
+        let key : (group == g && cycle_of g t == c) ≡ false =
+        sym (same_cycle (λ x. cycle_of x t) group g c) ∙ q in
+        let named : has_counter (cycle_of g) g c after ≡ has_counter (cycle_of g) g c ledger =
+        names (cycle_of g) g c ∙ ap (λ x. x || has_counter (cycle_of g) g c ledger) key in
+        let none : (if cycle_of g t == c then (if group == g then blocks else 0) else 0) ≡ 0 =
+        not_counted (cycle_of g t == c) (group == g) blocks key in
+        let count : counter (cycle_of g) g c after ≡ counter (cycle_of g) g c ledger =
+        omega (arith, counts (cycle_of g) g c, none) in
+        let same :
+        (let r : Counter =
+        record { group = g; cycle = c; blocks = counter (cycle_of g) g c after } in r)
+        ≡ (let r : Counter =
+        record { group = g; cycle = c; blocks = counter (cycle_of g) g c ledger } in r) =
+        λ i. record { group = g; cycle = c; blocks = count i } in
+        find-put_other (is_counter group cycle) (is_counter g c) row rows q
+        (other_counter group cycle g c q)
         ∙ h g c
         ∙ sym (λ i. (if named i then Some (same i) else None))
 
-counters-settled : (cycle_of : ℕ → ℕ → ℕ) (v t : ℕ) (session : List ℕ) (group units blocks rated : ℕ) (ledger : Ledger) (rows : List Counter) →
-    count_in group (cycle_of group t) rows ≡ counter (cycle_of group) group (cycle_of group t) ledger →
+counters-settled : (cycle_of : ℕ → ℕ → ℕ) (v t : ℕ) (session : List ℕ)
+    (group units blocks rated : ℕ) (ledger : Ledger) (rows : List Counter) →
+    count_in group (cycle_of group t) rows
+    ≡ counter (cycle_of group) group (cycle_of group t) ledger →
     ((g c : ℕ) → counter_in g c rows ≡ counter_at (cycle_of g) ledger g c) →
-    (g c : ℕ) → counter_in g c (with_count group (cycle_of group t) blocks rows) ≡ counter_at (cycle_of g) (settled v t session group units blocks rated ledger) g c
+    (g c : ℕ) →
+    counter_in g c (with_count group (cycle_of group t) blocks rows)
+    ≡ counter_at (cycle_of g) (settled v t session group units blocks rated ledger) g c
 counters-settled cycle_of v t session group units blocks rated ledger rows so_far h =
-    counters_used cycle_of t group blocks ledger (settled v t session group units blocks rated ledger) rows
-    (λ f g c. counter-settled f g c v t session group units blocks rated ledger) (λ f g c. has_counter-settled f g c v t session group units blocks rated ledger) so_far h
+    counters_used cycle_of t group blocks ledger
+    (settled v t session group units blocks rated ledger) rows
+    (λ f g c. counter-settled f g c v t session group units blocks rated ledger)
+    (λ f g c. has_counter-settled f g c v t session group units blocks rated ledger) so_far h
 
 -- ---- the buckets' numbers
 
-pub differs_above : (next n : ℕ) (rows : List Row) → IsBelow next rows → next ≤ n → DiffersFromAll n rows
+pub differs_above : (next n : ℕ) (rows : List Row) → IsBelow next rows → next ≤ n →
+    DiffersFromAll n rows
 differs_above next n [] h le = tt
-differs_above next n (b ∷ bs) h le = let less : b.number < next = h.0 in ((λ e. omega arith), differs_above next n bs h.1 le)
+differs_above next n (b ∷ bs) h le = let less : b.number < next = h.0 in
+    ((λ e. omega arith), differs_above next n bs h.1 le)
 
-pub sum_at_none : (f : Row → ℕ) (n : ℕ) (rows : List Row) → DiffersFromAll n rows → sum_at n (parts f rows) ≡ 0
+pub sum_at_none : (f : Row → ℕ) (n : ℕ) (rows : List Row) → DiffersFromAll n rows →
+    sum_at n (parts f rows) ≡ 0
 sum_at_none f n [] h = refl
 sum_at_none f n (b ∷ bs) h = grind (arith, nat_tests, h.0, sum_at_none f n bs h.1)
 
@@ -315,35 +514,57 @@ split_by true true = refl
 split_by true false = refl
 split_by false k = refl
 
-held_part : (p k : List ℕ → ℕ → Bool) (n : ℕ) (ledger : Ledger) → held p n ledger ≡ 0 → held (λ s g. p s g && not (k s g)) n ledger ≡ 0
-held_part p k n ledger h = omega (arith, held_split p (λ s g. p s g && not (k s g)) (λ s g. p s g && k s g) n ledger (λ s g. split_by (p s g) (k s g)))
+held_part : (p k : List ℕ → ℕ → Bool) (n : ℕ) (ledger : Ledger) → held p n ledger ≡ 0 →
+    held (λ s g. p s g && not (k s g)) n ledger ≡ 0
+held_part p k n ledger h =
+    omega (
+      arith,
+      held_split p (λ s g. p s g && not (k s g)) (λ s g. p s g && k s g) n ledger
+          (λ s g. split_by (p s g) (k s g)),
+    )
 
-unknown-settled : (v t : ℕ) (session : List ℕ) (group units blocks rated : ℕ) (ledger : Ledger) (s : List ℕ) → IsUnknown s ledger → IsUnknown s (settled v t session group units blocks rated ledger)
+unknown-settled : (v t : ℕ) (session : List ℕ) (group units blocks rated : ℕ) (ledger : Ledger)
+    (s : List ℕ) → IsUnknown s ledger →
+    IsUnknown s (settled v t session group units blocks rated ledger)
 unknown-settled v t session group units blocks rated ledger s h =
     let hs : List Hold = parts_paid v t session group rated ledger in
     let p : List ℕ → ℕ → Bool = λ x g. is_same x s in
     let k : List ℕ → ℕ → Bool = λ x g. is_same x session && g == group in
     record {
-      closed = (same_sessions-settled v t session group units blocks rated ledger).closed s ∙ h.closed;
-      held = λ n. omega (arith, held-charge_facts (λ x g. p x g && not (k x g)) n t hs ledger, held_part p k n ledger (h.held n));
-      granted = λ g. grant_ended (is_key session group s g) (newest (grant_in s g) (charge_facts t hs ++ ledger)) (ap inner (newest-front (grant_in s g) (charge_facts t hs) ledger (each_charge _ t hs (λ b n. refl))) ∙ h.granted g);
+      closed = (same_sessions-settled v t session group units blocks rated ledger).closed s
+          ∙ h.closed;
+      held = λ n. omega (
+        arith,
+        held-charge_facts (λ x g. p x g && not (k x g)) n t hs ledger,
+        held_part p k n ledger (h.held n),
+      );
+      granted =
+          λ g. grant_ended (is_key session group s g)
+          (newest (grant_in s g) (charge_facts t hs ++ ledger))
+          (ap inner
+          (newest-front (grant_in s g) (charge_facts t hs) ledger
+          (each_charge _ t hs (λ b n. refl))) ∙ h.granted g);
     }
 
-unknown-ended : (t : ℕ) (session : List ℕ) (group : ℕ) (ledger : Ledger) (s : List ℕ) → IsUnknown s ledger → IsUnknown s (with_end t session group ledger)
+unknown-ended : (t : ℕ) (session : List ℕ) (group : ℕ) (ledger : Ledger) (s : List ℕ) →
+    IsUnknown s ledger → IsUnknown s (with_end t session group ledger)
 unknown-ended t session group ledger s h =
     let p : List ℕ → ℕ → Bool = λ x g. is_same x s in
     let k : List ℕ → ℕ → Bool = λ x g. is_same x session && g == group in
     record {
       closed = h.closed;
       held = λ n. omega (arith, held_part p k n ledger (h.held n));
-      granted = λ g. grant_ended (is_key session group s g) (newest (grant_in s g) ledger) (h.granted g);
+      granted =
+          λ g. grant_ended (is_key session group s g) (newest (grant_in s g) ledger) (h.granted g);
     }
 
 -- ---- the rows of the ledger with the settlement
 
-pub IsRowsOf-settled : (ledger : Ledger) (a : AccountRows) (session : List ℕ) (group units blocks rated : ℕ) →
+pub IsRowsOf-settled : (ledger : Ledger) (a : AccountRows) (session : List ℕ)
+    (group units blocks rated : ℕ) →
     IsAccount a → IsRowsOf ledger a → is_live a.book.validity a.as_of ledger session ≡ true →
-    IsRowsOf (settled a.book.validity a.as_of session group units blocks rated ledger) (settled_account session group units blocks rated a)
+    IsRowsOf (settled a.book.validity a.as_of session group units blocks rated ledger)
+    (settled_account session group units blocks rated a)
 IsRowsOf-settled ledger a session group units blocks rated account rows live =
     let v : ℕ = a.book.validity in
     let t : ℕ = a.as_of in
@@ -352,37 +573,78 @@ IsRowsOf-settled ledger a session group units blocks rated account rows live =
     let holds : List Hold = holds_at v t session group ledger in
     let hs : List Hold = parts (paid holds group t rated now) now in
     let sound : IsSound now = subst IsSound rows.buckets account.sound in
-    let below : IsBelow a.next_bucket now = subst (IsBelow a.next_bucket) rows.buckets account.below in
-    let same : SameSessions ledger after = same_sessions-settled v t session group units blocks rated ledger in
-    let moved : buckets_at v t after ≡ settled_rows holds group t rated now = buckets_at-settled v t session group units blocks rated ledger live sound.balanced sound.distinct in
-    let held_is : reserved_in session group a.groups ≡ holds = reserved_in_is ledger a session group account rows live in
-    let is_moved : IsMoved (settled_row holds group t rated now) v t ledger after = record { rows = moved; number = settled_number holds group t rated now } in
+    let below : IsBelow a.next_bucket now =
+    subst (IsBelow a.next_bucket) rows.buckets account.below in
+    let same : SameSessions ledger after =
+    same_sessions-settled v t session group units blocks rated ledger in
+    let moved : buckets_at v t after ≡ settled_rows holds group t rated now =
+    buckets_at-settled v t session group units blocks rated ledger live sound.balanced
+    sound.distinct in
+    let held_is : reserved_in session group a.groups ≡ holds =
+    reserved_in_is ledger a session group account rows live in
+    let is_moved : IsMoved (settled_row holds group t rated now) v t ledger after =
+    record { rows = moved; number = settled_number holds group t rated now } in
     record {
-      barred = rows.barred ∙ sym (is_barred-front (charge_facts t hs) ledger (each_charge _ t hs (λ b n. refl)));
+      barred = rows.barred
+          ∙ sym (is_barred-front (charge_facts t hs) ledger (each_charge _ t hs (λ b n. refl)));
       buckets = (λ i. settled_rows (held_is i) group t rated (rows.buckets i)) ∙ sym moved;
       sessions = λ s. rows.sessions s ∙ sym (same_session v t ledger after same s);
-      groups = groups-settled v t session group units blocks rated ledger (settled_row holds group t rated now) a.groups is_moved (used_in_is ledger a session group rows) rows.groups;
-      counters = counters-settled (cycle_at a.book) v t session group units blocks rated ledger a.counters (count_in_is ledger a group (cycle_at a.book group t) rows) rows.counters;
-      next_bucket = rows.next_bucket ∙ omega (arith, total-front (λ d. credits_in d.fact) (charge_facts t hs) ledger (each_charge _ t hs (λ b n. refl)));
-      next_charge = ap (λ n. n + 1) rows.next_charge ∙ omega (arith, total-front (λ d. uses_in d.fact) (charge_facts t hs) ledger (each_charge _ t hs (λ b n. refl)));
+      groups = groups-settled v t session group units blocks rated ledger
+          (settled_row holds group t rated now) a.groups is_moved
+          (used_in_is ledger a session group rows) rows.groups;
+      counters =
+          counters-settled (cycle_at a.book) v t session group units blocks rated ledger a.counters
+          (count_in_is ledger a group (cycle_at a.book group t) rows) rows.counters;
+      next_bucket =
+          rows.next_bucket
+          ∙ omega (
+            arith,
+            total-front (λ d. credits_in d.fact) (charge_facts t hs) ledger
+                (each_charge _ t hs (λ b n. refl)),
+          );
+      next_charge =
+          ap (λ n. n + 1) rows.next_charge
+          ∙ omega (
+            arith,
+            total-front (λ d. uses_in d.fact) (charge_facts t hs) ledger
+                (each_charge _ t hs (λ b n. refl)),
+          );
       touched = same_touched ledger after same rows.touched;
-      unknown = λ s e. unknown-settled v t session group units blocks rated ledger s (rows.unknown s (sym (same.recording s) ∙ e));
-      fresh = λ n le. omega (arith, charged-charge_facts n t hs ledger, sum_at_none (paid holds group t rated now) n now (differs_above a.next_bucket n now below le), rows.fresh n le);
-      free = λ n counts le. omega (arith, held-charge_facts (λ s g. counts s g && not (is_same s session && g == group)) n t hs ledger, rows.free n (λ s g. counts s g && not (is_same s session && g == group)) le);
+      unknown =
+          λ s e. unknown-settled v t session group units blocks rated ledger s
+          (rows.unknown s (sym (same.recording s) ∙ e));
+      fresh = λ n le. omega (
+        arith,
+        charged-charge_facts n t hs ledger,
+        sum_at_none (paid holds group t rated now) n now
+            (differs_above a.next_bucket n now below le),
+        rows.fresh n le,
+      );
+      free = λ n counts le. omega (
+        arith,
+        held-charge_facts (λ s g. counts s g && not (is_same s session && g == group)) n t
+            hs ledger,
+        rows.free n (λ s g. counts s g && not (is_same s session && g == group)) le,
+      );
     }
 
 -- ---- the rows of the ledger with the reservation's end
 
-ended_key : (t : Bool) (r : SessionGroup) (s : List ℕ) (g : ℕ) → is_of s g (if t then record r { reservation = None } else r) ≡ is_of s g r
+ended_key : (t : Bool) (r : SessionGroup) (s : List ℕ) (g : ℕ) →
+    is_of s g (if t then record r { reservation = None } else r) ≡ is_of s g r
 ended_key true r s g = refl
 ended_key false r s g = refl
 
-groups-ended : (v t : ℕ) (session : List ℕ) (group : ℕ) (ledger : Ledger) (does : Row → Row) (rows : List SessionGroup) →
+groups-ended : (v t : ℕ) (session : List ℕ) (group : ℕ) (ledger : Ledger) (does : Row → Row)
+    (rows : List SessionGroup) →
     IsMoved does v t ledger (with_end t session group ledger) →
     ((s : List ℕ) (g : ℕ) → group_in s g rows ≡ group_at v t ledger s g) →
-    (s : List ℕ) (g : ℕ) → group_in s g (map (ended_group session group) rows) ≡ group_at v t (with_end t session group ledger) s g
+    (s : List ℕ) (g : ℕ) →
+    group_in s g (map (ended_group session group) rows)
+    ≡ group_at v t (with_end t session group ledger) s g
 groups-ended v t session group ledger does rows moved h s g =
-    find-map (is_of s g) (ended_group session group) rows (λ r. ended_key (is_of session group r) r s g)
+    find-map (is_of s g) (ended_group session group) rows
+    (λ r. ended_key (is_of session group r) r s g)
     ∙ ap (option_map (ended_group session group)) (h s g)
     ∙ by_test (is_key session group s g) refl
   where
@@ -390,33 +652,72 @@ groups-ended v t session group ledger does rows moved h s g =
     after = with_end t session group ledger
 
     old : SessionGroup
-    old = record { session = s; group = g; used = used s g ledger; reservation = reservation_at v t ledger s g }
+    old = record {
+      session = s;
+      group = g;
+      used = used s g ledger;
+      reservation = reservation_at v t ledger s g;
+    }
 
-    ended : (n : Bool) (k : Bool) → is_of session group old ≡ k → option_map (ended_group session group) (if n then Some old else None) ≡ (if n then Some (if k then record old { reservation = None } else old) else None)
+    ended : (n : Bool) (k : Bool) → is_of session group old ≡ k →
+        option_map (ended_group session group) (if n then Some old else None)
+        ≡ (if n then Some (if k then record old { reservation = None } else old) else None)
     ended true k e = λ i. Some (if e i then record old { reservation = None } else old)
     ended false k e = refl
 
-    by_test : (e : Bool) → is_key session group s g ≡ e → option_map (ended_group session group) (group_at v t ledger s g) ≡ group_at v t after s g
+    by_test : (e : Bool) → is_key session group s g ≡ e →
+        option_map (ended_group session group) (group_at v t ledger s g) ≡ group_at v t after s g
     by_test true q =
-        let key : is_of session group old ≡ true = key_of s g session group (sym (key_session session group s g q)) (sym (key_group session group s g q)) in
+        let key : is_of session group old ≡ true =
+        key_of s g session group (sym (key_session session group s g q))
+        (sym (key_group session group s g q)) in
         let so_far : used s g after ≡ used s g ledger = omega arith in
-        let none : reservation_at v t after s g ≡ None = either_none (is_live v t after s) (holds_at v t s g after) (newest (grant_in s g) after) (λ i. or_else (if q i then Some None else None) (newest (grant_in s g) ledger)) in
-        let row : (let r : SessionGroup = record { session = s; group = g; used = used s g ledger; reservation = None } in r) ≡ (let r : SessionGroup = record { session = s; group = g; used = used s g after; reservation = reservation_at v t after s g } in r) = λ i. record { session = s; group = g; used = sym so_far i; reservation = sym none i } in
-        ended (has_group s g ledger) true key ∙ (λ i. (if has_group s g ledger then Some (row i) else None))
+        let none : reservation_at v t after s g ≡ None =
+        either_none (is_live v t after s) (holds_at v t s g after) (newest (grant_in s g) after)
+        (λ i. or_else (if q i then Some None else None) (newest (grant_in s g) ledger)) in
+        let row :
+        (let r : SessionGroup =
+        record { session = s; group = g; used = used s g ledger; reservation = None } in r)
+        ≡ (let r : SessionGroup =
+        record {
+          session = s;
+          group = g;
+          used = used s g after;
+          reservation = reservation_at v t after s g;
+        } in r) =
+        λ i. record { session = s; group = g; used = sym so_far i; reservation = sym none i } in
+        ended (has_group s g ledger) true key
+        ∙ (λ i. (if has_group s g ledger then Some (row i) else None))
     by_test false q =
-        let key : is_of session group old ≡ false = not_true (is_of session group old) (λ e. let same : is_key session group s g ≡ true = key_of session group s g (sym (key_session s g session group e)) (sym (key_group s g session group e)) in cc) in
+        let key : is_of session group old ≡ false =
+        not_true (is_of session group old)
+        (λ e. let same : is_key session group s g
+        ≡ true = key_of session group s g (sym (key_session s g session group e))
+        (sym (key_group s g session group e)) in cc) in
         let others : SameGroup s g ledger after = record {
           named = refl;
           used = omega arith;
-          grant = λ i. inner (or_else (if q i then Some None else None) (newest (grant_in s g) ledger));
-          held = λ n. omega (arith, held_same (λ a b. only s g a b && not (is_same a session && b == group)) (only s g) n ledger (ended_other session group s g q));
+          grant = λ i. inner
+              (or_else (if q i then Some None else None) (newest (grant_in s g) ledger));
+          held = λ n. omega (
+            arith,
+            held_same (λ a b. only s g a b && not (is_same a session && b == group))
+                (only s g) n ledger (ended_other session group s g q),
+          );
         } in
-        ended (has_group s g ledger) false key ∙ sym (same_group does v t ledger after s g moved (same_sessions-ended t session group ledger) others)
+        ended (has_group s g ledger) false key
+        ∙ sym (same_group does v t ledger after s g moved
+        (same_sessions-ended t session group ledger) others)
 
-counter_ended : (f : ℕ → ℕ) (t : ℕ) (session : List ℕ) (group : ℕ) (ledger : Ledger) (g c : ℕ) → counter_at f ledger g c ≡ counter_at f (with_end t session group ledger) g c
+counter_ended : (f : ℕ → ℕ) (t : ℕ) (session : List ℕ) (group : ℕ) (ledger : Ledger) (g c : ℕ) →
+    counter_at f ledger g c ≡ counter_at f (with_end t session group ledger) g c
 counter_ended f t session group ledger g c =
-    let count : counter f g c ledger ≡ counter f g c (with_end t session group ledger) = omega (arith, if_none (f t == c)) in
-    let same : (let r : Counter = record { group = g; cycle = c; blocks = counter f g c ledger } in r) ≡ (let r : Counter = record { group = g; cycle = c; blocks = counter f g c (with_end t session group ledger) } in r) = λ i. record { group = g; cycle = c; blocks = count i } in
+    let count : counter f g c ledger ≡ counter f g c (with_end t session group ledger) =
+    omega (arith, if_none (f t == c)) in
+    let same : (let r : Counter = record { group = g; cycle = c; blocks = counter f g c ledger } in
+    r) ≡ (let r : Counter =
+    record { group = g; cycle = c; blocks = counter f g c (with_end t session group ledger) } in
+    r) = λ i. record { group = g; cycle = c; blocks = count i } in
     λ i. (if has_counter f g c ledger then Some (same i) else None)
 
 pub IsRowsOf-ended : (ledger : Ledger) (a : AccountRows) (session : List ℕ) (group : ℕ) →
@@ -430,37 +731,55 @@ IsRowsOf-ended ledger a session group account rows live =
     let holds : List Hold = holds_at v t session group ledger in
     let sound : IsSound now = subst IsSound rows.buckets account.sound in
     let same : SameSessions ledger after = same_sessions-ended t session group ledger in
-    let moved : buckets_at v t after ≡ released_rows holds t now = buckets_at-ended v t session group ledger live sound.balanced sound.distinct in
-    let held_is : reserved_in session group a.groups ≡ holds = reserved_in_is ledger a session group account rows live in
-    let is_moved : IsMoved (λ b. with_release t b (held_in holds b)) v t ledger after = record { rows = moved; number = λ b. with_release_number t b (held_in holds b) } in
+    let moved : buckets_at v t after ≡ released_rows holds t now =
+    buckets_at-ended v t session group ledger live sound.balanced sound.distinct in
+    let held_is : reserved_in session group a.groups ≡ holds =
+    reserved_in_is ledger a session group account rows live in
+    let is_moved : IsMoved (λ b. with_release t b (held_in holds b)) v t ledger after =
+    record { rows = moved; number = λ b. with_release_number t b (held_in holds b) } in
     record {
       barred = rows.barred;
       buckets = (λ i. released_rows (held_is i) t (rows.buckets i)) ∙ sym moved;
       sessions = λ s. rows.sessions s ∙ sym (same_session v t ledger after same s);
-      groups = groups-ended v t session group ledger (λ b. with_release t b (held_in holds b)) a.groups is_moved rows.groups;
-      counters = λ g c. rows.counters g c ∙ counter_ended (cycle_at a.book g) t session group ledger g c;
+      groups = groups-ended v t session group ledger (λ b. with_release t b (held_in holds b))
+          a.groups is_moved rows.groups;
+      counters =
+          λ g c. rows.counters g c ∙ counter_ended (cycle_at a.book g) t session group ledger g c;
       next_bucket = rows.next_bucket ∙ omega arith;
       next_charge = rows.next_charge ∙ omega arith;
       touched = same_touched ledger after same rows.touched;
       unknown = λ s e. unknown-ended t session group ledger s (rows.unknown s e);
       fresh = λ n le. omega (arith, rows.fresh n le);
-      free = λ n counts le. omega (arith, rows.free n (λ s g. counts s g && not (is_same s session && g == group)) le);
+      free = λ n counts le. omega
+          (arith, rows.free n (λ s g. counts s g && not (is_same s session && g == group)) le);
     }
 
 -- ---- a report's settlement
 
 -- a report costs by the rows what it costs by the ledger
-pub price_in_is : (ledger : Ledger) (a : AccountRows) (s : List ℕ) (g : ℕ) (used_parts : List UsedPart) → IsRowsOf ledger a → is_live a.book.validity a.as_of ledger s ≡ true →
+pub price_in_is : (ledger : Ledger) (a : AccountRows) (s : List ℕ) (g : ℕ)
+    (used_parts : List UsedPart) → IsRowsOf ledger a →
+    is_live a.book.validity a.as_of ledger s ≡ true →
     price_in s g a.as_of used_parts a ≡ report_price a.book a.as_of s g used_parts ledger
 price_in_is ledger a s g used_parts rows live =
-    λ i. price_of a.book a.as_of g (periods_in_is ledger a s g rows live i) (used_in_is ledger a s g rows i) (count_in_is ledger a g (cycle_at a.book g a.as_of) rows i) used_parts
+    λ i. price_of a.book a.as_of g (periods_in_is ledger a s g rows live i)
+    (used_in_is ledger a s g rows i) (count_in_is ledger a g (cycle_at a.book g a.as_of) rows i)
+    used_parts
 
-pub IsRowsOf-settled_by : (ledger : Ledger) (a : AccountRows) (session : List ℕ) (group : ℕ) (used_parts : List UsedPart) →
+pub IsRowsOf-settled_by : (ledger : Ledger) (a : AccountRows) (session : List ℕ) (group : ℕ)
+    (used_parts : List UsedPart) →
     IsAccount a → IsRowsOf ledger a → is_live a.book.validity a.as_of ledger session ≡ true →
-    IsRowsOf (settled_by a.book a.as_of session group used_parts ledger) (settled_by_rows session group used_parts a)
-IsRowsOf-settled_by ledger a session group [] account rows live = IsRowsOf-ended ledger a session group account rows live
+    IsRowsOf (settled_by a.book a.as_of session group used_parts ledger)
+    (settled_by_rows session group used_parts a)
+IsRowsOf-settled_by ledger a session group [] account rows live =
+    IsRowsOf-ended ledger a session group account rows live
 IsRowsOf-settled_by ledger a session group (p ∷ ps) account rows live =
-    let cost : price_in session group a.as_of (p ∷ ps) a ≡ report_price a.book a.as_of session group (p ∷ ps) ledger = price_in_is ledger a session group (p ∷ ps) rows live in
+    let cost : price_in session group a.as_of (p ∷ ps) a
+    ≡ report_price a.book a.as_of session group (p ∷ ps) ledger =
+    price_in_is ledger a session group (p ∷ ps) rows live in
     let x : Rated = price_in session group a.as_of (p ∷ ps) a in
-    subst (λ (y : Rated). IsRowsOf (settled a.book.validity a.as_of session group (reported (p ∷ ps)) y.blocks y.amount.0 ledger) (settled_by_rows session group (p ∷ ps) a)) cost
-    (IsRowsOf-settled ledger a session group (reported (p ∷ ps)) x.blocks x.amount.0 account rows live)
+    subst (λ (y : Rated). IsRowsOf
+    (settled a.book.validity a.as_of session group (reported (p ∷ ps)) y.blocks y.amount.0
+    ledger) (settled_by_rows session group (p ∷ ps) a)) cost
+    (IsRowsOf-settled ledger a session group (reported (p ∷ ps)) x.blocks x.amount.0 account rows
+    live)

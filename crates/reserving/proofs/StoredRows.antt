@@ -6,7 +6,8 @@ use Rattle.reserving.specs.Changes.{advanced}
 use Rattle.reserving.specs.Stored.{StoredRows, IsStored, priced, stored, advanced_stored}
 use Rattle.reserving.proofs.Advanced.{IsAccount-advanced}
 
-pub IsAccount-priced : (book : Book) (r : StoredRows) → IsBook book → IsStored r → IsAccount (priced book r)
+pub IsAccount-priced : (book : Book) (r : StoredRows) → IsBook book → IsStored r →
+    IsAccount (priced book r)
 IsAccount-priced book r ranges is = record {
   book = ranges;
   sound = is.sound;
@@ -39,6 +40,8 @@ IsStored-stored a is = record {
   order = is.order;
 }
 
-pub IsStored-advanced : (book : Book) (t : ℕ) (r : StoredRows) → IsBook book → IsStored r → IsStored (advanced_stored book t r)
+pub IsStored-advanced : (book : Book) (t : ℕ) (r : StoredRows) → IsBook book → IsStored r →
+    IsStored (advanced_stored book t r)
 IsStored-advanced book t r ranges is =
-    IsStored-stored (advanced t (priced book r)) (IsAccount-advanced (priced book r) t (IsAccount-priced book r ranges is))
+    IsStored-stored (advanced t (priced book r))
+    (IsAccount-advanced (priced book r) t (IsAccount-priced book r ranges is))

@@ -9,3 +9,4 @@ pub mod Reserved
 pub mod Debited
 mod Worked
 pub mod Barring
+pub mod Owed

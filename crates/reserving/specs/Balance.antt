@@ -8,7 +8,8 @@ use Rattle.reserving.specs.Ledger.Fact.{Credit}
 
 -- the buckets as they were credited, by end and then by number
 abbrev pub credited_by : Fact → List Row → List Row
-credited_by (Credit number from until scope amount) rows = inserted (new_row number from until scope amount) rows
+credited_by (Credit number from until scope amount) rows =
+    inserted (new_row number from until scope amount) rows
 credited_by _ rows = rows
 
 abbrev pub credits : Ledger → List Row
@@ -26,7 +27,8 @@ balance_of t c charged held = record c {
 
 -- a bucket's position at a moment: what live sessions' reservations hold is reserved
 abbrev pub bucket_at : ℕ → ℕ → Ledger → Row → Row
-bucket_at v t ledger c = balance_of t c (charged c.number ledger) (held (λ s g. is_live v t ledger s) c.number ledger)
+bucket_at v t ledger c =
+    balance_of t c (charged c.number ledger) (held (λ s g. is_live v t ledger s) c.number ledger)
 
 abbrev pub buckets_at : ℕ → ℕ → Ledger → List Row
 buckets_at v t ledger = map (bucket_at v t ledger) (credits ledger)

@@ -22,11 +22,12 @@ use Rattle.reserving.specs.Settlement.{reported, price_of}
 use Rattle.reserving.specs.Debiting.{untagged}
 use Rattle.reserving.specs.Rows.{AccountRows}
 
--- ---- time goes on: sessions whose supervision time is over end, what they held is given up, and what is left
--- of buckets that ended is expired
+-- ---- time goes on: sessions whose supervision time is over end, what they held is given up, and
+-- what is left of buckets that ended is expired
 
 abbrev pub lapse : ℕ → ℕ → Session → Session
-lapse v t r = if is_open r.state && not (nat_lt t (r.touched + 2 * v)) then record r { state = Ended } else r
+lapse v t r =
+    if is_open r.state && not (nat_lt t (r.touched + 2 * v)) then record r { state = Ended } else r
 
 -- a group of a session that doesn't keep its reservations
 abbrev pub lapse_group : (List ℕ → Bool) → SessionGroup → SessionGroup
@@ -39,7 +40,10 @@ lapsed_in keeps groups b = held_by (λ s. not (keeps s)) groups b
 abbrev pub advanced : ℕ → AccountRows → AccountRows
 advanced t a = record a {
   as_of = t;
-  buckets = map (λ b. with_end t (with_release t b (lapsed_in (is_live_in a.book.validity t a.sessions) a.groups b))) a.buckets;
+  buckets =
+      map (λ b. with_end t
+      (with_release t b (lapsed_in (is_live_in a.book.validity t a.sessions) a.groups b)))
+      a.buckets;
   sessions = map (lapse a.book.validity t) a.sessions;
   groups = map (lapse_group (is_live_in a.book.validity t a.sessions)) a.groups;
 }
@@ -47,16 +51,19 @@ advanced t a = record a {
 -- ---- sessions
 
 abbrev pub session_put : List ℕ → ℕ → ℕ → SessionState → List Session → List Session
-session_put s number t state rows = put (is_session s) (record { id = s; last_number = number; touched = t; state = state }) rows
+session_put s number t state rows =
+    put (is_session s) (record { id = s; last_number = number; touched = t; state = state }) rows
 
 abbrev pub with_session : List ℕ → ℕ → ℕ → SessionState → AccountRows → AccountRows
 with_session s number t state a = record a { sessions = session_put s number t state a.sessions }
 
 abbrev pub touched_session : List ℕ → ℕ → ℕ → Session → Session
-touched_session s number t r = if is_session s r then record r { last_number = number; touched = t; state = Open } else r
+touched_session s number t r =
+    if is_session s r then record r { last_number = number; touched = t; state = Open } else r
 
 abbrev pub touched_account : List ℕ → ℕ → AccountRows → AccountRows
-touched_account s number a = record a { sessions = map (touched_session s number a.as_of) a.sessions }
+touched_account s number a =
+    record a { sessions = map (touched_session s number a.as_of) a.sessions }
 
 -- ---- groups and counters
 
@@ -76,10 +83,13 @@ abbrev pub count_in : ℕ → ℕ → List Counter → ℕ
 count_in g c rows = unwrap_or (option_map (λ r. r.blocks) (counter_in g c rows)) 0
 
 abbrev pub with_use : List ℕ → ℕ → ℕ → List SessionGroup → List SessionGroup
-with_use s g units rows = put (is_of s g) (record { session = s; group = g; used = used_in s g rows + units; reservation = None }) rows
+with_use s g units rows =
+    put (is_of s g)
+    (record { session = s; group = g; used = used_in s g rows + units; reservation = None }) rows
 
 abbrev pub with_count : ℕ → ℕ → ℕ → List Counter → List Counter
-with_count g c blocks rows = put (is_counter g c) (record { group = g; cycle = c; blocks = count_in g c rows + blocks }) rows
+with_count g c blocks rows =
+    put (is_counter g c) (record { group = g; cycle = c; blocks = count_in g c rows + blocks }) rows
 
 -- ---- settlement
 
@@ -108,23 +118,32 @@ periods_in s g rows = option_map (λ r. r.periods) (group_or_new s g rows).reser
 -- what a report costs, by the rows
 abbrev pub price_in : List ℕ → ℕ → ℕ → List UsedPart → AccountRows → Rated
 price_in s g t used_parts a =
-    price_of a.book t g (periods_in s g a.groups) (used_in s g a.groups) (count_in g (cycle_at a.book g t) a.counters) used_parts
+    price_of a.book t g (periods_in s g a.groups) (used_in s g a.groups)
+    (count_in g (cycle_at a.book g t) a.counters) used_parts
 
 abbrev pub settled_by_rows : List ℕ → ℕ → List UsedPart → AccountRows → AccountRows
 settled_by_rows s g [] a = ended_rows s g a
 settled_by_rows s g (p ∷ ps) a =
-    settled_account s g (reported (p ∷ ps)) (price_in s g a.as_of (p ∷ ps) a).blocks (price_in s g a.as_of (p ∷ ps) a).amount.0 a
+    settled_account s g (reported (p ∷ ps)) (price_in s g a.as_of (p ∷ ps) a).blocks
+    (price_in s g a.as_of (p ∷ ps) a).amount.0 a
 
 -- ---- debits
 
 -- what an event's units cost, by the rows
 abbrev pub event_price_in : ℕ → ℕ → ℕ → AccountRows → Rated
-event_price_in g units t a = price_of a.book t g None 0 (count_in g (cycle_at a.book g t) a.counters) (untagged units)
+event_price_in g units t a =
+    price_of a.book t g None 0 (count_in g (cycle_at a.book g t) a.counters) (untagged units)
 
 -- an event's use leaves the group's reservation as it is
 abbrev pub with_event : List ℕ → ℕ → ℕ → List SessionGroup → List SessionGroup
 with_event s g units rows =
-    put (is_of s g) (record { session = s; group = g; used = used_in s g rows + units; reservation = (group_or_new s g rows).reservation }) rows
+    put (is_of s g)
+    (record {
+      session = s;
+      group = g;
+      used = used_in s g rows + units;
+      reservation = (group_or_new s g rows).reservation;
+    }) rows
 
 abbrev pub debited_account : List ℕ → ℕ → ℕ → ℕ → ℕ → AccountRows → AccountRows
 debited_account s g units blocks rated a = record a {
@@ -136,14 +155,22 @@ debited_account s g units blocks rated a = record a {
 
 -- ---- reservation
 
-abbrev pub with_reservation : List ℕ → ℕ → Periods → List Hold → List SessionGroup → List SessionGroup
+abbrev pub with_reservation : List ℕ → ℕ → Periods → List Hold → List SessionGroup →
+    List SessionGroup
 with_reservation s g periods holds rows =
-    put (is_of s g) (record { session = s; group = g; used = used_in s g rows; reservation = Some (record { periods = periods; holds = holds }) }) rows
+    put (is_of s g)
+    (record {
+      session = s;
+      group = g;
+      used = used_in s g rows;
+      reservation = Some (record { periods = periods; holds = holds });
+    }) rows
 
 abbrev pub reserved_account : List ℕ → ℕ → ℕ → AccountRows → AccountRows
 reserved_account s g amount a = record a {
   buckets = held_rows g a.as_of amount a.buckets;
-  groups = with_reservation s g (periods_at a.book a.as_of) (holds_of g a.as_of amount a.buckets) a.groups;
+  groups = with_reservation s g (periods_at a.book a.as_of) (holds_of g a.as_of amount a.buckets)
+      a.groups;
 }
 
 -- ---- credit
@@ -173,11 +200,13 @@ closed_account s a = record a {
 -- ---- the same, one reservation after another
 
 abbrev pub lapse_from : Bool → ℕ → Option Reservation → List Row → List Row
-lapse_from live t reservation rows = if live then rows else released_rows (holds_in reservation) t rows
+lapse_from live t reservation rows =
+    if live then rows else released_rows (holds_in reservation) t rows
 
 abbrev pub lapsed_rows : (List ℕ → Bool) → ℕ → List SessionGroup → List Row → List Row
 lapsed_rows keeps t [] rows = rows
-lapsed_rows keeps t (r ∷ rs) rows = lapsed_rows keeps t rs (lapse_from (keeps r.session) t r.reservation rows)
+lapsed_rows keeps t (r ∷ rs) rows =
+    lapsed_rows keeps t rs (lapse_from (keeps r.session) t r.reservation rows)
 
 -- what the remaining reservations hold is within what is reserved
 abbrev pub AreLapsable : (List ℕ → Bool) → List SessionGroup → List Row → Type 0
@@ -187,7 +216,8 @@ AreLapsable p groups rows = Each (λ b. held_by p groups b ≤ b.reserved) rows
 
 -- what a bucket has available for a group at a later moment, with what ended sessions held of it
 abbrev pub amount_later : ℕ → ℕ → ℕ → List Session → List SessionGroup → Row → ℕ
-amount_later group v t sessions groups b = if is_eligible group t b then b.available + lapsed_in (is_live_in v t sessions) groups b else 0
+amount_later group v t sessions groups b =
+    if is_eligible group t b then b.available + lapsed_in (is_live_in v t sessions) groups b else 0
 
 abbrev pub funds_later : ℕ → ℕ → ℕ → List Session → List SessionGroup → List Row → ℕ
 funds_later group v t sessions groups rows = sum_by (amount_later group v t sessions groups) rows

@@ -1,5 +1,5 @@
--- A debit: an event's units are priced and charged at once, with no reservation (TS 32.299, immediate event charging;
--- RFC 8506 section 6.3).
+-- A debit: an event's units are priced and charged at once, with no reservation (TS 32.299,
+-- immediate event charging; RFC 8506 section 6.3).
 use Rattle.std.specs.Prelude.{ℕ, Bool, nat_le, List, [], ◌∷◌, ◌++◌, None}
 use Rattle.units.specs.declared.blocks.UsedPart.{UsedPart}
 use Rattle.tariffs.specs.Books.{Book}
@@ -17,14 +17,18 @@ use Rattle.reserving.specs.Settlement.{price_of, charge_facts, passes}
 abbrev pub untagged : ℕ → List UsedPart
 untagged units = record { units = record { 0 = units }; change = None } ∷ []
 
--- what an event's units cost: they start blocks from no use on, at the period of the moment, from the group's counter
--- in the cycle on
+-- what an event's units cost: they start blocks from no use on, at the period of the moment, from
+-- the group's counter in the cycle on
 abbrev pub event_price : Book → ℕ → ℕ → ℕ → Ledger → Rated
-event_price b t group units ledger = price_of b t group None 0 (counter (cycle_at b group) group (cycle_at b group t) ledger) (untagged units)
+event_price b t group units ledger =
+    price_of b t group None 0 (counter (cycle_at b group) group (cycle_at b group t) ledger)
+    (untagged units)
 
 -- the eligible buckets have their price
 abbrev pub is_covered : Book → ℕ → ℕ → ℕ → Ledger → Bool
-is_covered b t group units ledger = nat_le (event_price b t group units ledger).amount.0 (funds group t (buckets_at b.validity t ledger))
+is_covered b t group units ledger =
+    nat_le (event_price b t group units ledger).amount.0
+    (funds group t (buckets_at b.validity t ledger))
 
 abbrev pub charged_use : ℕ → ℕ → List ℕ → ℕ → ℕ → ℕ → ℕ → Ledger → Ledger
 charged_use v t session group units blocks rated ledger =
@@ -37,9 +41,12 @@ charged_use v t session group units blocks rated ledger =
 -- the ledger with a debit that is covered
 abbrev pub debited : Book → ℕ → List ℕ → ℕ → ℕ → Ledger → Ledger
 debited b t session group units ledger =
-    charged_use b.validity t session group units (event_price b t group units ledger).blocks (event_price b t group units ledger).amount.0 ledger
+    charged_use b.validity t session group units (event_price b t group units ledger).blocks
+    (event_price b t group units ledger).amount.0 ledger
 
 -- a stored number would pass its limit
 abbrev pub debit_passes : Book → ℕ → List ℕ → ℕ → ℕ → Ledger → Bool
 debit_passes b t session group units ledger =
-    passes (used session group ledger) units (counter (cycle_at b group) group (cycle_at b group t) ledger) (event_price b t group units ledger).blocks (next_charge ledger)
+    passes (used session group ledger) units
+    (counter (cycle_at b group) group (cycle_at b group t) ledger)
+    (event_price b t group units ledger).blocks (next_charge ledger)

@@ -1,14 +1,15 @@
--- The ledger of an account: a list of dated facts, the newest first. It only grows, at its front, and every
--- balance is a sum over it (TS 32.296, account balance management function).
+-- The ledger of an account: a list of dated facts, the newest first. It only grows, at its front,
+-- and every balance is a sum over it (TS 32.296, account balance management function).
 use Rattle.std.specs.Prelude.{ℕ, ◌+◌, ◌*◌, Bool, false, not, ◌==◌, ◌&&◌, ◌||◌, nat_lt, nat_eq, if◌then◌else◌, List, [], ◌∷◌, Option, Some, None, unwrap_or}
 use Rattle.std.specs.Cmp.Lexicographic.{pointwise}
 use Rattle.rating.specs.declared.grant.Periods.{Periods}
 
--- Credit: a bucket is made. Grant, Hold and End: a session gets units of a rating group, priced by the tariff
--- periods at the grant and at the switch within its validity, from this place of the group's counter on; what is held for it of each bucket; it is over. Use and Charge: units are reported, start
--- blocks, and are rated; what each bucket pays. Touch and Close: a request of the session is accepted; the
--- session ends. Recorded: a request of the session is kept under its number. Barred: the account is barred, or no
--- longer.
+-- Credit: a bucket is made. Grant, Hold and End: a session gets units of a rating group, priced by
+-- the tariff periods at the grant and at the switch within its validity, from this place of the
+-- group's counter on; what is held for it of each bucket; it is over. Use and Charge: units are
+-- reported, start blocks, and are rated; what each bucket pays. Touch and Close: a request of the
+-- session is accepted; the session ends. Recorded: a request of the session is kept under its
+-- number. Barred: the account is barred, or no longer.
 pub data Fact : Type 0 where
   Credit : (number from until : ℕ) (scope : Option ℕ) (amount : ℕ) → Fact
   Grant : (session : List ℕ) (group : ℕ) (periods : Periods) (units counter : ℕ) → Fact
@@ -84,7 +85,8 @@ next_bucket ledger = total (λ d. credits_in d.fact) ledger + 1
 -- ---- use
 
 abbrev pub units_in : List ℕ → ℕ → Fact → ℕ
-units_in s g (Use session group units blocks rated uncollected) = if is_same session s && group == g then units else 0
+units_in s g (Use session group units blocks rated uncollected) =
+    if is_same session s && group == g then units else 0
 units_in s g _ = 0
 
 -- a session's use of a group so far
@@ -97,7 +99,8 @@ blocks_in g _ = 0
 
 -- the account's counter of a group in a cycle: the blocks of the uses whose moments lie in it
 abbrev pub counter : (ℕ → ℕ) → ℕ → ℕ → Ledger → ℕ
-counter cycle_at g c ledger = total (λ d. if cycle_at d.at == c then blocks_in g d.fact else 0) ledger
+counter cycle_at g c ledger =
+    total (λ d. if cycle_at d.at == c then blocks_in g d.fact else 0) ledger
 
 abbrev pub uses_in : Fact → ℕ
 uses_in (Use session group units blocks rated uncollected) = 1
@@ -132,8 +135,8 @@ abbrev pub is_within : ℕ → ℕ → Option ℕ → Bool
 is_within v t None = false
 is_within v t (Some at) = nat_lt t (at + 2 * v)
 
--- a live session: it has a touch, wasn't closed, and its supervision time is not over (profile, in the place
--- of the session supervision timer Tcc of RFC 8506 section 13)
+-- a live session: it has a touch, wasn't closed, and its supervision time is not over (profile, in
+-- the place of the session supervision timer Tcc of RFC 8506 section 13)
 abbrev pub is_live : ℕ → ℕ → Ledger → List ℕ → Bool
 is_live v t ledger s = is_within v t (last_touch s ledger) && not (is_closed s ledger)
 
@@ -145,7 +148,8 @@ abbrev pub recording_in : List ℕ → Dated → Option Recording
 recording_in s d = recorded_by d.fact
   where
     recorded_by : Fact → Option Recording
-    recorded_by (Recorded session number) = if is_same session s then Some (record { number = number; at = d.at }) else None
+    recorded_by (Recorded session number) =
+        if is_same session s then Some (record { number = number; at = d.at }) else None
     recorded_by _ = None
 
 -- a session's last accepted request
@@ -156,11 +160,13 @@ last_recording s ledger = newest (recording_in s) ledger
 
 -- which reservations' holds count, seen from before a fact: none that it ends
 abbrev pub counts_before : Fact → (List ℕ → ℕ → Bool) → List ℕ → ℕ → Bool
-counts_before (End session group) counts = λ s g. counts s g && not (is_same s session && g == group)
+counts_before (End session group) counts =
+    λ s g. counts s g && not (is_same s session && g == group)
 counts_before _ counts = counts
 
 abbrev pub hold_of : (List ℕ → ℕ → Bool) → ℕ → Fact → ℕ
-hold_of counts n (Hold session group bucket amount) = if counts session group && bucket == n then amount else 0
+hold_of counts n (Hold session group bucket amount) =
+    if counts session group && bucket == n then amount else 0
 hold_of counts n _ = 0
 
 -- what reservations hold of a bucket: those that count, and that no later fact ended
@@ -176,7 +182,8 @@ abbrev pub grant_in : List ℕ → ℕ → Dated → Option (Option Periods)
 grant_in s g d = granted_by d.fact
   where
     granted_by : Fact → Option (Option Periods)
-    granted_by (Grant session group periods units counter) = if is_same session s && group == g then Some (Some periods) else None
+    granted_by (Grant session group periods units counter) =
+        if is_same session s && group == g then Some (Some periods) else None
     granted_by (End session group) = if is_same session s && group == g then Some None else None
     granted_by _ = None
 

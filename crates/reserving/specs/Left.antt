@@ -43,8 +43,8 @@ pub record IsDead (b : Row) : Type 0 where
   pub available : b.available ≡ 0
   pub reserved : b.reserved ≡ 0
 
--- what was left is dead: buckets without money, sessions that aren't open, with their groups, which hold nothing; and
--- no row has the key of another
+-- what was left is dead: buckets without money, sessions that aren't open, with their groups, which
+-- hold nothing; and no row has the key of another
 pub record IsLeft (left : LeftRows) (a : AccountRows) : Type 0 where
   pub dead : Each IsDead left.buckets
   pub over : EachIn (λ r. is_open r.state ≡ false) left.sessions
@@ -55,7 +55,8 @@ pub record IsLeft (left : LeftRows) (a : AccountRows) : Type 0 where
 
 -- no counter that was left is of a cycle at the moment
 abbrev pub AreOfOtherCycles : Book → ℕ → List Counter → Type 0
-AreOfOtherCycles book t counters = EachIn (λ r. (r.cycle == cycle_at book r.group t) ≡ false) counters
+AreOfOtherCycles book t counters =
+    EachIn (λ r. (r.cycle == cycle_at book r.group t) ≡ false) counters
 
 -- ---- what is loaded at a moment
 
@@ -88,9 +89,14 @@ pub record IsPartOf (t : ℕ) (w a : AccountRows) : Type 0 where
   pub next_bucket : a.next_bucket ≡ w.next_bucket
   pub next_charge : a.next_charge ≡ w.next_charge
   pub buckets : a.buckets ≡ filter (λ b. not (is_dead b)) w.buckets
-  pub sessions : (s : List ℕ) → session_in s a.sessions ≡ only (λ r. is_open r.state) (session_in s w.sessions)
-  pub groups : (s : List ℕ) (g : ℕ) → group_in s g a.groups ≡ (if is_open_row (session_in s w.sessions) then group_in s g w.groups else None)
-  pub counters : (g c : ℕ) → counter_in g c a.counters ≡ (if c == cycle_at w.book g t then counter_in g c w.counters else None)
+  pub sessions : (s : List ℕ) →
+      session_in s a.sessions ≡ only (λ r. is_open r.state) (session_in s w.sessions)
+  pub groups : (s : List ℕ) (g : ℕ) →
+      group_in s g a.groups
+      ≡ (if is_open_row (session_in s w.sessions) then group_in s g w.groups else None)
+  pub counters : (g c : ℕ) →
+      counter_in g c a.counters
+      ≡ (if c == cycle_at w.book g t then counter_in g c w.counters else None)
 
 -- so what is loaded and what was left are together the ledger's rows
 pub record IsLoadedWith (ledger : Ledger) (t : ℕ) (w a : AccountRows) : Type 0 where
@@ -124,7 +130,8 @@ pub record IsBeside (left : LeftRows) (t : ℕ) (a : AccountRows) : Type 0 where
   pub apart : IsLeft left a
   pub cycles : AreOfOtherCycles a.book t left.counters
 
--- the account's rows and those left are together the ledger's; at the moment no counter that was left is of a cycle
+-- the account's rows and those left are together the ledger's; at the moment no counter that was
+-- left is of a cycle
 pub record IsWith (ledger : Ledger) (left : LeftRows) (t : ℕ) (a : AccountRows) : Type 0 where
   pub apart : IsLeft left a
   pub cycles : AreOfOtherCycles a.book t left.counters

@@ -1,4 +1,5 @@
--- Rows without facts: the rows that a call writes to are made before it, while memory can still be refused.
+-- Rows without facts: the rows that a call writes to are made before it, while memory can still be
+-- refused.
 -- Source: profile.
 use Rattle.std.specs.Prelude.{ℕ, List, Option, unwrap_or}
 use Rattle.reserving.specs.declared.session.SessionGroup.{SessionGroup}
@@ -15,13 +16,15 @@ with_group s g rows = put (is_of s g) (group_or_new s g rows) rows
 
 -- the counter of a group and cycle has a row
 abbrev pub counter_or_new : ℕ → ℕ → List Counter → Counter
-counter_or_new g c rows = unwrap_or (counter_in g c rows) (record { group = g; cycle = c; blocks = 0 })
+counter_or_new g c rows =
+    unwrap_or (counter_in g c rows) (record { group = g; cycle = c; blocks = 0 })
 
 abbrev pub with_counter : ℕ → ℕ → List Counter → List Counter
 with_counter g c rows = put (is_counter g c) (counter_or_new g c rows) rows
 
 abbrev pub with_rows : List ℕ → ℕ → ℕ → AccountRows → AccountRows
-with_rows s g c a = record a { counters = with_counter g c a.counters; groups = with_group s g a.groups }
+with_rows s g c a =
+    record a { counters = with_counter g c a.counters; groups = with_group s g a.groups }
 
 abbrev pub with_group_row : List ℕ → ℕ → AccountRows → AccountRows
 with_group_row s g a = record a { groups = with_group s g a.groups }

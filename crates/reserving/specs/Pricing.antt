@@ -1,5 +1,5 @@
--- What a tariff book says of a rating group at a moment: its tariff, the cycle of its counter, the tariff switch within
--- the validity, the periods of a grant, and what a report costs.
+-- What a tariff book says of a rating group at a moment: its tariff, the cycle of its counter, the
+-- tariff switch within the validity, the periods of a grant, and what a report costs.
 -- Source: RFC 8506 sections 8.19, 8.20, 8.27 and 8.33; TS 32.296, rating function.
 use Rattle.std.specs.Prelude.{ℕ, ◌-◌, ◌==◌, Bool, if◌then◌else◌, List, [], ◌∷◌, Option, Some, None, find, min, sum_by, unwrap_or}
 use Rattle.std.specs.Option.{option_eq}
@@ -33,7 +33,8 @@ cycle_at b g t = cycle_with b.calendar.zone (tariff_of b g) t
 
 -- ---- the validity of a grant
 
--- the book's validity; moments reach 43,200 seconds past the last one of commands, so that no command's is cut
+-- the book's validity; moments reach 43,200 seconds past the last one of commands, so that no
+-- command's is cut
 abbrev pub reach : Book → ℕ → ℕ
 reach b t = min b.validity (4_102_488_000 - t)
 
@@ -51,7 +52,8 @@ period_after c t (Some s) = period_at c s
 
 -- the periods of a grant: at its moment, and at its switch
 abbrev pub periods_at : Book → ℕ → Periods
-periods_at b t = record { before = period_at b.calendar t; after = period_after b.calendar t (switch_at b t) }
+periods_at b t =
+    record { before = period_at b.calendar t; after = period_after b.calendar t (switch_at b t) }
 
 -- ---- reports
 
@@ -69,22 +71,26 @@ units_of change parts = sum_by (λ p. if is_change p.change change then p.units.
 
 abbrev pub four_parts : Periods → ℕ → ℕ → ℕ → ℕ → List Part
 four_parts p untagged before indeterminate after =
-    part_of p.before untagged ∷ part_of p.before before ∷ part_of p.before indeterminate ∷ part_of p.after after ∷ []
+    part_of p.before untagged ∷ part_of p.before before ∷ part_of p.before indeterminate
+    ∷ part_of p.after after ∷ []
 
--- a report's parts as they are rated: those without a Tariff-Change-Usage, before the switch, and on both sides of it
--- by the period at the grant; then those after the switch by the period there
+-- a report's parts as they are rated: those without a Tariff-Change-Usage, before the switch, and
+-- on both sides of it by the period at the grant; then those after the switch by the period there
 abbrev pub rated_parts : Periods → List UsedPart → List Part
 rated_parts p parts =
-    four_parts p (units_of None parts) (units_of (Some UnitBeforeTariffChange) parts) (units_of (Some UnitIndeterminate) parts) (units_of (Some UnitAfterTariffChange) parts)
+    four_parts p (units_of None parts) (units_of (Some UnitBeforeTariffChange) parts)
+    (units_of (Some UnitIndeterminate) parts) (units_of (Some UnitAfterTariffChange) parts)
 
--- what a report costs after a use so far, from a place of the counter on; a group without a tariff costs nothing
+-- what a report costs after a use so far, from a place of the counter on; a group without a tariff
+-- costs nothing
 abbrev pub rated_with : Option GroupTariff → Periods → ℕ → ℕ → List UsedPart → Rated
 rated_with None periods used place parts = record { amount = record { 0 = 0 }; blocks = 0 }
 rated_with (Some t) periods used place parts = rated_report t used place (rated_parts periods parts)
 
 -- ---- grants
 
--- the units that are wanted: what is requested, or the group's slice, and never more than the greatest grant
+-- the units that are wanted: what is requested, or the group's slice, and never more than the
+-- greatest grant
 abbrev pub wanted_units : GroupTariff → Option ℕ → ℕ
 wanted_units t requested = min (unwrap_or requested t.slice) t.max_grant
 
@@ -94,5 +100,7 @@ wanted_with (Some t) requested = wanted_units t requested
 
 -- the greatest grant that the funds cover; of a group without a tariff nothing is granted
 abbrev pub grant_with : Option GroupTariff → Periods → ℕ → ℕ → Option ℕ → ℕ → Grant
-grant_with None periods used place requested funds = record { blocks = record { 0 = 0 }; units = record { 0 = 0 }; amount = record { 0 = 0 } }
-grant_with (Some t) periods used place requested funds = grant_of t periods used place (wanted_units t requested) funds
+grant_with None periods used place requested funds =
+    record { blocks = record { 0 = 0 }; units = record { 0 = 0 }; amount = record { 0 = 0 } }
+grant_with (Some t) periods used place requested funds =
+    grant_of t periods used place (wanted_units t requested) funds

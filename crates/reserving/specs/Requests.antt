@@ -10,7 +10,8 @@ recorded t s number ledger = record { at = t; fact = Recorded s number } ∷ led
 
 -- a session is touched: a request of it is accepted while it lives, or opens it
 abbrev pub touched : ℕ → List ℕ → ℕ → Ledger → Ledger
-touched t s number ledger = record { at = t; fact = Recorded s number } ∷ record { at = t; fact = Touch s } ∷ ledger
+touched t s number ledger =
+    record { at = t; fact = Recorded s number } ∷ record { at = t; fact = Touch s } ∷ ledger
 
 -- a session ends: all its reservations are over
 abbrev pub closed : ℕ → List ℕ → Ledger → Ledger
@@ -18,7 +19,8 @@ closed t s ledger = record { at = t; fact = Close s } ∷ ledger
 
 -- a bucket is made, under the next number
 abbrev pub credited : ℕ → ℕ → ℕ → Option ℕ → ℕ → Ledger → Ledger
-credited t from until scope amount ledger = record { at = t; fact = Credit (next_bucket ledger) from until scope amount } ∷ ledger
+credited t from until scope amount ledger =
+    record { at = t; fact = Credit (next_bucket ledger) from until scope amount } ∷ ledger
 
 -- the account is barred, or no longer
 abbrev pub with_bar : ℕ → Bool → Ledger → Ledger

@@ -19,7 +19,8 @@ use Rattle.reserving.specs.Debiting.{event_price, is_covered, debit_passes, debi
 use Rattle.reserving.specs.Rows.{AccountRows, IsRowsOf}
 
 -- the blocks that a report starts, their price, and what of it is collected and isn't
-pub record IsSettlementOf (b : Book) (t : ℕ) (session : List ℕ) (group : ℕ) (used_parts : List UsedPart) (ledger : Ledger) (s : Settled) : Type 0 where
+pub record IsSettlementOf (b : Book) (t : ℕ) (session : List ℕ) (group : ℕ)
+    (used_parts : List UsedPart) (ledger : Ledger) (s : Settled) : Type 0 where
   pub blocks : s.blocks.0 ≡ (report_price b t session group used_parts ledger).blocks
   pub rated : s.rated.0 ≡ (report_price b t session group used_parts ledger).amount.0
   pub uncollected : s.uncollected.0 ≡ missing b t session group used_parts ledger
@@ -28,7 +29,9 @@ pub record IsSettlementOf (b : Book) (t : ℕ) (session : List ℕ) (group : ℕ
 -- ---- grants
 
 -- units that are granted: their price is held
-pub record IsGrantOf (b : Book) (t : ℕ) (session : List ℕ) (group : ℕ) (requested : Option ℕ) (ledger : Ledger) (after : AccountRows) (given : ℕ) (at : Option ℕ) (seconds : ℕ) (final : Bool) : Type 0 where
+pub record IsGrantOf (b : Book) (t : ℕ) (session : List ℕ) (group : ℕ) (requested : Option ℕ)
+    (ledger : Ledger) (after : AccountRows) (given : ℕ) (at : Option ℕ) (seconds : ℕ) (final : Bool)
+    : Type 0 where
   pub some : 0 < given
   pub units : given ≡ (grant_for b t group (used session group ledger) requested ledger).units.0
   pub switch : at ≡ switch_at b t
@@ -36,14 +39,23 @@ pub record IsGrantOf (b : Book) (t : ℕ) (session : List ℕ) (group : ℕ) (re
   pub fewer : final ≡ nat_lt given (wanted_with (tariff_of b group) requested)
   -- as many blocks as the funds cover, and no more
   pub greatest : (x : GroupTariff) → tariff_of b group ≡ Some x →
-      IsGreatest (tiers_at x (periods_at b t).before.0) (tiers_at x (periods_at b t).after.0) (counter (cycle_at b group) group (cycle_at b group t) ledger)
-      (started (used session group ledger) (wanted_units x requested) x.block) (funds group t (buckets_at b.validity t ledger)) (grant_for b t group (used session group ledger) requested ledger).blocks.0
-  pub rows : IsRowsOf (reserved b t session group given (grant_for b t group (used session group ledger) requested ledger).amount.0 ledger) after
+      IsGreatest (tiers_at x (periods_at b t).before.0) (tiers_at x (periods_at b t).after.0)
+      (counter (cycle_at b group) group (cycle_at b group t) ledger)
+      (started (used session group ledger) (wanted_units x requested) x.block)
+      (funds group t (buckets_at b.validity t ledger))
+      (grant_for b t group (used session group ledger) requested ledger).blocks.0
+  pub rows : IsRowsOf
+      (reserved b t session group given
+      (grant_for b t group (used session group ledger) requested ledger).amount.0 ledger) after
 
--- what a reservation answers, and what it makes of the account: nothing is granted exactly where no unit is covered
+-- what a reservation answers, and what it makes of the account: nothing is granted exactly where no
+-- unit is covered
 abbrev pub GivesGrant : Book → ℕ → List ℕ → ℕ → Option ℕ → Ledger → AccountRows → Granted → Type 0
-GivesGrant b t session group requested ledger after Nothing = ((grant_for b t group (used session group ledger) requested ledger).units.0 ≡ 0) × IsRowsOf ledger after
-GivesGrant b t session group requested ledger after (Units units switch validity fewer) = IsGrantOf b t session group requested ledger after units.0 switch validity fewer
+GivesGrant b t session group requested ledger after Nothing =
+    ((grant_for b t group (used session group ledger) requested ledger).units.0 ≡ 0) ×
+    IsRowsOf ledger after
+GivesGrant b t session group requested ledger after (Units units switch validity fewer) =
+    IsGrantOf b t session group requested ledger after units.0 switch validity fewer
 
 -- units that are granted are some, of a group with a tariff, and no more than its greatest grant
 pub record IsWithin (t : Option GroupTariff) (units : ℕ) : Type 0 where
@@ -59,7 +71,8 @@ IsWithinGrant t (Units units switch validity fewer) = IsWithin t units.0
 -- ---- debits
 
 -- an event's units are charged whole: their price is covered
-pub record IsDebitOf (b : Book) (t : ℕ) (session : List ℕ) (group units : ℕ) (ledger : Ledger) (after : AccountRows) (s : Settled) : Type 0 where
+pub record IsDebitOf (b : Book) (t : ℕ) (session : List ℕ) (group units : ℕ) (ledger : Ledger)
+    (after : AccountRows) (s : Settled) : Type 0 where
   pub covered : is_covered b t group units ledger ≡ true
   pub within : debit_passes b t session group units ledger ≡ false
   pub blocks : s.blocks.0 ≡ (event_price b t group units ledger).blocks
@@ -71,4 +84,5 @@ pub record IsDebitOf (b : Book) (t : ℕ) (session : List ℕ) (group units : �
 -- what a debit answers, and what it makes of the account; nothing where the funds don't cover it
 abbrev pub IsDebit : Book → ℕ → List ℕ → ℕ → ℕ → Ledger → AccountRows → Option Settled → Type 0
 IsDebit b t session group units ledger after None = is_covered b t group units ledger ≡ false
-IsDebit b t session group units ledger after (Some s) = IsDebitOf b t session group units ledger after s
+IsDebit b t session group units ledger after (Some s) =
+    IsDebitOf b t session group units ledger after s

@@ -71,18 +71,21 @@ pub record IsUnknown (s : List ℕ) (ledger : Ledger) : Type 0 where
   pub held : (n : ℕ) → held (λ x g. is_same x s) n ledger ≡ 0
   pub granted : (g : ℕ) → open_grant s g ledger ≡ None
 
--- the account's rows are the ledger's at the moment as of which they stand: each row is the ledger's, and what
--- the ledger tells has its row
+-- the account's rows are the ledger's at the moment as of which they stand: each row is the
+-- ledger's, and what the ledger tells has its row
 pub record IsRowsOf (ledger : Ledger) (a : AccountRows) : Type 0 where
   pub barred : a.barred ≡ is_barred ledger
   pub buckets : a.buckets ≡ buckets_at a.book.validity a.as_of ledger
-  pub sessions : (s : List ℕ) → session_in s a.sessions ≡ session_at a.book.validity a.as_of ledger s
-  pub groups : (s : List ℕ) (g : ℕ) → group_in s g a.groups ≡ group_at a.book.validity a.as_of ledger s g
+  pub sessions : (s : List ℕ) →
+      session_in s a.sessions ≡ session_at a.book.validity a.as_of ledger s
+  pub groups : (s : List ℕ) (g : ℕ) →
+      group_in s g a.groups ≡ group_at a.book.validity a.as_of ledger s g
   pub counters : (g c : ℕ) → counter_in g c a.counters ≡ counter_at (cycle_at a.book g) ledger g c
   pub next_bucket : a.next_bucket ≡ next_bucket ledger
   pub next_charge : a.next_charge ≡ next_charge ledger
   -- a session's last touch is recorded
-  pub touched : (s : List ℕ) (x : ℕ) → last_touch s ledger ≡ Some x → option_map (λ r. r.at) (last_recording s ledger) ≡ Some x
+  pub touched : (s : List ℕ) (x : ℕ) → last_touch s ledger ≡ Some x →
+      option_map (λ r. r.at) (last_recording s ledger) ≡ Some x
   pub unknown : (s : List ℕ) → last_recording s ledger ≡ None → IsUnknown s ledger
   -- nothing is charged or held of a bucket that isn't there
   pub fresh : (n : ℕ) → a.next_bucket ≤ n → charged n ledger ≡ 0

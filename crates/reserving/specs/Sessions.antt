@@ -1,5 +1,6 @@
 -- The rows of sessions, of their groups, and of counters: found in a list, and told by a ledger.
--- Source: RFC 8506 sections 5.1 and 8.2; TS 32.299, session charging with unit reservation; rows and counters: profile.
+-- Source: RFC 8506 sections 5.1 and 8.2; TS 32.299, session charging with unit reservation; rows
+-- and counters: profile.
 use Rattle.std.specs.Prelude.{ℕ, ◌+◌, ◌*◌, Bool, true, false, ◌==◌, ◌&&◌, nat_lt, if◌then◌else◌, List, [], ◌∷◌, Option, Some, None, is_some}
 use Rattle.std.specs.List.{find}
 use Rattle.buckets.specs.declared.holds.Hold.{Hold}
@@ -57,17 +58,21 @@ holds_in (Some r) = r.holds
 -- what the reservations of these sessions hold of a bucket
 abbrev pub held_by : (List ℕ → Bool) → List SessionGroup → Row → ℕ
 held_by p [] b = 0
-held_by p (r ∷ rs) b = (if p r.session then held_in (holds_in r.reservation) b else 0) + held_by p rs b
+held_by p (r ∷ rs) b =
+    (if p r.session then held_in (holds_in r.reservation) b else 0) + held_by p rs b
 
 -- ---- in a ledger
 
 -- a session without a touch was never opened; another that isn't live has ended
 abbrev pub state_at : ℕ → ℕ → Ledger → List ℕ → SessionState
-state_at v t ledger s = if is_live v t ledger s then Open else (if is_some (last_touch s ledger) then Ended else NeverOpened)
+state_at v t ledger s =
+    if is_live v t ledger s then Open
+    else (if is_some (last_touch s ledger) then Ended else NeverOpened)
 
 abbrev pub session_row : List ℕ → SessionState → Option Recording → Option Session
 session_row s state None = None
-session_row s state (Some r) = Some (record { id = s; last_number = r.number; touched = r.at; state = state })
+session_row s state (Some r) =
+    Some (record { id = s; last_number = r.number; touched = r.at; state = state })
 
 -- a session's row: its last accepted request and its state
 abbrev pub session_at : ℕ → ℕ → Ledger → List ℕ → Option Session
@@ -75,7 +80,8 @@ session_at v t ledger s = session_row s (state_at v t ledger s) (last_recording 
 
 -- what a reservation holds, bucket by bucket
 abbrev pub holds_at : ℕ → ℕ → List ℕ → ℕ → Ledger → List Hold
-holds_at v t session group ledger = parts (λ b. held (only session group) b.number ledger) (buckets_at v t ledger)
+holds_at v t session group ledger =
+    parts (λ b. held (only session group) b.number ledger) (buckets_at v t ledger)
 
 abbrev pub reservation_of : List Hold → Option Periods → Option Reservation
 reservation_of holds None = None
@@ -83,13 +89,21 @@ reservation_of holds (Some p) = Some (record { periods = p; holds = holds })
 
 -- a session's reservation of a group: a grant without an end in a live session
 abbrev pub reservation_at : ℕ → ℕ → Ledger → List ℕ → ℕ → Option Reservation
-reservation_at v t ledger s g = if is_live v t ledger s then reservation_of (holds_at v t s g ledger) (open_grant s g ledger) else None
+reservation_at v t ledger s g =
+    if is_live v t ledger s then reservation_of (holds_at v t s g ledger) (open_grant s g ledger)
+    else None
 
 -- the row of a session's group, from its first grant or use on
 abbrev pub group_at : ℕ → ℕ → Ledger → List ℕ → ℕ → Option SessionGroup
 group_at v t ledger s g =
     if has_group s g ledger
-    then Some (record { session = s; group = g; used = used s g ledger; reservation = reservation_at v t ledger s g })
+    then Some
+    (record {
+      session = s;
+      group = g;
+      used = used s g ledger;
+      reservation = reservation_at v t ledger s g;
+    })
     else None
 
 -- the row of a counter, from its first use on

@@ -1,5 +1,6 @@
--- Settlement: a report's rated amount is charged to its reservation's holds and then to what is eligible; then
--- the reservation ends (RFC 8506 section 5.3; TS 32.299, session charging with unit reservation).
+-- Settlement: a report's rated amount is charged to its reservation's holds and then to what is
+-- eligible; then the reservation ends (RFC 8506 section 5.3; TS 32.299, session charging with unit
+-- reservation).
 use Rattle.std.specs.Prelude.{ℕ, ◌+◌, Bool, false, ◌||◌, nat_lt, List, [], ◌∷◌, ◌++◌, Option, sum_by, unwrap_or}
 use Rattle.units.specs.declared.blocks.UsedPart.{UsedPart}
 use Rattle.calendar.specs.Timetable.{period_at}
@@ -23,13 +24,15 @@ reported used_parts = sum_by (λ p. p.units.0) used_parts
 -- what a report costs: by the periods of its grant, or without one all by the period at its moment
 abbrev pub price_of : Book → ℕ → ℕ → Option Periods → ℕ → ℕ → List UsedPart → Rated
 price_of b t group granted used place used_parts =
-    rated_with (tariff_of b group) (unwrap_or granted (one_period (period_at b.calendar t))) used place used_parts
+    rated_with (tariff_of b group) (unwrap_or granted (one_period (period_at b.calendar t))) used
+    place used_parts
 
--- the price of a report of a live session: its grant is its reservation, its use goes on after the session's use so
--- far, and its blocks are counted from the group's counter in the cycle on
+-- the price of a report of a live session: its grant is its reservation, its use goes on after the
+-- session's use so far, and its blocks are counted from the group's counter in the cycle on
 abbrev pub report_price : Book → ℕ → List ℕ → ℕ → List UsedPart → Ledger → Rated
 report_price b t session group used_parts ledger =
-    price_of b t group (open_grant session group ledger) (used session group ledger) (counter (cycle_at b group) group (cycle_at b group t) ledger) used_parts
+    price_of b t group (open_grant session group ledger) (used session group ledger)
+    (counter (cycle_at b group) group (cycle_at b group t) ledger) used_parts
 
 abbrev pub charge_facts : ℕ → List Hold → Ledger
 charge_facts t [] = []
@@ -39,7 +42,10 @@ charge_facts t (h ∷ hs) = record { at = t; fact = Charge h.bucket h.amount } �
 abbrev pub settled : ℕ → ℕ → List ℕ → ℕ → ℕ → ℕ → ℕ → Ledger → Ledger
 settled v t session group units blocks rated ledger =
     record { at = t; fact = End session group }
-    ∷ record { at = t; fact = Use session group units blocks rated (uncollected holds group t rated rows) }
+    ∷ record {
+      at = t;
+      fact = Use session group units blocks rated (uncollected holds group t rated rows);
+    }
     ∷ charge_facts t (parts (paid holds group t rated rows) rows) ++ ledger
   where
     rows : List Row
@@ -48,33 +54,42 @@ settled v t session group units blocks rated ledger =
     holds : List Hold
     holds = holds_at v t session group ledger
 
--- the ledger with a reported group's settlement; a group that is named without a report only ends its
--- reservation
+-- the ledger with a reported group's settlement; a group that is named without a report only ends
+-- its reservation
 abbrev pub settled_by : Book → ℕ → List ℕ → ℕ → List UsedPart → Ledger → Ledger
 settled_by b t session group [] ledger = record { at = t; fact = End session group } ∷ ledger
 settled_by b t session group (p ∷ ps) ledger =
-    settled b.validity t session group (reported (p ∷ ps)) (report_price b t session group (p ∷ ps) ledger).blocks (report_price b t session group (p ∷ ps) ledger).amount.0 ledger
+    settled b.validity t session group (reported (p ∷ ps))
+    (report_price b t session group (p ∷ ps) ledger).blocks
+    (report_price b t session group (p ∷ ps) ledger).amount.0 ledger
 
 -- what of a report's price neither its holds nor any eligible bucket pays
 abbrev pub missing : Book → ℕ → List ℕ → ℕ → List UsedPart → Ledger → ℕ
 missing b t session group used_parts ledger =
-    uncollected (holds_at b.validity t session group ledger) group t (report_price b t session group used_parts ledger).amount.0 (buckets_at b.validity t ledger)
+    uncollected (holds_at b.validity t session group ledger) group t
+    (report_price b t session group used_parts ledger).amount.0 (buckets_at b.validity t ledger)
 
--- a stored number would pass its limit: the session's use, the group's counter, or the charge row's number
+-- a stored number would pass its limit: the session's use, the group's counter, or the charge row's
+-- number
 abbrev pub passes : ℕ → ℕ → ℕ → ℕ → ℕ → Bool
 passes before units count blocks charge =
-    nat_lt 1000000000000000000 (before + units) || (nat_lt 4000000000000000000 (count + blocks) || nat_lt 4294967295 charge)
+    nat_lt 1000000000000000000 (before + units)
+    || (nat_lt 4000000000000000000 (count + blocks) || nat_lt 4294967295 charge)
 
 abbrev pub passes_limit : Book → ℕ → List ℕ → ℕ → List UsedPart → Ledger → Bool
 passes_limit b t session group [] ledger = false
 passes_limit b t session group (p ∷ ps) ledger =
-    passes (used session group ledger) (reported (p ∷ ps)) (counter (cycle_at b group) group (cycle_at b group t) ledger) (report_price b t session group (p ∷ ps) ledger).blocks (next_charge ledger)
+    passes (used session group ledger) (reported (p ∷ ps))
+    (counter (cycle_at b group) group (cycle_at b group t) ledger)
+    (report_price b t session group (p ∷ ps) ledger).blocks (next_charge ledger)
 
 -- the same, where so many charges are numbered before the report's own
 abbrev pub passes_after : ℕ → Book → ℕ → List ℕ → ℕ → List UsedPart → Ledger → Bool
 passes_after charges b t session group [] ledger = false
 passes_after charges b t session group (p ∷ ps) ledger =
-    passes (used session group ledger) (reported (p ∷ ps)) (counter (cycle_at b group) group (cycle_at b group t) ledger) (report_price b t session group (p ∷ ps) ledger).blocks
+    passes (used session group ledger) (reported (p ∷ ps))
+    (counter (cycle_at b group) group (cycle_at b group t) ledger)
+    (report_price b t session group (p ∷ ps) ledger).blocks
     (next_charge ledger + charges)
 
 -- the charges of a report: one where it has parts

@@ -14,8 +14,8 @@ use std::marker::Model;
 use tariffs::TariffBook;
 use units::Moment;
 
-/// An account: its purse, its counters, and its sessions with their reservations, as of the moment of its last
-/// change. It is priced by a tariff book that it borrows.
+/// An account: its purse, its counters, and its sessions with their reservations, as of the moment
+/// of its last change. It is priced by a tariff book that it borrows.
 #[derive(Drop)]
 pub struct Account<'b> {
     pub(crate) book: &'b TariffBook,
@@ -72,14 +72,16 @@ impl<'b> Account<'b> {
         self.book
     }
 
-    /// Whether the session is live at the moment: opened and not closed, and its supervision time, two validity
-    /// times after its last accepted request, isn't over (profile, in the place of the supervision timer of RFC 8506
-    /// section 13).
+    /// Whether the session is live at the moment: opened and not closed, and its supervision time,
+    /// two validity times after its last accepted request, isn't over (profile, in the place of the
+    /// supervision timer of RFC 8506 section 13).
     pub fn is_live(&self, session: &SessionId, moment: Moment) -> bool
-        ensures rows { result ≡ is_live_in self.now.book.validity moment self.now.sessions session.now }
+        ensures rows { result
+            ≡ is_live_in self.now.book.validity moment self.now.sessions session.now }
         ensures ledger { (ledger : Ledger) → IsRowsOf ledger self.now → self.now.as_of ≤ moment →
             result ≡ is_live_at self.now.book.validity moment ledger session.now }
-        ensures left { (ledger : Ledger) (left : LeftRows) → IsWith ledger left moment self.now → self.now.as_of ≤ moment →
+        ensures left { (ledger : Ledger) (left : LeftRows) → IsWith ledger left moment self.now →
+            self.now.as_of ≤ moment →
             result ≡ is_live_at self.now.book.validity moment ledger session.now }
     {
         is_live(&self.rows.sessions, session, self.book.validity(), moment)
@@ -125,7 +127,8 @@ impl<'b> Account<'b> {
     pub fn is_barred(&self) -> bool
         ensures value { result ≡ self.now.barred }
         ensures ledger { (ledger : Ledger) → IsRowsOf ledger self.now → result ≡ is_barred ledger }
-        ensures left { (ledger : Ledger) (left : LeftRows) (t : ℕ) → IsWith ledger left t self.now → result ≡ is_barred ledger }
+        ensures left { (ledger : Ledger) (left : LeftRows) (t : ℕ) → IsWith ledger left t self.now →
+            result ≡ is_barred ledger }
     {
         self.rows.barred
     }

@@ -18,14 +18,16 @@ use tariffs::TariffBook;
 use units::Moment;
 
 impl<'b> Account<'b> {
-    /// Brings the account to a moment: sessions whose supervision time is over end, what their reservations
-    /// held is given up, and what is left of buckets that ended is expired. It takes no memory, and the ledger
-    /// stays as it is (profile; TS 32.296, account balance management function).
+    /// Brings the account to a moment: sessions whose supervision time is over end, what their
+    /// reservations held is given up, and what is left of buckets that ended is expired. It takes
+    /// no memory, and the ledger stays as it is (profile; TS 32.296, account balance management
+    /// function).
     pub fn advance(&mut self, moment: Moment)
         requires { self.old.as_of ≤ moment }
         ensures rows { self.new ≡ advanced moment self.old }
         ensures ledger { (ledger : Ledger) → IsRowsOf ledger self.old → IsRowsOf ledger self.new }
-        ensures left { (ledger : Ledger) (left : LeftRows) → IsWith ledger left moment self.old → IsWith ledger left moment self.new }
+        ensures left { (ledger : Ledger) (left : LeftRows) → IsWith ledger left moment self.old →
+            IsWith ledger left moment self.new }
     {
         self.rows.advance(self.book, moment);
     }
@@ -36,7 +38,8 @@ impl KeptRows {
 
     /// Brings the rows to a moment.
     pub(crate) fn advance(&mut self, book: &TariffBook, moment: Moment)
-        requires { Each (λ b. held_by (λ s. true) self.old.groups.items b ≡ b.reserved) self.old.purse }
+        requires { Each (λ b. held_by (λ s. true) self.old.groups.items b ≡ b.reserved)
+            self.old.purse }
         ensures book { IsBook book.now }
         ensures rows { stored_of self.new ≡ advanced_stored book.now moment (stored_of self.old) }
     {
@@ -54,8 +57,8 @@ impl KeptRows {
     }
 }
 
-/// Whether the session is live at the moment: open, and its supervision time, two validity times after its last
-/// accepted request, isn't over.
+/// Whether the session is live at the moment: open, and its supervision time, two validity times
+/// after its last accepted request, isn't over.
 pub(crate) fn is_live(sessions: &[Session], id: &SessionId, validity: u32, at: Moment) -> bool
     ensures { result ≡ is_live_in validity at sessions.now id.now }
 {
@@ -68,7 +71,8 @@ pub(crate) fn is_live(sessions: &[Session], id: &SessionId, validity: u32, at: M
 }
 
 fn is_live_session(session: &Session, validity: u32, at: Moment) -> bool
-    ensures { result ≡ (is_open session.now.state && nat_lt at (session.now.touched + 2 * validity)) }
+    ensures { result
+        ≡ (is_open session.now.state && nat_lt at (session.now.touched + 2 * validity)) }
 {
     let ends = session.touched.seconds() + 2 * u64::from(validity);
     session.state == SessionState::Open && at.seconds() < ends
@@ -98,9 +102,12 @@ pub(crate) fn lapse_groups(
     validity: u32,
     at: Moment,
 )
-    requires { AreLapsable (λ s. not (is_live_in validity at sessions.now s)) groups.old.items purse.old }
-    ensures purse { purse.new ≡ lapsed_rows (is_live_in validity at sessions.now) at groups.old.items purse.old }
-    ensures groups { groups.new.items ≡ map (lapse_group (is_live_in validity at sessions.now)) groups.old.items }
+    requires { AreLapsable (λ s. not (is_live_in validity at sessions.now s)) groups.old.items
+        purse.old }
+    ensures purse { purse.new
+        ≡ lapsed_rows (is_live_in validity at sessions.now) at groups.old.items purse.old }
+    ensures groups { groups.new.items
+        ≡ map (lapse_group (is_live_in validity at sessions.now)) groups.old.items }
 {
     for group in groups.iter_mut() {
         lapse_group(purse, group, sessions, validity, at);
@@ -115,8 +122,11 @@ fn lapse_group(
     validity: u32,
     at: Moment,
 )
-    requires { is_live_in validity at sessions.now group.old.session ≡ false → IsWithin (holds_in group.old.reservation) purse.old }
-    ensures purse { purse.new ≡ lapse_from (is_live_in validity at sessions.now group.old.session) at group.old.reservation purse.old }
+    requires { is_live_in validity at sessions.now group.old.session ≡ false →
+        IsWithin (holds_in group.old.reservation) purse.old }
+    ensures purse { purse.new
+        ≡ lapse_from (is_live_in validity at sessions.now group.old.session) at
+        group.old.reservation purse.old }
     ensures group { group.new ≡ lapse_group (is_live_in validity at sessions.now) group.old }
 {
     if group.reservation.is_none() {
@@ -129,7 +139,8 @@ fn lapse_group(
 pub(crate) fn lapse_reservation(purse: &mut Purse, group: &mut SessionGroup, live: bool, at: Moment)
     requires { live ≡ false → IsWithin (holds_in group.old.reservation) purse.old }
     ensures purse { purse.new ≡ lapse_from live at group.old.reservation purse.old }
-    ensures group { group.new ≡ (if live then group.old else record group.old { reservation = None }) }
+    ensures group { group.new
+        ≡ (if live then group.old else record group.old { reservation = None }) }
 {
     if live {
         return;

@@ -1,7 +1,9 @@
 use identifiers::SessionId;
+use std::marker::Model;
 use units::{Amount, Blocks, Moment};
 
-/// What a report or a debit came to, as it is kept: what is collected and what isn't sum to the rated amount.
+/// What a report or a debit came to, as it is kept. The type keeps that what is collected and what
+/// isn't sum to the rated amount.
 #[derive(Clone, Debug, Drop)]
 pub struct ChargeRow {
     /// Its number within the account, from 1.
@@ -20,4 +22,24 @@ pub struct ChargeRow {
     pub collected: Amount,
     /// What they didn't reach.
     pub uncollected: Amount,
+}
+
+impl Model for ChargeRow {
+    ghost use Rattle.std.specs.Prelude.{◌≡◌, ◌+◌};
+    ghost use Rattle.reserving.specs.ChargeColumns.{ChargeColumns};
+
+    ghost Value = { ChargeColumns };
+
+    ghost view = { λ r. record {
+      number = r.number;
+      moment = r.moment;
+      session = r.session;
+      group = r.group;
+      blocks = r.blocks;
+      rated = r.rated;
+      collected = r.collected;
+      uncollected = r.uncollected;
+    } };
+
+    ghost invariant = { λ r. r.collected.0 + r.uncollected.0 ≡ r.rated.0 };
 }

@@ -7,8 +7,8 @@ use buckets::Purse;
 use std::alloc::AllocError;
 
 impl<'b> Account<'b> {
-    /// The same account once more: calls on it may fail midway, and this one stays as it is. Its error is want of
-    /// memory.
+    /// The same account once more: calls on it may fail midway, and this one stays as it is. Its
+    /// error is want of memory.
     pub fn copy(&self) -> Result<Account<'b>, AllocError>
         ensures { IfOk result (λ copy. copy ≡ self.now) }
     {

@@ -10,9 +10,10 @@ use crate::fault::AccountFault;
 use units::{Moment, Money};
 
 impl<'b> Account<'b> {
-    /// Adds a bucket of this amount, for use from and until these moments, by one rating group or by all, and
-    /// answers its number (TS 32.296, account balance management function). The account is unchanged at a
-    /// fault: want of memory, or `Limit` where the bucket's number would pass 4,294,967,295.
+    /// Adds a bucket of this amount, for use from and until these moments, by one rating group or
+    /// by all, and answers its number (TS 32.296, account balance management function). The account
+    /// is unchanged at a fault: want of memory, or `Limit` where the bucket's number would pass
+    /// 4,294,967,295.
     pub fn credit(
         &mut self,
         from: Moment,
@@ -22,10 +23,14 @@ impl<'b> Account<'b> {
         moment: Moment,
     ) -> Result<u32, AccountFault>
         requires { self.old.as_of ≤ moment }
-        ensures rows { OnOk result (self.new ≡ advanced moment (credited_account from until scope amount self.old)) }
+        ensures rows { OnOk result
+            (self.new ≡ advanced moment (credited_account from until scope amount self.old)) }
         ensures number { IfOk result (λ n. n ≡ self.old.next_bucket) }
-        ensures ledger { OnOk result ((ledger : Ledger) → IsRowsOf ledger self.old → IsRowsOf (credited moment from until scope amount ledger) self.new) }
-        ensures left { OnOk result ((ledger : Ledger) (left : LeftRows) → IsWith ledger left moment self.old → IsWith (credited moment from until scope amount ledger) left moment self.new) }
+        ensures ledger { OnOk result ((ledger : Ledger) → IsRowsOf ledger self.old →
+            IsRowsOf (credited moment from until scope amount ledger) self.new) }
+        ensures left { OnOk result ((ledger : Ledger) (left : LeftRows) →
+            IsWith ledger left moment self.old →
+            IsWith (credited moment from until scope amount ledger) left moment self.new) }
         ensures limit { IsErrOf result AccountFault.Limit ↔ (4294967295 < self.old.next_bucket) }
         ensures err { OnErr result (self.new ≡ self.old) }
     {
@@ -43,7 +48,8 @@ impl<'b> Account<'b> {
     ) -> Result<u32, AccountFault>
         ensures rows { OnOk result (self.new ≡ credited_account from until scope amount self.old) }
         ensures account { OnOk result (IsAccount self.old) }
-        ensures in_range { OnOk result ((self.old.next_bucket ≤ 4294967295) × (amount ≤ 1000000000000000)) }
+        ensures in_range { OnOk result
+            ((self.old.next_bucket ≤ 4294967295) × (amount ≤ 1000000000000000)) }
         ensures number { IfOk result (λ n. n ≡ self.old.next_bucket) }
         ensures limit { IsErrOf result AccountFault.Limit ↔ (4294967295 < self.old.next_bucket) }
         ensures err { OnErr result (self.new ≡ self.old) }

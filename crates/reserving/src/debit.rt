@@ -20,8 +20,9 @@ use rating::{Periods, Rated};
 use units::{Amount, Moment, Units};
 
 impl<'b> Account<'b> {
-    /// What the units of an event cost: they start blocks from no use on, at the period of the moment (RFC 8506 section
-    /// 6.1; TS 32.296, rating function). It takes no memory and changes nothing.
+    /// What the units of an event cost: they start blocks from no use on, at the period of the
+    /// moment (RFC 8506 section 6.1; TS 32.296, rating function). It takes no memory and changes
+    /// nothing.
     pub fn quote(&self, group: u32, units: Units, moment: Moment) -> Amount
         ensures rows { result.0 ≡ (event_price_in group units.0 moment self.now).amount.0 }
         ensures ledger { (ledger : Ledger) → IsRowsOf ledger self.now →
@@ -32,7 +33,8 @@ impl<'b> Account<'b> {
         self.event_price(group, units, moment).amount
     }
 
-    /// The blocks that an event's units start, and what these cost. A group that the book doesn't have costs nothing.
+    /// The blocks that an event's units start, and what these cost. A group that the book doesn't
+    /// have costs nothing.
     fn event_price(&self, group: u32, units: Units, moment: Moment) -> Rated
         ensures { result ≡ event_price_in group units.0 moment self.now }
     {
@@ -56,11 +58,12 @@ impl<'b> Account<'b> {
         price(tariff, periods, 0, self.place_at(group, moment), &tally)
     }
 
-    /// Charges the units of an event at once, where the eligible buckets cover their price whole (RFC 8506 section 6.3;
-    /// TS 32.299, immediate event charging). None: they don't, and nothing has changed.
+    /// Charges the units of an event at once, where the eligible buckets cover their price whole
+    /// (RFC 8506 section 6.3; TS 32.299, immediate event charging). None: they don't, and nothing
+    /// has changed.
     ///
-    /// At a fault nothing has changed: `Limit` where the price is covered and the session's use, the group's counter or
-    /// the number of the charge would pass its limit, else `Memory`.
+    /// At a fault nothing has changed: `Limit` where the price is covered and the session's use,
+    /// the group's counter or the number of the charge would pass its limit, else `Memory`.
     pub fn debit(
         &mut self,
         session: &SessionId,
@@ -71,18 +74,29 @@ impl<'b> Account<'b> {
         requires { self.old.as_of ≤ moment }
         ensures debit { IfOk result (λ s. (ledger : Ledger) → IsRowsOf ledger self.old →
             IsDebit self.old.book moment session.now group units.0 ledger self.new s) }
-        ensures left { IfOk result (λ s. (ledger : Ledger) (left : LeftRows) → group_in session.now group left.groups ≡ None → IsWith ledger left moment self.old →
-            IsBeside left moment self.new × IsDebit self.old.book moment session.now group units.0 ledger (joined left self.new) s) }
-        ensures limit { result ≡ Err AccountFault.Limit → (ledger : Ledger) → IsRowsOf ledger self.old →
-            (is_covered self.old.book moment group units.0 ledger ≡ true) × (debit_passes self.old.book moment session.now group units.0 ledger ≡ true) }
-        ensures limit_left { result ≡ Err AccountFault.Limit → (ledger : Ledger) (left : LeftRows) → group_in session.now group left.groups ≡ None → IsWith ledger left moment self.old →
-            (is_covered self.old.book moment group units.0 ledger ≡ true) × (debit_passes self.old.book moment session.now group units.0 ledger ≡ true) }
-        ensures by_rows { IfOk result (λ s. IfSome s (λ given. self.new ≡ debited_account session.now group units.0
-            (event_price_in group units.0 moment self.old).blocks (event_price_in group units.0 moment self.old).amount.0 (advanced moment self.old))) }
+        ensures left { IfOk result (λ s. (ledger : Ledger) (left : LeftRows) →
+            group_in session.now group left.groups ≡ None → IsWith ledger left moment self.old →
+            IsBeside left moment self.new ×
+            IsDebit self.old.book moment session.now group units.0 ledger (joined left self.new)
+            s) }
+        ensures limit { result ≡ Err AccountFault.Limit → (ledger : Ledger) →
+            IsRowsOf ledger self.old →
+            (is_covered self.old.book moment group units.0 ledger ≡ true) ×
+            (debit_passes self.old.book moment session.now group units.0 ledger ≡ true) }
+        ensures limit_left { result ≡ Err AccountFault.Limit → (ledger : Ledger) (left : LeftRows) →
+            group_in session.now group left.groups ≡ None → IsWith ledger left moment self.old →
+            (is_covered self.old.book moment group units.0 ledger ≡ true) ×
+            (debit_passes self.old.book moment session.now group units.0 ledger ≡ true) }
+        ensures by_rows { IfOk result
+            (λ s. IfSome s (λ given. self.new ≡ debited_account session.now group units.0
+            (event_price_in group units.0 moment self.old).blocks
+            (event_price_in group units.0 moment self.old).amount.0 (advanced moment self.old))) }
         ensures uncovered { IfOk result (λ s. s ≡ None → self.new ≡ self.old) }
-        ensures number { IfOk result (λ s. IfSome s (λ given. self.old.next_charge ≤ 4_294_967_295)) }
+        ensures number { IfOk result
+            (λ s. IfSome s (λ given. self.old.next_charge ≤ 4_294_967_295)) }
         ensures as_of { IfOk result (λ s. IfSome s (λ given. self.new.as_of ≡ moment)) }
-        ensures new { IfOk result (λ s. (x : List ℕ) → session_in x self.old.sessions ≡ None → session_in x self.new.sessions ≡ None) }
+        ensures new { IfOk result (λ s. (x : List ℕ) → session_in x self.old.sessions ≡ None →
+            session_in x self.new.sessions ≡ None) }
         ensures tariff { self.new.book ≡ self.old.book }
         ensures err { OnErr result (self.new ≡ self.old) }
     {
@@ -116,11 +130,16 @@ impl<'b> Account<'b> {
         requires group { is_some (group_in session.now group self.old.groups) ≡ true }
         requires counter { is_some (counter_in group cycle self.old.counters) ≡ true }
         requires cycle { cycle ≡ cycle_at self.old.book group self.old.as_of }
-        requires used { used_in session.now group self.old.groups + rated.units.0 ≤ 1_000_000_000_000_000_000 }
-        requires counted { count_in group cycle self.old.counters + rated.blocks.0 ≤ 4_000_000_000_000_000_000 }
+        requires used { used_in session.now group self.old.groups + rated.units.0
+            ≤ 1_000_000_000_000_000_000 }
+        requires counted { count_in group cycle self.old.counters + rated.blocks.0
+            ≤ 4_000_000_000_000_000_000 }
         requires charges { self.old.next_charge < 4_294_967_296 }
-        ensures rows { self.new ≡ debited_account session.now group rated.units.0 rated.blocks.0 rated.amount.0 self.old }
-        ensures uncollected { result.uncollected.0 ≡ uncollected [] group self.old.as_of rated.amount.0 self.old.buckets }
+        ensures rows { self.new
+            ≡ debited_account session.now group rated.units.0 rated.blocks.0 rated.amount.0
+            self.old }
+        ensures uncollected { result.uncollected.0
+            ≡ uncollected [] group self.old.as_of rated.amount.0 self.old.buckets }
         ensures collected { result.collected.0 + result.uncollected.0 ≡ rated.amount.0 }
     {
         grouping::count_units(&mut self.rows.groups, session, group, rated.units.0);

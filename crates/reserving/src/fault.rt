@@ -7,8 +7,8 @@ pub enum AccountFault {
     /// A growth was refused.
     #[error("out of memory")]
     Memory,
-    /// A stored number would pass its limit: a session's use 10^18, a counter 4 * 10^18, the number of a bucket
-    /// or a charge 4,294,967,295.
+    /// A stored number would pass its limit: a session's use 10^18, a counter 4 * 10^18, the number
+    /// of a bucket or a charge 4,294,967,295.
     #[error("a stored number would pass its limit")]
     Limit,
 }

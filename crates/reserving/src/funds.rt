@@ -16,8 +16,9 @@ use buckets::Bucket;
 use units::{Amount, Moment};
 
 impl<'b> Account<'b> {
-    /// What the buckets that are eligible for the rating group at the moment have available then, in
-    /// micro-units (TS 32.296, account balance management function). It takes no memory and changes nothing.
+    /// What the buckets that are eligible for the rating group at the moment have available then,
+    /// in micro-units (TS 32.296, account balance management function). It takes no memory and
+    /// changes nothing.
     pub fn funds(&self, group: u32, moment: Moment) -> Amount
         requires { self.now.as_of ≤ moment }
         ensures rows { result.0 ≡ funds group moment (advanced moment self.now).buckets }
@@ -36,10 +37,13 @@ impl<'b> Account<'b> {
 }
 
 impl KeptRows {
-    /// What an eligible bucket has available at a later moment: also what ended sessions held of it.
+    /// What an eligible bucket has available at a later moment: also what ended sessions held of
+    /// it.
     fn available_later(&self, bucket: &Bucket, group: u32, validity: u32, at: Moment) -> u128
         requires { held_by (λ s. true) self.now.groups.items bucket.now ≡ bucket.now.reserved }
-        ensures value { result ≡ amount_later group validity at self.now.sessions.items self.now.groups.items bucket.now }
+        ensures value { result
+            ≡ amount_later group validity at self.now.sessions.items self.now.groups.items
+            bucket.now }
         ensures most { result ≤ 2_000_000_000_000_000 }
     {
         let _reserved = bucket.reserved();
@@ -50,11 +54,13 @@ impl KeptRows {
         }
     }
 
-    /// What the reservations of sessions that have ended by the moment hold of a bucket. Where nothing of it is
-    /// reserved they hold nothing of it, and no group is asked.
+    /// What the reservations of sessions that have ended by the moment hold of a bucket. Where
+    /// nothing of it is reserved they hold nothing of it, and no group is asked.
     fn lapsed_part(&self, bucket: &Bucket, validity: u32, at: Moment) -> u128
         requires { held_by (λ s. true) self.now.groups.items bucket.now ≡ bucket.now.reserved }
-        ensures value { result ≡ lapsed_in (is_live_in validity at self.now.sessions.items) self.now.groups.items bucket.now }
+        ensures value { result
+            ≡ lapsed_in (is_live_in validity at self.now.sessions.items) self.now.groups.items
+            bucket.now }
         ensures most { result ≤ 1_000_000_000_000_000 }
     {
         let reserved = bucket.reserved();
@@ -92,7 +98,8 @@ fn lapsed_of(
     validity: u32,
     at: Moment,
 ) -> u128
-    ensures { result ≡ if not (is_live_in validity at sessions.now group.now.session) then held_in (holds_in group.now.reservation) bucket.now else 0 }
+    ensures { result ≡ if not (is_live_in validity at sessions.now group.now.session)
+        then held_in (holds_in group.now.reservation) bucket.now else 0 }
 {
     let held = held_of(bucket, group);
     if held == 0 || is_live(sessions, &group.session, validity, at) {

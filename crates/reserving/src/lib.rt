@@ -24,7 +24,9 @@ mod stored;
 pub use crate::account::Account;
 pub use crate::charge::ChargeRow;
 pub use crate::fault::AccountFault;
-pub use crate::laws::{dead_for_good, going_on, two_advances_are_one};
+pub use crate::laws::{
+    charges_go_on, dead_for_good, going_on, groups_have_sessions, two_advances_are_one,
+};
 pub use crate::pricing::window_of_book;
 pub use crate::reserve::Granted;
 pub use crate::session::{Counter, Reservation, Session, SessionGroup, SessionState};

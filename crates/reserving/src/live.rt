@@ -19,20 +19,25 @@ use tariffs::TariffBook;
 use units::Moment;
 
 impl StoredAccount {
-    /// A copy of the rows that may still change at the moment, as an account that the book prices: what is left is dead
-    /// buckets, sessions that aren't open with their groups, and counters of other cycles than those at the moment.
-    /// Further counters, which a store keeps apart, stand before the account's own.
+    /// A copy of the rows that may still change at the moment, as an account that the book prices:
+    /// what is left is dead buckets, sessions that aren't open with their groups, and counters of
+    /// other cycles than those at the moment. Further counters, which a store keeps apart, stand
+    /// before the account's own.
     pub fn load_at<'b>(
         &self,
         book: &'b TariffBook,
         moment: Moment,
         others: &[Counter],
     ) -> Result<Account<'b>, AllocError>
-        requires apart { AreApart (λ x y. is_counter x.group x.cycle y) (others.now ++ self.now.counters) }
+        requires apart { AreApart (λ x y. is_counter x.group x.cycle y)
+            (others.now ++ self.now.counters) }
         requires counted { EachIn (λ c. c.blocks ≤ 4_000_000_000_000_000_000) others.now }
-        ensures rows { IfOk result (λ account. account ≡ live_part book.now moment others.now self.now) }
-        ensures left { IfOk result (λ account. (ledger : Ledger) → IsRowsOf ledger (with_counters book.now others.now self.now) →
-            IsWith ledger (left_of moment (with_counters book.now others.now self.now)) moment account) }
+        ensures rows { IfOk result
+            (λ account. account ≡ live_part book.now moment others.now self.now) }
+        ensures left { IfOk result (λ account. (ledger : Ledger) →
+            IsRowsOf ledger (with_counters book.now others.now self.now) →
+            IsWith ledger (left_of moment (with_counters book.now others.now self.now)) moment
+            account) }
     {
         let _ranges = book.validity();
         let mut purse = copy_of_purse(&self.rows.purse)?;
@@ -78,7 +83,8 @@ fn live_groups(
     groups: &Vec<SessionGroup>,
     sessions: &[Session],
 ) -> Result<Vec<SessionGroup>, AllocError>
-    ensures { IfOk result (λ rows. rows.items ≡ filter (is_live_group sessions.now) groups.now.items) }
+    ensures { IfOk result
+        (λ rows. rows.items ≡ filter (is_live_group sessions.now) groups.now.items) }
 {
     let mut rows = copy_of_groups(groups)?;
     rows.retain(|row| is_open(sessions, &row.session) || row.reservation.is_some());
@@ -103,7 +109,9 @@ fn live_counters(
     counters: &[Counter],
     others: &[Counter],
 ) -> Result<Vec<Counter>, AllocError>
-    ensures { IfOk result (λ rows. rows.items ≡ filter (λ r. r.cycle == cycle_at book.now r.group moment) (others.now ++ counters.now)) }
+    ensures { IfOk result
+        (λ rows. rows.items
+        ≡ filter (λ r. r.cycle == cycle_at book.now r.group moment) (others.now ++ counters.now)) }
 {
     let mut rows = Vec::from_slice(alloc, others)?;
     rows.extend_from_slice(counters)?;

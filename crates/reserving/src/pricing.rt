@@ -56,7 +56,8 @@ pub(crate) fn window_at(book: &TariffBook, moment: Moment) -> Window
     }
 }
 
-/// At a moment of a command the switch and the validity of a grant are the book's: no end of all moments cuts them.
+/// At a moment of a command the switch and the validity of a grant are the book's: no end of all
+/// moments cuts them.
 pub fn window_of_book()
     ensures { AreWindowsOfBooks }
 {}
@@ -105,7 +106,8 @@ pub(crate) fn tally_of(parts: &[UsedPart]) -> Tally
     ensures before { result.before ≡ units_of (Some UnitBeforeTariffChange) parts.now }
     ensures indeterminate { result.indeterminate ≡ units_of (Some UnitIndeterminate) parts.now }
     ensures after { result.after ≡ units_of (Some UnitAfterTariffChange) parts.now }
-    ensures total { result.untagged + result.before + result.indeterminate + result.after ≡ reported parts.now }
+    ensures total { result.untagged + result.before + result.indeterminate + result.after
+        ≡ reported parts.now }
 {
     Tally {
         untagged: units_of(parts, None),
@@ -159,7 +161,8 @@ fn part(period: Period, units: u128) -> Part
     }
 }
 
-/// What a report costs by its group's tariff, after a use so far and from a place of the counter on.
+/// What a report costs by its group's tariff, after a use so far and from a place of the counter
+/// on.
 pub(crate) fn price(
     tariff: &Tariff,
     periods: Periods,
@@ -167,8 +170,12 @@ pub(crate) fn price(
     place: u64,
     tally: &Tally,
 ) -> Rated
-    requires { tally.now.untagged + tally.now.before + tally.now.indeterminate + tally.now.after < 2 ^ 64 }
-    ensures { result ≡ rated_report tariff.now used place (four_parts periods tally.now.untagged tally.now.before tally.now.indeterminate tally.now.after) }
+    requires { tally.now.untagged + tally.now.before + tally.now.indeterminate + tally.now.after
+        < 2 ^ 64 }
+    ensures { result
+        ≡ rated_report tariff.now used place
+        (four_parts periods tally.now.untagged tally.now.before tally.now.indeterminate
+        tally.now.after) }
 {
     let parts = [
         part(periods.before, tally.untagged),
@@ -179,7 +186,8 @@ pub(crate) fn price(
     rate_report(tariff, Units(used), place, &parts)
 }
 
-/// The units that are wanted of a group: what is requested, or its slice, and never more than its greatest grant.
+/// The units that are wanted of a group: what is requested, or its slice, and never more than its
+/// greatest grant.
 pub(crate) fn wanted_of(tariff: &Tariff, requested: Option<Units>) -> u64
     ensures value { result ≡ wanted_units tariff.now (option_map (λ u. u.0) requested) }
     ensures most { result ≤ tariff.now.max_grant }

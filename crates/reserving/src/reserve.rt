@@ -30,11 +30,13 @@ pub enum Granted {
     Units {
         /// How many.
         units: Units,
-        /// The moment of a tariff switch within the validity (Tariff-Time-Change, RFC 8506 section 8.20).
+        /// The moment of a tariff switch within the validity (Tariff-Time-Change, RFC 8506 section
+        /// 8.20).
         switch: Option<Moment>,
         /// The seconds for which the grant is valid (Validity-Time, RFC 8506 section 8.33).
         validity: u32,
-        /// Whether they are fewer than wanted: the final units (Final-Unit-Indication, RFC 8506 section 8.34).
+        /// Whether they are fewer than wanted: the final units (Final-Unit-Indication, RFC 8506
+        /// section 8.34).
         fewer: bool,
     },
 }
@@ -49,9 +51,10 @@ struct Quota {
 }
 
 impl<'b> Account<'b> {
-    /// Reserves units of a rating group for a live session that has no reservation of it (RFC 8506 sections
-    /// 5.2 and 5.3; TS 32.299, session charging with unit reservation): of what is requested, or of the group's
-    /// slice, as much as the eligible buckets cover; its price is held in them.
+    /// Reserves units of a rating group for a live session that has no reservation of it (RFC 8506
+    /// sections 5.2 and 5.3; TS 32.299, session charging with unit reservation): of what is
+    /// requested, or of the group's slice, as much as the eligible buckets cover; its price is held
+    /// in them.
     ///
     /// At a fault, which is want of memory, nothing has changed.
     pub fn reserve(
@@ -62,17 +65,24 @@ impl<'b> Account<'b> {
         moment: Moment,
     ) -> Result<Granted, AccountFault>
         requires moment { self.old.as_of ≤ moment }
-        requires live { is_live_in self.old.book.validity moment self.old.sessions session.now ≡ true }
+        requires live { is_live_in self.old.book.validity moment self.old.sessions session.now
+            ≡ true }
         requires free { reservation_in session.now group self.old.groups ≡ None }
         ensures rows { IfOk result (λ granted. (ledger : Ledger) → IsRowsOf ledger self.old →
-            GivesGrant self.old.book moment session.now group (option_map (λ u. u.0) requested) ledger self.new granted) }
-        ensures left { IfOk result (λ granted. (ledger : Ledger) (left : LeftRows) → IsWith ledger left moment self.old →
-            IsBeside left moment self.new × GivesGrant self.old.book moment session.now group (option_map (λ u. u.0) requested) ledger (joined left self.new) granted) }
+            GivesGrant self.old.book moment session.now group (option_map (λ u. u.0) requested)
+            ledger self.new granted) }
+        ensures left { IfOk result (λ granted. (ledger : Ledger) (left : LeftRows) →
+            IsWith ledger left moment self.old →
+            IsBeside left moment self.new ×
+            GivesGrant self.old.book moment session.now group (option_map (λ u. u.0) requested)
+            ledger (joined left self.new) granted) }
         ensures as_of { OnOk result (self.new.as_of ≡ moment) }
         ensures tariff { self.new.book ≡ self.old.book }
         ensures sessions { OnOk result (self.new.sessions ≡ (advanced moment self.old).sessions) }
         ensures within { IfOk result (IsWithinGrant (tariff_of self.old.book group)) }
-        ensures others { OnOk result ((g : ℕ) → (g == group) ≡ false → reservation_in session.now g self.old.groups ≡ None → reservation_in session.now g self.new.groups ≡ None) }
+        ensures others { OnOk result ((g : ℕ) → (g == group) ≡ false →
+            reservation_in session.now g self.old.groups ≡ None →
+            reservation_in session.now g self.new.groups ≡ None) }
         ensures memory { OnErr result (result ≡ Err AccountFault.Memory) }
         ensures err { OnErr result (self.new ≡ self.old) }
     {
@@ -93,16 +103,24 @@ impl<'b> Account<'b> {
         })
     }
 
-    /// Whether a session that used nothing of the rating group yet would be granted units (RFC 8506 section 5.2). It
-    /// takes no memory and changes nothing.
+    /// Whether a session that used nothing of the rating group yet would be granted units (RFC 8506
+    /// section 5.2). It takes no memory and changes nothing.
     pub fn would_grant(&self, group: u32, requested: Option<Units>, moment: Moment) -> bool
         requires { self.now.as_of ≤ moment }
-        ensures rows { result ≡ nat_lt 0 (grant_with (tariff_of self.now.book group) (periods_at self.now.book moment) 0
-            (count_in group (cycle_at self.now.book group moment) self.now.counters) (option_map (λ u. u.0) requested) (funds group moment (advanced moment self.now).buckets)).units.0 }
+        ensures rows { result
+            ≡ nat_lt 0
+            (grant_with (tariff_of self.now.book group) (periods_at self.now.book moment) 0
+            (count_in group (cycle_at self.now.book group moment) self.now.counters)
+            (option_map (λ u. u.0) requested)
+            (funds group moment (advanced moment self.now).buckets)).units.0 }
         ensures ledger { (ledger : Ledger) → IsRowsOf ledger self.now →
-            result ≡ nat_lt 0 (grant_for self.now.book moment group 0 (option_map (λ u. u.0) requested) ledger).units.0 }
+            result ≡ nat_lt 0
+            (grant_for self.now.book moment group 0 (option_map (λ u. u.0) requested)
+            ledger).units.0 }
         ensures left { (ledger : Ledger) (left : LeftRows) → IsWith ledger left moment self.now →
-            result ≡ nat_lt 0 (grant_for self.now.book moment group 0 (option_map (λ u. u.0) requested) ledger).units.0 }
+            result ≡ nat_lt 0
+            (grant_for self.now.book moment group 0 (option_map (λ u. u.0) requested)
+            ledger).units.0 }
     {
         let periods = window_at(self.book, moment).periods;
         let quota = self.quota_after(0, group, requested, periods, moment);
@@ -120,8 +138,10 @@ impl<'b> Account<'b> {
     ) -> Quota
         requires { self.now.as_of ≤ moment }
         ensures account { IsAccount self.now }
-        ensures quota { IsQuota self.now.book (used_in session.now group self.now.groups) group (option_map (λ u. u.0) requested) periods
-            (count_in group (cycle_at self.now.book group moment) self.now.counters) (funds group moment (advanced moment self.now).buckets) result.wanted result.grant }
+        ensures quota { IsQuota self.now.book (used_in session.now group self.now.groups) group
+            (option_map (λ u. u.0) requested) periods
+            (count_in group (cycle_at self.now.book group moment) self.now.counters)
+            (funds group moment (advanced moment self.now).buckets) result.wanted result.grant }
     {
         let used = grouping::used_of(&self.rows.groups, session, group);
         self.quota_after(used, group, requested, periods, moment)
@@ -138,7 +158,8 @@ impl<'b> Account<'b> {
     ) -> Quota
         requires { self.now.as_of ≤ moment }
         ensures { IsQuota self.now.book used group (option_map (λ u. u.0) requested) periods
-            (count_in group (cycle_at self.now.book group moment) self.now.counters) (funds group moment (advanced moment self.now).buckets) result.wanted result.grant }
+            (count_in group (cycle_at self.now.book group moment) self.now.counters)
+            (funds group moment (advanced moment self.now).buckets) result.wanted result.grant }
     {
         let Some(tariff) = self.book.tariff(group) else {
             return Quota::none();
@@ -150,7 +171,8 @@ impl<'b> Account<'b> {
         Quota { wanted, grant }
     }
 
-    /// Takes the memory of a reservation, and makes the row of its group. At a fault nothing has changed.
+    /// Takes the memory of a reservation, and makes the row of its group. At a fault nothing has
+    /// changed.
     fn make_row(
         &mut self,
         session: &SessionId,
@@ -195,7 +217,12 @@ impl Quota {
     /// Nothing is wanted, and nothing granted.
     fn none() -> Quota
         ensures wanted { result.wanted ≡ 0 }
-        ensures grant { result.grant ≡ record { blocks = record { 0 = 0 }; units = record { 0 = 0 }; amount = record { 0 = 0 } } }
+        ensures grant { result.grant
+            ≡ record {
+              blocks = record { 0 = 0 };
+              units = record { 0 = 0 };
+              amount = record { 0 = 0 };
+            } }
     {
         Quota {
             wanted: 0,

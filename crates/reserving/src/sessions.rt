@@ -17,8 +17,8 @@ use std::alloc::AllocError;
 use units::Moment;
 
 impl<'b> Account<'b> {
-    /// Opens a session with its first touch: its initial request, of this number, is accepted (RFC 8506
-    /// section 5.2). The account is unchanged at a fault, which is want of memory.
+    /// Opens a session with its first touch: its initial request, of this number, is accepted (RFC
+    /// 8506 section 5.2). The account is unchanged at a fault, which is want of memory.
     pub fn open(
         &mut self,
         session: &SessionId,
@@ -27,9 +27,12 @@ impl<'b> Account<'b> {
     ) -> Result<(), AccountFault>
         requires later { self.old.as_of ≤ moment }
         requires new { session_in session.now self.old.sessions ≡ None }
-        ensures rows { OnOk result (self.new ≡ advanced moment (with_session session.now number moment Open self.old)) }
-        ensures ledger { OnOk result ((ledger : Ledger) → IsRowsOf ledger self.old → IsRowsOf (touched moment session.now number ledger) self.new) }
-        ensures left { OnOk result ((ledger : Ledger) (left : LeftRows) → NotLeft session.now left → IsWith ledger left moment self.old →
+        ensures rows { OnOk result
+            (self.new ≡ advanced moment (with_session session.now number moment Open self.old)) }
+        ensures ledger { OnOk result ((ledger : Ledger) → IsRowsOf ledger self.old →
+            IsRowsOf (touched moment session.now number ledger) self.new) }
+        ensures left { OnOk result ((ledger : Ledger) (left : LeftRows) → NotLeft session.now left →
+            IsWith ledger left moment self.old →
             IsWith (touched moment session.now number ledger) left moment self.new) }
         ensures memory { OnErr result (result ≡ Err AccountFault.Memory) }
         ensures err { OnErr result (self.new ≡ self.old) }
@@ -40,8 +43,8 @@ impl<'b> Account<'b> {
         Ok(())
     }
 
-    /// Records a request of a session that isn't open: a denied initial request or an event (RFC 8506 sections 5.2 and
-    /// 6). The account is unchanged at a fault, which is want of memory.
+    /// Records a request of a session that isn't open: a denied initial request or an event (RFC
+    /// 8506 sections 5.2 and 6). The account is unchanged at a fault, which is want of memory.
     pub fn deny(
         &mut self,
         session: &SessionId,
@@ -50,9 +53,13 @@ impl<'b> Account<'b> {
     ) -> Result<(), AccountFault>
         requires later { self.old.as_of ≤ moment }
         requires new { session_in session.now self.old.sessions ≡ None }
-        ensures rows { OnOk result (self.new ≡ advanced moment (with_session session.now number moment NeverOpened self.old)) }
-        ensures ledger { OnOk result ((ledger : Ledger) → IsRowsOf ledger self.old → IsRowsOf (recorded moment session.now number ledger) self.new) }
-        ensures left { OnOk result ((ledger : Ledger) (left : LeftRows) → NotLeft session.now left → IsWith ledger left moment self.old →
+        ensures rows { OnOk result
+            (self.new
+            ≡ advanced moment (with_session session.now number moment NeverOpened self.old)) }
+        ensures ledger { OnOk result ((ledger : Ledger) → IsRowsOf ledger self.old →
+            IsRowsOf (recorded moment session.now number ledger) self.new) }
+        ensures left { OnOk result ((ledger : Ledger) (left : LeftRows) → NotLeft session.now left →
+            IsWith ledger left moment self.old →
             IsWith (recorded moment session.now number ledger) left moment self.new) }
         ensures memory { OnErr result (result ≡ Err AccountFault.Memory) }
         ensures err { OnErr result (self.new ≡ self.old) }
@@ -62,13 +69,15 @@ impl<'b> Account<'b> {
         Ok(())
     }
 
-    /// Touches a live session: a request of it, of this number, is accepted (RFC 8506 section 5.3). It takes no
-    /// memory.
+    /// Touches a live session: a request of it, of this number, is accepted (RFC 8506 section 5.3).
+    /// It takes no memory.
     pub fn touch(&mut self, session: &SessionId, number: u32, moment: Moment)
         requires later { self.old.as_of ≤ moment }
-        requires live { is_live_in self.old.book.validity moment self.old.sessions session.now ≡ true }
+        requires live { is_live_in self.old.book.validity moment self.old.sessions session.now
+            ≡ true }
         ensures rows { self.new ≡ touched_account session.now number (advanced moment self.old) }
-        ensures ledger { (ledger : Ledger) → IsRowsOf ledger self.old → IsRowsOf (touched moment session.now number ledger) self.new }
+        ensures ledger { (ledger : Ledger) → IsRowsOf ledger self.old →
+            IsRowsOf (touched moment session.now number ledger) self.new }
         ensures left { (ledger : Ledger) (left : LeftRows) → IsWith ledger left moment self.old →
             IsWith (touched moment session.now number ledger) left moment self.new }
     {
@@ -76,13 +85,15 @@ impl<'b> Account<'b> {
         touch_session(&mut self.rows.sessions, session, number, moment);
     }
 
-    /// Closes a live session: its reservations are over, and what they held is given up (RFC 8506 section 5.4). It
-    /// takes no memory.
+    /// Closes a live session: its reservations are over, and what they held is given up (RFC 8506
+    /// section 5.4). It takes no memory.
     pub fn close(&mut self, session: &SessionId, moment: Moment)
         requires later { self.old.as_of ≤ moment }
-        requires live { is_live_in self.old.book.validity moment self.old.sessions session.now ≡ true }
+        requires live { is_live_in self.old.book.validity moment self.old.sessions session.now
+            ≡ true }
         ensures rows { self.new ≡ closed_account session.now (advanced moment self.old) }
-        ensures ledger { (ledger : Ledger) → IsRowsOf ledger self.old → IsRowsOf (closed moment session.now ledger) self.new }
+        ensures ledger { (ledger : Ledger) → IsRowsOf ledger self.old →
+            IsRowsOf (closed moment session.now ledger) self.new }
         ensures left { (ledger : Ledger) (left : LeftRows) → IsWith ledger left moment self.old →
             IsWith (closed moment session.now ledger) left moment self.new }
     {
@@ -99,7 +110,8 @@ impl<'b> Account<'b> {
         state: SessionState,
     ) -> Result<(), AccountFault>
         requires { session_in session.now self.old.sessions ≡ None }
-        ensures rows { OnOk result (self.new ≡ with_session session.now number moment state self.old) }
+        ensures rows { OnOk result
+            (self.new ≡ with_session session.now number moment state self.old) }
         ensures memory { OnErr result (result ≡ Err AccountFault.Memory) }
         ensures err { OnErr result (self.new ≡ self.old) }
     {

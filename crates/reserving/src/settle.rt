@@ -1,18 +1,4 @@
-ghost use Rattle.std.specs.Prelude.{◌≡◌, ℕ, [], ◌+◌, ◌≤◌, ◌<◌, ◌^◌, true, false, None, is_some, OnOk, OnErr, IsOk, IfOk, IfSome, List, Some, unwrap_or};
-ghost use Rattle.reserving.specs.Ledger.{Ledger};
-ghost use Rattle.reserving.specs.Sessions.{is_live_in};
-ghost use Rattle.reserving.specs.Settlement.{reported, price_of, passes, passes_limit, passes_after, settled_by};
-ghost use Rattle.reserving.specs.Rows.{IsAccount, IsRowsOf};
-ghost use Rattle.reserving.specs.Left.{LeftRows, IsWith};
-ghost use Rattle.reserving.specs.Results.{IsSettlementOf};
-ghost use Rattle.buckets.specs.Holding.{uncollected};
-ghost use Rattle.units.specs.declared.blocks.UsedPart.{UsedPart};
-ghost use Rattle.units.specs.declared.blocks.TariffChangeUsage.TheVariants.{UnitBeforeTariffChange, UnitAfterTariffChange, UnitIndeterminate};
-ghost use Rattle.calendar.specs.Timetable.{period_at};
-ghost use Rattle.reserving.specs.Pricing.{cycle_at, units_of, one_period};
-ghost use Rattle.reserving.specs.Sessions.{group_in, counter_in};
-ghost use Rattle.reserving.specs.Changes.{advanced, used_in, reserved_in, periods_in, count_in, price_in, settled_account, settled_by_rows, ended_rows};
-ghost use Rattle.reserving.specs.Prepared.{with_rows, reservation_in};
+ghost use Rattle.std.specs.Prelude.{◌≡◌, ◌+◌};
 
 use crate::account::Account;
 use crate::fault::AccountFault;
@@ -23,7 +9,8 @@ use identifiers::SessionId;
 use rating::{Periods, Rated};
 use units::{Amount, Blocks, Moment, Units, UsedPart};
 
-/// What became of a report of used units: what is collected and what isn't sum to the rated amount.
+/// What became of a report of used units or of a debit. The type keeps that what is collected and
+/// what isn't sum to the rated amount.
 #[derive(Clone, Copy, Debug, PartialEq, Eq)]
 pub struct Settled {
     /// The blocks that the report started.
@@ -34,6 +21,7 @@ pub struct Settled {
     pub collected: Amount,
     /// What they didn't reach.
     pub uncollected: Amount,
+    pub ghost sum: { collected.0 + uncollected.0 ≡ rated.0 },
 }
 
 /// The most units of a group that a session uses.
@@ -54,12 +42,29 @@ pub(crate) struct RatedUse {
 }
 
 impl<'b> Account<'b> {
-    /// Settles a report of a live session's use of a rating group, and ends its reservation (RFC 8506 section
-    /// 5.3; TS 32.299, session charging with unit reservation). The rated amount is taken from what the
-    /// reservation holds, then from the eligible buckets. A report without parts only ends the reservation.
+    ghost use Rattle.std.specs.Prelude.{◌≡◌, ℕ, [], ◌+◌, ◌≤◌, ◌<◌, ◌^◌, true, false, None, is_some, OnOk, OnErr, IsOk, IfOk, IfSome, List, Some, unwrap_or};
+    ghost use Rattle.reserving.specs.Ledger.{Ledger};
+    ghost use Rattle.reserving.specs.Sessions.{is_live_in};
+    ghost use Rattle.reserving.specs.Settlement.{reported, price_of, passes, passes_limit, passes_after, settled_by};
+    ghost use Rattle.reserving.specs.Rows.{IsAccount, IsRowsOf};
+    ghost use Rattle.reserving.specs.Left.{LeftRows, IsWith};
+    ghost use Rattle.reserving.specs.Results.{IsSettlementOf};
+    ghost use Rattle.buckets.specs.Holding.{uncollected};
+    ghost use Rattle.units.specs.declared.blocks.UsedPart.{UsedPart};
+    ghost use Rattle.units.specs.declared.blocks.TariffChangeUsage.TheVariants.{UnitBeforeTariffChange, UnitAfterTariffChange, UnitIndeterminate};
+    ghost use Rattle.calendar.specs.Timetable.{period_at};
+    ghost use Rattle.reserving.specs.Pricing.{cycle_at, units_of, one_period};
+    ghost use Rattle.reserving.specs.Sessions.{group_in, counter_in};
+    ghost use Rattle.reserving.specs.Changes.{advanced, used_in, reserved_in, periods_in, count_in, price_in, settled_account, settled_by_rows, ended_rows};
+    ghost use Rattle.reserving.specs.Prepared.{with_rows, reservation_in};
+
+    /// Settles a report of a live session's use of a rating group, and ends its reservation (RFC
+    /// 8506 section 5.3; TS 32.299, session charging with unit reservation). The rated amount is
+    /// taken from what the reservation holds, then from the eligible buckets. A report without
+    /// parts only ends the reservation.
     ///
-    /// At a fault nothing has changed: `Limit` where the session's use, the group's counter or the number of the
-    /// charge would pass its limit, else `Memory`.
+    /// At a fault nothing has changed: `Limit` where the session's use, the group's counter or the
+    /// number of the charge would pass its limit, else `Memory`.
     pub fn settle(
         &mut self,
         session: &SessionId,
@@ -68,31 +73,41 @@ impl<'b> Account<'b> {
         moment: Moment,
     ) -> Result<Settled, AccountFault>
         requires moment { self.old.as_of ≤ moment }
-        requires live { is_live_in self.old.book.validity moment self.old.sessions session.now ≡ true }
+        requires live { is_live_in self.old.book.validity moment self.old.sessions session.now
+            ≡ true }
         ensures rows { OnOk result ((ledger : Ledger) → IsRowsOf ledger self.old →
-            IsRowsOf (settled_by self.old.book moment session.now group parts.now ledger) self.new) }
-        ensures left { OnOk result ((ledger : Ledger) (left : LeftRows) → IsWith ledger left moment self.old →
-            IsWith (settled_by self.old.book moment session.now group parts.now ledger) left moment self.new) }
-        ensures by_rows { OnOk result (self.new ≡ settled_by_rows session.now group parts.now (advanced moment self.old)) }
+            IsRowsOf (settled_by self.old.book moment session.now group parts.now ledger)
+            self.new) }
+        ensures left { OnOk result ((ledger : Ledger) (left : LeftRows) →
+            IsWith ledger left moment self.old →
+            IsWith (settled_by self.old.book moment session.now group parts.now ledger)
+            left moment self.new) }
+        ensures by_rows { OnOk result
+            (self.new ≡ settled_by_rows session.now group parts.now (advanced moment self.old)) }
         ensures as_of { OnOk result (self.new.as_of ≡ moment) }
         ensures tariff { self.new.book ≡ self.old.book }
         ensures sessions { OnOk result (self.new.sessions ≡ (advanced moment self.old).sessions) }
         ensures settled { IfOk result (λ s. (ledger : Ledger) → IsRowsOf ledger self.old →
             IsSettlementOf self.old.book moment session.now group parts.now ledger s) }
-        ensures settled_left { IfOk result (λ s. (ledger : Ledger) (left : LeftRows) → IsWith ledger left moment self.old →
+        ensures settled_left { IfOk result (λ s. (ledger : Ledger) (left : LeftRows) →
+            IsWith ledger left moment self.old →
             IsSettlementOf self.old.book moment session.now group parts.now ledger s) }
         ensures within { OnOk result ((ledger : Ledger) → IsRowsOf ledger self.old →
             passes_limit self.old.book moment session.now group parts.now ledger ≡ false) }
-        ensures within_left { OnOk result ((ledger : Ledger) (left : LeftRows) → IsWith ledger left moment self.old →
+        ensures within_left { OnOk result ((ledger : Ledger) (left : LeftRows) →
+            IsWith ledger left moment self.old →
             passes_limit self.old.book moment session.now group parts.now ledger ≡ false) }
-        ensures limit { result ≡ Err AccountFault.Limit → (ledger : Ledger) → IsRowsOf ledger self.old →
+        ensures limit { result ≡ Err AccountFault.Limit → (ledger : Ledger) →
+            IsRowsOf ledger self.old →
             passes_limit self.old.book moment session.now group parts.now ledger ≡ true }
-        ensures limit_left { result ≡ Err AccountFault.Limit → (ledger : Ledger) (left : LeftRows) → IsWith ledger left moment self.old →
+        ensures limit_left { result ≡ Err AccountFault.Limit → (ledger : Ledger) (left : LeftRows) →
+            IsWith ledger left moment self.old →
             passes_limit self.old.book moment session.now group parts.now ledger ≡ true }
-        ensures sum { IfOk result (λ s. s.collected.0 + s.uncollected.0 ≡ s.rated.0) }
         ensures ended { parts.now ≡ [] → IsOk result }
         ensures free { OnOk result (reservation_in session.now group self.new.groups ≡ None) }
-        ensures others { OnOk result ((s : List ℕ) (g : ℕ) → reservation_in s g self.old.groups ≡ None → reservation_in s g self.new.groups ≡ None) }
+        ensures others { OnOk result
+            ((s : List ℕ) (g : ℕ) → reservation_in s g self.old.groups ≡ None →
+            reservation_in s g self.new.groups ≡ None) }
         ensures err { OnErr result (self.new ≡ self.old) }
     {
         if parts.is_empty() {
@@ -120,8 +135,8 @@ impl<'b> Account<'b> {
         })
     }
 
-    /// Whether `settle` would answer `Limit` to a report, after so many other settlements with a charge, of other groups
-    /// of the session. It takes no memory and changes nothing.
+    /// Whether `settle` would answer `Limit` to a report, after so many other settlements with a
+    /// charge, of other groups of the session. It takes no memory and changes nothing.
     pub fn would_pass(
         &self,
         session: &SessionId,
@@ -131,7 +146,8 @@ impl<'b> Account<'b> {
         moment: Moment,
     ) -> bool
         requires later { self.now.as_of ≤ moment }
-        requires live { is_live_in self.now.book.validity moment self.now.sessions session.now ≡ true }
+        requires live { is_live_in self.now.book.validity moment self.now.sessions session.now
+            ≡ true }
         ensures { (ledger : Ledger) (left : LeftRows) → IsWith ledger left moment self.now →
             result ≡ passes_after charges self.now.book moment session.now group parts.now ledger }
     {
@@ -144,7 +160,8 @@ impl<'b> Account<'b> {
         (LAST_CHARGE as u128) < self.next_charge() as u128 + charges as u128
     }
 
-    /// Makes the rows that a settlement writes to. At a fault, which is want of memory, nothing has changed.
+    /// Makes the rows that a settlement writes to. At a fault, which is want of memory, nothing has
+    /// changed.
     pub(crate) fn make_rows(
         &mut self,
         session: &SessionId,
@@ -188,11 +205,20 @@ impl<'b> Account<'b> {
         moment: Moment,
     ) -> Option<RatedUse>
         ensures account { IsAccount self.now }
-        ensures none { result ≡ None → passes (used_in session.now group self.now.groups) (reported parts.now) (count_in group (cycle_at self.now.book group moment) self.now.counters) (price_in session.now group moment parts.now self.now).blocks self.now.next_charge ≡ true }
-        ensures some { IfSome result (λ r. passes (used_in session.now group self.now.groups) r.units.0 (count_in group (cycle_at self.now.book group moment) self.now.counters) r.blocks.0 self.now.next_charge ≡ false) }
+        ensures none { result ≡ None →
+            passes (used_in session.now group self.now.groups) (reported parts.now)
+            (count_in group (cycle_at self.now.book group moment) self.now.counters)
+            (price_in session.now group moment parts.now self.now).blocks self.now.next_charge
+            ≡ true }
+        ensures some { IfSome result
+            (λ r. passes (used_in session.now group self.now.groups) r.units.0
+            (count_in group (cycle_at self.now.book group moment) self.now.counters) r.blocks.0
+            self.now.next_charge ≡ false) }
         ensures units { IfSome result (λ r. r.units.0 ≡ reported parts.now) }
-        ensures blocks { IfSome result (λ r. r.blocks.0 ≡ (price_in session.now group moment parts.now self.now).blocks) }
-        ensures amount { IfSome result (λ r. r.amount.0 ≡ (price_in session.now group moment parts.now self.now).amount.0) }
+        ensures blocks { IfSome result
+            (λ r. r.blocks.0 ≡ (price_in session.now group moment parts.now self.now).blocks) }
+        ensures amount { IfSome result
+            (λ r. r.amount.0 ≡ (price_in session.now group moment parts.now self.now).amount.0) }
     {
         let used = grouping::used_of(&self.rows.groups, session, group);
         let units = reported_units(parts);
@@ -215,8 +241,14 @@ impl<'b> Account<'b> {
         moment: Moment,
     ) -> Option<RatedUse>
         ensures account { IsAccount self.now }
-        ensures none { result ≡ None → passes (used_in session.now group self.now.groups) units.0 (count_in group (cycle_at self.now.book group moment) self.now.counters) rated.blocks self.now.next_charge ≡ true }
-        ensures some { IfSome result (λ r. passes (used_in session.now group self.now.groups) units.0 (count_in group (cycle_at self.now.book group moment) self.now.counters) rated.blocks self.now.next_charge ≡ false) }
+        ensures none { result ≡ None →
+            passes (used_in session.now group self.now.groups) units.0
+            (count_in group (cycle_at self.now.book group moment) self.now.counters) rated.blocks
+            self.now.next_charge ≡ true }
+        ensures some { IfSome result
+            (λ r. passes (used_in session.now group self.now.groups) units.0
+            (count_in group (cycle_at self.now.book group moment) self.now.counters) rated.blocks
+            self.now.next_charge ≡ false) }
         ensures units { IfSome result (λ r. r.units ≡ units) }
         ensures blocks { IfSome result (λ r. r.blocks.0 ≡ rated.blocks) }
         ensures amount { IfSome result (λ r. r.amount ≡ rated.amount) }
@@ -234,8 +266,8 @@ impl<'b> Account<'b> {
         })
     }
 
-    /// What a report costs: by the periods of its grant, without one by the period at the moment. A group that the
-    /// book doesn't have costs nothing.
+    /// What a report costs: by the periods of its grant, without one by the period at the moment. A
+    /// group that the book doesn't have costs nothing.
     fn price(
         &self,
         session: &SessionId,
@@ -245,11 +277,15 @@ impl<'b> Account<'b> {
         tally: &Tally,
         moment: Moment,
     ) -> Rated
-        requires { tally.now.untagged + tally.now.before + tally.now.indeterminate + tally.now.after < 2 ^ 64 }
+        requires { tally.now.untagged + tally.now.before + tally.now.indeterminate + tally.now.after
+            < 2 ^ 64 }
         ensures { (parts : List UsedPart) →
-            tally.now.untagged ≡ units_of None parts → tally.now.before ≡ units_of (Some UnitBeforeTariffChange) parts →
-            tally.now.indeterminate ≡ units_of (Some UnitIndeterminate) parts → tally.now.after ≡ units_of (Some UnitAfterTariffChange) parts →
-            result ≡ price_of self.now.book moment group (periods_in session.now group self.now.groups) used place parts }
+            tally.now.untagged ≡ units_of None parts →
+            tally.now.before ≡ units_of (Some UnitBeforeTariffChange) parts →
+            tally.now.indeterminate ≡ units_of (Some UnitIndeterminate) parts →
+            tally.now.after ≡ units_of (Some UnitAfterTariffChange) parts →
+            result ≡ price_of self.now.book moment group
+            (periods_in session.now group self.now.groups) used place parts }
     {
         let Some(tariff) = self.book.tariff(group) else {
             return Rated {
@@ -263,7 +299,9 @@ impl<'b> Account<'b> {
 
     /// The periods that price a report: those of its grant, or the period at the moment.
     fn periods(&self, session: &SessionId, group: u32, moment: Moment) -> Periods
-        ensures { result ≡ unwrap_or (periods_in session.now group self.now.groups) (one_period (period_at self.now.book.calendar moment)) }
+        ensures { result
+            ≡ unwrap_or (periods_in session.now group self.now.groups)
+            (one_period (period_at self.now.book.calendar moment)) }
     {
         match grouping::periods_of(&self.rows.groups, session, group) {
             Some(periods) => periods,
@@ -288,11 +326,17 @@ impl<'b> Account<'b> {
         requires group { is_some (group_in session.now group self.old.groups) ≡ true }
         requires counter { is_some (counter_in group cycle self.old.counters) ≡ true }
         requires cycle { cycle ≡ cycle_at self.old.book group self.old.as_of }
-        requires used { used_in session.now group self.old.groups + rated.units.0 ≤ 1_000_000_000_000_000_000 }
-        requires counted { count_in group cycle self.old.counters + rated.blocks.0 ≤ 4_000_000_000_000_000_000 }
+        requires used { used_in session.now group self.old.groups + rated.units.0
+            ≤ 1_000_000_000_000_000_000 }
+        requires counted { count_in group cycle self.old.counters + rated.blocks.0
+            ≤ 4_000_000_000_000_000_000 }
         requires charges { self.old.next_charge < 4_294_967_296 }
-        ensures rows { self.new ≡ settled_account session.now group rated.units.0 rated.blocks.0 rated.amount.0 self.old }
-        ensures uncollected { result.uncollected.0 ≡ uncollected (reserved_in session.now group self.old.groups) group self.old.as_of rated.amount.0 self.old.buckets }
+        ensures rows { self.new
+            ≡ settled_account session.now group rated.units.0 rated.blocks.0 rated.amount.0
+            self.old }
+        ensures uncollected { result.uncollected.0
+            ≡ uncollected (reserved_in session.now group self.old.groups) group self.old.as_of
+            rated.amount.0 self.old.buckets }
         ensures collected { result.collected.0 + result.uncollected.0 ≡ rated.amount.0 }
     {
         let holds = grouping::use_group(

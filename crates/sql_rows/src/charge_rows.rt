@@ -135,6 +135,9 @@ fn charge_from(alloc: Global, row: &Row) -> Result<ChargeRow, ReadFault>
     let rated = number_at(row, 5)?;
     let collected = number_at(row, 6)?;
     let uncollected = number_at(row, 7)?;
+    if collected as u128 + uncollected as u128 != rated as u128 {
+        return Err(ReadFault::Rules);
+    }
     Ok(ChargeRow {
         number,
         moment,

@@ -199,8 +199,8 @@ const WANTED: &str = "1 1767607200 s1 10: 3 60 60 0; 2 1767607200 s1 10: 3 60 50
 fn charges(rt: HostRuntime) -> Result<(), Fail> {
     let alloc = rt.alloc();
     let (ours, head) = (account(alloc, "49151")?, head(false, 100, 1, 3)?);
-    let both = vec![in alloc; charge(alloc, 2, 60, 50)?, charge(alloc, 1, 60, 60)?]?;
-    let again = charge(alloc, 1, 75, 0)?;
+    let both = vec![in alloc; charge(alloc, 2, 50, 10)?, charge(alloc, 1, 60, 0)?]?;
+    let again = charge(alloc, 1, 0, 75)?;
     let mut text = String::new(alloc);
     let mut conn = create_in_memory(alloc)?;
     try_charges(alloc, &mut conn, &ours, &head, (&both, &again), &mut text)?;

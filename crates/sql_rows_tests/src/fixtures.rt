@@ -73,8 +73,8 @@ pub(crate) fn two_buckets(alloc: Global, are_used: bool) -> Result<Vec<Bucket>, 
 pub(crate) fn charge(
     alloc: Global,
     number: u32,
-    rated: u32,
     collected: u32,
+    uncollected: u32,
 ) -> Result<ChargeRow, Fail> {
     Ok(ChargeRow {
         number,
@@ -82,8 +82,8 @@ pub(crate) fn charge(
         session: name(alloc, "s1")?,
         group: 10,
         blocks: Blocks(3),
-        rated: Amount(u128::from(rated)),
-        collected: Amount(u128::from(collected)),
-        uncollected: Amount(u128::from(rated.saturating_sub(collected))),
+        rated: Amount(collected as u128 + uncollected as u128),
+        collected: Amount(collected as u128),
+        uncollected: Amount(uncollected as u128),
     })
 }

@@ -9,26 +9,43 @@ use Rattle.reserving.specs.Rows.{AccountRows}
 use Rattle.reserving.proofs.Lists.{find-map, find-passes, find-put}
 use Rattle.reserving.proofs.Holds.{same_itself, number_itself}
 
-pub ended_key : (s : List ℕ) (g : ℕ) (r : SessionGroup) → is_of s g (ended_group s g r) ≡ is_of s g r
-ended_key s g r = elim (is_of s g r) as (λ l. is_of s g (if l then record r { reservation = None } else r) ≡ is_of s g r) [ true ↦ refl | false ↦ refl ]
+pub ended_key : (s : List ℕ) (g : ℕ) (r : SessionGroup) →
+    is_of s g (ended_group s g r) ≡ is_of s g r
+ended_key s g r =
+    elim (is_of s g r) as
+    (λ l. is_of s g (if l then record r { reservation = None } else r) ≡ is_of s g r)
+    [ true ↦ refl | false ↦ refl ]
 
-pub free_ended : (s : List ℕ) (g : ℕ) (rows : List SessionGroup) → (unwrap_or (group_in s g (map (ended_group s g) rows)) (new_group s g)).reservation ≡ None
+pub free_ended : (s : List ℕ) (g : ℕ) (rows : List SessionGroup) →
+    (unwrap_or (group_in s g (map (ended_group s g) rows)) (new_group s g)).reservation ≡ None
 free_ended s g rows =
-    ap (λ o. (unwrap_or o (new_group s g)).reservation) (find-map (is_of s g) (ended_group s g) rows (ended_key s g)) ∙ at (group_in s g rows) refl
+    ap (λ o. (unwrap_or o (new_group s g)).reservation)
+    (find-map (is_of s g) (ended_group s g) rows (ended_key s g)) ∙ at (group_in s g rows) refl
   where
-    at : (o : Option SessionGroup) → group_in s g rows ≡ o → (unwrap_or (option_map (ended_group s g) o) (new_group s g)).reservation ≡ None
+    at : (o : Option SessionGroup) → group_in s g rows ≡ o →
+        (unwrap_or (option_map (ended_group s g) o) (new_group s g)).reservation ≡ None
     at None e = refl
     at (Some r) e = rw (find-passes (is_of s g) rows r e) refl
 
 own_key : (s : List ℕ) (g : ℕ) (r : SessionGroup) → r.session ≡ s → r.group ≡ g → is_of s g r ≡ true
 own_key s g r e k = rw (e, k, same_itself s, number_itself g) refl
 
-pub free_used : (s : List ℕ) (g units : ℕ) (rows : List SessionGroup) → (unwrap_or (group_in s g (with_use s g units rows)) (new_group s g)).reservation ≡ None
+pub free_used : (s : List ℕ) (g units : ℕ) (rows : List SessionGroup) →
+    (unwrap_or (group_in s g (with_use s g units rows)) (new_group s g)).reservation ≡ None
 free_used s g units rows =
-    ap (λ o. (unwrap_or o (new_group s g)).reservation) (find-put (is_of s g) (record { session = s; group = g; used = used_in s g rows + units; reservation = None }) rows (own_key s g (record { session = s; group = g; used = used_in s g rows + units; reservation = None }) refl refl))
+    ap (λ o. (unwrap_or o (new_group s g)).reservation)
+    (find-put (is_of s g)
+    (record { session = s; group = g; used = used_in s g rows + units; reservation = None })
+    rows (own_key s g
+    (record { session = s; group = g; used = used_in s g rows + units; reservation = None })
+    refl refl))
 
-pub ended_free : (s : List ℕ) (g : ℕ) (middle after : AccountRows) → after ≡ ended_rows s g middle → reservation_in s g after.groups ≡ None
-ended_free s g middle after e = ap (λ (a : AccountRows). reservation_in s g a.groups) e ∙ free_ended s g middle.groups
+pub ended_free : (s : List ℕ) (g : ℕ) (middle after : AccountRows) → after ≡ ended_rows s g middle →
+    reservation_in s g after.groups ≡ None
+ended_free s g middle after e =
+    ap (λ (a : AccountRows). reservation_in s g a.groups) e ∙ free_ended s g middle.groups
 
-pub settled_free : (s : List ℕ) (g units blocks rated : ℕ) (middle after : AccountRows) → after ≡ settled_account s g units blocks rated middle → reservation_in s g after.groups ≡ None
-settled_free s g units blocks rated middle after e = ap (λ (a : AccountRows). reservation_in s g a.groups) e ∙ free_used s g units middle.groups
+pub settled_free : (s : List ℕ) (g units blocks rated : ℕ) (middle after : AccountRows) →
+    after ≡ settled_account s g units blocks rated middle → reservation_in s g after.groups ≡ None
+settled_free s g units blocks rated middle after e =
+    ap (λ (a : AccountRows). reservation_in s g a.groups) e ∙ free_used s g units middle.groups

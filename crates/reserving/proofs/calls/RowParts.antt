@@ -19,143 +19,240 @@ use Rattle.reserving.proofs.kept.Settled.{or_new_key, or_new_cycle}
 
 -- ---- part by part
 
-pub ended_parts : (a : AccountRows) (s : List ℕ) (g : ℕ) (holds : List Hold) (buckets : List Row) (groups : List SessionGroup) →
-    holds ≡ reserved_in s g a.groups → buckets ≡ released_rows holds a.as_of a.buckets → groups ≡ map (ended_group s g) a.groups →
+pub ended_parts : (a : AccountRows) (s : List ℕ) (g : ℕ) (holds : List Hold) (buckets : List Row)
+    (groups : List SessionGroup) →
+    holds ≡ reserved_in s g a.groups → buckets ≡ released_rows holds a.as_of a.buckets →
+    groups ≡ map (ended_group s g) a.groups →
     (let x : AccountRows = record a { buckets = buckets; groups = groups } in x) ≡ ended_rows s g a
 ended_parts a s g holds buckets groups h b k =
-    let moved : buckets ≡ released_rows (reserved_in s g a.groups) a.as_of a.buckets = b ∙ ap (λ x. released_rows x a.as_of a.buckets) h in
+    let moved : buckets ≡ released_rows (reserved_in s g a.groups) a.as_of a.buckets =
+    b ∙ ap (λ x. released_rows x a.as_of a.buckets) h in
     λ i. record a { buckets = moved i; groups = k i }
 
-pub settled_parts : (a : AccountRows) (s : List ℕ) (g cycle units blocks rated : ℕ) (holds : List Hold) (buckets : List Row) (counters : List Counter) (groups : List SessionGroup) →
+pub settled_parts : (a : AccountRows) (s : List ℕ) (g cycle units blocks rated : ℕ)
+    (holds : List Hold) (buckets : List Row) (counters : List Counter) (groups : List SessionGroup)
+    →
     cycle ≡ cycle_at a.book g a.as_of →
-    holds ≡ reserved_in s g a.groups → buckets ≡ settled_rows holds g a.as_of rated a.buckets → counters ≡ with_count g cycle blocks a.counters → groups ≡ with_use s g units a.groups →
-    (let x : AccountRows = record a { buckets = buckets; counters = counters; groups = groups; next_charge = a.next_charge + 1 } in x) ≡ settled_account s g units blocks rated a
+    holds ≡ reserved_in s g a.groups → buckets ≡ settled_rows holds g a.as_of rated a.buckets →
+    counters ≡ with_count g cycle blocks a.counters → groups ≡ with_use s g units a.groups →
+    (let x : AccountRows = record a {
+      buckets = buckets;
+      counters = counters;
+      groups = groups;
+      next_charge = a.next_charge + 1;
+    } in x) ≡ settled_account s g units blocks rated a
 settled_parts a s g cycle units blocks rated holds buckets counters groups e h b c k =
-    let moved : buckets ≡ settled_rows (reserved_in s g a.groups) g a.as_of rated a.buckets = b ∙ ap (λ x. settled_rows x g a.as_of rated a.buckets) h in
-    let counted : counters ≡ with_count g (cycle_at a.book g a.as_of) blocks a.counters = c ∙ ap (λ x. with_count g x blocks a.counters) e in
-    λ i. record a { buckets = moved i; counters = counted i; groups = k i; next_charge = a.next_charge + 1 }
+    let moved : buckets ≡ settled_rows (reserved_in s g a.groups) g a.as_of rated a.buckets =
+    b ∙ ap (λ x. settled_rows x g a.as_of rated a.buckets) h in
+    let counted : counters ≡ with_count g (cycle_at a.book g a.as_of) blocks a.counters =
+    c ∙ ap (λ x. with_count g x blocks a.counters) e in
+    λ i. record a {
+      buckets = moved i;
+      counters = counted i;
+      groups = k i;
+      next_charge = a.next_charge + 1;
+    }
 
 -- ---- rows without facts
 
-pub put-put : {A : Type 0} (p : A → Bool) (x y : A) (xs : List A) → p y ≡ true → put p x (put p y xs) ≡ put p x xs
+pub put-put : {A : Type 0} (p : A → Bool) (x y : A) (xs : List A) → p y ≡ true →
+    put p x (put p y xs) ≡ put p x xs
 put-put p x y [] h = λ i. if h i then x ∷ [] else y ∷ put p x []
 put-put p x y (z ∷ zs) h = by_test (p z) refl (put-put p x y zs h)
   where
-    by_test : (t : Bool) → p z ≡ t → put p x (put p y zs) ≡ put p x zs → put p x (if t then y ∷ zs else z ∷ put p y zs) ≡ put p x (z ∷ zs)
-    by_test true e rest = (λ i. if h i then x ∷ zs else y ∷ put p x zs) ∙ sym (λ i. if e i then x ∷ zs else z ∷ put p x zs)
-    by_test false e rest = (λ i. if p z then x ∷ put p y zs else z ∷ rest i) ∙ (λ i. if e i then x ∷ put p y zs else z ∷ put p x zs) ∙ sym (λ i. if e i then x ∷ zs else z ∷ put p x zs)
+    by_test : (t : Bool) → p z ≡ t → put p x (put p y zs) ≡ put p x zs →
+        put p x (if t then y ∷ zs else z ∷ put p y zs) ≡ put p x (z ∷ zs)
+    by_test true e rest =
+        (λ i. if h i then x ∷ zs else y ∷ put p x zs)
+        ∙ sym (λ i. if e i then x ∷ zs else z ∷ put p x zs)
+    by_test false e rest =
+        (λ i. if p z then x ∷ put p y zs else z ∷ rest i)
+        ∙ (λ i. if e i then x ∷ put p y zs else z ∷ put p x zs)
+        ∙ sym (λ i. if e i then x ∷ zs else z ∷ put p x zs)
 
-pub map-put : {A : Type 0} (f : A → A) (p : A → Bool) (y : A) (xs : List A) → ((z : A) → p (f z) ≡ p z) → map f (put p y xs) ≡ put p (f y) (map f xs)
+pub map-put : {A : Type 0} (f : A → A) (p : A → Bool) (y : A) (xs : List A) →
+    ((z : A) → p (f z) ≡ p z) → map f (put p y xs) ≡ put p (f y) (map f xs)
 map-put f p y [] k = refl
 map-put f p y (z ∷ zs) k = by_test (p z) refl (map-put f p y zs k)
   where
-    by_test : (t : Bool) → p z ≡ t → map f (put p y zs) ≡ put p (f y) (map f zs) → map f (if t then y ∷ zs else z ∷ put p y zs) ≡ put p (f y) (f z ∷ map f zs)
-    by_test true e rest = sym (λ i. if (k z ∙ e) i then f y ∷ map f zs else f z ∷ put p (f y) (map f zs))
-    by_test false e rest = (λ i. f z ∷ rest i) ∙ sym (λ i. if (k z ∙ e) i then f y ∷ map f zs else f z ∷ put p (f y) (map f zs))
+    by_test : (t : Bool) → p z ≡ t → map f (put p y zs) ≡ put p (f y) (map f zs) →
+        map f (if t then y ∷ zs else z ∷ put p y zs) ≡ put p (f y) (f z ∷ map f zs)
+    by_test true e rest =
+        sym (λ i. if (k z ∙ e) i then f y ∷ map f zs else f z ∷ put p (f y) (map f zs))
+    by_test false e rest =
+        (λ i. f z ∷ rest i)
+        ∙ sym (λ i. if (k z ∙ e) i then f y ∷ map f zs else f z ∷ put p (f y) (map f zs))
 
-lapsed_key : (t : Bool) (r : SessionGroup) (s : List ℕ) (g : ℕ) → is_of s g (if t then r else record r { reservation = None }) ≡ is_of s g r
+lapsed_key : (t : Bool) (r : SessionGroup) (s : List ℕ) (g : ℕ) →
+    is_of s g (if t then r else record r { reservation = None }) ≡ is_of s g r
 lapsed_key true r s g = refl
 lapsed_key false r s g = refl
 
-pub key_kept : (keeps : List ℕ → Bool) (s : List ℕ) (g : ℕ) (r : SessionGroup) → is_of s g (lapse_group keeps r) ≡ is_of s g r
+pub key_kept : (keeps : List ℕ → Bool) (s : List ℕ) (g : ℕ) (r : SessionGroup) →
+    is_of s g (lapse_group keeps r) ≡ is_of s g r
 key_kept keeps s g r = lapsed_key (keeps r.session) r s g
 
 -- a group's row, as time goes on
-pub lapsed_group : (keeps : List ℕ → Bool) (s : List ℕ) (g : ℕ) (rows : List SessionGroup) → map (lapse_group keeps) (with_group s g rows) ≡ put (is_of s g) (lapse_group keeps (group_or_new s g rows)) (map (lapse_group keeps) rows)
-lapsed_group keeps s g rows = map-put (lapse_group keeps) (is_of s g) (group_or_new s g rows) rows (key_kept keeps s g)
+pub lapsed_group : (keeps : List ℕ → Bool) (s : List ℕ) (g : ℕ) (rows : List SessionGroup) →
+    map (lapse_group keeps) (with_group s g rows)
+    ≡ put (is_of s g) (lapse_group keeps (group_or_new s g rows)) (map (lapse_group keeps) rows)
+lapsed_group keeps s g rows =
+    map-put (lapse_group keeps) (is_of s g) (group_or_new s g rows) rows (key_kept keeps s g)
 
-pub put_later : (keeps : List ℕ → Bool) (s : List ℕ) (g : ℕ) (x : SessionGroup) (rows : List SessionGroup) → put (is_of s g) x (map (lapse_group keeps) (with_group s g rows)) ≡ put (is_of s g) x (map (lapse_group keeps) rows)
+pub put_later : (keeps : List ℕ → Bool) (s : List ℕ) (g : ℕ) (x : SessionGroup)
+    (rows : List SessionGroup) →
+    put (is_of s g) x (map (lapse_group keeps) (with_group s g rows))
+    ≡ put (is_of s g) x (map (lapse_group keeps) rows)
 put_later keeps s g x rows =
     ap (put (is_of s g) x) (lapsed_group keeps s g rows)
-    ∙ put-put (is_of s g) x (lapse_group keeps (group_or_new s g rows)) (map (lapse_group keeps) rows) (key_kept keeps s g (group_or_new s g rows) ∙ or_new_key s g rows)
+    ∙ put-put (is_of s g) x (lapse_group keeps (group_or_new s g rows))
+    (map (lapse_group keeps) rows)
+    (key_kept keeps s g (group_or_new s g rows) ∙ or_new_key s g rows)
 
-pub group_later : (keeps : List ℕ → Bool) (s : List ℕ) (g : ℕ) (rows : List SessionGroup) → group_in s g (map (lapse_group keeps) (with_group s g rows)) ≡ Some (lapse_group keeps (group_or_new s g rows))
+pub group_later : (keeps : List ℕ → Bool) (s : List ℕ) (g : ℕ) (rows : List SessionGroup) →
+    group_in s g (map (lapse_group keeps) (with_group s g rows))
+    ≡ Some (lapse_group keeps (group_or_new s g rows))
 group_later keeps s g rows =
     ap (group_in s g) (lapsed_group keeps s g rows)
-    ∙ find-put (is_of s g) (lapse_group keeps (group_or_new s g rows)) (map (lapse_group keeps) rows) (key_kept keeps s g (group_or_new s g rows) ∙ or_new_key s g rows)
+    ∙ find-put (is_of s g) (lapse_group keeps (group_or_new s g rows))
+    (map (lapse_group keeps) rows)
+    (key_kept keeps s g (group_or_new s g rows) ∙ or_new_key s g rows)
 
-lapsed_new : (t : Bool) (s : List ℕ) (g : ℕ) → (let n : SessionGroup = new_group s g in (if t then n else record n { reservation = None }) ≡ n)
+lapsed_new : (t : Bool) (s : List ℕ) (g : ℕ) →
+    (let n : SessionGroup = new_group s g in (if t then n else record n { reservation = None }) ≡ n)
 lapsed_new true s g = refl
 lapsed_new false s g = refl
 
 -- the row that a group has or would have, as time goes on
-pub or_new_later : (keeps : List ℕ → Bool) (s : List ℕ) (g : ℕ) (rows : List SessionGroup) → group_or_new s g (map (lapse_group keeps) (with_group s g rows)) ≡ group_or_new s g (map (lapse_group keeps) rows)
+pub or_new_later : (keeps : List ℕ → Bool) (s : List ℕ) (g : ℕ) (rows : List SessionGroup) →
+    group_or_new s g (map (lapse_group keeps) (with_group s g rows))
+    ≡ group_or_new s g (map (lapse_group keeps) rows)
 or_new_later keeps s g rows =
     ap (λ o. unwrap_or o (new_group s g)) (group_later keeps s g rows)
     ∙ by_row (group_in s g rows)
-    ∙ sym (ap (λ o. unwrap_or o (new_group s g)) (find-map (is_of s g) (lapse_group keeps) rows (key_kept keeps s g)))
+    ∙ sym (ap (λ o. unwrap_or o (new_group s g))
+    (find-map (is_of s g) (lapse_group keeps) rows (key_kept keeps s g)))
   where
-    by_row : (o : Option SessionGroup) → lapse_group keeps (unwrap_or o (new_group s g)) ≡ unwrap_or (option_map (lapse_group keeps) o) (new_group s g)
+    by_row : (o : Option SessionGroup) →
+        lapse_group keeps (unwrap_or o (new_group s g))
+        ≡ unwrap_or (option_map (lapse_group keeps) o) (new_group s g)
     by_row (Some x) = refl
     by_row None = lapsed_new (keeps s) s g
 
-lapsed_used : (t : Bool) (r : SessionGroup) → (if t then r else record r { reservation = None }).used ≡ r.used
+lapsed_used : (t : Bool) (r : SessionGroup) →
+    (if t then r else record r { reservation = None }).used ≡ r.used
 lapsed_used true r = refl
 lapsed_used false r = refl
 
 -- time doesn't change what is used
-pub used_later : (keeps : List ℕ → Bool) (s : List ℕ) (g : ℕ) (rows : List SessionGroup) → used_in s g (map (lapse_group keeps) rows) ≡ used_in s g rows
+pub used_later : (keeps : List ℕ → Bool) (s : List ℕ) (g : ℕ) (rows : List SessionGroup) →
+    used_in s g (map (lapse_group keeps) rows) ≡ used_in s g rows
 used_later keeps s g rows =
-    ap (λ o. (unwrap_or o (new_group s g)).used) (find-map (is_of s g) (lapse_group keeps) rows (key_kept keeps s g))
+    ap (λ o. (unwrap_or o (new_group s g)).used)
+    (find-map (is_of s g) (lapse_group keeps) rows (key_kept keeps s g))
     ∙ by_row (group_in s g rows)
   where
-    by_row : (o : Option SessionGroup) → (unwrap_or (option_map (lapse_group keeps) o) (new_group s g)).used ≡ (unwrap_or o (new_group s g)).used
+    by_row : (o : Option SessionGroup) →
+        (unwrap_or (option_map (lapse_group keeps) o) (new_group s g)).used
+        ≡ (unwrap_or o (new_group s g)).used
     by_row (Some x) = lapsed_used (keeps x.session) x
     by_row None = refl
 
-kept_periods : (t : Bool) (r : SessionGroup) → t ≡ true → (let x : SessionGroup = if t then r else record r { reservation = None } in option_map (λ (y : Reservation). y.periods) x.reservation ≡ option_map (λ (y : Reservation). y.periods) r.reservation)
+kept_periods : (t : Bool) (r : SessionGroup) → t ≡ true →
+    (let x : SessionGroup = if t then r else record r { reservation = None } in
+    option_map (λ (y : Reservation). y.periods) x.reservation
+    ≡ option_map (λ (y : Reservation). y.periods) r.reservation)
 kept_periods true r h = refl
 kept_periods false r h = cc
 
 -- a session that keeps its reservations keeps their periods
-pub periods_later : (keeps : List ℕ → Bool) (s : List ℕ) (g : ℕ) (rows : List SessionGroup) → keeps s ≡ true → periods_in s g (map (lapse_group keeps) rows) ≡ periods_in s g rows
+pub periods_later : (keeps : List ℕ → Bool) (s : List ℕ) (g : ℕ) (rows : List SessionGroup) →
+    keeps s ≡ true → periods_in s g (map (lapse_group keeps) rows) ≡ periods_in s g rows
 periods_later keeps s g rows h =
-    ap (λ o. option_map (λ (y : Reservation). y.periods) (unwrap_or o (new_group s g)).reservation) (find-map (is_of s g) (lapse_group keeps) rows (key_kept keeps s g))
+    ap (λ o. option_map (λ (y : Reservation). y.periods) (unwrap_or o (new_group s g)).reservation)
+    (find-map (is_of s g) (lapse_group keeps) rows (key_kept keeps s g))
     ∙ by_row (group_in s g rows) refl
   where
-    by_row : (o : Option SessionGroup) → group_in s g rows ≡ o → option_map (λ (y : Reservation). y.periods) (unwrap_or (option_map (lapse_group keeps) o) (new_group s g)).reservation ≡ option_map (λ (y : Reservation). y.periods) (unwrap_or o (new_group s g)).reservation
+    by_row : (o : Option SessionGroup) → group_in s g rows ≡ o →
+        option_map (λ (y : Reservation). y.periods)
+        (unwrap_or (option_map (lapse_group keeps) o) (new_group s g)).reservation
+        ≡ option_map (λ (y : Reservation). y.periods) (unwrap_or o (new_group s g)).reservation
     by_row (Some x) e = kept_periods (keeps x.session) x (ap keeps (found_session s g rows x e) ∙ h)
     by_row None e = refl
 
 -- an empty row holds nothing
-held_by-new : (q : List ℕ → Bool) (s : List ℕ) (g : ℕ) (rows : List SessionGroup) (b : Row) → held_by q (rows ++ new_group s g ∷ []) b ≡ held_by q rows b
-held_by-new q s g [] b = elim (q s) as (λ t. (if t then held_in (holds_in None) b else 0) + 0 ≡ 0) [ true ↦ omega arith | false ↦ omega arith ]
-held_by-new q s g (y ∷ ys) b = ap (λ n. (if q y.session then held_in (holds_in y.reservation) b else 0) + n) (held_by-new q s g ys b)
+held_by-new : (q : List ℕ → Bool) (s : List ℕ) (g : ℕ) (rows : List SessionGroup) (b : Row) →
+    held_by q (rows ++ new_group s g ∷ []) b ≡ held_by q rows b
+held_by-new q s g [] b =
+    elim (q s) as (λ t. (if t then held_in (holds_in None) b else 0) + 0 ≡ 0)
+    [ true ↦ omega arith | false ↦ omega arith ]
+held_by-new q s g (y ∷ ys) b =
+    ap (λ n. (if q y.session then held_in (holds_in y.reservation) b else 0) + n)
+    (held_by-new q s g ys b)
 
-pub held_by-with_group : (q : List ℕ → Bool) (s : List ℕ) (g : ℕ) (rows : List SessionGroup) (b : Row) → held_by q (with_group s g rows) b ≡ held_by q rows b
+pub held_by-with_group : (q : List ℕ → Bool) (s : List ℕ) (g : ℕ) (rows : List SessionGroup)
+    (b : Row) → held_by q (with_group s g rows) b ≡ held_by q rows b
 held_by-with_group q s g rows b = by_row (group_in s g rows) refl
   where
-    by_row : (o : Option SessionGroup) → group_in s g rows ≡ o → held_by q (with_group s g rows) b ≡ held_by q rows b
+    by_row : (o : Option SessionGroup) → group_in s g rows ≡ o →
+        held_by q (with_group s g rows) b ≡ held_by q rows b
     by_row (Some x) e = ap (λ rs. held_by q rs b) (sym (kept_group s g rows x e))
     by_row None e =
-        ap (λ rs. held_by q rs b) (ap (λ o. put (is_of s g) (unwrap_or o (new_group s g)) rows) e ∙ put-none (is_of s g) (new_group s g) rows e)
+        ap (λ rs. held_by q rs b) (ap (λ o. put (is_of s g) (unwrap_or o (new_group s g)) rows) e
+        ∙ put-none (is_of s g) (new_group s g) rows e)
         ∙ held_by-new q s g rows b
 
-pub count_later : (g c : ℕ) (rows : List Counter) → count_in g c (with_counter g c rows) ≡ count_in g c rows
+pub count_later : (g c : ℕ) (rows : List Counter) →
+    count_in g c (with_counter g c rows) ≡ count_in g c rows
 count_later g c rows =
-    ap (λ o. unwrap_or (option_map (λ (r : Counter). r.blocks) o) 0) (find-put (is_counter g c) (counter_or_new g c rows) rows (or_new_cycle g c rows))
+    ap (λ o. unwrap_or (option_map (λ (r : Counter). r.blocks) o) 0)
+    (find-put (is_counter g c) (counter_or_new g c rows) rows (or_new_cycle g c rows))
     ∙ by_row (counter_in g c rows)
   where
-    by_row : (o : Option Counter) → (unwrap_or o (record { group = g; cycle = c; blocks = 0 })).blocks ≡ unwrap_or (option_map (λ (r : Counter). r.blocks) o) 0
+    by_row : (o : Option Counter) →
+        (unwrap_or o (record { group = g; cycle = c; blocks = 0 })).blocks
+        ≡ unwrap_or (option_map (λ (r : Counter). r.blocks) o) 0
     by_row (Some x) = refl
     by_row None = refl
 
 -- a settlement finds the empty rows as none
-pub settled_later : (a : AccountRows) (s : List ℕ) (g t units blocks rated : ℕ) → settled_account s g units blocks rated (advanced t (with_rows s g (cycle_at a.book g t) a)) ≡ settled_account s g units blocks rated (advanced t a)
+pub settled_later : (a : AccountRows) (s : List ℕ) (g t units blocks rated : ℕ) →
+    settled_account s g units blocks rated (advanced t (with_rows s g (cycle_at a.book g t) a))
+    ≡ settled_account s g units blocks rated (advanced t a)
 settled_later a s g t units blocks rated =
     let keeps : List ℕ → Bool = is_live_in a.book.validity t a.sessions in
     let c : ℕ = cycle_at a.book g t in
-    let row : group_or_new s g (map (lapse_group keeps) (with_group s g a.groups)) ≡ group_or_new s g (map (lapse_group keeps) a.groups) = or_new_later keeps s g a.groups in
-    let groups : with_use s g units (map (lapse_group keeps) (with_group s g a.groups)) ≡ with_use s g units (map (lapse_group keeps) a.groups) =
-    (λ i. put (is_of s g) (record { session = s; group = g; used = (row i).used + units; reservation = None }) (map (lapse_group keeps) (with_group s g a.groups)))
-    ∙ put_later keeps s g (record { session = s; group = g; used = used_in s g (map (lapse_group keeps) a.groups) + units; reservation = None }) a.groups in
-    let counters : with_count g c blocks (with_counter g c a.counters) ≡ with_count g c blocks a.counters =
-    (λ i. put (is_counter g c) (record { group = g; cycle = c; blocks = count_later g c a.counters i + blocks }) (with_counter g c a.counters))
-    ∙ put-put (is_counter g c) (record { group = g; cycle = c; blocks = count_in g c a.counters + blocks }) (counter_or_new g c a.counters) a.counters (or_new_cycle g c a.counters) in
-    let given : (b : Row) → lapsed_in keeps (with_group s g a.groups) b ≡ lapsed_in keeps a.groups b = λ b. held_by-with_group (λ x. not (keeps x)) s g a.groups b in
+    let row : group_or_new s g (map (lapse_group keeps) (with_group s g a.groups))
+    ≡ group_or_new s g (map (lapse_group keeps) a.groups) = or_new_later keeps s g a.groups in
+    let groups : with_use s g units (map (lapse_group keeps) (with_group s g a.groups))
+    ≡ with_use s g units (map (lapse_group keeps) a.groups) =
+    (λ i. put (is_of s g)
+    (record { session = s; group = g; used = (row i).used + units; reservation = None })
+    (map (lapse_group keeps) (with_group s g a.groups)))
+    ∙ put_later keeps s g
+    (record {
+      session = s;
+      group = g;
+      used = used_in s g (map (lapse_group keeps) a.groups) + units;
+      reservation = None;
+    })
+    a.groups in
+    let counters : with_count g c blocks (with_counter g c a.counters)
+    ≡ with_count g c blocks a.counters =
+    (λ i. put (is_counter g c)
+    (record { group = g; cycle = c; blocks = count_later g c a.counters i + blocks })
+    (with_counter g c a.counters))
+    ∙ put-put (is_counter g c)
+    (record { group = g; cycle = c; blocks = count_in g c a.counters + blocks })
+    (counter_or_new g c a.counters) a.counters (or_new_cycle g c a.counters) in
+    let given : (b : Row) →
+    lapsed_in keeps (with_group s g a.groups) b ≡ lapsed_in keeps a.groups b =
+    λ b. held_by-with_group (λ x. not (keeps x)) s g a.groups b in
     let x : AccountRows = settled_account s g units blocks rated (advanced t a) in
     λ i. record x {
-      buckets = settled_rows (holds_in (row i).reservation) g t rated (map (λ b. with_end t (with_release t b (given b i))) a.buckets);
+      buckets =
+          settled_rows (holds_in (row i).reservation) g t rated
+          (map (λ b. with_end t (with_release t b (given b i))) a.buckets);
       counters = counters i;
       groups = groups i;
     }

@@ -32,131 +32,202 @@ use Rattle.reserving.proofs.calls.RowParts.{or_new_later, group_later, used_late
 
 -- ---- a report without parts
 
-pub rows_ended : (ledger : Ledger) (a middle after : AccountRows) (s : List ℕ) (g t : ℕ) (used_parts : List UsedPart) →
-    IsAccount middle → IsRowsOf ledger a → a.as_of ≤ t → is_live_in a.book.validity t a.sessions s ≡ true →
-    used_parts ≡ [] → middle ≡ advanced t a → IsRowsOf ledger middle → after ≡ ended_rows s g middle →
+pub rows_ended : (ledger : Ledger) (a middle after : AccountRows) (s : List ℕ) (g t : ℕ)
+    (used_parts : List UsedPart) →
+    IsAccount middle → IsRowsOf ledger a → a.as_of ≤ t →
+    is_live_in a.book.validity t a.sessions s ≡ true →
+    used_parts ≡ [] → middle ≡ advanced t a → IsRowsOf ledger middle →
+    after ≡ ended_rows s g middle →
     IsRowsOf (settled_by a.book t s g used_parts ledger) after
 rows_ended ledger a middle after s g t used_parts account rows le live_in empty m rows_middle e =
-    let live : is_live a.book.validity t ledger s ≡ true = sym (is_live_in-is ledger a t s rows le) ∙ live_in in
+    let live : is_live a.book.validity t ledger s ≡ true =
+    sym (is_live_in-is ledger a t s rows le) ∙ live_in in
     let account' : IsAccount (advanced t a) = subst IsAccount m account in
     let rows' : IsRowsOf ledger (advanced t a) = subst (IsRowsOf ledger) m rows_middle in
     subst (λ ps. IsRowsOf (settled_by a.book t s g ps ledger) after) (sym empty)
-    (subst (IsRowsOf (settled_by a.book t s g [] ledger)) (sym (e ∙ ap (ended_rows s g) m)) (IsRowsOf-settled_by ledger (advanced t a) s g [] account' rows' live))
+    (subst (IsRowsOf (settled_by a.book t s g [] ledger)) (sym (e ∙ ap (ended_rows s g) m))
+    (IsRowsOf-settled_by ledger (advanced t a) s g [] account' rows' live))
 
 -- a report without parts costs nothing
-no_blocks : (o : Option GroupTariff) (p : Periods) (before place : ℕ) → (rated_with o p before place []).blocks ≡ 0
+no_blocks : (o : Option GroupTariff) (p : Periods) (before place : ℕ) →
+    (rated_with o p before place []).blocks ≡ 0
 unfolding report_blocks
 no_blocks None p before place = refl
 no_blocks (Some x) p before place = refl
 
-no_amount : (o : Option GroupTariff) (p : Periods) (before place : ℕ) → (rated_with o p before place []).amount.0 ≡ 0
+no_amount : (o : Option GroupTariff) (p : Periods) (before place : ℕ) →
+    (rated_with o p before place []).amount.0 ≡ 0
 unfolding report_amount rated_amount
 no_amount None p before place = refl
 no_amount (Some x) p before place = refl
 
-pub nothing_settled : (ledger : Ledger) (a : AccountRows) (s : List ℕ) (g t : ℕ) (used_parts : List UsedPart) → used_parts ≡ [] →
-    IsSettlementOf a.book t s g used_parts ledger (record { blocks = record { 0 = 0 }; rated = record { 0 = 0 }; collected = record { 0 = 0 }; uncollected = record { 0 = 0 } })
-nothing_settled ledger a s g t used_parts empty =
-    let blocks : (report_price a.book t s g [] ledger).blocks ≡ 0 = no_blocks (tariff_of a.book g) _ (used s g ledger) _ in
-    let amount : (report_price a.book t s g [] ledger).amount.0 ≡ 0 = no_amount (tariff_of a.book g) _ (used s g ledger) _ in
-    subst (λ ps. IsSettlementOf a.book t s g ps ledger (record { blocks = record { 0 = 0 }; rated = record { 0 = 0 }; collected = record { 0 = 0 }; uncollected = record { 0 = 0 } })) (sym empty)
-    (record { blocks = sym blocks; rated = sym amount; uncollected = omega (arith, amount); collected = refl })
+pub nothing_settled : (ledger : Ledger) (a : AccountRows) (s : List ℕ) (g t : ℕ)
+    (used_parts : List UsedPart) (x : Settled) → used_parts ≡ [] → x.blocks.0 ≡ 0 →
+    x.rated.0 ≡ 0 → x.uncollected.0 ≡ 0 → IsSettlementOf a.book t s g used_parts ledger x
+nothing_settled ledger a s g t used_parts x empty none free whole =
+    let blocks : (report_price a.book t s g [] ledger).blocks ≡ 0 =
+    no_blocks (tariff_of a.book g) _ (used s g ledger) _ in
+    let amount : (report_price a.book t s g [] ledger).amount.0 ≡ 0 =
+    no_amount (tariff_of a.book g) _ (used s g ledger) _ in
+    subst (λ ps. IsSettlementOf a.book t s g ps ledger x) (sym empty) (record {
+      blocks = none ∙ sym blocks;
+      rated = free ∙ sym amount;
+      uncollected = omega (arith, amount, whole);
+      collected = x.sum;
+    })
 
 -- ---- the limits
 
-pub within_used : (before units count blocks charge : ℕ) → passes before units count blocks charge ≡ false → before + units ≤ 1000000000000000000
+pub within_used : (before units count blocks charge : ℕ) →
+    passes before units count blocks charge ≡ false → before + units ≤ 1000000000000000000
 within_used before units count blocks charge h = grind (arith, nat_tests)
 
-pub within_counted : (before units count blocks charge : ℕ) → passes before units count blocks charge ≡ false → count + blocks ≤ 4000000000000000000
+pub within_counted : (before units count blocks charge : ℕ) →
+    passes before units count blocks charge ≡ false → count + blocks ≤ 4000000000000000000
 within_counted before units count blocks charge h = grind (arith, nat_tests)
 
 -- the price by the rows stays as time goes on to a moment at which the session is live
-pub price_later : (a : AccountRows) (s : List ℕ) (g t : ℕ) (used_parts : List UsedPart) → is_live_in a.book.validity t a.sessions s ≡ true → price_in s g t used_parts a ≡ price_in s g t used_parts (advanced t a)
+pub price_later : (a : AccountRows) (s : List ℕ) (g t : ℕ) (used_parts : List UsedPart) →
+    is_live_in a.book.validity t a.sessions s ≡ true →
+    price_in s g t used_parts a ≡ price_in s g t used_parts (advanced t a)
 price_later a s g t used_parts live_in =
     let keeps : List ℕ → Bool = is_live_in a.book.validity t a.sessions in
-    λ i. price_of a.book t g (sym (periods_later keeps s g a.groups live_in) i) (sym (used_later keeps s g a.groups) i) (count_in g (cycle_at a.book g t) a.counters) used_parts
+    λ i. price_of a.book t g (sym (periods_later keeps s g a.groups live_in) i)
+    (sym (used_later keeps s g a.groups) i) (count_in g (cycle_at a.book g t) a.counters)
+    used_parts
 
 -- it is the price by the ledger
-pub price_is : (ledger : Ledger) (a : AccountRows) (s : List ℕ) (g t : ℕ) (used_parts : List UsedPart) → IsAccount a → IsRowsOf ledger a → a.as_of ≤ t → is_live_in a.book.validity t a.sessions s ≡ true →
+pub price_is : (ledger : Ledger) (a : AccountRows) (s : List ℕ) (g t : ℕ)
+    (used_parts : List UsedPart) → IsAccount a → IsRowsOf ledger a → a.as_of ≤ t →
+    is_live_in a.book.validity t a.sessions s ≡ true →
     price_in s g t used_parts a ≡ report_price a.book t s g used_parts ledger
 price_is ledger a s g t used_parts account rows le live_in =
-    let live : is_live a.book.validity t ledger s ≡ true = sym (is_live_in-is ledger a t s rows le) ∙ live_in in
-    price_later a s g t used_parts live_in ∙ price_in_is ledger (advanced t a) s g used_parts (IsRowsOf-advanced ledger a t account rows le) live
+    let live : is_live a.book.validity t ledger s ≡ true =
+    sym (is_live_in-is ledger a t s rows le) ∙ live_in in
+    price_later a s g t used_parts live_in
+    ∙ price_in_is ledger (advanced t a) s g used_parts
+    (IsRowsOf-advanced ledger a t account rows le) live
 
-pub passes_after_is : (charges : ℕ) (ledger : Ledger) (a : AccountRows) (s : List ℕ) (g t : ℕ) (used_parts : List UsedPart) → IsAccount a → IsRowsOf ledger a → a.as_of ≤ t → is_live_in a.book.validity t a.sessions s ≡ true → (used_parts ≡ [] → ⊥) →
-    passes_after charges a.book t s g used_parts ledger ≡ passes (used_in s g a.groups) (reported used_parts) (count_in g (cycle_at a.book g t) a.counters) (price_in s g t used_parts a).blocks (a.next_charge + charges)
+pub passes_after_is : (charges : ℕ) (ledger : Ledger) (a : AccountRows) (s : List ℕ) (g t : ℕ)
+    (used_parts : List UsedPart) → IsAccount a → IsRowsOf ledger a → a.as_of ≤ t →
+    is_live_in a.book.validity t a.sessions s ≡ true → (used_parts ≡ [] → ⊥) →
+    passes_after charges a.book t s g used_parts ledger
+    ≡ passes (used_in s g a.groups) (reported used_parts)
+    (count_in g (cycle_at a.book g t) a.counters) (price_in s g t used_parts a).blocks
+    (a.next_charge + charges)
 passes_after_is charges ledger a s g t [] account rows le live some = absurd (some refl)
 passes_after_is charges ledger a s g t (p ∷ ps) account rows le live some =
-    λ i. passes (sym (used_in_is ledger a s g rows) i) (reported (p ∷ ps)) (sym (count_in_is ledger a g (cycle_at a.book g t) rows) i) (sym (price_is ledger a s g t (p ∷ ps) account rows le live) i).blocks (sym rows.next_charge i + charges)
+    λ i. passes (sym (used_in_is ledger a s g rows) i) (reported (p ∷ ps))
+    (sym (count_in_is ledger a g (cycle_at a.book g t) rows) i)
+    (sym (price_is ledger a s g t (p ∷ ps) account rows le live) i).blocks
+    (sym rows.next_charge i + charges)
 
-pub passes_is : (ledger : Ledger) (a : AccountRows) (s : List ℕ) (g t : ℕ) (used_parts : List UsedPart) → IsAccount a → IsRowsOf ledger a → a.as_of ≤ t → is_live_in a.book.validity t a.sessions s ≡ true → (used_parts ≡ [] → ⊥) →
-    passes_limit a.book t s g used_parts ledger ≡ passes (used_in s g a.groups) (reported used_parts) (count_in g (cycle_at a.book g t) a.counters) (price_in s g t used_parts a).blocks a.next_charge
+pub passes_is : (ledger : Ledger) (a : AccountRows) (s : List ℕ) (g t : ℕ)
+    (used_parts : List UsedPart) → IsAccount a → IsRowsOf ledger a → a.as_of ≤ t →
+    is_live_in a.book.validity t a.sessions s ≡ true → (used_parts ≡ [] → ⊥) →
+    passes_limit a.book t s g used_parts ledger
+    ≡ passes (used_in s g a.groups) (reported used_parts)
+    (count_in g (cycle_at a.book g t) a.counters) (price_in s g t used_parts a).blocks
+    a.next_charge
 passes_is ledger a s g t used_parts account rows le live some =
     let next : a.next_charge + 0 ≡ a.next_charge = omega arith in
     sym (passes_after-none a.book t s g used_parts ledger)
     ∙ passes_after_is 0 ledger a s g t used_parts account rows le live some
-    ∙ ap (passes (used_in s g a.groups) (reported used_parts) (count_in g (cycle_at a.book g t) a.counters) (price_in s g t used_parts a).blocks) next
+    ∙ ap (passes (used_in s g a.groups) (reported used_parts)
+    (count_in g (cycle_at a.book g t) a.counters) (price_in s g t used_parts a).blocks) next
 
 -- ---- a report with parts
 
-pub there_later : (a middle : AccountRows) (s : List ℕ) (g c t : ℕ) → middle ≡ advanced t (with_rows s g c a) → is_some (group_in s g middle.groups) ≡ true
+pub there_later : (a middle : AccountRows) (s : List ℕ) (g c t : ℕ) →
+    middle ≡ advanced t (with_rows s g c a) → is_some (group_in s g middle.groups) ≡ true
 there_later a middle s g c t m =
-    ap (λ x. is_some (group_in s g x.groups)) m ∙ ap is_some (group_later (is_live_in a.book.validity t a.sessions) s g a.groups)
+    ap (λ x. is_some (group_in s g x.groups)) m
+    ∙ ap is_some (group_later (is_live_in a.book.validity t a.sessions) s g a.groups)
 
-pub counter_there : (a middle : AccountRows) (s : List ℕ) (g c t : ℕ) → middle ≡ advanced t (with_rows s g c a) → is_some (counter_in g c middle.counters) ≡ true
+pub counter_there : (a middle : AccountRows) (s : List ℕ) (g c t : ℕ) →
+    middle ≡ advanced t (with_rows s g c a) → is_some (counter_in g c middle.counters) ≡ true
 counter_there a middle s g c t m =
-    ap (λ x. is_some (counter_in g c x.counters)) m ∙ ap is_some (find-put _ (counter_or_new g c a.counters) a.counters (or_new_cycle g c a.counters))
+    ap (λ x. is_some (counter_in g c x.counters)) m
+    ∙ ap is_some
+    (find-put _ (counter_or_new g c a.counters) a.counters (or_new_cycle g c a.counters))
 
-pub used_middle : (a middle : AccountRows) (s : List ℕ) (g c t : ℕ) → middle ≡ advanced t (with_rows s g c a) → used_in s g middle.groups ≡ used_in s g a.groups
+pub used_middle : (a middle : AccountRows) (s : List ℕ) (g c t : ℕ) →
+    middle ≡ advanced t (with_rows s g c a) → used_in s g middle.groups ≡ used_in s g a.groups
 used_middle a middle s g c t m =
     let keeps : List ℕ → Bool = is_live_in a.book.validity t a.sessions in
-    ap (λ x. used_in s g x.groups) m ∙ ap (λ (r : SessionGroup). r.used) (or_new_later keeps s g a.groups) ∙ used_later keeps s g a.groups
+    ap (λ x. used_in s g x.groups) m
+    ∙ ap (λ (r : SessionGroup). r.used) (or_new_later keeps s g a.groups)
+    ∙ used_later keeps s g a.groups
 
-pub count_middle : (a middle : AccountRows) (s : List ℕ) (g c t : ℕ) → middle ≡ advanced t (with_rows s g c a) → count_in g c middle.counters ≡ count_in g c a.counters
+pub count_middle : (a middle : AccountRows) (s : List ℕ) (g c t : ℕ) →
+    middle ≡ advanced t (with_rows s g c a) → count_in g c middle.counters ≡ count_in g c a.counters
 count_middle a middle s g c t m = ap (λ x. count_in g c x.counters) m ∙ count_later g c a.counters
 
-pub with_parts : (a : AccountRows) (s : List ℕ) (g : ℕ) (used_parts : List UsedPart) → (used_parts ≡ [] → ⊥) →
-    settled_account s g (reported used_parts) (price_in s g a.as_of used_parts a).blocks (price_in s g a.as_of used_parts a).amount.0 a ≡ settled_by_rows s g used_parts a
+pub with_parts : (a : AccountRows) (s : List ℕ) (g : ℕ) (used_parts : List UsedPart) →
+    (used_parts ≡ [] → ⊥) →
+    settled_account s g (reported used_parts) (price_in s g a.as_of used_parts a).blocks
+    (price_in s g a.as_of used_parts a).amount.0 a ≡ settled_by_rows s g used_parts a
 with_parts a s g [] some = absurd (some refl)
 with_parts a s g (p ∷ ps) some = refl
 
 -- the rows as the call leaves them
-pub settled_is : (a middle after : AccountRows) (s : List ℕ) (g c t units blocks rated : ℕ) (used_parts : List UsedPart) →
-    is_live_in a.book.validity t a.sessions s ≡ true → (used_parts ≡ [] → ⊥) → c ≡ cycle_at a.book g t →
-    units ≡ reported used_parts → blocks ≡ (price_in s g t used_parts a).blocks → rated ≡ (price_in s g t used_parts a).amount.0 →
-    middle ≡ advanced t (with_rows s g c a) → after ≡ settled_account s g units blocks rated middle →
+pub settled_is : (a middle after : AccountRows) (s : List ℕ) (g c t units blocks rated : ℕ)
+    (used_parts : List UsedPart) →
+    is_live_in a.book.validity t a.sessions s ≡ true → (used_parts ≡ [] → ⊥) →
+    c ≡ cycle_at a.book g t →
+    units ≡ reported used_parts → blocks ≡ (price_in s g t used_parts a).blocks →
+    rated ≡ (price_in s g t used_parts a).amount.0 →
+    middle ≡ advanced t (with_rows s g c a) →
+    after ≡ settled_account s g units blocks rated middle →
     after ≡ settled_by_rows s g used_parts (advanced t a)
 settled_is a middle after s g c t units blocks rated used_parts live_in some k u b r m e =
-    let cost : price_in s g t used_parts a ≡ price_in s g t used_parts (advanced t a) = price_later a s g t used_parts live_in in
-    e ∙ ap (settled_account s g units blocks rated) (m ∙ (λ i. advanced t (with_rows s g (k i) a))) ∙ settled_later a s g t units blocks rated
-    ∙ (λ i. settled_account s g (u i) ((b ∙ ap (λ (x : Rated). x.blocks) cost) i) ((r ∙ ap (λ (x : Rated). x.amount.0) cost) i) (advanced t a))
+    let cost : price_in s g t used_parts a ≡ price_in s g t used_parts (advanced t a) =
+    price_later a s g t used_parts live_in in
+    e ∙ ap (settled_account s g units blocks rated) (m ∙ (λ i. advanced t (with_rows s g (k i) a)))
+    ∙ settled_later a s g t units blocks rated
+    ∙ (λ i. settled_account s g (u i) ((b ∙ ap (λ (x : Rated). x.blocks) cost) i)
+    ((r ∙ ap (λ (x : Rated). x.amount.0) cost) i) (advanced t a))
     ∙ with_parts (advanced t a) s g used_parts some
 
-pub ended_is : (a middle after : AccountRows) (s : List ℕ) (g t : ℕ) (used_parts : List UsedPart) → used_parts ≡ [] → middle ≡ advanced t a → after ≡ ended_rows s g middle →
+pub ended_is : (a middle after : AccountRows) (s : List ℕ) (g t : ℕ) (used_parts : List UsedPart) →
+    used_parts ≡ [] → middle ≡ advanced t a → after ≡ ended_rows s g middle →
     after ≡ settled_by_rows s g used_parts (advanced t a)
-ended_is a middle after s g t used_parts empty m e = e ∙ ap (ended_rows s g) m ∙ ap (λ ps. settled_by_rows s g ps (advanced t a)) (sym empty)
+ended_is a middle after s g t used_parts empty m e =
+    e ∙ ap (ended_rows s g) m ∙ ap (λ ps. settled_by_rows s g ps (advanced t a)) (sym empty)
 
 -- the rows of the ledger with the settlement
-pub rows_settled : (ledger : Ledger) (a middle after : AccountRows) (s : List ℕ) (g c t units blocks rated : ℕ) (used_parts : List UsedPart) →
-    IsAccount a → IsRowsOf ledger a → a.as_of ≤ t → is_live_in a.book.validity t a.sessions s ≡ true →
+pub rows_settled : (ledger : Ledger) (a middle after : AccountRows) (s : List ℕ)
+    (g c t units blocks rated : ℕ) (used_parts : List UsedPart) →
+    IsAccount a → IsRowsOf ledger a → a.as_of ≤ t →
+    is_live_in a.book.validity t a.sessions s ≡ true →
     (used_parts ≡ [] → ⊥) → c ≡ cycle_at a.book g t →
-    units ≡ reported used_parts → blocks ≡ (price_in s g t used_parts a).blocks → rated ≡ (price_in s g t used_parts a).amount.0 →
-    middle ≡ advanced t (with_rows s g c a) → after ≡ settled_account s g units blocks rated middle →
+    units ≡ reported used_parts → blocks ≡ (price_in s g t used_parts a).blocks →
+    rated ≡ (price_in s g t used_parts a).amount.0 →
+    middle ≡ advanced t (with_rows s g c a) →
+    after ≡ settled_account s g units blocks rated middle →
     IsRowsOf (settled_by a.book t s g used_parts ledger) after
-rows_settled ledger a middle after s g c t units blocks rated used_parts account rows le live_in some k u b r m e =
-    let live : is_live a.book.validity t ledger s ≡ true = sym (is_live_in-is ledger a t s rows le) ∙ live_in in
+rows_settled ledger a middle after s g c t units blocks rated used_parts account rows le live_in
+    some k u b r m e =
+    let live : is_live a.book.validity t ledger s ≡ true =
+    sym (is_live_in-is ledger a t s rows le) ∙ live_in in
     let later : AccountRows = advanced t a in
     let account' : IsAccount later = IsAccount-advanced a t account in
     let rows' : IsRowsOf ledger later = IsRowsOf-advanced ledger a t account rows le in
-    let same : after ≡ settled_by_rows s g used_parts later = settled_is a middle after s g c t units blocks rated used_parts live_in some k u b r m e in
-    subst (IsRowsOf (settled_by a.book t s g used_parts ledger)) (sym same) (IsRowsOf-settled_by ledger later s g used_parts account' rows' live)
+    let same : after ≡ settled_by_rows s g used_parts later =
+    settled_is a middle after s g c t units blocks rated used_parts live_in some k u b r m e in
+    subst (IsRowsOf (settled_by a.book t s g used_parts ledger)) (sym same)
+    (IsRowsOf-settled_by ledger later s g used_parts account' rows' live)
 
 -- what the call answers
-pub settlement_is : (ledger : Ledger) (a middle : AccountRows) (s : List ℕ) (g c t : ℕ) (used_parts : List UsedPart) (x : Settled) →
-    IsAccount a → IsRowsOf ledger a → a.as_of ≤ t → is_live_in a.book.validity t a.sessions s ≡ true →
-    x.blocks.0 ≡ (price_in s g t used_parts a).blocks → x.rated.0 ≡ (price_in s g t used_parts a).amount.0 →
+pub settlement_is : (ledger : Ledger) (a middle : AccountRows) (s : List ℕ) (g c t : ℕ)
+    (used_parts : List UsedPart) (x : Settled) →
+    IsAccount a → IsRowsOf ledger a → a.as_of ≤ t →
+    is_live_in a.book.validity t a.sessions s ≡ true →
+    x.blocks.0 ≡ (price_in s g t used_parts a).blocks →
+    x.rated.0 ≡ (price_in s g t used_parts a).amount.0 →
     middle ≡ advanced t (with_rows s g c a) →
-    x.uncollected.0 ≡ uncollected (reserved_in s g middle.groups) g middle.as_of x.rated.0 middle.buckets →
+    x.uncollected.0
+    ≡ uncollected (reserved_in s g middle.groups) g middle.as_of x.rated.0 middle.buckets →
     x.collected.0 + x.uncollected.0 ≡ x.rated.0 →
     IsSettlementOf a.book t s g used_parts ledger x
 settlement_is ledger a middle s g c t used_parts x account rows le live_in b r m un all =
@@ -166,14 +237,23 @@ settlement_is ledger a middle s g c t used_parts x account rows le live_in b r m
     let later : AccountRows = advanced t a in
     let account' : IsAccount later = IsAccount-advanced a t account in
     let rows' : IsRowsOf ledger later = IsRowsOf-advanced ledger a t account rows le in
-    let cost : price_in s g t used_parts a ≡ report_price a.book t s g used_parts ledger = price_is ledger a s g t used_parts account rows le live_in in
-    let rated : x.rated.0 ≡ (report_price a.book t s g used_parts ledger).amount.0 = r ∙ ap (λ (y : Rated). y.amount.0) cost in
-    let given : (y : Row) → lapsed_in keeps (with_group s g a.groups) y ≡ lapsed_in keeps a.groups y = λ y. held_by-with_group (λ z. not (keeps z)) s g a.groups y in
-    let buckets : (advanced t (with_rows s g c a)).buckets ≡ buckets_at v t ledger = (λ i. map (λ y. with_end t (with_release t y (given y i))) a.buckets) ∙ rows'.buckets in
-    let held : reserved_in s g (advanced t (with_rows s g c a)).groups ≡ holds_at v t s g ledger = ap (λ (y : SessionGroup). holds_in y.reservation) (or_new_later keeps s g a.groups) ∙ reserved_in_is ledger later s g account' rows' live in
+    let cost : price_in s g t used_parts a ≡ report_price a.book t s g used_parts ledger =
+    price_is ledger a s g t used_parts account rows le live_in in
+    let rated : x.rated.0 ≡ (report_price a.book t s g used_parts ledger).amount.0 =
+    r ∙ ap (λ (y : Rated). y.amount.0) cost in
+    let given : (y : Row) →
+    lapsed_in keeps (with_group s g a.groups) y ≡ lapsed_in keeps a.groups y =
+    λ y. held_by-with_group (λ z. not (keeps z)) s g a.groups y in
+    let buckets : (advanced t (with_rows s g c a)).buckets ≡ buckets_at v t ledger =
+    (λ i. map (λ y. with_end t (with_release t y (given y i))) a.buckets) ∙ rows'.buckets in
+    let held : reserved_in s g (advanced t (with_rows s g c a)).groups ≡ holds_at v t s g ledger =
+    ap (λ (y : SessionGroup). holds_in y.reservation) (or_new_later keeps s g a.groups)
+    ∙ reserved_in_is ledger later s g account' rows' live in
     record {
       blocks = b ∙ ap (λ (y : Rated). y.blocks) cost;
       rated = rated;
-      uncollected = un ∙ (λ i. uncollected (reserved_in s g (m i).groups) g (m i).as_of x.rated.0 (m i).buckets) ∙ (λ i. uncollected (held i) g t (rated i) (buckets i));
+      uncollected =
+          un ∙ (λ i. uncollected (reserved_in s g (m i).groups) g (m i).as_of x.rated.0
+          (m i).buckets) ∙ (λ i. uncollected (held i) g t (rated i) (buckets i));
       collected = all;
     }

@@ -19,19 +19,32 @@ within_none [] = tt
 within_none (b ∷ bs) = (omega arith, within_none bs)
 
 -- rows that hold what others hold
-each_same : (rows after : List SessionGroup) (does : Row → Row) (xs : List Row) → ((b : Row) → held_by (λ s. true) after b ≡ held_by (λ s. true) rows b) →
+each_same : (rows after : List SessionGroup) (does : Row → Row) (xs : List Row) →
+    ((b : Row) → held_by (λ s. true) after b ≡ held_by (λ s. true) rows b) →
     ((b : Row) → (does b).number ≡ b.number) → ((b : Row) → (does b).reserved ≡ b.reserved) →
-    Each (λ b. held_by (λ s. true) rows b ≡ b.reserved) xs → Each (λ b. held_by (λ s. true) after b ≡ b.reserved) (map does xs)
+    Each (λ b. held_by (λ s. true) rows b ≡ b.reserved) xs →
+    Each (λ b. held_by (λ s. true) after b ≡ b.reserved) (map does xs)
 each_same rows after does [] e k r h = tt
 each_same rows after does (b ∷ bs) e k r h =
-    let is : held_by (λ s. true) rows b ≡ b.reserved = h.0 in
-    (omega (arith, held_by_number after b (does b) (k b), r b, e b), each_same rows after does bs e k r h.1)
+    let is : held_by (λ s. true) rows b ≡ b.reserved = h.0 in (
+      omega (arith, held_by_number after b (does b) (k b), r b, e b),
+      each_same rows after does bs e k r h.1,
+    )
 
 -- an event's use holds what was held
-held_event : (s : List ℕ) (g units : ℕ) (rows : List SessionGroup) (b : Row) → held_by (λ s. true) (with_event s g units rows) b ≡ held_by (λ s. true) rows b
+held_event : (s : List ℕ) (g units : ℕ) (rows : List SessionGroup) (b : Row) →
+    held_by (λ s. true) (with_event s g units rows) b ≡ held_by (λ s. true) rows b
 held_event s g units rows b =
-    let row : SessionGroup = record { session = s; group = g; used = used_in s g rows + units; reservation = (group_or_new s g rows).reservation } in
-    let same : held_by (λ s. true) (with_event s g units rows) b + held_in (reserved_in s g rows) b ≡ held_by (λ s. true) rows b + held_in (reserved_in s g rows) b = held_by-put s g row rows b in
+    let row : SessionGroup =
+    record {
+      session = s;
+      group = g;
+      used = used_in s g rows + units;
+      reservation = (group_or_new s g rows).reservation;
+    } in
+    let same : held_by (λ s. true) (with_event s g units rows) b + held_in (reserved_in s g rows) b
+    ≡ held_by (λ s. true) rows b + held_in (reserved_in s g rows) b =
+    held_by-put s g row rows b in
     omega arith
 
 pub IsAccount-debited : (a : AccountRows) (session : List ℕ) (group units blocks rated : ℕ) →
@@ -41,23 +54,40 @@ pub IsAccount-debited : (a : AccountRows) (session : List ℕ) (group units bloc
     IsAccount a → IsAccount (debited_account session group units blocks rated a)
 IsAccount-debited a session group units blocks rated used_fits count_fits charge_fits h =
     let cycle : ℕ = cycle_at a.book group a.as_of in
-    let row : SessionGroup = record { session = session; group = group; used = used_in session group a.groups + units; reservation = (group_or_new session group a.groups).reservation } in
-    let count : Counter = record { group = group; cycle = cycle; blocks = count_in group cycle a.counters + blocks } in
+    let row : SessionGroup =
+    record {
+      session = session;
+      group = group;
+      used = used_in session group a.groups + units;
+      reservation = (group_or_new session group a.groups).reservation;
+    } in
+    let count : Counter =
+    record { group = group; cycle = cycle; blocks = count_in group cycle a.counters + blocks }
+    in
     let does : Row → Row = settled_row [] group a.as_of rated a.buckets in
     record {
       book = h.book;
       sound = IsSound-settled [] group a.as_of rated a.buckets (within_none a.buckets) h.sound;
-      below = IsBelow-map a.next_bucket does a.buckets (settled_number [] group a.as_of rated a.buckets) h.below;
+      below = IsBelow-map a.next_bucket does a.buckets
+          (settled_number [] group a.as_of rated a.buckets) h.below;
       next_bucket = h.next_bucket;
       next_charge = omega arith;
       sessions = h.sessions;
       groups = AreApart-put session group row a.groups (own_key session group) h.groups;
-      counters = AreApart-put_counter group cycle count a.counters (own_cycle group cycle) h.counters;
-      used = EachIn-put (λ r. r.used ≤ 1000000000000000000) (is_of session group) row a.groups used_fits h.used;
-      counted = EachIn-put (λ r. r.blocks ≤ 4000000000000000000) (is_counter group cycle) count a.counters count_fits h.counted;
-      held = each_same a.groups (with_event session group units a.groups) does a.buckets (held_event session group units a.groups)
-          (settled_number [] group a.as_of rated a.buckets) (λ b. settled_reserved [] group a.as_of rated a.buckets b ∙ omega arith) h.held;
+      counters =
+          AreApart-put_counter group cycle count a.counters (own_cycle group cycle) h.counters;
+      used = EachIn-put (λ r. r.used ≤ 1000000000000000000) (is_of session group) row a.groups
+          used_fits h.used;
+      counted =
+          EachIn-put (λ r. r.blocks ≤ 4000000000000000000) (is_counter group cycle) count a.counters
+          count_fits h.counted;
+      held = each_same a.groups (with_event session group units a.groups) does a.buckets
+          (held_event session group units a.groups)
+          (settled_number [] group a.as_of rated a.buckets)
+          (λ b. settled_reserved [] group a.as_of rated a.buckets b ∙ omega arith) h.held;
       named = λ b le. held_event session group units a.groups b ∙ h.named b le;
-      order = order_map does a.buckets (with_event session group units a.groups) (settled_number [] group a.as_of rated a.buckets)
-          (EachIn-put _ (is_of session group) row a.groups (order_or_new session group a.buckets a.groups h.order) h.order);
+      order = order_map does a.buckets (with_event session group units a.groups)
+          (settled_number [] group a.as_of rated a.buckets)
+          (EachIn-put _ (is_of session group) row a.groups
+          (order_or_new session group a.buckets a.groups h.order) h.order);
     }

@@ -23,29 +23,42 @@ use Rattle.reserving.proofs.InOrder.{order_live}
 
 below_filter : (n : ℕ) (p : Row → Bool) (xs : List Row) → IsBelow n xs → IsBelow n (filter p xs)
 below_filter n p [] h = tt
-below_filter n p (x ∷ xs) h = elim (p x) as (λ t. IsBelow n (cond t (x ∷ filter p xs) (filter p xs))) [ true ↦ (h.0, below_filter n p xs h.1) | false ↦ below_filter n p xs h.1 ]
+below_filter n p (x ∷ xs) h =
+    elim (p x) as (λ t. IsBelow n (cond t (x ∷ filter p xs) (filter p xs)))
+    [ true ↦ (h.0, below_filter n p xs h.1) | false ↦ below_filter n p xs h.1 ]
 
 nothing_held : (o : Option Reservation) (b : Row) → is_some o ≡ false → held_in (holds_in o) b ≡ 0
 nothing_held None b e = refl
 nothing_held (Some r) b e = cc
 
 -- all that is held is held by what may still change
-pub held_live : (sessions : List Session) (groups : List SessionGroup) (b : Row) → held_by (λ s. true) (filter (is_live_group sessions) groups) b ≡ held_by (λ s. true) groups b
+pub held_live : (sessions : List Session) (groups : List SessionGroup) (b : Row) →
+    held_by (λ s. true) (filter (is_live_group sessions) groups) b ≡ held_by (λ s. true) groups b
 held_live sessions [] b = refl
 held_live sessions (r ∷ rs) b = at (is_live_group sessions r) refl (held_live sessions rs b)
   where
-    at : (t : Bool) → is_live_group sessions r ≡ t → held_by (λ s. true) (filter (is_live_group sessions) rs) b ≡ held_by (λ s. true) rs b →
-        held_by (λ s. true) (cond t (r ∷ filter (is_live_group sessions) rs) (filter (is_live_group sessions) rs)) b ≡ held_in (holds_in r.reservation) b + held_by (λ s. true) rs b
+    at : (t : Bool) → is_live_group sessions r ≡ t →
+        held_by (λ s. true) (filter (is_live_group sessions) rs) b ≡ held_by (λ s. true) rs b →
+        held_by (λ s. true)
+        (cond t (r ∷ filter (is_live_group sessions) rs) (filter (is_live_group sessions) rs)) b
+        ≡ held_in (holds_in r.reservation) b + held_by (λ s. true) rs b
     at true e rest = ap (λ n. held_in (holds_in r.reservation) b + n) rest
     at false e rest =
-        let none : held_in (holds_in r.reservation) b ≡ 0 = nothing_held r.reservation b (or_parts (is_open_row (session_in r.session sessions)) (is_some r.reservation) e).1 in
+        let none : held_in (holds_in r.reservation) b ≡ 0 =
+        nothing_held r.reservation b
+        (or_parts (is_open_row (session_in r.session sessions)) (is_some r.reservation) e).1 in
         omega (arith, none, rest)
 
-each_held : (sessions : List Session) (groups : List SessionGroup) (xs : List Row) → Each (λ b. held_by (λ s. true) groups b ≡ b.reserved) xs → Each (λ b. held_by (λ s. true) (filter (is_live_group sessions) groups) b ≡ b.reserved) xs
+each_held : (sessions : List Session) (groups : List SessionGroup) (xs : List Row) →
+    Each (λ b. held_by (λ s. true) groups b ≡ b.reserved) xs →
+    Each (λ b. held_by (λ s. true) (filter (is_live_group sessions) groups) b ≡ b.reserved) xs
 each_held sessions groups [] h = tt
-each_held sessions groups (x ∷ xs) h = (held_live sessions groups x ∙ h.0, each_held sessions groups xs h.1)
+each_held sessions groups (x ∷ xs) h =
+    (held_live sessions groups x ∙ h.0, each_held sessions groups xs h.1)
 
-pub IsAccount-live : (book : Book) (t : ℕ) (others : List Counter) (w : StoredRows) → IsBook book → IsStored w → AreApart (λ x y. is_counter x.group x.cycle y) (others ++ w.counters) → EachIn (λ c. c.blocks ≤ 4000000000000000000) others →
+pub IsAccount-live : (book : Book) (t : ℕ) (others : List Counter) (w : StoredRows) → IsBook book →
+    IsStored w → AreApart (λ x y. is_counter x.group x.cycle y) (others ++ w.counters) →
+    EachIn (λ c. c.blocks ≤ 4000000000000000000) others →
     IsAccount (live_part book t others w)
 IsAccount-live book t others w ranges is apart counted = record {
   book = ranges;
@@ -54,11 +67,22 @@ IsAccount-live book t others w ranges is apart counted = record {
   next_bucket = is.next_bucket;
   next_charge = is.next_charge;
   sessions = apart_filter (λ x y. is_session x.id y) (λ r. is_open r.state) w.sessions is.sessions;
-  groups = apart_filter (λ x y. is_of x.session x.group y) (is_live_group w.sessions) w.groups is.groups;
-  counters = apart_filter (λ x y. is_counter x.group x.cycle y) (λ r. r.cycle == cycle_at book r.group t) (others ++ w.counters) apart;
-  used = tests.each_filter (λ g. g.used ≤ 1000000000000000000) (is_live_group w.sessions) w.groups is.used;
-  counted = tests.each_filter (λ c. c.blocks ≤ 4000000000000000000) (λ r. r.cycle == cycle_at book r.group t) (others ++ w.counters) (each_append (λ c. c.blocks ≤ 4000000000000000000) others w.counters counted is.counted);
-  held = each_held w.sessions w.groups (filter (λ b. not (is_dead b)) w.buckets) (each_filter (λ b. held_by (λ s. true) w.groups b ≡ b.reserved) (λ b. not (is_dead b)) w.buckets is.held);
+  groups = apart_filter (λ x y. is_of x.session x.group y) (is_live_group w.sessions) w.groups
+      is.groups;
+  counters =
+      apart_filter (λ x y. is_counter x.group x.cycle y) (λ r. r.cycle == cycle_at book r.group t)
+      (others ++ w.counters) apart;
+  used = tests.each_filter (λ g. g.used ≤ 1000000000000000000) (is_live_group w.sessions) w.groups
+      is.used;
+  counted =
+      tests.each_filter (λ c. c.blocks ≤ 4000000000000000000)
+      (λ r. r.cycle == cycle_at book r.group t) (others ++ w.counters)
+      (each_append (λ c. c.blocks ≤ 4000000000000000000) others w.counters counted is.counted);
+  held = each_held w.sessions w.groups (filter (λ b. not (is_dead b)) w.buckets)
+      (each_filter (λ b. held_by (λ s. true) w.groups b ≡ b.reserved) (λ b. not (is_dead b))
+      w.buckets is.held);
   named = λ b le. held_live w.sessions w.groups b ∙ is.named b le;
-  order = tests.each_filter (λ g. IsInOrderOf (filter (λ b. not (is_dead b)) w.buckets) (holds_in g.reservation)) (is_live_group w.sessions) w.groups (order_live w.buckets w.groups is.held is.order);
+  order = tests.each_filter
+      (λ g. IsInOrderOf (filter (λ b. not (is_dead b)) w.buckets) (holds_in g.reservation))
+      (is_live_group w.sessions) w.groups (order_live w.buckets w.groups is.held is.order);
 }

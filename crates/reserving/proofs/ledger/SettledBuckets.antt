@@ -19,13 +19,21 @@ use Rattle.reserving.proofs.SettledFacts.{SameSessions, same_live, newest-front,
 -- ---- one bucket's columns
 
 -- what is paid, s1 of h and s2 of the rest, and what is given up
-pub balance_by-settled : (b : Bool) (c : Row) (ch h r s1 s2 : ℕ) → ch + (r + h) ≤ c.credited → s1 ≤ h → s2 ≤ (if b then c.credited - ch - (r + h) else 0) → balance_by b c (s1 + s2 + ch) r ≡ release_by b (with_charge (with_charge_of_hold (balance_by b c ch (r + h)) s1) s2) (h - s1)
-balance_by-settled true c ch h r s1 s2 w p q = with_columns c _ _ _ _ _ _ _ _ (omega arith) (omega arith) (omega arith) refl
-balance_by-settled false c ch h r s1 s2 w p q = with_columns c _ _ _ _ _ _ _ _ (omega arith) (omega arith) (omega arith) (omega arith)
+pub balance_by-settled : (b : Bool) (c : Row) (ch h r s1 s2 : ℕ) → ch + (r + h) ≤ c.credited →
+    s1 ≤ h → s2 ≤ (if b then c.credited - ch - (r + h) else 0) →
+    balance_by b c (s1 + s2 + ch) r
+    ≡ release_by b (with_charge (with_charge_of_hold (balance_by b c ch (r + h)) s1) s2) (h - s1)
+balance_by-settled true c ch h r s1 s2 w p q =
+    with_columns c _ _ _ _ _ _ _ _ (omega arith) (omega arith) (omega arith) refl
+balance_by-settled false c ch h r s1 s2 w p q =
+    with_columns c _ _ _ _ _ _ _ _ (omega arith) (omega arith) (omega arith) (omega arith)
 
-balance_by-ended : (b : Bool) (c : Row) (ch h r : ℕ) → ch + (r + h) ≤ c.credited → balance_by b c ch r ≡ release_by b (balance_by b c ch (r + h)) h
-balance_by-ended true c ch h r w = with_columns c _ _ _ _ _ _ _ _ (omega arith) (omega arith) refl refl
-balance_by-ended false c ch h r w = with_columns c _ _ _ _ _ _ _ _ refl (omega arith) refl (omega arith)
+balance_by-ended : (b : Bool) (c : Row) (ch h r : ℕ) → ch + (r + h) ≤ c.credited →
+    balance_by b c ch r ≡ release_by b (balance_by b c ch (r + h)) h
+balance_by-ended true c ch h r w =
+    with_columns c _ _ _ _ _ _ _ _ (omega arith) (omega arith) refl refl
+balance_by-ended false c ch h r w =
+    with_columns c _ _ _ _ _ _ _ _ refl (omega arith) refl (omega arith)
 
 pub eligible_le : (e : Bool) (a x m : ℕ) → a ≡ x → min (if e then a else 0) m ≤ x
 eligible_le true a x m h = omega arith
@@ -34,9 +42,12 @@ eligible_le false a x m h = omega arith
 -- ---- the ledger with the settlement
 
 -- neither the end of a reservation, a use nor a charge tells of sessions
-pub same_sessions-settled : (v t : ℕ) (session : List ℕ) (group units blocks rated : ℕ) (ledger : Ledger) → SameSessions ledger (settled v t session group units blocks rated ledger)
+pub same_sessions-settled : (v t : ℕ) (session : List ℕ) (group units blocks rated : ℕ)
+    (ledger : Ledger) → SameSessions ledger (settled v t session group units blocks rated ledger)
 same_sessions-settled v t session group units blocks rated ledger =
-    let hs : List Hold = parts (paid (holds_at v t session group ledger) group t rated (buckets_at v t ledger)) (buckets_at v t ledger) in
+    let hs : List Hold =
+    parts (paid (holds_at v t session group ledger) group t rated (buckets_at v t ledger))
+    (buckets_at v t ledger) in
     record {
       touch = λ s. newest-front _ (charge_facts t hs) ledger (each_charge _ t hs (λ b n. refl));
       closed = λ s. any-front _ (charge_facts t hs) ledger (each_charge _ t hs (λ b n. refl));
@@ -46,24 +57,34 @@ same_sessions-settled v t session group units blocks rated ledger =
 abbrev pub with_end : ℕ → List ℕ → ℕ → Ledger → Ledger
 with_end t session group ledger = record { at = t; fact = End session group } ∷ ledger
 
-pub same_sessions-ended : (t : ℕ) (session : List ℕ) (group : ℕ) (ledger : Ledger) → SameSessions ledger (with_end t session group ledger)
-same_sessions-ended t session group ledger = record { touch = λ s. refl; closed = λ s. refl; recording = λ s. refl }
+pub same_sessions-ended : (t : ℕ) (session : List ℕ) (group : ℕ) (ledger : Ledger) →
+    SameSessions ledger (with_end t session group ledger)
+same_sessions-ended t session group ledger =
+    record { touch = λ s. refl; closed = λ s. refl; recording = λ s. refl }
 
 -- all reservations of live sessions, but for one
 abbrev others : ℕ → ℕ → List ℕ → ℕ → Ledger → List ℕ → ℕ → Bool
 others v t session group ledger s g = is_live v t ledger s && not (is_same s session && g == group)
 
-split_is : (v t : ℕ) (session : List ℕ) (group n : ℕ) (ledger : Ledger) → is_live v t ledger session ≡ true → held (λ s g. is_live v t ledger s) n ledger ≡ held (others v t session group ledger) n ledger + held (only session group) n ledger
-split_is v t session group n ledger live = held_split (λ s g. is_live v t ledger s) (others v t session group ledger) (only session group) n ledger (one_split (λ s. is_live v t ledger s) session group live)
+split_is : (v t : ℕ) (session : List ℕ) (group n : ℕ) (ledger : Ledger) →
+    is_live v t ledger session ≡ true →
+    held (λ s g. is_live v t ledger s) n ledger ≡ held (others v t session group ledger) n ledger
+    + held (only session group) n ledger
+split_is v t session group n ledger live =
+    held_split (λ s g. is_live v t ledger s) (others v t session group ledger) (only session group)
+    n ledger (one_split (λ s. is_live v t ledger s) session group live)
 
-bucket_at-settled : (v t : ℕ) (session : List ℕ) (group units blocks rated : ℕ) (ledger : Ledger) (c : Row) →
+bucket_at-settled : (v t : ℕ) (session : List ℕ) (group units blocks rated : ℕ) (ledger : Ledger)
+    (c : Row) →
     (let holds : List Hold = holds_at v t session group ledger in
     let rows : List Row = buckets_at v t ledger in
     is_live v t ledger session ≡ true →
     IsBalanced (bucket_at v t ledger c) →
     sum_at c.number holds ≡ held (only session group) c.number ledger →
-    sum_at c.number (parts (paid holds group t rated rows) rows) ≡ paid holds group t rated rows (bucket_at v t ledger c) →
-    bucket_at v t (settled v t session group units blocks rated ledger) c ≡ settled_row holds group t rated rows (bucket_at v t ledger c))
+    sum_at c.number (parts (paid holds group t rated rows) rows)
+    ≡ paid holds group t rated rows (bucket_at v t ledger c) →
+    bucket_at v t (settled v t session group units blocks rated ledger) c
+    ≡ settled_row holds group t rated rows (bucket_at v t ledger c))
 bucket_at-settled v t session group units blocks rated ledger c live balanced holding sum =
     let holds : List Hold = holds_at v t session group ledger in
     let rows : List Row = buckets_at v t ledger in
@@ -72,51 +93,81 @@ bucket_at-settled v t session group units blocks rated ledger c live balanced ho
     let hs : List Hold = parts (paid holds group t rated rows) rows in
     let ch : ℕ = charged n ledger in
     let all : List ℕ → ℕ → Bool = λ s g. is_live v t ledger s in
-    let others' : List ℕ → ℕ → Bool = λ s g. is_live v t after s && not (is_same s session && g == group) in
+    let others' : List ℕ → ℕ → Bool =
+    λ s g. is_live v t after s && not (is_same s session && g == group) in
     let h : ℕ = held_in holds (bucket_at v t ledger c) in
     let r : ℕ = held (others v t session group ledger) n ledger in
     let s1 : ℕ = paid_of_hold holds rated rows (bucket_at v t ledger c) in
     let s2 : ℕ = paid_of_rest holds group t rated rows (bucket_at v t ledger c) in
-    let split : held all n ledger ≡ r + h = omega (arith, split_is v t session group n ledger live, held_in-sum_at holds (bucket_at v t ledger c), holding) in
-    let same : others' ≡ others v t session group ledger = λ i s g. same_live v t ledger after (same_sessions-settled v t session group units blocks rated ledger) s i && not (is_same s session && g == group) in
-    let held' : 0 + (0 + held others' n (charge_facts t hs ++ ledger)) ≡ r = omega (arith, held-charge_facts others' n t hs ledger ∙ ap (λ p. held p n ledger) same) in
-    let charged' : 0 + (0 + charged n (charge_facts t hs ++ ledger)) ≡ s1 + s2 + ch = omega (arith, charged-charge_facts n t hs ledger, sum) in
-    let within : ch + (r + h) ≤ c.credited = omega (arith, balanced_le (nat_lt t c.until) c ch (held all n ledger) balanced.sum) in
+    let split : held all n ledger ≡ r + h =
+    omega (
+      arith,
+      split_is v t session group n ledger live,
+      held_in-sum_at holds (bucket_at v t ledger c),
+      holding,
+    ) in
+    let same : others' ≡ others v t session group ledger =
+    λ i s g. same_live v t ledger after
+    (same_sessions-settled v t session group units blocks rated ledger) s i
+    && not (is_same s session && g == group) in
+    let held' : 0 + (0 + held others' n (charge_facts t hs ++ ledger)) ≡ r =
+    omega (arith, held-charge_facts others' n t hs ledger ∙ ap (λ p. held p n ledger) same) in
+    let charged' : 0 + (0 + charged n (charge_facts t hs ++ ledger)) ≡ s1 + s2 + ch =
+    omega (arith, charged-charge_facts n t hs ledger, sum) in
+    let within : ch + (r + h) ≤ c.credited =
+    omega (arith, balanced_le (nat_lt t c.until) c ch (held all n ledger) balanced.sum) in
     let of_hold : s1 ≤ h = omega arith in
-    let of_rest : s2 ≤ (if nat_lt t c.until then c.credited - ch - (r + h) else 0) = eligible_le _ _ _ _ (ap (λ x. if nat_lt t c.until then c.credited - ch - x else 0) split) in
+    let of_rest : s2 ≤ (if nat_lt t c.until then c.credited - ch - (r + h) else 0) =
+    eligible_le _ _ _ _ (ap (λ x. if nat_lt t c.until then c.credited - ch - x else 0) split) in
     ap (λ x. balance_of t c (0 + (0 + charged n (charge_facts t hs ++ ledger))) x) held'
     ∙ ap (λ x. balance_of t c x r) charged'
     ∙ balance_by-settled (nat_lt t c.until) c ch h r s1 s2 within of_hold of_rest
-    ∙ ap (λ x. with_release t (with_charge (with_charge_of_hold (balance_of t c ch x) s1) s2) (h - s1)) (sym split)
+    ∙ ap (λ x. with_release t (with_charge (with_charge_of_hold (balance_of t c ch x) s1) s2)
+    (h - s1)) (sym split)
 
-each_settled : (v t : ℕ) (session : List ℕ) (group units blocks rated : ℕ) (ledger : Ledger) (cs : List Row) →
+each_settled : (v t : ℕ) (session : List ℕ) (group units blocks rated : ℕ) (ledger : Ledger)
+    (cs : List Row) →
     (let holds : List Hold = holds_at v t session group ledger in
     let rows : List Row = buckets_at v t ledger in
     is_live v t ledger session ≡ true →
     Each IsBalanced (map (bucket_at v t ledger) cs) →
-    Each (λ b. sum_at b.number holds ≡ held (only session group) b.number ledger) (map (bucket_at v t ledger) cs) →
-    Each (λ b. sum_at b.number (parts (paid holds group t rated rows) rows) ≡ paid holds group t rated rows b) (map (bucket_at v t ledger) cs) →
-    map (bucket_at v t (settled v t session group units blocks rated ledger)) cs ≡ map (settled_row holds group t rated rows) (map (bucket_at v t ledger) cs))
+    Each (λ b. sum_at b.number holds ≡ held (only session group) b.number ledger)
+    (map (bucket_at v t ledger) cs) →
+    Each (λ b. sum_at b.number (parts (paid holds group t rated rows) rows)
+    ≡ paid holds group t rated rows b) (map (bucket_at v t ledger) cs) →
+    map (bucket_at v t (settled v t session group units blocks rated ledger)) cs
+    ≡ map (settled_row holds group t rated rows) (map (bucket_at v t ledger) cs))
 each_settled v t session group units blocks rated ledger [] live balanced holding sums = refl
 each_settled v t session group units blocks rated ledger (c ∷ cs) live balanced holding sums =
-    let one : bucket_at v t (settled v t session group units blocks rated ledger) c ≡ settled_row (holds_at v t session group ledger) group t rated (buckets_at v t ledger) (bucket_at v t ledger c)
-    = bucket_at-settled v t session group units blocks rated ledger c live balanced.0 holding.0 sums.0 in
-    let rest : map (bucket_at v t (settled v t session group units blocks rated ledger)) cs ≡ map (settled_row (holds_at v t session group ledger) group t rated (buckets_at v t ledger)) (map (bucket_at v t ledger) cs)
-    = each_settled v t session group units blocks rated ledger cs live balanced.1 holding.1 sums.1 in
+    let one : bucket_at v t (settled v t session group units blocks rated ledger) c
+    ≡ settled_row (holds_at v t session group ledger) group t rated (buckets_at v t ledger)
+    (bucket_at v t ledger c)
+    = bucket_at-settled v t session group units blocks rated ledger c live balanced.0 holding.0
+    sums.0 in
+    let rest : map (bucket_at v t (settled v t session group units blocks rated ledger)) cs
+    ≡ map (settled_row (holds_at v t session group ledger) group t rated
+    (buckets_at v t ledger)) (map (bucket_at v t ledger) cs)
+    = each_settled v t session group units blocks rated ledger cs live balanced.1 holding.1 sums.1
+    in
     λ i. one i ∷ rest i
 
 -- the buckets of a ledger with a settlement
-pub buckets_at-settled : (v t : ℕ) (session : List ℕ) (group units blocks rated : ℕ) (ledger : Ledger) →
+pub buckets_at-settled : (v t : ℕ) (session : List ℕ) (group units blocks rated : ℕ)
+    (ledger : Ledger) →
     is_live v t ledger session ≡ true →
     Each IsBalanced (buckets_at v t ledger) →
     AreDistinct (buckets_at v t ledger) →
-    buckets_at v t (settled v t session group units blocks rated ledger) ≡ settled_rows (holds_at v t session group ledger) group t rated (buckets_at v t ledger)
+    buckets_at v t (settled v t session group units blocks rated ledger)
+    ≡ settled_rows (holds_at v t session group ledger) group t rated (buckets_at v t ledger)
 buckets_at-settled v t session group units blocks rated ledger live balanced distinct =
     let holds : List Hold = holds_at v t session group ledger in
     let rows : List Row = buckets_at v t ledger in
     let hs : List Hold = parts (paid holds group t rated rows) rows in
-    ap (map (bucket_at v t (settled v t session group units blocks rated ledger))) (credits-charge_facts t hs ledger)
-    ∙ each_settled v t session group units blocks rated ledger (credits ledger) live balanced (sum_at-parts (λ b. held (only session group) b.number ledger) rows distinct) (sum_at-parts (paid holds group t rated rows) rows distinct)
+    ap (map (bucket_at v t (settled v t session group units blocks rated ledger)))
+    (credits-charge_facts t hs ledger)
+    ∙ each_settled v t session group units blocks rated ledger (credits ledger) live balanced
+    (sum_at-parts (λ b. held (only session group) b.number ledger) rows distinct)
+    (sum_at-parts (paid holds group t rated rows) rows distinct)
 
 -- ---- the ledger with the reservation's end alone
 
@@ -125,7 +176,8 @@ bucket_at-ended : (v t : ℕ) (session : List ℕ) (group : ℕ) (ledger : Ledge
     is_live v t ledger session ≡ true →
     IsBalanced (bucket_at v t ledger c) →
     sum_at c.number holds ≡ held (only session group) c.number ledger →
-    bucket_at v t (with_end t session group ledger) c ≡ with_release t (bucket_at v t ledger c) (held_in holds (bucket_at v t ledger c)))
+    bucket_at v t (with_end t session group ledger) c
+    ≡ with_release t (bucket_at v t ledger c) (held_in holds (bucket_at v t ledger c)))
 bucket_at-ended v t session group ledger c live balanced holding =
     let holds : List Hold = holds_at v t session group ledger in
     let n : ℕ = c.number in
@@ -133,10 +185,17 @@ bucket_at-ended v t session group ledger c live balanced holding =
     let all : List ℕ → ℕ → Bool = λ s g. is_live v t ledger s in
     let h : ℕ = held_in holds (bucket_at v t ledger c) in
     let r : ℕ = held (others v t session group ledger) n ledger in
-    let split : held all n ledger ≡ r + h = omega (arith, split_is v t session group n ledger live, held_in-sum_at holds (bucket_at v t ledger c), holding) in
+    let split : held all n ledger ≡ r + h =
+    omega (
+      arith,
+      split_is v t session group n ledger live,
+      held_in-sum_at holds (bucket_at v t ledger c),
+      holding,
+    ) in
     let held' : 0 + held (others v t session group ledger) n ledger ≡ r = omega arith in
     let charged' : 0 + charged n ledger ≡ ch = omega arith in
-    let within : ch + (r + h) ≤ c.credited = omega (arith, balanced_le (nat_lt t c.until) c ch (held all n ledger) balanced.sum) in
+    let within : ch + (r + h) ≤ c.credited =
+    omega (arith, balanced_le (nat_lt t c.until) c ch (held all n ledger) balanced.sum) in
     (λ i. balance_of t c (charged' i) (held' i))
     ∙ balance_by-ended (nat_lt t c.until) c ch h r within
     ∙ ap (λ x. with_release t (balance_of t c ch x) h) (sym split)
@@ -144,17 +203,23 @@ bucket_at-ended v t session group ledger c live balanced holding =
 each_ended : (v t : ℕ) (session : List ℕ) (group : ℕ) (ledger : Ledger) (cs : List Row) →
     is_live v t ledger session ≡ true →
     Each IsBalanced (map (bucket_at v t ledger) cs) →
-    Each (λ b. sum_at b.number (holds_at v t session group ledger) ≡ held (only session group) b.number ledger) (map (bucket_at v t ledger) cs) →
-    map (bucket_at v t (with_end t session group ledger)) cs ≡ released_rows (holds_at v t session group ledger) t (map (bucket_at v t ledger) cs)
+    Each (λ b. sum_at b.number (holds_at v t session group ledger)
+    ≡ held (only session group) b.number ledger) (map (bucket_at v t ledger) cs) →
+    map (bucket_at v t (with_end t session group ledger)) cs
+    ≡ released_rows (holds_at v t session group ledger) t (map (bucket_at v t ledger) cs)
 each_ended v t session group ledger [] live balanced holding = refl
 each_ended v t session group ledger (c ∷ cs) live balanced holding =
-    λ i. bucket_at-ended v t session group ledger c live balanced.0 holding.0 i ∷ each_ended v t session group ledger cs live balanced.1 holding.1 i
+    λ i. bucket_at-ended v t session group ledger c live balanced.0 holding.0 i
+    ∷ each_ended v t session group ledger cs live balanced.1 holding.1 i
 
 -- the buckets of a ledger with a reservation's end
 pub buckets_at-ended : (v t : ℕ) (session : List ℕ) (group : ℕ) (ledger : Ledger) →
     is_live v t ledger session ≡ true →
     Each IsBalanced (buckets_at v t ledger) →
     AreDistinct (buckets_at v t ledger) →
-    buckets_at v t (with_end t session group ledger) ≡ released_rows (holds_at v t session group ledger) t (buckets_at v t ledger)
+    buckets_at v t (with_end t session group ledger)
+    ≡ released_rows (holds_at v t session group ledger) t (buckets_at v t ledger)
 buckets_at-ended v t session group ledger live balanced distinct =
-    each_ended v t session group ledger (credits ledger) live balanced (sum_at-parts (λ b. held (only session group) b.number ledger) (buckets_at v t ledger) distinct)
+    each_ended v t session group ledger (credits ledger) live balanced
+    (sum_at-parts (λ b. held (only session group) b.number ledger) (buckets_at v t ledger)
+    distinct)

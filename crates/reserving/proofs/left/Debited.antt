@@ -35,53 +35,91 @@ use Rattle.reserving.proofs.LeftReadings.{used_joined, event_price_joined, uncol
 none_held : (left : List Row) → Each IsDead left → Each (λ b. held_in [] b ≡ 0) left
 none_held left dead = each_map IsDead (λ b. held_in [] b ≡ 0) left (λ b d. refl) dead
 
-pub debited_joined : (left : LeftRows) (a : AccountRows) (s : List ℕ) (g units blocks rated : ℕ) → IsLeft left a → AreOfOtherCycles a.book a.as_of left.counters → EachIn (λ r. is_of s g r ≡ false) left.groups →
-    debited_account s g units blocks rated (joined left a) ≡ joined left (debited_account s g units blocks rated a)
+pub debited_joined : (left : LeftRows) (a : AccountRows) (s : List ℕ) (g units blocks rated : ℕ) →
+    IsLeft left a → AreOfOtherCycles a.book a.as_of left.counters →
+    EachIn (λ r. is_of s g r ≡ false) left.groups →
+    debited_account s g units blocks rated (joined left a)
+    ≡ joined left (debited_account s g units blocks rated a)
 debited_joined left a s g units blocks rated h cycles not_of =
     let row : SessionGroup = group_or_new s g a.groups in
-    let new : SessionGroup = record { session = s; group = g; used = row.used + units; reservation = row.reservation } in
-    let groups : with_event s g units (left.groups ++ a.groups) ≡ left.groups ++ with_event s g units a.groups =
-    (λ i. put (is_of s g) (record { session = s; group = g; used = (row_same left a h s g not_of i).used + units; reservation = (row_same left a h s g not_of i).reservation }) (left.groups ++ a.groups))
+    let new : SessionGroup =
+    record { session = s; group = g; used = row.used + units; reservation = row.reservation } in
+    let groups : with_event s g units (left.groups ++ a.groups)
+    ≡ left.groups ++ with_event s g units a.groups =
+    (λ i. put (is_of s g)
+    (record {
+      session = s;
+      group = g;
+      used = (row_same left a h s g not_of i).used + units;
+      reservation = (row_same left a h s g not_of i).reservation;
+    }) (left.groups ++ a.groups))
     ∙ put_behind (is_of s g) new left.groups a.groups not_of in
     λ i. record (joined left a) {
-      buckets = settled_merged [] g a.as_of rated left.buckets a.buckets h.dead (none_held left.buckets h.dead) i;
+      buckets =
+          settled_merged [] g a.as_of rated left.buckets a.buckets h.dead
+          (none_held left.buckets h.dead) i;
       counters = count_joined left a h s g not_of cycles blocks i;
       groups = groups i;
       next_charge = a.next_charge + 1;
     }
 
-pub covered_beside : (b : Bool) (ledger : Ledger) (left : LeftRows) (t : ℕ) (a : AccountRows) (g units paid price : ℕ) → IsWith ledger left t a →
-    paid ≡ funds g t (buckets_at a.book.validity t ledger) → price ≡ (event_price_in g units t a).amount.0 → is_lt (nat_cmp paid price) ≡ b → is_covered a.book t g units ledger ≡ not b
+pub covered_beside : (b : Bool) (ledger : Ledger) (left : LeftRows) (t : ℕ) (a : AccountRows)
+    (g units paid price : ℕ) → IsWith ledger left t a →
+    paid ≡ funds g t (buckets_at a.book.validity t ledger) →
+    price ≡ (event_price_in g units t a).amount.0 → is_lt (nat_cmp paid price) ≡ b →
+    is_covered a.book t g units ledger ≡ not b
 covered_beside b ledger left t a g units paid price h p q k =
-    covered_is b ledger (joined left a) g units t paid price h.rows p (q ∙ ap (λ (x : Rated). x.amount.0) (sym (event_price_joined left a g units t h.cycles))) k
+    covered_is b ledger (joined left a) g units t paid price h.rows p
+    (q ∙ ap (λ (x : Rated). x.amount.0) (sym (event_price_joined left a g units t h.cycles))) k
 
-pub debit_beside : (ledger : Ledger) (left : LeftRows) (a middle after : AccountRows) (s : List ℕ) (g c t units paid : ℕ) (x : Settled) →
-    IsWith ledger left t a → group_in s g left.groups ≡ None → paid ≡ funds g t (buckets_at a.book.validity t ledger) → IsDebitMade a middle after s g c t units paid x →
+pub debit_beside : (ledger : Ledger) (left : LeftRows) (a middle after : AccountRows) (s : List ℕ)
+    (g c t units paid : ℕ) (x : Settled) →
+    IsWith ledger left t a → group_in s g left.groups ≡ None →
+    paid ≡ funds g t (buckets_at a.book.validity t ledger) →
+    IsDebitMade a middle after s g c t units paid x →
     IsBeside left t after × IsDebitOf a.book t s g units ledger (joined left after) x
 debit_beside ledger left a middle after s g c t units paid x h gone f made =
     let whole : AccountRows = joined left a in
     let later : AccountRows = advanced t a in
     let blocks : ℕ = x.blocks.0 in
     let rated : ℕ = x.rated.0 in
-    let not_of : EachIn (λ y. is_of s g y ≡ false) left.groups = none_each (is_of s g) left.groups gone in
+    let not_of : EachIn (λ y. is_of s g y ≡ false) left.groups =
+    none_each (is_of s g) left.groups gone in
     let with_later : IsWith ledger left t later = with_advanced ledger left t a made.later h in
-    let count : count_in g (cycle_at a.book g t) whole.counters ≡ count_in g (cycle_at a.book g t) a.counters = count_beside a.book t g left.counters a.counters h.cycles in
-    let cost : event_price_in g units t whole ≡ event_price_in g units t a = event_price_joined left a g units t h.cycles in
-    let is : after ≡ debited_account s g units blocks rated later = debited_is a middle after s g c t units blocks rated made.cycle made.brought made.debited in
-    let same : debited_account s g units blocks rated (advanced t (with_rows s g c whole)) ≡ joined left after =
+    let count : count_in g (cycle_at a.book g t) whole.counters
+    ≡ count_in g (cycle_at a.book g t) a.counters =
+    count_beside a.book t g left.counters a.counters h.cycles in
+    let cost : event_price_in g units t whole ≡ event_price_in g units t a =
+    event_price_joined left a g units t h.cycles in
+    let is : after ≡ debited_account s g units blocks rated later =
+    debited_is a middle after s g c t units blocks rated made.cycle made.brought made.debited in
+    let same : debited_account s g units blocks rated (advanced t (with_rows s g c whole))
+    ≡ joined left after =
     (λ i. debited_account s g units blocks rated (advanced t (with_rows s g (made.cycle i) whole)))
     ∙ debited_later whole s g t units blocks rated
     ∙ ap (debited_account s g units blocks rated) (advanced_joined t left a h.apart)
     ∙ debited_joined left later s g units blocks rated with_later.apart h.cycles not_of
     ∙ ap (joined left) (sym is) in
-    let buckets : (advanced t (with_rows s g c whole)).buckets ≡ merged left.buckets later.buckets = buckets_later whole s g c t ∙ ap (λ (y : AccountRows). y.buckets) (advanced_joined t left a h.apart) in
-    let un' : x.uncollected.0 ≡ uncollected [] g t rated (advanced t (with_rows s g c whole)).buckets =
-    made.missing ∙ (λ i. uncollected [] g (made.brought i).as_of rated (made.brought i).buckets) ∙ ap (uncollected [] g t rated) (buckets_later a s g c t)
-    ∙ sym (ap (uncollected [] g t rated) buckets ∙ uncollected_merged [] g t rated left.buckets later.buckets h.apart.dead (none_held left.buckets h.apart.dead)) in
-    let fits' : passes (used_in s g whole.groups) units (count_in g (cycle_at a.book g t) whole.counters) (event_price_in g units t whole).blocks a.next_charge ≡ false =
-    (λ i. passes (used_joined left a s g h.apart not_of i) units (count i) (cost i).blocks a.next_charge) ∙ made.fits in
-    let debited : IsDebitOf a.book t s g units ledger (debited_account s g units blocks rated (advanced t (with_rows s g c whole))) x =
-    debit_is ledger whole (advanced t (with_rows s g c whole)) (debited_account s g units blocks rated (advanced t (with_rows s g c whole))) s g c t units paid x
+    let buckets : (advanced t (with_rows s g c whole)).buckets ≡ merged left.buckets later.buckets =
+    buckets_later whole s g c t
+    ∙ ap (λ (y : AccountRows). y.buckets) (advanced_joined t left a h.apart) in
+    let un' : x.uncollected.0
+    ≡ uncollected [] g t rated (advanced t (with_rows s g c whole)).buckets =
+    made.missing ∙ (λ i. uncollected [] g (made.brought i).as_of rated (made.brought i).buckets)
+    ∙ ap (uncollected [] g t rated) (buckets_later a s g c t)
+    ∙ sym (ap (uncollected [] g t rated) buckets
+    ∙ uncollected_merged [] g t rated left.buckets later.buckets h.apart.dead
+    (none_held left.buckets h.apart.dead)) in
+    let fits' : passes (used_in s g whole.groups) units
+    (count_in g (cycle_at a.book g t) whole.counters) (event_price_in g units t whole).blocks
+    a.next_charge ≡ false =
+    (λ i. passes (used_joined left a s g h.apart not_of i) units (count i) (cost i).blocks
+    a.next_charge) ∙ made.fits in
+    let debited : IsDebitOf a.book t s g units ledger
+    (debited_account s g units blocks rated (advanced t (with_rows s g c whole))) x =
+    debit_is ledger whole (advanced t (with_rows s g c whole))
+    (debited_account s g units blocks rated (advanced t (with_rows s g c whole))) s g c t units
+    paid x
     h.apart.whole h.rows f (record {
       later = made.later;
       cycle = made.cycle;
@@ -94,10 +132,17 @@ debit_beside ledger left a middle after s g c t units paid x h gone f made =
       missing = un';
       whole = made.whole;
     }) in
-    let used : used_in s g (joined left later).groups ≡ used_in s g a.groups = used_joined left later s g with_later.apart not_of ∙ used_later (is_live_in a.book.validity t a.sessions) s g a.groups in
+    let used : used_in s g (joined left later).groups ≡ used_in s g a.groups =
+    used_joined left later s g with_later.apart not_of
+    ∙ used_later (is_live_in a.book.validity t a.sessions) s g a.groups in
     let blocks_are : blocks ≡ (event_price_in g units t a).blocks = made.started in
-    let within : used_in s g a.groups + units ≤ 1000000000000000000 = within_used (used_in s g a.groups) units (count_in g (cycle_at a.book g t) a.counters) (event_price_in g units t a).blocks a.next_charge made.fits in
-    let counted : count_in g (cycle_at a.book g t) a.counters + (event_price_in g units t a).blocks ≤ 4000000000000000000 = within_counted (used_in s g a.groups) units (count_in g (cycle_at a.book g t) a.counters) (event_price_in g units t a).blocks a.next_charge made.fits in
+    let within : used_in s g a.groups + units ≤ 1000000000000000000 =
+    within_used (used_in s g a.groups) units (count_in g (cycle_at a.book g t) a.counters)
+    (event_price_in g units t a).blocks a.next_charge made.fits in
+    let counted : count_in g (cycle_at a.book g t) a.counters + (event_price_in g units t a).blocks
+    ≤ 4000000000000000000 =
+    within_counted (used_in s g a.groups) units (count_in g (cycle_at a.book g t) a.counters)
+    (event_price_in g units t a).blocks a.next_charge made.fits in
     let beside : IsBeside left t (debited_account s g units blocks rated later) = record {
       apart = record {
         dead = with_later.apart.dead;
@@ -105,9 +150,16 @@ debit_beside ledger left a middle after s g c t units paid x h gone f made =
         apart = with_later.apart.apart;
         free = with_later.apart.free;
         others = with_later.apart.others;
-        whole = subst IsAccount (debited_joined left later s g units blocks rated with_later.apart h.cycles not_of)
-            (IsAccount-debited (joined left later) s g units blocks rated (omega (arith, used, within)) (omega (arith, count, counted, blocks_are)) (most_charge (used_in s g a.groups) units (count_in g (cycle_at a.book g t) a.counters) (event_price_in g units t a).blocks a.next_charge made.fits) with_later.apart.whole);
+        whole = subst IsAccount
+            (debited_joined left later s g units blocks rated with_later.apart h.cycles not_of)
+            (IsAccount-debited (joined left later) s g units blocks rated
+            (omega (arith, used, within)) (omega (arith, count, counted, blocks_are))
+            (most_charge (used_in s g a.groups) units
+            (count_in g (cycle_at a.book g t) a.counters) (event_price_in g units t a).blocks
+            a.next_charge made.fits) with_later.apart.whole);
       };
       cycles = h.cycles;
-    } in
-    (subst (IsBeside left t) (sym is) beside, subst (λ y. IsDebitOf a.book t s g units ledger y x) same debited)
+    } in (
+      subst (IsBeside left t) (sym is) beside,
+      subst (λ y. IsDebitOf a.book t s g units ledger y x) same debited,
+    )

@@ -10,14 +10,24 @@ use Rattle.reserving.specs.Left.{is_open_row}
 use Rattle.reserving.proofs.Lists.{not_both}
 
 module _ (ledger : Ledger) (w : AccountRows) (rows : IsRowsOf ledger w) where
-  pub closed_free : (s : List ℕ) (g : ℕ) (o : Option Recording) → last_recording s ledger ≡ o → is_open_row (session_row s (state_at w.book.validity w.as_of ledger s) o) ≡ false → reservation_at w.book.validity w.as_of ledger s g ≡ None
-  closed_free s g None e k = at (is_live w.book.validity w.as_of ledger s) (open_grant s g ledger) ((rows.unknown s e).granted g)
+  pub closed_free : (s : List ℕ) (g : ℕ) (o : Option Recording) → last_recording s ledger ≡ o →
+      is_open_row (session_row s (state_at w.book.validity w.as_of ledger s) o) ≡ false →
+      reservation_at w.book.validity w.as_of ledger s g ≡ None
+  closed_free s g None e k =
+      at (is_live w.book.validity w.as_of ledger s) (open_grant s g ledger)
+      ((rows.unknown s e).granted g)
     where
-      at : (l : Bool) (p : Option Periods) → p ≡ None → (if l then reservation_of (holds_at w.book.validity w.as_of s g ledger) p else None) ≡ None
+      at : (l : Bool) (p : Option Periods) → p ≡ None →
+          (if l then reservation_of (holds_at w.book.validity w.as_of s g ledger) p else None)
+          ≡ None
       at true p n = ap (reservation_of (holds_at w.book.validity w.as_of s g ledger)) n
       at false p n = refl
   closed_free s g (Some x) e k = at (is_live w.book.validity w.as_of ledger s) k
     where
-      at : (l : Bool) → is_open (if l then Open else (if is_some (last_touch s ledger) then Ended else NeverOpened)) ≡ false → (if l then reservation_of (holds_at w.book.validity w.as_of s g ledger) (open_grant s g ledger) else None) ≡ None
+      at : (l : Bool) →
+          is_open (if l then Open
+          else (if is_some (last_touch s ledger) then Ended else NeverOpened)) ≡ false →
+          (if l then reservation_of (holds_at w.book.validity w.as_of s g ledger)
+          (open_grant s g ledger) else None) ≡ None
       at true n = absurd (not_both (sym n))
       at false n = refl

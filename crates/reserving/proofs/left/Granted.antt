@@ -20,45 +20,86 @@ use Rattle.reserving.proofs.left.Settled.{live_later}
 use Rattle.reserving.proofs.left.Reserved.{reserved_joined}
 use Rattle.reserving.proofs.LeftReadings.{quota_of_joined}
 
-free_joined : (left : LeftRows) (a : AccountRows) (s : List ℕ) (g : ℕ) → IsLeft left a → EachIn (λ r. is_of s g r ≡ false) left.groups → reservation_in s g a.groups ≡ None → reservation_in s g (joined left a).groups ≡ None
-free_joined left a s g h not_of none = ap (λ (r : SessionGroup). r.reservation) (row_same left a h s g not_of) ∙ none
+free_joined : (left : LeftRows) (a : AccountRows) (s : List ℕ) (g : ℕ) → IsLeft left a →
+    EachIn (λ r. is_of s g r ≡ false) left.groups → reservation_in s g a.groups ≡ None →
+    reservation_in s g (joined left a).groups ≡ None
+free_joined left a s g h not_of none =
+    ap (λ (r : SessionGroup). r.reservation) (row_same left a h s g not_of) ∙ none
 
 -- a reservation that is made leaves the rows that were left
-pub left_reserved : (left : LeftRows) (a : AccountRows) (s : List ℕ) (g amount : ℕ) → IsLeft left a → is_live_in a.book.validity a.as_of a.sessions s ≡ true → reservation_in s g a.groups ≡ None → IsLeft left (reserved_account s g amount a)
+pub left_reserved : (left : LeftRows) (a : AccountRows) (s : List ℕ) (g amount : ℕ) →
+    IsLeft left a → is_live_in a.book.validity a.as_of a.sessions s ≡ true →
+    reservation_in s g a.groups ≡ None → IsLeft left (reserved_account s g amount a)
 left_reserved left a s g amount h alive none = record {
   dead = h.dead;
   over = h.over;
   apart = h.apart;
   free = h.free;
   others = h.others;
-  whole = subst IsAccount (reserved_joined left a s g amount h alive) (IsAccount-reserved (joined left a) s g amount (free_joined left a s g h (not_of_live left a a.as_of s g h alive) none) h.whole);
+  whole = subst IsAccount (reserved_joined left a s g amount h alive)
+      (IsAccount-reserved (joined left a) s g amount
+      (free_joined left a s g h (not_of_live left a a.as_of s g h alive) none) h.whole);
 }
 
 -- nothing is granted exactly where no unit is covered
-pub nothing_beside : (ledger : Ledger) (left : LeftRows) (t : ℕ) (a : AccountRows) (s : List ℕ) (g : ℕ) (requested : Option ℕ) (wanted : ℕ) (grant : Grant) → IsWith ledger left t a → a.as_of ≤ t → is_live_in a.book.validity t a.sessions s ≡ true →
-    QuotaOf a s g t requested wanted grant → grant ≡ grant_for a.book t g (used s g ledger) requested ledger
-nothing_beside ledger left t a s g requested wanted grant h le alive q =
-    grant_told ledger (joined left a) s g t requested wanted grant h.apart.whole h.rows le (quota_of_joined left a s g t requested wanted grant h.apart h.cycles (not_of_live left a t s g h.apart alive) q)
-
-pub grant_beside : (ledger : Ledger) (left : LeftRows) (a middle after : AccountRows) (s : List ℕ) (g t : ℕ) (requested : Option ℕ) (wanted : ℕ) (grant : Grant) (at : Option ℕ) (validity : ℕ) (fewer : Bool) →
-    IsWith ledger left t a → a.as_of ≤ t → is_live_in a.book.validity t a.sessions s ≡ true → reservation_in s g a.groups ≡ None →
+pub nothing_beside : (ledger : Ledger) (left : LeftRows) (t : ℕ) (a : AccountRows) (s : List ℕ)
+    (g : ℕ) (requested : Option ℕ) (wanted : ℕ) (grant : Grant) → IsWith ledger left t a →
+    a.as_of ≤ t → is_live_in a.book.validity t a.sessions s ≡ true →
     QuotaOf a s g t requested wanted grant →
-    0 < grant.units.0 → at ≡ switch_at a.book t → validity ≡ validity_at a.book t → fewer ≡ nat_lt grant.units.0 wanted →
-    middle ≡ advanced t (with_group_row s g a) → after ≡ reserved_account s g grant.amount.0 middle →
-    IsBeside left t after × IsGrantOf a.book t s g requested ledger (joined left after) grant.units.0 at validity fewer
-grant_beside ledger left a middle after s g t requested wanted grant at validity fewer h le alive none q some switch valid few m e =
+    grant ≡ grant_for a.book t g (used s g ledger) requested ledger
+nothing_beside ledger left t a s g requested wanted grant h le alive q =
+    grant_told ledger (joined left a) s g t requested wanted grant h.apart.whole h.rows le
+    (quota_of_joined left a s g t requested wanted grant h.apart h.cycles
+    (not_of_live left a t s g h.apart alive) q)
+
+pub grant_beside : (ledger : Ledger) (left : LeftRows) (a middle after : AccountRows) (s : List ℕ)
+    (g t : ℕ) (requested : Option ℕ) (wanted : ℕ) (grant : Grant) (at : Option ℕ) (validity : ℕ)
+    (fewer : Bool) →
+    IsWith ledger left t a → a.as_of ≤ t → is_live_in a.book.validity t a.sessions s ≡ true →
+    reservation_in s g a.groups ≡ None →
+    QuotaOf a s g t requested wanted grant →
+    0 < grant.units.0 → at ≡ switch_at a.book t → validity ≡ validity_at a.book t →
+    fewer ≡ nat_lt grant.units.0 wanted →
+    middle ≡ advanced t (with_group_row s g a) →
+    after ≡ reserved_account s g grant.amount.0 middle →
+    IsBeside left t after ×
+    IsGrantOf a.book t s g requested ledger (joined left after) grant.units.0 at validity fewer
+grant_beside ledger left a middle after s g t requested wanted grant at validity fewer h le alive
+    none q some switch valid few m e =
     let whole : AccountRows = joined left a in
     let later : AccountRows = advanced t a in
     let amount : ℕ = grant.amount.0 in
-    let not_of : EachIn (λ r. is_of s g r ≡ false) left.groups = not_of_live left a t s g h.apart alive in
+    let not_of : EachIn (λ r. is_of s g r ≡ false) left.groups =
+    not_of_live left a t s g h.apart alive in
     let with_later : IsWith ledger left t later = with_advanced ledger left t a le h in
-    let alive_later : is_live_in a.book.validity t later.sessions s ≡ true = live_later ledger left a s t le h with_later alive in
-    let free : reservation_in s g later.groups ≡ None = free_later (is_live_in a.book.validity t a.sessions) s g a.groups none in
-    let is : after ≡ reserved_account s g amount later = e ∙ ap (reserved_account s g amount) m ∙ reserved_later a s g t amount in
-    let same : reserved_account s g amount (advanced t (with_group_row s g whole)) ≡ joined left after =
-    reserved_later whole s g t amount ∙ ap (reserved_account s g amount) (advanced_joined t left a h.apart) ∙ reserved_joined left later s g amount with_later.apart alive_later ∙ ap (joined left) (sym is) in
-    let beside : IsBeside left t (reserved_account s g amount later) = record { apart = left_reserved left later s g amount with_later.apart alive_later free; cycles = h.cycles } in
-    let granted : IsGrantOf a.book t s g requested ledger (reserved_account s g amount (advanced t (with_group_row s g whole))) grant.units.0 at validity fewer =
-    grant_is ledger whole (advanced t (with_group_row s g whole)) (reserved_account s g amount (advanced t (with_group_row s g whole))) s g t requested wanted grant at validity fewer
-    h.apart.whole h.rows le (live left a h.apart t s ∙ alive) (free_joined left a s g h.apart not_of none) (quota_of_joined left a s g t requested wanted grant h.apart h.cycles not_of q) some switch valid few refl refl in
-    (subst (IsBeside left t) (sym is) beside, subst (λ x. IsGrantOf a.book t s g requested ledger x grant.units.0 at validity fewer) same granted)
+    let alive_later : is_live_in a.book.validity t later.sessions s ≡ true =
+    live_later ledger left a s t le h with_later alive in
+    let free : reservation_in s g later.groups ≡ None =
+    free_later (is_live_in a.book.validity t a.sessions) s g a.groups none in
+    let is : after ≡ reserved_account s g amount later =
+    e ∙ ap (reserved_account s g amount) m ∙ reserved_later a s g t amount in
+    let same : reserved_account s g amount (advanced t (with_group_row s g whole))
+    ≡ joined left after =
+    reserved_later whole s g t amount
+    ∙ ap (reserved_account s g amount) (advanced_joined t left a h.apart)
+    ∙ reserved_joined left later s g amount with_later.apart alive_later
+    ∙ ap (joined left) (sym is) in
+    let beside : IsBeside left t (reserved_account s g amount later) =
+    record {
+      apart = left_reserved left later s g amount with_later.apart alive_later free;
+      cycles = h.cycles;
+    } in
+    let granted : IsGrantOf a.book t s g requested ledger
+    (reserved_account s g amount (advanced t (with_group_row s g whole))) grant.units.0 at
+    validity fewer =
+    grant_is ledger whole (advanced t (with_group_row s g whole))
+    (reserved_account s g amount (advanced t (with_group_row s g whole))) s g t requested wanted
+    grant at validity fewer
+    h.apart.whole h.rows le (live left a h.apart t s ∙ alive)
+    (free_joined left a s g h.apart not_of none)
+    (quota_of_joined left a s g t requested wanted grant h.apart h.cycles not_of q) some switch
+    valid few refl refl in (
+      subst (IsBeside left t) (sym is) beside,
+      subst (λ x. IsGrantOf a.book t s g requested ledger x grant.units.0 at validity fewer) same
+          granted,
+    )

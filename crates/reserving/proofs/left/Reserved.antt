@@ -22,23 +22,40 @@ use Rattle.reserving.proofs.LeftFrames.{not_of_live, row_same}
 -- ---- shares as holds
 
 parts_first : (f : Row → ℕ) (b : Row) (xs : List Row) → f b ≡ 0 → parts f (b ∷ xs) ≡ parts f xs
-parts_first f b xs e = ap (λ n. cond (nat_lt 0 n) (record { bucket = b.number; amount = n } ∷ parts f xs) (parts f xs)) e
+parts_first f b xs e =
+    ap (λ n. cond (nat_lt 0 n) (record { bucket = b.number; amount = n } ∷ parts f xs) (parts f xs))
+    e
 
-parts_placed : (f : Row → ℕ) (b : Row) (xs : List Row) → f b ≡ 0 → parts f (placed b xs) ≡ parts f xs
+parts_placed : (f : Row → ℕ) (b : Row) (xs : List Row) → f b ≡ 0 →
+    parts f (placed b xs) ≡ parts f xs
 parts_placed f b [] e = parts_first f b [] e
-parts_placed f b (x ∷ xs) e = elim (precedes b x) as (λ t. parts f (if t then b ∷ x ∷ xs else x ∷ placed b xs) ≡ parts f (x ∷ xs)) [ true ↦ parts_first f b (x ∷ xs) e | false ↦ ap (λ hs. cond (nat_lt 0 (f x)) (record { bucket = x.number; amount = f x } ∷ hs) hs) (parts_placed f b xs e) ]
+parts_placed f b (x ∷ xs) e =
+    elim (precedes b x) as
+    (λ t. parts f (if t then b ∷ x ∷ xs else x ∷ placed b xs) ≡ parts f (x ∷ xs)) [
+      | true ↦ parts_first f b (x ∷ xs) e
+      | false ↦ ap
+          (λ hs. cond (nat_lt 0 (f x)) (record { bucket = x.number; amount = f x } ∷ hs) hs)
+          (parts_placed f b xs e)
+    ]
 
-parts_merged : (f : Row → ℕ) (left rows : List Row) → Each (λ b. f b ≡ 0) left → parts f (merged left rows) ≡ parts f rows
+parts_merged : (f : Row → ℕ) (left rows : List Row) → Each (λ b. f b ≡ 0) left →
+    parts f (merged left rows) ≡ parts f rows
 parts_merged f [] rows h = refl
 parts_merged f (b ∷ bs) rows h = parts_placed f b (merged bs rows) h.0 ∙ parts_merged f bs rows h.1
 
 min_none : (m n : ℕ) → m ≡ 0 → min m n ≡ 0
 min_none m n e = omega (arith, e)
 
-pub holds_merged : (group at amount : ℕ) (left rows : List Row) → Each IsDead left → holds_of group at amount (merged left rows) ≡ holds_of group at amount rows
+pub holds_merged : (group at amount : ℕ) (left rows : List Row) → Each IsDead left →
+    holds_of group at amount (merged left rows) ≡ holds_of group at amount rows
 holds_merged group at amount left rows dead =
-    (λ i. parts (λ b. share_merged (eligible_amount group at) left rows amount b (dead_amount group at left dead) i) (merged left rows))
-    ∙ parts_merged (share (eligible_amount group at) rows amount) left rows (each_map (λ b. eligible_amount group at b ≡ 0) (λ b. share (eligible_amount group at) rows amount b ≡ 0) left (λ b e. min_none (eligible_amount group at b) _ e) (dead_amount group at left dead))
+    (λ i. parts
+    (λ b. share_merged (eligible_amount group at) left rows amount b
+    (dead_amount group at left dead) i) (merged left rows))
+    ∙ parts_merged (share (eligible_amount group at) rows amount) left rows
+    (each_map (λ b. eligible_amount group at b ≡ 0)
+    (λ b. share (eligible_amount group at) rows amount b ≡ 0) left
+    (λ b e. min_none (eligible_amount group at b) _ e) (dead_amount group at left dead))
 
 -- ---- buckets
 
@@ -51,23 +68,50 @@ hold_none b n e =
 hold_keeps : (f : Row → ℕ) → KeepsPlace (λ b. with_hold b (f b))
 hold_keeps f = record { number = λ b. refl; until = λ b. refl }
 
-pub held_merged : (group at amount : ℕ) (left rows : List Row) → Each IsDead left → held_rows group at amount (merged left rows) ≡ merged left (held_rows group at amount rows)
+pub held_merged : (group at amount : ℕ) (left rows : List Row) → Each IsDead left →
+    held_rows group at amount (merged left rows) ≡ merged left (held_rows group at amount rows)
 held_merged group at amount left rows dead =
-    (λ i. map (λ b. with_hold b (share_merged (eligible_amount group at) left rows amount b (dead_amount group at left dead) i)) (merged left rows))
-    ∙ map_merged (λ b. with_hold b (share (eligible_amount group at) rows amount b)) (hold_keeps (share (eligible_amount group at) rows amount)) left rows
-    (each_map (λ b. eligible_amount group at b ≡ 0) (λ b. with_hold b (share (eligible_amount group at) rows amount b) ≡ b) left (λ b e. hold_none b _ (min_none (eligible_amount group at b) _ e)) (dead_amount group at left dead))
+    (λ i. map
+    (λ b. with_hold b
+    (share_merged (eligible_amount group at) left rows amount b (dead_amount group at left dead)
+    i)) (merged left rows))
+    ∙ map_merged (λ b. with_hold b (share (eligible_amount group at) rows amount b))
+    (hold_keeps (share (eligible_amount group at) rows amount)) left rows
+    (each_map (λ b. eligible_amount group at b ≡ 0)
+    (λ b. with_hold b (share (eligible_amount group at) rows amount b) ≡ b) left
+    (λ b e. hold_none b _ (min_none (eligible_amount group at b) _ e))
+    (dead_amount group at left dead))
 
 -- ---- the grant
 
-pub reserved_joined : (left : LeftRows) (a : AccountRows) (s : List ℕ) (g amount : ℕ) → IsLeft left a → is_live_in a.book.validity a.as_of a.sessions s ≡ true →
+pub reserved_joined : (left : LeftRows) (a : AccountRows) (s : List ℕ) (g amount : ℕ) →
+    IsLeft left a → is_live_in a.book.validity a.as_of a.sessions s ≡ true →
     reserved_account s g amount (joined left a) ≡ joined left (reserved_account s g amount a)
 reserved_joined left a s g amount h alive =
     let p : Periods = periods_at a.book a.as_of in
-    let not_of : EachIn (λ r. is_of s g r ≡ false) left.groups = not_of_live left a a.as_of s g h alive in
+    let not_of : EachIn (λ r. is_of s g r ≡ false) left.groups =
+    not_of_live left a a.as_of s g h alive in
     let hs : List Hold = holds_of g a.as_of amount a.buckets in
-    let same : holds_of g a.as_of amount (merged left.buckets a.buckets) ≡ hs = holds_merged g a.as_of amount left.buckets a.buckets h.dead in
-    let row : SessionGroup = record { session = s; group = g; used = used_in s g a.groups; reservation = Some (record { periods = p; holds = hs }) } in
-    let groups : with_reservation s g p (holds_of g a.as_of amount (merged left.buckets a.buckets)) (left.groups ++ a.groups) ≡ left.groups ++ with_reservation s g p hs a.groups =
-    (λ i. put (is_of s g) (record { session = s; group = g; used = (row_same left a h s g not_of i).used; reservation = Some (record { periods = p; holds = same i }) }) (left.groups ++ a.groups))
+    let same : holds_of g a.as_of amount (merged left.buckets a.buckets) ≡ hs =
+    holds_merged g a.as_of amount left.buckets a.buckets h.dead in
+    let row : SessionGroup =
+    record {
+      session = s;
+      group = g;
+      used = used_in s g a.groups;
+      reservation = Some (record { periods = p; holds = hs });
+    } in
+    let groups : with_reservation s g p (holds_of g a.as_of amount (merged left.buckets a.buckets))
+    (left.groups ++ a.groups) ≡ left.groups ++ with_reservation s g p hs a.groups =
+    (λ i. put (is_of s g)
+    (record {
+      session = s;
+      group = g;
+      used = (row_same left a h s g not_of i).used;
+      reservation = Some (record { periods = p; holds = same i });
+    }) (left.groups ++ a.groups))
     ∙ put_behind (is_of s g) row left.groups a.groups not_of in
-    λ i. record (joined left a) { buckets = held_merged g a.as_of amount left.buckets a.buckets h.dead i; groups = groups i }
+    λ i. record (joined left a) {
+      buckets = held_merged g a.as_of amount left.buckets a.buckets h.dead i;
+      groups = groups i;
+    }

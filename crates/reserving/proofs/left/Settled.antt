@@ -25,22 +25,35 @@ pub record Fits (a : AccountRows) (s : List ℕ) (g t units blocks : ℕ) : Type
   pub counted : count_in g (cycle_at a.book g t) a.counters + blocks ≤ 4000000000000000000
   pub charges : a.next_charge < 4294967296
 
-pub with_settled : (ledger : Ledger) (left : LeftRows) (a : AccountRows) (s : List ℕ) (g : ℕ) (used_parts : List UsedPart) → IsWith ledger left a.as_of a → is_live_in a.book.validity a.as_of a.sessions s ≡ true →
+pub with_settled : (ledger : Ledger) (left : LeftRows) (a : AccountRows) (s : List ℕ) (g : ℕ)
+    (used_parts : List UsedPart) → IsWith ledger left a.as_of a →
+    is_live_in a.book.validity a.as_of a.sessions s ≡ true →
     Fits a s g a.as_of (reported used_parts) (price_in s g a.as_of used_parts a).blocks →
-    IsWith (settled_by a.book a.as_of s g used_parts ledger) left a.as_of (settled_by_rows s g used_parts a)
+    IsWith (settled_by a.book a.as_of s g used_parts ledger) left a.as_of
+    (settled_by_rows s g used_parts a)
 with_settled ledger left a s g [] h alive fits = with_ended ledger left a s g h alive
 with_settled ledger left a s g (p ∷ ps) h alive fits =
     let x : Rated = price_in s g a.as_of (p ∷ ps) a in
-    let not_of : EachIn (λ r. is_of s g r ≡ false) left.groups = not_of_live left a a.as_of s g h.apart alive in
-    let used : used_in s g (joined left a).groups ≡ used_in s g a.groups = ap (λ (r : SessionGroup). r.used) (row_same left a h.apart s g not_of) in
-    let count : count_in g (cycle_at a.book g a.as_of) (joined left a).counters ≡ count_in g (cycle_at a.book g a.as_of) a.counters = count_same left a h.apart s g not_of h.cycles in
-    with_facts (settled_by a.book a.as_of s g (p ∷ ps) ledger) ledger left a.as_of a (settled_by_rows s g (p ∷ ps) a) refl refl h
-    (subst IsAccount (settled_joined left a h.apart s g not_of h.cycles (reported (p ∷ ps)) x.blocks x.amount.0)
-    (IsAccount-settled (joined left a) s g (reported (p ∷ ps)) x.blocks x.amount.0 (omega (arith, used, fits.used)) (omega (arith, count, fits.counted)) fits.charges h.apart.whole))
+    let not_of : EachIn (λ r. is_of s g r ≡ false) left.groups =
+    not_of_live left a a.as_of s g h.apart alive in
+    let used : used_in s g (joined left a).groups ≡ used_in s g a.groups =
+    ap (λ (r : SessionGroup). r.used) (row_same left a h.apart s g not_of) in
+    let count : count_in g (cycle_at a.book g a.as_of) (joined left a).counters
+    ≡ count_in g (cycle_at a.book g a.as_of) a.counters =
+    count_same left a h.apart s g not_of h.cycles in
+    with_facts (settled_by a.book a.as_of s g (p ∷ ps) ledger) ledger left a.as_of a
+    (settled_by_rows s g (p ∷ ps) a) refl refl h
+    (subst IsAccount
+    (settled_joined left a h.apart s g not_of h.cycles (reported (p ∷ ps)) x.blocks x.amount.0)
+    (IsAccount-settled (joined left a) s g (reported (p ∷ ps)) x.blocks x.amount.0
+    (omega (arith, used, fits.used)) (omega (arith, count, fits.counted)) fits.charges
+    h.apart.whole))
     (settled_with_left ledger left a s g (p ∷ ps) h.apart h.cycles alive h.rows)
 
 -- the session lives on at the moment
-pub live_later : (ledger : Ledger) (left : LeftRows) (a : AccountRows) (s : List ℕ) (t : ℕ) → a.as_of ≤ t → IsWith ledger left t a → IsWith ledger left t (advanced t a) → is_live_in a.book.validity t a.sessions s ≡ true →
+pub live_later : (ledger : Ledger) (left : LeftRows) (a : AccountRows) (s : List ℕ) (t : ℕ) →
+    a.as_of ≤ t → IsWith ledger left t a → IsWith ledger left t (advanced t a) →
+    is_live_in a.book.validity t a.sessions s ≡ true →
     is_live_in a.book.validity t (advanced t a).sessions s ≡ true
 live_later ledger left a s t le h k alive =
     let now : t ≤ t = omega arith in
@@ -49,33 +62,57 @@ live_later ledger left a s t le h k alive =
     ∙ sym (is_live_in-is ledger (joined left a) t s h.rows le)
     ∙ live left a h.apart t s ∙ alive
 
-pub left_ended : (ledger : Ledger) (left : LeftRows) (a middle after : AccountRows) (s : List ℕ) (g t : ℕ) (used_parts : List UsedPart) →
-    IsWith ledger left t a → a.as_of ≤ t → is_live_in a.book.validity t a.sessions s ≡ true → used_parts ≡ [] → middle ≡ advanced t a → after ≡ ended_rows s g middle →
+pub left_ended : (ledger : Ledger) (left : LeftRows) (a middle after : AccountRows) (s : List ℕ)
+    (g t : ℕ) (used_parts : List UsedPart) →
+    IsWith ledger left t a → a.as_of ≤ t → is_live_in a.book.validity t a.sessions s ≡ true →
+    used_parts ≡ [] → middle ≡ advanced t a → after ≡ ended_rows s g middle →
     IsWith (settled_by a.book t s g used_parts ledger) left t after
 left_ended ledger left a middle after s g t used_parts h le alive empty m e =
     let k : IsWith ledger left t (advanced t a) = with_advanced ledger left t a le h in
     subst (λ ps. IsWith (settled_by a.book t s g ps ledger) left t after) (sym empty)
-    (subst (IsWith (settled_by a.book t s g [] ledger) left t) (sym (e ∙ ap (ended_rows s g) m)) (with_ended ledger left (advanced t a) s g k (live_later ledger left a s t le h k alive)))
+    (subst (IsWith (settled_by a.book t s g [] ledger) left t) (sym (e ∙ ap (ended_rows s g) m))
+    (with_ended ledger left (advanced t a) s g k (live_later ledger left a s t le h k alive)))
 
-pub most_charge : (before units count blocks charge : ℕ) → passes before units count blocks charge ≡ false → charge < 4294967296
+pub most_charge : (before units count blocks charge : ℕ) →
+    passes before units count blocks charge ≡ false → charge < 4294967296
 most_charge before units count blocks charge h = grind (arith, nat_tests)
 
-pub left_settled : (ledger : Ledger) (left : LeftRows) (a middle after : AccountRows) (s : List ℕ) (g c t units blocks rated : ℕ) (used_parts : List UsedPart) →
+pub left_settled : (ledger : Ledger) (left : LeftRows) (a middle after : AccountRows) (s : List ℕ)
+    (g c t units blocks rated : ℕ) (used_parts : List UsedPart) →
     IsWith ledger left t a → a.as_of ≤ t → is_live_in a.book.validity t a.sessions s ≡ true →
     (used_parts ≡ [] → ⊥) → c ≡ cycle_at a.book g t →
-    units ≡ reported used_parts → blocks ≡ (price_in s g t used_parts a).blocks → rated ≡ (price_in s g t used_parts a).amount.0 →
-    passes (used_in s g a.groups) units (count_in g (cycle_at a.book g t) a.counters) blocks a.next_charge ≡ false →
-    middle ≡ advanced t (with_rows s g c a) → after ≡ settled_account s g units blocks rated middle →
+    units ≡ reported used_parts → blocks ≡ (price_in s g t used_parts a).blocks →
+    rated ≡ (price_in s g t used_parts a).amount.0 →
+    passes (used_in s g a.groups) units (count_in g (cycle_at a.book g t) a.counters) blocks
+    a.next_charge ≡ false →
+    middle ≡ advanced t (with_rows s g c a) →
+    after ≡ settled_account s g units blocks rated middle →
     IsWith (settled_by a.book t s g used_parts ledger) left t after
-left_settled ledger left a middle after s g c t units blocks rated used_parts h le alive some k u b r fits m e =
+left_settled ledger left a middle after s g c t units blocks rated used_parts h le alive some k u b
+    r fits m e =
     let later : AccountRows = advanced t a in
     let with_later : IsWith ledger left t later = with_advanced ledger left t a le h in
-    let cost : price_in s g t used_parts a ≡ price_in s g t used_parts later = price_later a s g t used_parts alive in
-    let same : after ≡ settled_by_rows s g used_parts later = settled_is a middle after s g c t units blocks rated used_parts alive some k u b r m e in
-    let blocks_are : blocks ≡ (price_in s g t used_parts later).blocks = b ∙ ap (λ (x : Rated). x.blocks) cost in
-    let used : used_in s g later.groups ≡ used_in s g a.groups = used_later (is_live_in a.book.validity t a.sessions) s g a.groups in
-    let within : used_in s g a.groups + units ≤ 1000000000000000000 = within_used (used_in s g a.groups) units (count_in g (cycle_at a.book g t) a.counters) blocks a.next_charge fits in
-    let counted : count_in g (cycle_at a.book g t) a.counters + blocks ≤ 4000000000000000000 = within_counted (used_in s g a.groups) units (count_in g (cycle_at a.book g t) a.counters) blocks a.next_charge fits in
+    let cost : price_in s g t used_parts a ≡ price_in s g t used_parts later =
+    price_later a s g t used_parts alive in
+    let same : after ≡ settled_by_rows s g used_parts later =
+    settled_is a middle after s g c t units blocks rated used_parts alive some k u b r m e in
+    let blocks_are : blocks ≡ (price_in s g t used_parts later).blocks =
+    b ∙ ap (λ (x : Rated). x.blocks) cost in
+    let used : used_in s g later.groups ≡ used_in s g a.groups =
+    used_later (is_live_in a.book.validity t a.sessions) s g a.groups in
+    let within : used_in s g a.groups + units ≤ 1000000000000000000 =
+    within_used (used_in s g a.groups) units (count_in g (cycle_at a.book g t) a.counters)
+    blocks a.next_charge fits in
+    let counted : count_in g (cycle_at a.book g t) a.counters + blocks ≤ 4000000000000000000 =
+    within_counted (used_in s g a.groups) units (count_in g (cycle_at a.book g t) a.counters)
+    blocks a.next_charge fits in
     subst (IsWith (settled_by a.book t s g used_parts ledger) left t) (sym same)
-    (with_settled ledger left later s g used_parts with_later (live_later ledger left a s t le h with_later alive)
-    (record { used = omega (arith, used, within, u); counted = omega (arith, counted, blocks_are); charges = most_charge (used_in s g a.groups) units (count_in g (cycle_at a.book g t) a.counters) blocks a.next_charge fits }))
+    (with_settled ledger left later s g used_parts with_later
+    (live_later ledger left a s t le h with_later alive)
+    (record {
+      used = omega (arith, used, within, u);
+      counted = omega (arith, counted, blocks_are);
+      charges =
+          most_charge (used_in s g a.groups) units (count_in g (cycle_at a.book g t) a.counters)
+          blocks a.next_charge fits;
+    }))

@@ -21,32 +21,47 @@ use Rattle.reserving.proofs.LeftMore.{with_advanced}
 use Rattle.reserving.proofs.LeftReadings.{price_joined, uncollected_merged}
 
 -- rows without facts hold nothing
-held_later : (a : AccountRows) (s : List ℕ) (g c t : ℕ) → reserved_in s g (advanced t (with_rows s g c a)).groups ≡ reserved_in s g (advanced t a).groups
-held_later a s g c t = ap (λ (y : SessionGroup). holds_in y.reservation) (or_new_later (is_live_in a.book.validity t a.sessions) s g a.groups)
+held_later : (a : AccountRows) (s : List ℕ) (g c t : ℕ) →
+    reserved_in s g (advanced t (with_rows s g c a)).groups ≡ reserved_in s g (advanced t a).groups
+held_later a s g c t =
+    ap (λ (y : SessionGroup). holds_in y.reservation)
+    (or_new_later (is_live_in a.book.validity t a.sessions) s g a.groups)
 
-pub settlement_beside : (ledger : Ledger) (left : LeftRows) (a middle : AccountRows) (s : List ℕ) (g c t : ℕ) (used_parts : List UsedPart) (x : Settled) →
+pub settlement_beside : (ledger : Ledger) (left : LeftRows) (a middle : AccountRows) (s : List ℕ)
+    (g c t : ℕ) (used_parts : List UsedPart) (x : Settled) →
     IsWith ledger left t a → a.as_of ≤ t → is_live_in a.book.validity t a.sessions s ≡ true →
-    x.blocks.0 ≡ (price_in s g t used_parts a).blocks → x.rated.0 ≡ (price_in s g t used_parts a).amount.0 →
+    x.blocks.0 ≡ (price_in s g t used_parts a).blocks →
+    x.rated.0 ≡ (price_in s g t used_parts a).amount.0 →
     middle ≡ advanced t (with_rows s g c a) →
-    x.uncollected.0 ≡ uncollected (reserved_in s g middle.groups) g middle.as_of x.rated.0 middle.buckets →
+    x.uncollected.0
+    ≡ uncollected (reserved_in s g middle.groups) g middle.as_of x.rated.0 middle.buckets →
     x.collected.0 + x.uncollected.0 ≡ x.rated.0 →
     IsSettlementOf a.book t s g used_parts ledger x
 settlement_beside ledger left a middle s g c t used_parts x h le alive b r m un all =
     let whole : AccountRows = joined left a in
     let later : AccountRows = advanced t a in
     let rated : ℕ = x.rated.0 in
-    let not_of : EachIn (λ y. is_of s g y ≡ false) left.groups = not_of_live left a t s g h.apart alive in
+    let not_of : EachIn (λ y. is_of s g y ≡ false) left.groups =
+    not_of_live left a t s g h.apart alive in
     let with_later : IsWith ledger left t later = with_advanced ledger left t a le h in
-    let cost : price_in s g t used_parts whole ≡ price_in s g t used_parts a = price_joined left a s g t used_parts h.apart h.cycles not_of in
+    let cost : price_in s g t used_parts whole ≡ price_in s g t used_parts a =
+    price_joined left a s g t used_parts h.apart h.cycles not_of in
     let holds : List Hold = reserved_in s g later.groups in
     let whole_later : advanced t whole ≡ joined left later = advanced_joined t left a h.apart in
     let held : reserved_in s g (advanced t (with_rows s g c whole)).groups ≡ holds =
-    held_later whole s g c t ∙ ap (λ (y : AccountRows). reserved_in s g y.groups) whole_later ∙ holds_same left later with_later.apart s g not_of in
-    let buckets : (advanced t (with_rows s g c whole)).buckets ≡ merged left.buckets later.buckets = buckets_later whole s g c t ∙ ap (λ (y : AccountRows). y.buckets) whole_later in
-    let missing : x.uncollected.0 ≡ uncollected (reserved_in s g (advanced t (with_rows s g c whole)).groups) g t rated (advanced t (with_rows s g c whole)).buckets =
+    held_later whole s g c t ∙ ap (λ (y : AccountRows). reserved_in s g y.groups) whole_later
+    ∙ holds_same left later with_later.apart s g not_of in
+    let buckets : (advanced t (with_rows s g c whole)).buckets ≡ merged left.buckets later.buckets =
+    buckets_later whole s g c t ∙ ap (λ (y : AccountRows). y.buckets) whole_later in
+    let missing : x.uncollected.0
+    ≡ uncollected (reserved_in s g (advanced t (with_rows s g c whole)).groups) g t rated
+    (advanced t (with_rows s g c whole)).buckets =
     un ∙ (λ i. uncollected (reserved_in s g (m i).groups) g (m i).as_of rated (m i).buckets)
     ∙ (λ i. uncollected (held_later a s g c t i) g t rated (buckets_later a s g c t i))
-    ∙ sym (uncollected_merged holds g t rated left.buckets later.buckets h.apart.dead (holds_none left later with_later.apart s g not_of))
+    ∙ sym (uncollected_merged holds g t rated left.buckets later.buckets h.apart.dead
+    (holds_none left later with_later.apart s g not_of))
     ∙ (λ i. uncollected (sym held i) g t rated (sym buckets i)) in
-    settlement_is ledger whole (advanced t (with_rows s g c whole)) s g c t used_parts x h.apart.whole h.rows le (live left a h.apart t s ∙ alive)
-    (b ∙ ap (λ (y : Rated). y.blocks) (sym cost)) (r ∙ ap (λ (y : Rated). y.amount.0) (sym cost)) refl missing all
+    settlement_is ledger whole (advanced t (with_rows s g c whole)) s g c t used_parts x
+    h.apart.whole h.rows le (live left a h.apart t s ∙ alive)
+    (b ∙ ap (λ (y : Rated). y.blocks) (sym cost)) (r ∙ ap (λ (y : Rated). y.amount.0) (sym cost))
+    refl missing all

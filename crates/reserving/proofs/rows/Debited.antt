@@ -28,10 +28,13 @@ use Rattle.reserving.proofs.SettledRows.{used_in_is, count_in_is, open_none, if_
 
 -- what each bucket pays of an event's price
 abbrev shares : ℕ → ℕ → ℕ → ℕ → Ledger → List Hold
-shares v t group rated ledger = parts (paid [] group t rated (buckets_at v t ledger)) (buckets_at v t ledger)
+shares v t group rated ledger =
+    parts (paid [] group t rated (buckets_at v t ledger)) (buckets_at v t ledger)
 
 -- neither a use nor a charge tells of sessions
-same_sessions-debited : (v t : ℕ) (session : List ℕ) (group units blocks rated : ℕ) (ledger : Ledger) → SameSessions ledger (charged_use v t session group units blocks rated ledger)
+same_sessions-debited : (v t : ℕ) (session : List ℕ) (group units blocks rated : ℕ)
+    (ledger : Ledger) →
+    SameSessions ledger (charged_use v t session group units blocks rated ledger)
 same_sessions-debited v t session group units blocks rated ledger =
     let hs : List Hold = shares v t group rated ledger in
     record {
@@ -42,11 +45,14 @@ same_sessions-debited v t session group units blocks rated ledger =
 
 -- ---- its buckets
 
-bucket_at-debited : (v t : ℕ) (session : List ℕ) (group units blocks rated : ℕ) (ledger : Ledger) (c : Row) →
+bucket_at-debited : (v t : ℕ) (session : List ℕ) (group units blocks rated : ℕ) (ledger : Ledger)
+    (c : Row) →
     (let rows : List Row = buckets_at v t ledger in
     IsBalanced (bucket_at v t ledger c) →
-    sum_at c.number (parts (paid [] group t rated rows) rows) ≡ paid [] group t rated rows (bucket_at v t ledger c) →
-    bucket_at v t (charged_use v t session group units blocks rated ledger) c ≡ settled_row [] group t rated rows (bucket_at v t ledger c))
+    sum_at c.number (parts (paid [] group t rated rows) rows)
+    ≡ paid [] group t rated rows (bucket_at v t ledger c) →
+    bucket_at v t (charged_use v t session group units blocks rated ledger) c
+    ≡ settled_row [] group t rated rows (bucket_at v t ledger c))
 bucket_at-debited v t session group units blocks rated ledger c balanced sum =
     let rows : List Row = buckets_at v t ledger in
     let after : Ledger = charged_use v t session group units blocks rated ledger in
@@ -60,108 +66,202 @@ bucket_at-debited v t session group units blocks rated ledger c balanced sum =
     let s1 : ℕ = paid_of_hold [] rated rows (bucket_at v t ledger c) in
     let s2 : ℕ = paid_of_rest [] group t rated rows (bucket_at v t ledger c) in
     let none : r ≡ r + h = omega arith in
-    let same : all' ≡ all = λ i s g. same_live v t ledger after (same_sessions-debited v t session group units blocks rated ledger) s i in
-    let held' : 0 + held all' n (charge_facts t hs ++ ledger) ≡ r = omega (arith, held-charge_facts all' n t hs ledger ∙ ap (λ p. held p n ledger) same) in
-    let charged' : 0 + charged n (charge_facts t hs ++ ledger) ≡ s1 + s2 + ch = omega (arith, charged-charge_facts n t hs ledger, sum) in
-    let within : ch + (r + h) ≤ c.credited = omega (arith, balanced_le (nat_lt t c.until) c ch r balanced.sum) in
+    let same : all' ≡ all =
+    λ i s g. same_live v t ledger after
+    (same_sessions-debited v t session group units blocks rated ledger) s i in
+    let held' : 0 + held all' n (charge_facts t hs ++ ledger) ≡ r =
+    omega (arith, held-charge_facts all' n t hs ledger ∙ ap (λ p. held p n ledger) same) in
+    let charged' : 0 + charged n (charge_facts t hs ++ ledger) ≡ s1 + s2 + ch =
+    omega (arith, charged-charge_facts n t hs ledger, sum) in
+    let within : ch + (r + h) ≤ c.credited =
+    omega (arith, balanced_le (nat_lt t c.until) c ch r balanced.sum) in
     let of_hold : s1 ≤ h = omega arith in
-    let of_rest : s2 ≤ (if nat_lt t c.until then c.credited - ch - (r + h) else 0) = eligible_le _ _ _ _ (ap (λ x. if nat_lt t c.until then c.credited - ch - x else 0) none) in
+    let of_rest : s2 ≤ (if nat_lt t c.until then c.credited - ch - (r + h) else 0) =
+    eligible_le _ _ _ _ (ap (λ x. if nat_lt t c.until then c.credited - ch - x else 0) none) in
     ap (λ x. balance_of t c (0 + charged n (charge_facts t hs ++ ledger)) x) held'
     ∙ ap (λ x. balance_of t c x r) charged'
     ∙ balance_by-settled (nat_lt t c.until) c ch h r s1 s2 within of_hold of_rest
-    ∙ ap (λ x. with_release t (with_charge (with_charge_of_hold (balance_of t c ch x) s1) s2) (h - s1)) (sym none)
+    ∙ ap (λ x. with_release t (with_charge (with_charge_of_hold (balance_of t c ch x) s1) s2)
+    (h - s1)) (sym none)
 
-each_debited : (v t : ℕ) (session : List ℕ) (group units blocks rated : ℕ) (ledger : Ledger) (cs : List Row) →
+each_debited : (v t : ℕ) (session : List ℕ) (group units blocks rated : ℕ) (ledger : Ledger)
+    (cs : List Row) →
     (let rows : List Row = buckets_at v t ledger in
     Each IsBalanced (map (bucket_at v t ledger) cs) →
-    Each (λ b. sum_at b.number (parts (paid [] group t rated rows) rows) ≡ paid [] group t rated rows b) (map (bucket_at v t ledger) cs) →
-    map (bucket_at v t (charged_use v t session group units blocks rated ledger)) cs ≡ map (settled_row [] group t rated rows) (map (bucket_at v t ledger) cs))
+    Each (λ b. sum_at b.number (parts (paid [] group t rated rows) rows)
+    ≡ paid [] group t rated rows b) (map (bucket_at v t ledger) cs) →
+    map (bucket_at v t (charged_use v t session group units blocks rated ledger)) cs
+    ≡ map (settled_row [] group t rated rows) (map (bucket_at v t ledger) cs))
 each_debited v t session group units blocks rated ledger [] balanced sums = refl
 each_debited v t session group units blocks rated ledger (c ∷ cs) balanced sums =
-    let one : bucket_at v t (charged_use v t session group units blocks rated ledger) c ≡ settled_row [] group t rated (buckets_at v t ledger) (bucket_at v t ledger c)
+    let one : bucket_at v t (charged_use v t session group units blocks rated ledger) c
+    ≡ settled_row [] group t rated (buckets_at v t ledger) (bucket_at v t ledger c)
     = bucket_at-debited v t session group units blocks rated ledger c balanced.0 sums.0 in
-    let rest : map (bucket_at v t (charged_use v t session group units blocks rated ledger)) cs ≡ map (settled_row [] group t rated (buckets_at v t ledger)) (map (bucket_at v t ledger) cs)
+    let rest : map (bucket_at v t (charged_use v t session group units blocks rated ledger)) cs
+    ≡ map (settled_row [] group t rated (buckets_at v t ledger)) (map (bucket_at v t ledger) cs)
     = each_debited v t session group units blocks rated ledger cs balanced.1 sums.1 in
     λ i. one i ∷ rest i
 
 buckets_at-debited : (v t : ℕ) (session : List ℕ) (group units blocks rated : ℕ) (ledger : Ledger) →
     Each IsBalanced (buckets_at v t ledger) →
     AreDistinct (buckets_at v t ledger) →
-    buckets_at v t (charged_use v t session group units blocks rated ledger) ≡ settled_rows [] group t rated (buckets_at v t ledger)
+    buckets_at v t (charged_use v t session group units blocks rated ledger)
+    ≡ settled_rows [] group t rated (buckets_at v t ledger)
 buckets_at-debited v t session group units blocks rated ledger balanced distinct =
     let rows : List Row = buckets_at v t ledger in
-    ap (map (bucket_at v t (charged_use v t session group units blocks rated ledger))) (credits-charge_facts t (shares v t group rated ledger) ledger)
-    ∙ each_debited v t session group units blocks rated ledger (credits ledger) balanced (sum_at-parts (paid [] group t rated rows) rows distinct)
+    ap (map (bucket_at v t (charged_use v t session group units blocks rated ledger)))
+    (credits-charge_facts t (shares v t group rated ledger) ledger)
+    ∙ each_debited v t session group units blocks rated ledger (credits ledger) balanced
+    (sum_at-parts (paid [] group t rated rows) rows distinct)
 
 -- ---- its groups
 
-same_grant : (v t : ℕ) (session : List ℕ) (group units blocks rated : ℕ) (ledger : Ledger) (s : List ℕ) (g : ℕ) → open_grant s g (charged_use v t session group units blocks rated ledger) ≡ open_grant s g ledger
+same_grant : (v t : ℕ) (session : List ℕ) (group units blocks rated : ℕ) (ledger : Ledger)
+    (s : List ℕ) (g : ℕ) →
+    open_grant s g (charged_use v t session group units blocks rated ledger) ≡ open_grant s g ledger
 same_grant v t session group units blocks rated ledger s g =
-    ap inner (newest-front (grant_in s g) (charge_facts t (shares v t group rated ledger)) ledger (each_charge _ t (shares v t group rated ledger) (λ b n. refl)))
+    ap inner (newest-front (grant_in s g) (charge_facts t (shares v t group rated ledger)) ledger
+    (each_charge _ t (shares v t group rated ledger) (λ b n. refl)))
 
-same_held : (v t : ℕ) (session : List ℕ) (group units blocks rated : ℕ) (ledger : Ledger) (p : List ℕ → ℕ → Bool) (n : ℕ) → held p n (charged_use v t session group units blocks rated ledger) ≡ held p n ledger
-same_held v t session group units blocks rated ledger p n = omega (arith, held-charge_facts p n t (shares v t group rated ledger) ledger)
+same_held : (v t : ℕ) (session : List ℕ) (group units blocks rated : ℕ) (ledger : Ledger)
+    (p : List ℕ → ℕ → Bool) (n : ℕ) →
+    held p n (charged_use v t session group units blocks rated ledger) ≡ held p n ledger
+same_held v t session group units blocks rated ledger p n =
+    omega (arith, held-charge_facts p n t (shares v t group rated ledger) ledger)
 
-other_debited : (v t : ℕ) (session : List ℕ) (group units blocks rated : ℕ) (ledger : Ledger) (s : List ℕ) (g : ℕ) → is_key session group s g ≡ false → SameGroup s g ledger (charged_use v t session group units blocks rated ledger)
+other_debited : (v t : ℕ) (session : List ℕ) (group units blocks rated : ℕ) (ledger : Ledger)
+    (s : List ℕ) (g : ℕ) → is_key session group s g ≡ false →
+    SameGroup s g ledger (charged_use v t session group units blocks rated ledger)
 other_debited v t session group units blocks rated ledger s g h =
     let hs : List Hold = shares v t group rated ledger in
     let none : (if is_same session s && group == g then units else 0) ≡ 0 = rw h refl in
     record {
-      named = (λ i. h i || any (names_group s g) (charge_facts t hs ++ ledger)) ∙ any-front (names_group s g) (charge_facts t hs) ledger (each_charge _ t hs (λ b n. refl));
-      used = omega (arith, total-front (λ d. units_in s g d.fact) (charge_facts t hs) ledger (each_charge _ t hs (λ b n. refl)));
+      named = (λ i. h i || any (names_group s g) (charge_facts t hs ++ ledger))
+          ∙ any-front (names_group s g) (charge_facts t hs) ledger
+          (each_charge _ t hs (λ b n. refl));
+      used = omega (
+        arith,
+        total-front (λ d. units_in s g d.fact) (charge_facts t hs) ledger
+            (each_charge _ t hs (λ b n. refl)),
+      );
       grant = same_grant v t session group units blocks rated ledger s g;
       held = same_held v t session group units blocks rated ledger (only s g);
     }
 
-either_reservation : (h l : Bool) (hs : List Hold) (p : Option Periods) (used : ℕ) (s : List ℕ) (g : ℕ) → (h ≡ false → p ≡ None) →
-    (let x : SessionGroup = record { session = s; group = g; used = used; reservation = if l then reservation_of hs p else None } in
-    (unwrap_or (if h then Some x else None) (new_group s g)).reservation ≡ (if l then reservation_of hs p else None))
+either_reservation : (h l : Bool) (hs : List Hold) (p : Option Periods) (used : ℕ) (s : List ℕ)
+    (g : ℕ) → (h ≡ false → p ≡ None) →
+    (let x : SessionGroup =
+    record {
+      session = s;
+      group = g;
+      used = used;
+      reservation = if l then reservation_of hs p
+          else None;
+    } in
+    (unwrap_or (if h then Some x else None) (new_group s g)).reservation
+    ≡ (if l then reservation_of hs p else None))
 either_reservation true l hs p used s g k = refl
 either_reservation false true hs p used s g k = sym (ap (reservation_of hs) (k refl))
 either_reservation false false hs p used s g k = refl
 
 -- a group's reservation, if it has a row or not
-reservation_is : (ledger : Ledger) (a : AccountRows) (s : List ℕ) (g : ℕ) → IsRowsOf ledger a → (group_or_new s g a.groups).reservation ≡ reservation_at a.book.validity a.as_of ledger s g
+reservation_is : (ledger : Ledger) (a : AccountRows) (s : List ℕ) (g : ℕ) → IsRowsOf ledger a →
+    (group_or_new s g a.groups).reservation ≡ reservation_at a.book.validity a.as_of ledger s g
 reservation_is ledger a s g rows =
     ap (λ o. (unwrap_or o (new_group s g)).reservation) (rows.groups s g)
-    ∙ either_reservation (has_group s g ledger) (is_live a.book.validity a.as_of ledger s) (holds_at a.book.validity a.as_of s g ledger) (open_grant s g ledger) (used s g ledger) s g (open_none s g ledger)
+    ∙ either_reservation (has_group s g ledger) (is_live a.book.validity a.as_of ledger s)
+    (holds_at a.book.validity a.as_of s g ledger) (open_grant s g ledger) (used s g ledger) s g
+    (open_none s g ledger)
 
-own_debited : (v t : ℕ) (session : List ℕ) (group units blocks rated : ℕ) (ledger : Ledger) (does : Row → Row) →
+own_debited : (v t : ℕ) (session : List ℕ) (group units blocks rated : ℕ) (ledger : Ledger)
+    (does : Row → Row) →
     IsMoved does v t ledger (charged_use v t session group units blocks rated ledger) →
-    group_at v t (charged_use v t session group units blocks rated ledger) session group ≡ Some (record { session = session; group = group; used = used session group ledger + units; reservation = reservation_at v t ledger session group })
+    group_at v t (charged_use v t session group units blocks rated ledger) session group
+    ≡ Some (record {
+      session = session;
+      group = group;
+      used = used session group ledger + units;
+      reservation = reservation_at v t ledger session group;
+    })
 own_debited v t session group units blocks rated ledger does moved =
     let after : Ledger = charged_use v t session group units blocks rated ledger in
     let hs : List Hold = shares v t group rated ledger in
     let own : is_key session group session group ≡ true = own_key session group in
-    let named : has_group session group after ≡ true = λ i. own i || any (names_group session group) (charge_facts t hs ++ ledger) in
-    let all : (if is_same session session && group == group then units else 0) ≡ units = rw own refl in
-    let so_far : used session group after ≡ used session group ledger + units = omega (arith, total-front (λ d. units_in session group d.fact) (charge_facts t hs) ledger (each_charge _ t hs (λ b n. refl))) in
+    let named : has_group session group after ≡ true =
+    λ i. own i || any (names_group session group) (charge_facts t hs ++ ledger) in
+    let all : (if is_same session session && group == group then units else 0) ≡ units =
+    rw own refl in
+    let so_far : used session group after ≡ used session group ledger + units =
+    omega (
+      arith,
+      total-front (λ d. units_in session group d.fact) (charge_facts t hs) ledger
+          (each_charge _ t hs (λ b n. refl)),
+    ) in
     let kept : reservation_at v t after session group ≡ reservation_at v t ledger session group =
-    same_reservation does v t ledger after session group moved (same_sessions-debited v t session group units blocks rated ledger)
-    (same_grant v t session group units blocks rated ledger session group) (same_held v t session group units blocks rated ledger (only session group)) in
-    let row : (let r : SessionGroup = record { session = session; group = group; used = used session group after; reservation = reservation_at v t after session group } in r) ≡ (let r : SessionGroup = record { session = session; group = group; used = used session group ledger + units; reservation = reservation_at v t ledger session group } in r) =
+    same_reservation does v t ledger after session group moved
+    (same_sessions-debited v t session group units blocks rated ledger)
+    (same_grant v t session group units blocks rated ledger session group)
+    (same_held v t session group units blocks rated ledger (only session group)) in
+    let row :
+    (let r : SessionGroup =
+    record {
+      session = session;
+      group = group;
+      used = used session group after;
+      reservation = reservation_at v t after session group;
+    } in r)
+    ≡ (let r : SessionGroup =
+    record {
+      session = session;
+      group = group;
+      used = used session group ledger + units;
+      reservation = reservation_at v t ledger session group;
+    } in r) =
     λ i. record { session = session; group = group; used = so_far i; reservation = kept i } in
     λ i. (if named i then Some (row i) else None)
 
-groups-debited : (v t : ℕ) (session : List ℕ) (group units blocks rated : ℕ) (ledger : Ledger) (does : Row → Row) (rows : List SessionGroup) →
+groups-debited : (v t : ℕ) (session : List ℕ) (group units blocks rated : ℕ) (ledger : Ledger)
+    (does : Row → Row) (rows : List SessionGroup) →
     IsMoved does v t ledger (charged_use v t session group units blocks rated ledger) →
     used_in session group rows ≡ used session group ledger →
     (group_or_new session group rows).reservation ≡ reservation_at v t ledger session group →
     ((s : List ℕ) (g : ℕ) → group_in s g rows ≡ group_at v t ledger s g) →
-    (s : List ℕ) (g : ℕ) → group_in s g (with_event session group units rows) ≡ group_at v t (charged_use v t session group units blocks rated ledger) s g
-groups-debited v t session group units blocks rated ledger does rows moved so_far kept h s g = by_test (is_key session group s g) refl
+    (s : List ℕ) (g : ℕ) →
+    group_in s g (with_event session group units rows)
+    ≡ group_at v t (charged_use v t session group units blocks rated ledger) s g
+groups-debited v t session group units blocks rated ledger does rows moved so_far kept h s g =
+    by_test (is_key session group s g) refl
   where
     after : Ledger
     after = charged_use v t session group units blocks rated ledger
 
     row : SessionGroup
-    row = record { session = session; group = group; used = used_in session group rows + units; reservation = (group_or_new session group rows).reservation }
+    row = record {
+      session = session;
+      group = group;
+      used = used_in session group rows + units;
+      reservation = (group_or_new session group rows).reservation;
+    }
 
-    by_test : (e : Bool) → is_key session group s g ≡ e → group_in s g (put (is_of session group) row rows) ≡ group_at v t after s g
+    by_test : (e : Bool) → is_key session group s g ≡ e →
+        group_in s g (put (is_of session group) row rows) ≡ group_at v t after s g
     by_test true q =
         let es : session ≡ s = key_session session group s g q in
         let eg : group ≡ g = key_group session group s g q in
-        let row_is : row ≡ (let r : SessionGroup = record { session = session; group = group; used = used session group ledger + units; reservation = reservation_at v t ledger session group } in r) = λ i. record { session = session; group = group; used = so_far i + units; reservation = kept i } in
+        let row_is : row
+        ≡ (let r : SessionGroup =
+        record {
+          session = session;
+          group = group;
+          used = used session group ledger + units;
+          reservation = reservation_at v t ledger session group;
+        } in r) =
+        λ i. record {
+          session = session;
+          group = group;
+          used = so_far i + units;
+          reservation = kept i;
+        } in
         (λ i. group_in (sym es i) (sym eg i) (put (is_of session group) row rows))
         ∙ find-put (is_of session group) row rows (own_key session group)
         ∙ (λ i. Some (row_is i))
@@ -170,32 +270,51 @@ groups-debited v t session group units blocks rated ledger does rows moved so_fa
     by_test false q =
         find-put_other (is_of session group) (is_of s g) row rows q (other_row session group s g q)
         ∙ h s g
-        ∙ sym (same_group does v t ledger after s g moved (same_sessions-debited v t session group units blocks rated ledger) (other_debited v t session group units blocks rated ledger s g q))
+        ∙ sym (same_group does v t ledger after s g moved
+        (same_sessions-debited v t session group units blocks rated ledger)
+        (other_debited v t session group units blocks rated ledger s g q))
 
 -- ---- its counters
 
-counter-debited : (v t : ℕ) (session : List ℕ) (group units blocks rated : ℕ) (ledger : Ledger) (f : ℕ → ℕ) (g c : ℕ) → counter f g c (charged_use v t session group units blocks rated ledger) ≡ counter f g c ledger + (if f t == c then (if group == g then blocks else 0) else 0)
+counter-debited : (v t : ℕ) (session : List ℕ) (group units blocks rated : ℕ) (ledger : Ledger)
+    (f : ℕ → ℕ) (g c : ℕ) →
+    counter f g c (charged_use v t session group units blocks rated ledger)
+    ≡ counter f g c ledger + (if f t == c then (if group == g then blocks else 0) else 0)
 counter-debited v t session group units blocks rated ledger f g c =
     let hs : List Hold = shares v t group rated ledger in
-    omega (arith, total-front (λ d. if f d.at == c then blocks_in g d.fact else 0) (charge_facts t hs) ledger (each_charge _ t hs (λ b n. if_none (f t == c))))
+    omega (
+      arith,
+      total-front (λ d. if f d.at == c then blocks_in g d.fact else 0) (charge_facts t hs) ledger
+          (each_charge _ t hs (λ b n. if_none (f t == c))),
+    )
 
-has_counter-debited : (v t : ℕ) (session : List ℕ) (group units blocks rated : ℕ) (ledger : Ledger) (f : ℕ → ℕ) (g c : ℕ) → has_counter f g c (charged_use v t session group units blocks rated ledger) ≡ ((group == g && f t == c) || has_counter f g c ledger)
+has_counter-debited : (v t : ℕ) (session : List ℕ) (group units blocks rated : ℕ) (ledger : Ledger)
+    (f : ℕ → ℕ) (g c : ℕ) →
+    has_counter f g c (charged_use v t session group units blocks rated ledger)
+    ≡ ((group == g && f t == c) || has_counter f g c ledger)
 has_counter-debited v t session group units blocks rated ledger f g c =
     let hs : List Hold = shares v t group rated ledger in
-    ap (λ x. (group == g && f t == c) || x) (any_dated-front (counts_group f g c) (charge_facts t hs) ledger (each_charge _ t hs (λ b n. refl)))
+    ap (λ x. (group == g && f t == c) || x)
+    (any_dated-front (counts_group f g c) (charge_facts t hs) ledger
+    (each_charge _ t hs (λ b n. refl)))
 
 -- ---- the rows of the ledger with the debit
 
-unknown-debited : (v t : ℕ) (session : List ℕ) (group units blocks rated : ℕ) (ledger : Ledger) (s : List ℕ) → IsUnknown s ledger → IsUnknown s (charged_use v t session group units blocks rated ledger)
+unknown-debited : (v t : ℕ) (session : List ℕ) (group units blocks rated : ℕ) (ledger : Ledger)
+    (s : List ℕ) → IsUnknown s ledger →
+    IsUnknown s (charged_use v t session group units blocks rated ledger)
 unknown-debited v t session group units blocks rated ledger s h = record {
   closed = (same_sessions-debited v t session group units blocks rated ledger).closed s ∙ h.closed;
-  held = λ n. same_held v t session group units blocks rated ledger (λ x g. is_same x s) n ∙ h.held n;
+  held = λ n. same_held v t session group units blocks rated ledger (λ x g. is_same x s) n
+      ∙ h.held n;
   granted = λ g. same_grant v t session group units blocks rated ledger s g ∙ h.granted g;
 }
 
-pub IsRowsOf-debited : (ledger : Ledger) (a : AccountRows) (session : List ℕ) (group units blocks rated : ℕ) →
+pub IsRowsOf-debited : (ledger : Ledger) (a : AccountRows) (session : List ℕ)
+    (group units blocks rated : ℕ) →
     IsAccount a → IsRowsOf ledger a →
-    IsRowsOf (charged_use a.book.validity a.as_of session group units blocks rated ledger) (debited_account session group units blocks rated a)
+    IsRowsOf (charged_use a.book.validity a.as_of session group units blocks rated ledger)
+    (debited_account session group units blocks rated a)
 IsRowsOf-debited ledger a session group units blocks rated account rows =
     let v : ℕ = a.book.validity in
     let t : ℕ = a.as_of in
@@ -203,21 +322,54 @@ IsRowsOf-debited ledger a session group units blocks rated account rows =
     let now : List Row = buckets_at v t ledger in
     let hs : List Hold = shares v t group rated ledger in
     let sound : IsSound now = subst IsSound rows.buckets account.sound in
-    let below : IsBelow a.next_bucket now = subst (IsBelow a.next_bucket) rows.buckets account.below in
-    let same : SameSessions ledger after = same_sessions-debited v t session group units blocks rated ledger in
-    let moved : buckets_at v t after ≡ settled_rows [] group t rated now = buckets_at-debited v t session group units blocks rated ledger sound.balanced sound.distinct in
-    let is_moved : IsMoved (settled_row [] group t rated now) v t ledger after = record { rows = moved; number = settled_number [] group t rated now } in
+    let below : IsBelow a.next_bucket now =
+    subst (IsBelow a.next_bucket) rows.buckets account.below in
+    let same : SameSessions ledger after =
+    same_sessions-debited v t session group units blocks rated ledger in
+    let moved : buckets_at v t after ≡ settled_rows [] group t rated now =
+    buckets_at-debited v t session group units blocks rated ledger sound.balanced sound.distinct
+    in
+    let is_moved : IsMoved (settled_row [] group t rated now) v t ledger after =
+    record { rows = moved; number = settled_number [] group t rated now } in
     record {
-      barred = rows.barred ∙ sym (is_barred-front (charge_facts t hs) ledger (each_charge _ t hs (λ b n. refl)));
+      barred = rows.barred
+          ∙ sym (is_barred-front (charge_facts t hs) ledger (each_charge _ t hs (λ b n. refl)));
       buckets = ap (settled_rows [] group t rated) rows.buckets ∙ sym moved;
       sessions = λ s. rows.sessions s ∙ sym (same_session v t ledger after same s);
-      groups = groups-debited v t session group units blocks rated ledger (settled_row [] group t rated now) a.groups is_moved (used_in_is ledger a session group rows) (reservation_is ledger a session group rows) rows.groups;
-      counters = counters_used (cycle_at a.book) t group blocks ledger after a.counters (counter-debited v t session group units blocks rated ledger) (has_counter-debited v t session group units blocks rated ledger)
+      groups = groups-debited v t session group units blocks rated ledger
+          (settled_row [] group t rated now) a.groups is_moved
+          (used_in_is ledger a session group rows) (reservation_is ledger a session group rows)
+          rows.groups;
+      counters =
+          counters_used (cycle_at a.book) t group blocks ledger after a.counters
+          (counter-debited v t session group units blocks rated ledger)
+          (has_counter-debited v t session group units blocks rated ledger)
           (count_in_is ledger a group (cycle_at a.book group t) rows) rows.counters;
-      next_bucket = rows.next_bucket ∙ omega (arith, total-front (λ d. credits_in d.fact) (charge_facts t hs) ledger (each_charge _ t hs (λ b n. refl)));
-      next_charge = ap (λ n. n + 1) rows.next_charge ∙ omega (arith, total-front (λ d. uses_in d.fact) (charge_facts t hs) ledger (each_charge _ t hs (λ b n. refl)));
+      next_bucket =
+          rows.next_bucket
+          ∙ omega (
+            arith,
+            total-front (λ d. credits_in d.fact) (charge_facts t hs) ledger
+                (each_charge _ t hs (λ b n. refl)),
+          );
+      next_charge =
+          ap (λ n. n + 1) rows.next_charge
+          ∙ omega (
+            arith,
+            total-front (λ d. uses_in d.fact) (charge_facts t hs) ledger
+                (each_charge _ t hs (λ b n. refl)),
+          );
       touched = same_touched ledger after same rows.touched;
-      unknown = λ s e. unknown-debited v t session group units blocks rated ledger s (rows.unknown s (sym (same.recording s) ∙ e));
-      fresh = λ n le. omega (arith, charged-charge_facts n t hs ledger, sum_at_none (paid [] group t rated now) n now (differs_above a.next_bucket n now below le), rows.fresh n le);
-      free = λ n counts le. same_held v t session group units blocks rated ledger counts n ∙ rows.free n counts le;
+      unknown =
+          λ s e. unknown-debited v t session group units blocks rated ledger s
+          (rows.unknown s (sym (same.recording s) ∙ e));
+      fresh = λ n le. omega (
+        arith,
+        charged-charge_facts n t hs ledger,
+        sum_at_none (paid [] group t rated now) n now
+            (differs_above a.next_bucket n now below le),
+        rows.fresh n le,
+      );
+      free = λ n counts le. same_held v t session group units blocks rated ledger counts n
+          ∙ rows.free n counts le;
     }

@@ -4,7 +4,19 @@ use Rattle.tariffs.specs.Books.{Book}
 use Rattle.reserving.specs.Rows.{IsRowsOf}
 use Rattle.reserving.proofs.Lists.{no_some}
 
-pub IsRowsOf-new : (book : Book) → IsRowsOf [] (record { book = book; as_of = 0; barred = false; buckets = []; counters = []; sessions = []; groups = []; next_bucket = 1; next_charge = 1 })
+pub IsRowsOf-new : (book : Book) →
+    IsRowsOf []
+    (record {
+      book = book;
+      as_of = 0;
+      barred = false;
+      buckets = [];
+      counters = [];
+      sessions = [];
+      groups = [];
+      next_bucket = 1;
+      next_charge = 1;
+    })
 IsRowsOf-new book = record {
   barred = refl;
   buckets = refl;

@@ -11,24 +11,40 @@ use Rattle.reserving.specs.Changes.{lapsed_in, amount_later, funds_later}
 use Rattle.reserving.proofs.Advancing.{held_by-split}
 
 -- an eligible bucket hasn't ended, so that what is given up is available
-amount_is : (group t n : ℕ) (b : Row) → eligible_amount group t (with_end t (with_release t b n)) ≡ (if is_eligible group t b then b.available + n else 0)
+amount_is : (group t n : ℕ) (b : Row) →
+    eligible_amount group t (with_end t (with_release t b n))
+    ≡ (if is_eligible group t b then b.available + n else 0)
 amount_is group t n b = at (nat_lt t b.until) refl
   where
-    no_end : (f c : Bool) (x y : ℕ) → (if f && false && c then x else 0) ≡ (if f && false && c then y else 0)
+    no_end : (f c : Bool) (x y : ℕ) →
+        (if f && false && c then x else 0) ≡ (if f && false && c then y else 0)
     no_end true c x y = refl
     no_end false c x y = refl
 
-    at : (e : Bool) → nat_lt t b.until ≡ e → eligible_amount group t (with_end t (if e then record b { reserved = b.reserved - n; available = b.available + n } else record b { reserved = b.reserved - n; expired = b.expired + n })) ≡ (if nat_le b.from t && e && covers b.scope group then b.available + n else 0)
+    at : (e : Bool) → nat_lt t b.until ≡ e →
+        eligible_amount group t
+        (with_end t (if e then record b { reserved = b.reserved - n; available = b.available + n }
+        else record b { reserved = b.reserved - n; expired = b.expired + n }))
+        ≡ (if nat_le b.from t && e && covers b.scope group then b.available + n else 0)
     at true e = rw (e, e) refl
     at false e = rw (e, e) (no_end (nat_le b.from t) (covers b.scope group) 0 (b.available + n))
 
-pub funds_later-is : (group v t : ℕ) (sessions : List Session) (groups : List SessionGroup) (rows : List Row) → funds_later group v t sessions groups rows ≡ funds group t (map (λ b. with_end t (with_release t b (lapsed_in (is_live_in v t sessions) groups b))) rows)
+pub funds_later-is : (group v t : ℕ) (sessions : List Session) (groups : List SessionGroup)
+    (rows : List Row) →
+    funds_later group v t sessions groups rows
+    ≡ funds group t
+    (map (λ b. with_end t (with_release t b (lapsed_in (is_live_in v t sessions) groups b))) rows)
 funds_later-is group v t sessions groups [] = refl
 funds_later-is group v t sessions groups (b ∷ bs) =
     sum_by-cons (amount_later group v t sessions groups) b bs
-    ∙ (λ i. sym (amount_is group t (lapsed_in (is_live_in v t sessions) groups b) b) i + funds_later-is group v t sessions groups bs i)
-    ∙ sym (sum_by-cons (eligible_amount group t) (with_end t (with_release t b (lapsed_in (is_live_in v t sessions) groups b))) (map (λ x. with_end t (with_release t x (lapsed_in (is_live_in v t sessions) groups x))) bs))
+    ∙ (λ i. sym (amount_is group t (lapsed_in (is_live_in v t sessions) groups b) b) i
+    + funds_later-is group v t sessions groups bs i)
+    ∙ sym (sum_by-cons (eligible_amount group t)
+    (with_end t (with_release t b (lapsed_in (is_live_in v t sessions) groups b)))
+    (map (λ x. with_end t (with_release t x (lapsed_in (is_live_in v t sessions) groups x)))
+    bs))
 
 -- nothing is given up of a bucket of which nothing is held
-pub lapsed_none : (keeps : List ℕ → Bool) (groups : List SessionGroup) (b : Row) → held_by (λ s. true) groups b ≡ 0 → lapsed_in keeps groups b ≡ 0
+pub lapsed_none : (keeps : List ℕ → Bool) (groups : List SessionGroup) (b : Row) →
+    held_by (λ s. true) groups b ≡ 0 → lapsed_in keeps groups b ≡ 0
 lapsed_none keeps groups b e = omega (arith, e, held_by-split keeps b groups)

@@ -36,9 +36,12 @@ use Rattle.reserving.proofs.kept.Settled.{held_by-put, held_by_number, AreApart-
 
 -- ---- the buckets
 
-balance_by-held : (b : Bool) (c : Row) (ch h s : ℕ) → s ≤ (if b then c.credited - ch - h else 0) → balance_by b c ch (s + h) ≡ with_hold (balance_by b c ch h) s
-balance_by-held true c ch h s q = with_columns c _ _ _ _ _ _ _ _ (omega arith) (omega arith) refl refl
-balance_by-held false c ch h s q = with_columns c _ _ _ _ _ _ _ _ (omega arith) (omega arith) refl (omega arith)
+balance_by-held : (b : Bool) (c : Row) (ch h s : ℕ) → s ≤ (if b then c.credited - ch - h else 0) →
+    balance_by b c ch (s + h) ≡ with_hold (balance_by b c ch h) s
+balance_by-held true c ch h s q =
+    with_columns c _ _ _ _ _ _ _ _ (omega arith) (omega arith) refl refl
+balance_by-held false c ch h s q =
+    with_columns c _ _ _ _ _ _ _ _ (omega arith) (omega arith) refl (omega arith)
 
 eligible_le : (e : Bool) (a m : ℕ) → min (if e then a else 0) m ≤ a
 eligible_le true a m = omega arith
@@ -48,23 +51,37 @@ abbrev holds_for : Book → ℕ → ℕ → ℕ → Ledger → List Hold
 holds_for book t group amount ledger = holds_of group t amount (buckets_at book.validity t ledger)
 
 abbrev granted : Book → ℕ → List ℕ → ℕ → ℕ → Ledger → Ledger
-granted book t session group units ledger = record { at = t; fact = Grant session group (periods_at book t) units (counter (cycle_at book group) group (cycle_at book group t) ledger) } ∷ ledger
+granted book t session group units ledger =
+    record {
+      at = t;
+      fact = Grant session group (periods_at book t) units
+          (counter (cycle_at book group) group (cycle_at book group t) ledger);
+    } ∷ ledger
 
-same_sessions-reserved : (book : Book) (t : ℕ) (session : List ℕ) (group units amount : ℕ) (ledger : Ledger) → SameSessions ledger (reserved book t session group units amount ledger)
+same_sessions-reserved : (book : Book) (t : ℕ) (session : List ℕ) (group units amount : ℕ)
+    (ledger : Ledger) → SameSessions ledger (reserved book t session group units amount ledger)
 same_sessions-reserved book t session group units amount ledger =
     let hs : List Hold = holds_for book t group amount ledger in
     let before : Ledger = granted book t session group units ledger in
     record {
-      touch = λ s. newest-front _ (hold_facts t session group hs) before (each_hold _ t session group hs (λ b n. refl));
-      closed = λ s. any-front _ (hold_facts t session group hs) before (each_hold _ t session group hs (λ b n. refl));
-      recording = λ s. newest-front _ (hold_facts t session group hs) before (each_hold _ t session group hs (λ b n. refl));
+      touch = λ s. newest-front _ (hold_facts t session group hs) before
+          (each_hold _ t session group hs (λ b n. refl));
+      closed = λ s. any-front _ (hold_facts t session group hs) before
+          (each_hold _ t session group hs (λ b n. refl));
+      recording =
+          λ s. newest-front _ (hold_facts t session group hs) before
+          (each_hold _ t session group hs (λ b n. refl));
     }
 
-bucket_at-reserved : (book : Book) (t : ℕ) (session : List ℕ) (group units amount : ℕ) (ledger : Ledger) (c : Row) →
+bucket_at-reserved : (book : Book) (t : ℕ) (session : List ℕ) (group units amount : ℕ)
+    (ledger : Ledger) (c : Row) →
     (let rows : List Row = buckets_at book.validity t ledger in
     is_live book.validity t ledger session ≡ true →
-    sum_at c.number (holds_of group t amount rows) ≡ share (eligible_amount group t) rows amount (bucket_at book.validity t ledger c) →
-    bucket_at book.validity t (reserved book t session group units amount ledger) c ≡ with_hold (bucket_at book.validity t ledger c) (share (eligible_amount group t) rows amount (bucket_at book.validity t ledger c)))
+    sum_at c.number (holds_of group t amount rows)
+    ≡ share (eligible_amount group t) rows amount (bucket_at book.validity t ledger c) →
+    bucket_at book.validity t (reserved book t session group units amount ledger) c
+    ≡ with_hold (bucket_at book.validity t ledger c)
+    (share (eligible_amount group t) rows amount (bucket_at book.validity t ledger c)))
 bucket_at-reserved book t session group units amount ledger c live sum =
     let v : ℕ = book.validity in
     let rows : List Row = buckets_at v t ledger in
@@ -74,62 +91,106 @@ bucket_at-reserved book t session group units amount ledger c live sum =
     let after : Ledger = reserved book t session group units amount ledger in
     let all : List ℕ → ℕ → Bool = λ s g. is_live v t ledger s in
     let all' : List ℕ → ℕ → Bool = λ s g. is_live v t after s in
-    let same : all' ≡ all = λ i s g. same_live v t ledger after (same_sessions-reserved book t session group units amount ledger) s i in
+    let same : all' ≡ all =
+    λ i s g. same_live v t ledger after
+    (same_sessions-reserved book t session group units amount ledger) s i in
     let s : ℕ = share (eligible_amount group t) rows amount (bucket_at v t ledger c) in
-    let held' : held all' n (hold_facts t session group hs ++ before) ≡ s + held all n ledger = ap (λ p. held p n (hold_facts t session group hs ++ before)) same ∙ omega (arith, held-hold_facts all n t session group hs before live, sum) in
-    let charged' : charged n (hold_facts t session group hs ++ before) ≡ charged n ledger = omega (arith, charged-hold_facts n t session group hs before) in
-    let within : s ≤ (if nat_lt t c.until then c.credited - charged n ledger - held all n ledger else 0) = eligible_le (is_eligible group t (bucket_at v t ledger c)) _ _ in
+    let held' : held all' n (hold_facts t session group hs ++ before) ≡ s + held all n ledger =
+    ap (λ p. held p n (hold_facts t session group hs ++ before)) same
+    ∙ omega (arith, held-hold_facts all n t session group hs before live, sum) in
+    let charged' : charged n (hold_facts t session group hs ++ before) ≡ charged n ledger =
+    omega (arith, charged-hold_facts n t session group hs before) in
+    let within : s
+    ≤ (if nat_lt t c.until then c.credited - charged n ledger - held all n ledger else 0) =
+    eligible_le (is_eligible group t (bucket_at v t ledger c)) _ _ in
     ap (λ x. balance_of t c (charged n (hold_facts t session group hs ++ before)) x) held'
     ∙ ap (λ x. balance_of t c x (s + held all n ledger)) charged'
     ∙ balance_by-held (nat_lt t c.until) c (charged n ledger) (held all n ledger) s within
 
-each_reserved : (book : Book) (t : ℕ) (session : List ℕ) (group units amount : ℕ) (ledger : Ledger) (cs : List Row) →
+each_reserved : (book : Book) (t : ℕ) (session : List ℕ) (group units amount : ℕ) (ledger : Ledger)
+    (cs : List Row) →
     (let rows : List Row = buckets_at book.validity t ledger in
     is_live book.validity t ledger session ≡ true →
-    Each (λ b. sum_at b.number (holds_of group t amount rows) ≡ share (eligible_amount group t) rows amount b) (map (bucket_at book.validity t ledger) cs) →
-    map (bucket_at book.validity t (reserved book t session group units amount ledger)) cs ≡ map (λ b. with_hold b (share (eligible_amount group t) rows amount b)) (map (bucket_at book.validity t ledger) cs))
+    Each (λ b. sum_at b.number (holds_of group t amount rows)
+    ≡ share (eligible_amount group t) rows amount b) (map (bucket_at book.validity t ledger) cs)
+    →
+    map (bucket_at book.validity t (reserved book t session group units amount ledger)) cs
+    ≡ map (λ b. with_hold b (share (eligible_amount group t) rows amount b))
+    (map (bucket_at book.validity t ledger) cs))
 each_reserved book t session group units amount ledger [] live sums = refl
 each_reserved book t session group units amount ledger (c ∷ cs) live sums =
-    λ i. bucket_at-reserved book t session group units amount ledger c live sums.0 i ∷ each_reserved book t session group units amount ledger cs live sums.1 i
+    λ i. bucket_at-reserved book t session group units amount ledger c live sums.0 i
+    ∷ each_reserved book t session group units amount ledger cs live sums.1 i
 
 -- the buckets of a ledger with a grant
-buckets_at-reserved : (book : Book) (t : ℕ) (session : List ℕ) (group units amount : ℕ) (ledger : Ledger) →
-    is_live book.validity t ledger session ≡ true → AreDistinct (buckets_at book.validity t ledger) →
-    buckets_at book.validity t (reserved book t session group units amount ledger) ≡ held_rows group t amount (buckets_at book.validity t ledger)
+buckets_at-reserved : (book : Book) (t : ℕ) (session : List ℕ) (group units amount : ℕ)
+    (ledger : Ledger) →
+    is_live book.validity t ledger session ≡ true →
+    AreDistinct (buckets_at book.validity t ledger) →
+    buckets_at book.validity t (reserved book t session group units amount ledger)
+    ≡ held_rows group t amount (buckets_at book.validity t ledger)
 buckets_at-reserved book t session group units amount ledger live distinct =
     let rows : List Row = buckets_at book.validity t ledger in
     let hs : List Hold = holds_of group t amount rows in
-    ap (map (bucket_at book.validity t (reserved book t session group units amount ledger))) (credits-hold_facts t session group hs (granted book t session group units ledger))
-    ∙ each_reserved book t session group units amount ledger (credits ledger) live (sum_at-parts (share (eligible_amount group t) rows amount) rows distinct)
+    ap (map (bucket_at book.validity t (reserved book t session group units amount ledger)))
+    (credits-hold_facts t session group hs (granted book t session group units ledger))
+    ∙ each_reserved book t session group units amount ledger (credits ledger) live
+    (sum_at-parts (share (eligible_amount group t) rows amount) rows distinct)
 
 -- ---- the groups
 
-other_reserved : (book : Book) (t : ℕ) (session : List ℕ) (group units amount : ℕ) (ledger : Ledger) (s : List ℕ) (g : ℕ) → is_key session group s g ≡ false → SameGroup s g ledger (reserved book t session group units amount ledger)
+other_reserved : (book : Book) (t : ℕ) (session : List ℕ) (group units amount : ℕ) (ledger : Ledger)
+    (s : List ℕ) (g : ℕ) → is_key session group s g ≡ false →
+    SameGroup s g ledger (reserved book t session group units amount ledger)
 other_reserved book t session group units amount ledger s g h =
     let hs : List Hold = holds_for book t group amount ledger in
     let before : Ledger = granted book t session group units ledger in
     let p : Periods = periods_at book t in
     record {
-      named = any-front (names_group s g) (hold_facts t session group hs) before (each_hold _ t session group hs (λ b n. refl)) ∙ (λ i. h i || has_group s g ledger);
-      used = omega (arith, total-front (λ d. units_in s g d.fact) (hold_facts t session group hs) before (each_hold _ t session group hs (λ b n. refl)));
-      grant = ap inner (newest-front (grant_in s g) (hold_facts t session group hs) before (each_hold _ t session group hs (λ b n. refl))) ∙ (λ i. inner (or_else (if h i then Some (Some p) else None) (newest (grant_in s g) ledger)));
+      named = any-front (names_group s g) (hold_facts t session group hs) before
+          (each_hold _ t session group hs (λ b n. refl)) ∙ (λ i. h i || has_group s g ledger);
+      used = omega (
+        arith,
+        total-front (λ d. units_in s g d.fact) (hold_facts t session group hs) before
+            (each_hold _ t session group hs (λ b n. refl)),
+      );
+      grant = ap inner
+          (newest-front (grant_in s g) (hold_facts t session group hs) before
+          (each_hold _ t session group hs (λ b n. refl)))
+          ∙ (λ i. inner
+          (or_else (if h i then Some (Some p) else None) (newest (grant_in s g) ledger)));
       held = λ n. omega (arith, held-hold_facts_other (only s g) n t session group hs before h);
     }
 
 -- parts by number of changed buckets are other parts of the buckets before
-parts_each : (F : ℕ → ℕ) (G : Row → ℕ) (does : Row → Row) (rows : List Row) → ((b : Row) → (does b).number ≡ b.number) → Each (λ b. F b.number ≡ G b) rows → parts (λ b. F b.number) (map does rows) ≡ parts G rows
+parts_each : (F : ℕ → ℕ) (G : Row → ℕ) (does : Row → Row) (rows : List Row) →
+    ((b : Row) → (does b).number ≡ b.number) → Each (λ b. F b.number ≡ G b) rows →
+    parts (λ b. F b.number) (map does rows) ≡ parts G rows
 parts_each F G does [] k e = refl
 parts_each F G does (b ∷ bs) k e =
     let amount : F (does b).number ≡ G b = ap F (k b) ∙ e.0 in
-    let one : (let h : Hold = record { bucket = (does b).number; amount = F (does b).number } in h) ≡ (let h : Hold = record { bucket = b.number; amount = G b } in h) = λ i. record { bucket = k b i; amount = amount i } in
-    λ i. (if nat_lt 0 (amount i) then one i ∷ parts_each F G does bs k e.1 i else parts_each F G does bs k e.1 i)
+    let one : (let h : Hold = record { bucket = (does b).number; amount = F (does b).number } in h)
+    ≡ (let h : Hold = record { bucket = b.number; amount = G b } in h) =
+    λ i. record { bucket = k b i; amount = amount i } in
+    λ i. (if nat_lt 0 (amount i) then one i ∷ parts_each F G does bs k e.1 i
+    else parts_each F G does bs k e.1 i)
 
-each_own : (book : Book) (t : ℕ) (session : List ℕ) (group units amount : ℕ) (ledger : Ledger) (G : Row → ℕ) (xs : List Row) →
-    Each (λ b. held (only session group) b.number ledger ≡ 0) xs → Each (λ b. sum_at b.number (holds_for book t group amount ledger) ≡ G b) xs →
-    Each (λ b. held (only session group) b.number (reserved book t session group units amount ledger) ≡ G b) xs
+each_own : (book : Book) (t : ℕ) (session : List ℕ) (group units amount : ℕ) (ledger : Ledger)
+    (G : Row → ℕ) (xs : List Row) →
+    Each (λ b. held (only session group) b.number ledger ≡ 0) xs →
+    Each (λ b. sum_at b.number (holds_for book t group amount ledger) ≡ G b) xs →
+    Each (λ b. held (only session group) b.number
+    (reserved book t session group units amount ledger) ≡ G b) xs
 each_own book t session group units amount ledger G [] none h = tt
 each_own book t session group units amount ledger G (b ∷ bs) none h = (
-  omega (arith, held-hold_facts (only session group) b.number t session group (holds_for book t group amount ledger) (granted book t session group units ledger) (own_key session group), none.0, h.0),
+  omega (
+    arith,
+    held-hold_facts (only session group) b.number t session group
+        (holds_for book t group amount ledger) (granted book t session group units ledger)
+        (own_key session group),
+    none.0,
+    h.0,
+  ),
   each_own book t session group units amount ledger G bs none.1 h.1,
 )
 
@@ -137,9 +198,16 @@ abbrev reservation_for : Book → ℕ → List Hold → Reservation
 reservation_for book t holds = record { periods = periods_at book t; holds = holds }
 
 own_reserved : (book : Book) (t : ℕ) (session : List ℕ) (group units amount : ℕ) (ledger : Ledger) →
-    is_live book.validity t ledger session ≡ true → AreDistinct (buckets_at book.validity t ledger) →
+    is_live book.validity t ledger session ≡ true →
+    AreDistinct (buckets_at book.validity t ledger) →
     Each (λ b. held (only session group) b.number ledger ≡ 0) (buckets_at book.validity t ledger) →
-    group_at book.validity t (reserved book t session group units amount ledger) session group ≡ Some (record { session = session; group = group; used = used session group ledger; reservation = Some (reservation_for book t (holds_for book t group amount ledger)) })
+    group_at book.validity t (reserved book t session group units amount ledger) session group
+    ≡ Some (record {
+      session = session;
+      group = group;
+      used = used session group ledger;
+      reservation = Some (reservation_for book t (holds_for book t group amount ledger));
+    })
 own_reserved book t session group units amount ledger live distinct free =
     let v : ℕ = book.validity in
     let after : Ledger = reserved book t session group units amount ledger in
@@ -149,41 +217,107 @@ own_reserved book t session group units amount ledger live distinct free =
     let own : is_key session group session group ≡ true = own_key session group in
     let p : Periods = periods_at book t in
     let G : Row → ℕ = share (eligible_amount group t) rows amount in
-    let named : has_group session group after ≡ true = any-front (names_group session group) (hold_facts t session group hs) before (each_hold _ t session group hs (λ b n. refl)) ∙ (λ i. own i || has_group session group ledger) in
-    let so_far : used session group after ≡ used session group ledger = omega (arith, total-front (λ d. units_in session group d.fact) (hold_facts t session group hs) before (each_hold _ t session group hs (λ b n. refl))) in
-    let grant : open_grant session group after ≡ Some p = ap inner (newest-front (grant_in session group) (hold_facts t session group hs) before (each_hold _ t session group hs (λ b n. refl))) ∙ (λ i. inner (or_else (if own i then Some (Some p) else None) (newest (grant_in session group) ledger))) in
-    let is_live' : is_live v t after session ≡ true = same_live v t ledger after (same_sessions-reserved book t session group units amount ledger) session ∙ live in
+    let named : has_group session group after ≡ true =
+    any-front (names_group session group) (hold_facts t session group hs) before
+    (each_hold _ t session group hs (λ b n. refl))
+    ∙ (λ i. own i || has_group session group ledger) in
+    let so_far : used session group after ≡ used session group ledger =
+    omega (
+      arith,
+      total-front (λ d. units_in session group d.fact) (hold_facts t session group hs) before
+          (each_hold _ t session group hs (λ b n. refl)),
+    ) in
+    let grant : open_grant session group after ≡ Some p =
+    ap inner (newest-front (grant_in session group) (hold_facts t session group hs) before
+    (each_hold _ t session group hs (λ b n. refl)))
+    ∙ (λ i. inner
+    (or_else (if own i then Some (Some p) else None) (newest (grant_in session group) ledger)))
+    in
+    let is_live' : is_live v t after session ≡ true =
+    same_live v t ledger after (same_sessions-reserved book t session group units amount ledger)
+    session ∙ live in
     let holds : holds_at v t session group after ≡ hs =
-    ap (parts (λ b. held (only session group) b.number after)) (buckets_at-reserved book t session group units amount ledger live distinct)
-    ∙ parts_each (λ n. held (only session group) n after) G (λ b. with_hold b (G b)) rows (λ b. refl) (each_own book t session group units amount ledger G rows free (sum_at-parts G rows distinct)) in
-    let reservation : reservation_at v t after session group ≡ Some (reservation_for book t hs) = λ i. (if is_live' i then reservation_of (holds i) (grant i) else None) in
-    let row : (let r : SessionGroup = record { session = session; group = group; used = used session group after; reservation = reservation_at v t after session group } in r) ≡ (let r : SessionGroup = record { session = session; group = group; used = used session group ledger; reservation = Some (reservation_for book t hs) } in r) =
-    λ i. record { session = session; group = group; used = so_far i; reservation = reservation i } in
+    ap (parts (λ b. held (only session group) b.number after))
+    (buckets_at-reserved book t session group units amount ledger live distinct)
+    ∙ parts_each (λ n. held (only session group) n after) G (λ b. with_hold b (G b)) rows
+    (λ b. refl)
+    (each_own book t session group units amount ledger G rows free
+    (sum_at-parts G rows distinct)) in
+    let reservation : reservation_at v t after session group ≡ Some (reservation_for book t hs) =
+    λ i. (if is_live' i then reservation_of (holds i) (grant i) else None) in
+    let row :
+    (let r : SessionGroup =
+    record {
+      session = session;
+      group = group;
+      used = used session group after;
+      reservation = reservation_at v t after session group;
+    } in r)
+    ≡ (let r : SessionGroup =
+    record {
+      session = session;
+      group = group;
+      used = used session group ledger;
+      reservation = Some (reservation_for book t hs);
+    } in r) =
+    λ i. record { session = session; group = group; used = so_far i; reservation = reservation i }
+    in
     λ i. (if named i then Some (row i) else None)
 
-groups-reserved : (book : Book) (t : ℕ) (session : List ℕ) (group units amount : ℕ) (ledger : Ledger) (rows : List SessionGroup) (holds : List Hold) →
-    is_live book.validity t ledger session ≡ true → AreDistinct (buckets_at book.validity t ledger) →
+groups-reserved : (book : Book) (t : ℕ) (session : List ℕ) (group units amount : ℕ)
+    (ledger : Ledger) (rows : List SessionGroup) (holds : List Hold) →
+    is_live book.validity t ledger session ≡ true →
+    AreDistinct (buckets_at book.validity t ledger) →
     Each (λ b. held (only session group) b.number ledger ≡ 0) (buckets_at book.validity t ledger) →
     holds ≡ holds_for book t group amount ledger →
     used_in session group rows ≡ used session group ledger →
     ((s : List ℕ) (g : ℕ) → group_in s g rows ≡ group_at book.validity t ledger s g) →
-    (s : List ℕ) (g : ℕ) → group_in s g (with_reservation session group (periods_at book t) holds rows) ≡ group_at book.validity t (reserved book t session group units amount ledger) s g
-groups-reserved book t session group units amount ledger rows holds live distinct free eh so_far h s g = by_test (is_key session group s g) refl
+    (s : List ℕ) (g : ℕ) →
+    group_in s g (with_reservation session group (periods_at book t) holds rows)
+    ≡ group_at book.validity t (reserved book t session group units amount ledger) s g
+groups-reserved book t session group units amount ledger rows holds live distinct free eh so_far h s
+    g = by_test (is_key session group s g) refl
   where
     after : Ledger
     after = reserved book t session group units amount ledger
 
     row : SessionGroup
-    row = record { session = session; group = group; used = used_in session group rows; reservation = Some (reservation_for book t holds) }
+    row = record {
+      session = session;
+      group = group;
+      used = used_in session group rows;
+      reservation = Some (reservation_for book t holds);
+    }
 
-    moved : IsMoved (λ b. with_hold b (share (eligible_amount group t) (buckets_at book.validity t ledger) amount b)) book.validity t ledger after
-    moved = record { rows = buckets_at-reserved book t session group units amount ledger live distinct; number = λ b. refl }
+    moved : IsMoved
+        (λ b. with_hold b
+        (share (eligible_amount group t) (buckets_at book.validity t ledger) amount b))
+        book.validity t ledger after
+    moved = record {
+      rows = buckets_at-reserved book t session group units amount ledger live distinct;
+      number = λ b. refl;
+    }
 
-    by_test : (e : Bool) → is_key session group s g ≡ e → group_in s g (put (is_of session group) row rows) ≡ group_at book.validity t after s g
+    by_test : (e : Bool) → is_key session group s g ≡ e →
+        group_in s g (put (is_of session group) row rows) ≡ group_at book.validity t after s g
     by_test true q =
         let es : session ≡ s = key_session session group s g q in
         let eg : group ≡ g = key_group session group s g q in
-        let same : row ≡ (let r : SessionGroup = record { session = session; group = group; used = used session group ledger; reservation = Some (reservation_for book t (holds_for book t group amount ledger)) } in r) = λ i. record { session = session; group = group; used = so_far i; reservation = Some (reservation_for book t (eh i)) } in
+        let same : row
+        ≡ (let r : SessionGroup =
+        record {
+          session = session;
+          group = group;
+          used = used session group ledger;
+          reservation = Some (reservation_for book t (holds_for book t group amount ledger));
+        } in
+        r) = λ i. record {
+          session = session;
+          group = group;
+          used = so_far i;
+          reservation =
+              Some (reservation_for book t (eh i));
+        } in
         (λ i. group_in (sym es i) (sym eg i) (put (is_of session group) row rows))
         ∙ find-put (is_of session group) row rows (own_key session group)
         ∙ (λ i. Some (same i))
@@ -192,54 +326,107 @@ groups-reserved book t session group units amount ledger rows holds live distinc
     by_test false q =
         find-put_other (is_of session group) (is_of s g) row rows q (other_row session group s g q)
         ∙ h s g
-        ∙ sym (same_group (λ b. with_hold b (share (eligible_amount group t) (buckets_at book.validity t ledger) amount b)) book.validity t ledger after s g moved (same_sessions-reserved book t session group units amount ledger) (other_reserved book t session group units amount ledger s g q))
+        ∙ sym (same_group
+        (λ b. with_hold b
+        (share (eligible_amount group t) (buckets_at book.validity t ledger) amount b))
+        book.validity t ledger after s g moved
+        (same_sessions-reserved book t session group units amount ledger)
+        (other_reserved book t session group units amount ledger s g q))
 
 -- ---- counters, and what isn't known
 
-counter_reserved : (book : Book) (cycle_of : ℕ → ℕ) (t : ℕ) (session : List ℕ) (group units amount : ℕ) (ledger : Ledger) (g c : ℕ) → counter_at cycle_of ledger g c ≡ counter_at cycle_of (reserved book t session group units amount ledger) g c
+counter_reserved : (book : Book) (cycle_of : ℕ → ℕ) (t : ℕ) (session : List ℕ)
+    (group units amount : ℕ) (ledger : Ledger) (g c : ℕ) →
+    counter_at cycle_of ledger g c
+    ≡ counter_at cycle_of (reserved book t session group units amount ledger) g c
 counter_reserved book cycle_of t session group units amount ledger g c =
     let hs : List Hold = holds_for book t group amount ledger in
     let before : Ledger = granted book t session group units ledger in
     let after : Ledger = reserved book t session group units amount ledger in
-    let count : counter cycle_of g c ledger ≡ counter cycle_of g c after = omega (arith, if_none (cycle_of t == c), total-front (λ d. if cycle_of d.at == c then blocks_in g d.fact else 0) (hold_facts t session group hs) before (each_hold _ t session group hs (λ b n. if_none (cycle_of t == c)))) in
-    let named : has_counter cycle_of g c after ≡ has_counter cycle_of g c ledger = any_dated-front (counts_group cycle_of g c) (hold_facts t session group hs) before (each_hold _ t session group hs (λ b n. refl)) in
-    let same : (let r : Counter = record { group = g; cycle = c; blocks = counter cycle_of g c ledger } in r) ≡ (let r : Counter = record { group = g; cycle = c; blocks = counter cycle_of g c after } in r) = λ i. record { group = g; cycle = c; blocks = count i } in
+    let count : counter cycle_of g c ledger ≡ counter cycle_of g c after =
+    omega (
+      arith,
+      if_none (cycle_of t == c),
+      total-front (λ d. if cycle_of d.at == c then blocks_in g d.fact else 0)
+          (hold_facts t session group hs) before
+          (each_hold _ t session group hs (λ b n. if_none (cycle_of t == c))),
+    ) in
+    let named : has_counter cycle_of g c after ≡ has_counter cycle_of g c ledger =
+    any_dated-front (counts_group cycle_of g c) (hold_facts t session group hs) before
+    (each_hold _ t session group hs (λ b n. refl)) in
+    let same :
+    (let r : Counter = record { group = g; cycle = c; blocks = counter cycle_of g c ledger } in
+    r) ≡ (let r : Counter =
+    record { group = g; cycle = c; blocks = counter cycle_of g c after } in r) =
+    λ i. record { group = g; cycle = c; blocks = count i } in
     λ i. (if sym named i then Some (same i) else None)
 
 -- a live session is recorded
-touched_live : (v t : ℕ) (ledger : Ledger) (s : List ℕ) → ((x : ℕ) → last_touch s ledger ≡ Some x → option_map (λ r. r.at) (last_recording s ledger) ≡ Some x) → is_live v t ledger s ≡ true → last_recording s ledger ≡ None → ⊥
+touched_live : (v t : ℕ) (ledger : Ledger) (s : List ℕ) →
+    ((x : ℕ) → last_touch s ledger ≡ Some x →
+    option_map (λ r. r.at) (last_recording s ledger) ≡ Some x) → is_live v t ledger s ≡ true →
+    last_recording s ledger ≡ None → ⊥
 touched_live v t ledger s h live none = by_touch (last_touch s ledger) refl
   where
     by_touch : (o : Option ℕ) → last_touch s ledger ≡ o → ⊥
     by_touch None e =
-        let within : is_within v t (last_touch s ledger) ≡ true = first_true (is_within v t (last_touch s ledger)) (not (is_closed s ledger)) live in
+        let within : is_within v t (last_touch s ledger) ≡ true =
+        first_true (is_within v t (last_touch s ledger)) (not (is_closed s ledger)) live in
         let out : is_within v t (last_touch s ledger) ≡ false = ap (is_within v t) e in
         cc
     by_touch (Some x) e = no_some x (sym (ap (option_map (λ r. r.at)) none) ∙ h x e)
 
-unknown-reserved : (book : Book) (t : ℕ) (session : List ℕ) (group units amount : ℕ) (ledger : Ledger) (s : List ℕ) → is_same session s ≡ false → IsUnknown s ledger → IsUnknown s (reserved book t session group units amount ledger)
+unknown-reserved : (book : Book) (t : ℕ) (session : List ℕ) (group units amount : ℕ)
+    (ledger : Ledger) (s : List ℕ) → is_same session s ≡ false → IsUnknown s ledger →
+    IsUnknown s (reserved book t session group units amount ledger)
 unknown-reserved book t session group units amount ledger s other h =
     let hs : List Hold = holds_for book t group amount ledger in
     let before : Ledger = granted book t session group units ledger in
     let p : List ℕ → ℕ → Bool = λ x g. is_same x s in
     record {
-      closed = (same_sessions-reserved book t session group units amount ledger).closed s ∙ h.closed;
-      held = λ n. omega (arith, held-hold_facts_other p n t session group hs before other, h.held n);
-      granted = λ g. (other_reserved book t session group units amount ledger s g (ap (λ x. x && group == g) other)).grant ∙ h.granted g;
+      closed = (same_sessions-reserved book t session group units amount ledger).closed s
+          ∙ h.closed;
+      held = λ n. omega (
+        arith,
+        held-hold_facts_other p n t session group hs before other,
+        h.held n,
+      );
+      granted =
+          λ g. (other_reserved book t session group units amount ledger s g
+          (ap (λ x. x && group == g) other)).grant ∙ h.granted g;
     }
 
-held_above : (book : Book) (t : ℕ) (session : List ℕ) (group units amount : ℕ) (ledger : Ledger) (n : ℕ) (p : List ℕ → ℕ → Bool) → sum_at n (holds_for book t group amount ledger) ≡ 0 → held p n ledger ≡ 0 → held p n (reserved book t session group units amount ledger) ≡ 0
+held_above : (book : Book) (t : ℕ) (session : List ℕ) (group units amount : ℕ) (ledger : Ledger)
+    (n : ℕ) (p : List ℕ → ℕ → Bool) → sum_at n (holds_for book t group amount ledger) ≡ 0 →
+    held p n ledger ≡ 0 → held p n (reserved book t session group units amount ledger) ≡ 0
 held_above book t session group units amount ledger n p sum none = by_test (p session group) refl
   where
-    by_test : (b : Bool) → p session group ≡ b → held p n (reserved book t session group units amount ledger) ≡ 0
-    by_test true e = omega (arith, held-hold_facts p n t session group (holds_for book t group amount ledger) (granted book t session group units ledger) e, sum, none)
-    by_test false e = omega (arith, held-hold_facts_other p n t session group (holds_for book t group amount ledger) (granted book t session group units ledger) e, none)
+    by_test : (b : Bool) → p session group ≡ b →
+        held p n (reserved book t session group units amount ledger) ≡ 0
+    by_test true e =
+        omega (
+          arith,
+          held-hold_facts p n t session group (holds_for book t group amount ledger)
+              (granted book t session group units ledger) e,
+          sum,
+          none,
+        )
+    by_test false e =
+        omega (
+          arith,
+          held-hold_facts_other p n t session group (holds_for book t group amount ledger)
+              (granted book t session group units ledger) e,
+          none,
+        )
 
 -- ---- the rows of the ledger with the grant
 
-pub IsRowsOf-reserved : (ledger : Ledger) (a : AccountRows) (session : List ℕ) (group units amount : ℕ) →
-    IsAccount a → IsRowsOf ledger a → is_live a.book.validity a.as_of ledger session ≡ true → reservation_in session group a.groups ≡ None →
-    IsRowsOf (reserved a.book a.as_of session group units amount ledger) (reserved_account session group amount a)
+pub IsRowsOf-reserved : (ledger : Ledger) (a : AccountRows) (session : List ℕ)
+    (group units amount : ℕ) →
+    IsAccount a → IsRowsOf ledger a → is_live a.book.validity a.as_of ledger session ≡ true →
+    reservation_in session group a.groups ≡ None →
+    IsRowsOf (reserved a.book a.as_of session group units amount ledger)
+    (reserved_account session group amount a)
 IsRowsOf-reserved ledger a session group units amount account rows live none =
     let book : Book = a.book in
     let v : ℕ = book.validity in
@@ -249,27 +436,62 @@ IsRowsOf-reserved ledger a session group units amount account rows live none =
     let now : List Row = buckets_at v t ledger in
     let hs : List Hold = holds_for book t group amount ledger in
     let sound : IsSound now = subst IsSound rows.buckets account.sound in
-    let below : IsBelow a.next_bucket now = subst (IsBelow a.next_bucket) rows.buckets account.below in
-    let same : SameSessions ledger after = same_sessions-reserved book t session group units amount ledger in
-    let free : Each (λ b. held (only session group) b.number ledger ≡ 0) now = held_free ledger a session group account rows live (ap is_some none) in
-    let above : (n : ℕ) → a.next_bucket ≤ n → sum_at n hs ≡ 0 = λ n le. sum_at_none (share (eligible_amount group t) now amount) n now (differs_above a.next_bucket n now below le) in
+    let below : IsBelow a.next_bucket now =
+    subst (IsBelow a.next_bucket) rows.buckets account.below in
+    let same : SameSessions ledger after =
+    same_sessions-reserved book t session group units amount ledger in
+    let free : Each (λ b. held (only session group) b.number ledger ≡ 0) now =
+    held_free ledger a session group account rows live (ap is_some none) in
+    let above : (n : ℕ) → a.next_bucket ≤ n → sum_at n hs ≡ 0 =
+    λ n le. sum_at_none (share (eligible_amount group t) now amount) n now
+    (differs_above a.next_bucket n now below le) in
     let unknown : (s : List ℕ) → last_recording s after ≡ None → IsUnknown s after = λ s e.
     (let nothing : last_recording s ledger ≡ None = sym (same.recording s) ∙ e in
     unknown-reserved book t session group units amount ledger s
-    (not_true (is_same session s) (λ q. touched_live v t ledger s (rows.touched s) (ap (is_live v t ledger) (sym (key_session session group s group (ap (λ x. x && group == group) q ∙ own_group group))) ∙ live) nothing))
+    (not_true (is_same session s)
+    (λ q. touched_live v t ledger s (rows.touched s)
+    (ap (is_live v t ledger)
+    (sym (key_session session group s group
+    (ap (λ x. x && group == group) q ∙ own_group group))) ∙ live) nothing))
     (rows.unknown s nothing)) in
     record {
-      barred = rows.barred ∙ sym (is_barred-front (hold_facts t session group hs) before (each_hold _ t session group hs (λ b n. refl)));
-      buckets = ap (held_rows group t amount) rows.buckets ∙ sym (buckets_at-reserved book t session group units amount ledger live sound.distinct);
+      barred = rows.barred
+          ∙ sym (is_barred-front (hold_facts t session group hs) before
+          (each_hold _ t session group hs (λ b n. refl)));
+      buckets =
+          ap (held_rows group t amount) rows.buckets
+          ∙ sym (buckets_at-reserved book t session group units amount ledger live sound.distinct);
       sessions = λ s. rows.sessions s ∙ sym (same_session v t ledger after same s);
-      groups = groups-reserved book t session group units amount ledger a.groups (holds_of group t amount a.buckets) live sound.distinct free (ap (holds_of group t amount) rows.buckets) (used_in_is ledger a session group rows) rows.groups;
-      counters = λ g c. rows.counters g c ∙ counter_reserved book (cycle_at book g) t session group units amount ledger g c;
-      next_bucket = rows.next_bucket ∙ omega (arith, total-front (λ d. credits_in d.fact) (hold_facts t session group hs) before (each_hold _ t session group hs (λ b n. refl)));
-      next_charge = rows.next_charge ∙ omega (arith, total-front (λ d. uses_in d.fact) (hold_facts t session group hs) before (each_hold _ t session group hs (λ b n. refl)));
+      groups = groups-reserved book t session group units amount ledger a.groups
+          (holds_of group t amount a.buckets) live sound.distinct free
+          (ap (holds_of group t amount) rows.buckets) (used_in_is ledger a session group rows)
+          rows.groups;
+      counters =
+          λ g c. rows.counters g c
+          ∙ counter_reserved book (cycle_at book g) t session group units amount ledger g c;
+      next_bucket =
+          rows.next_bucket
+          ∙ omega (
+            arith,
+            total-front (λ d. credits_in d.fact) (hold_facts t session group hs) before
+                (each_hold _ t session group hs (λ b n. refl)),
+          );
+      next_charge =
+          rows.next_charge
+          ∙ omega (
+            arith,
+            total-front (λ d. uses_in d.fact) (hold_facts t session group hs) before
+                (each_hold _ t session group hs (λ b n. refl)),
+          );
       touched = same_touched ledger after same rows.touched;
       unknown = unknown;
-      fresh = λ n le. omega (arith, charged-hold_facts n t session group hs before, rows.fresh n le);
-      free = λ n counts le. held_above book t session group units amount ledger n counts (above n le) (rows.free n counts le);
+      fresh = λ n le. omega (
+        arith,
+        charged-hold_facts n t session group hs before,
+        rows.fresh n le,
+      );
+      free = λ n counts le. held_above book t session group units amount ledger n counts
+          (above n le) (rows.free n counts le);
     }
   where
     own_group : (g : ℕ) → (true && g == g) ≡ true
@@ -277,39 +499,67 @@ IsRowsOf-reserved ledger a session group units amount account rows live none =
 
 -- ---- what each account keeps
 
-reserved_none : (s : List ℕ) (g : ℕ) (rows : List SessionGroup) → reservation_in s g rows ≡ None → reserved_in s g rows ≡ []
+reserved_none : (s : List ℕ) (g : ℕ) (rows : List SessionGroup) → reservation_in s g rows ≡ None →
+    reserved_in s g rows ≡ []
 reserved_none s g rows h = ap holds_in h
 
 each_held : (rows after : List SessionGroup) (hs : List Hold) (G : Row → ℕ) (xs : List Row) →
-    ((b : Row) → held_by (λ s. true) after b ≡ held_by (λ s. true) rows b + held_in hs b) → Each (λ b. sum_at b.number hs ≡ G b) xs →
-    Each (λ b. held_by (λ s. true) rows b ≡ b.reserved) xs → Each (λ b. held_by (λ s. true) after b ≡ b.reserved) (map (λ b. with_hold b (G b)) xs)
+    ((b : Row) → held_by (λ s. true) after b ≡ held_by (λ s. true) rows b + held_in hs b) →
+    Each (λ b. sum_at b.number hs ≡ G b) xs →
+    Each (λ b. held_by (λ s. true) rows b ≡ b.reserved) xs →
+    Each (λ b. held_by (λ s. true) after b ≡ b.reserved) (map (λ b. with_hold b (G b)) xs)
 each_held rows after hs G [] e s h = tt
 each_held rows after hs G (b ∷ bs) e s h =
-    let is : held_by (λ s. true) rows b ≡ b.reserved = h.0 in
-    (omega (arith, held_by_number after b (with_hold b (G b)) refl, e b, held_in-sum_at hs b, s.0), each_held rows after hs G bs e s.1 h.1)
+    let is : held_by (λ s. true) rows b ≡ b.reserved = h.0 in (
+      omega (arith, held_by_number after b (with_hold b (G b)) refl, e b, held_in-sum_at hs b, s.0),
+      each_held rows after hs G bs e s.1 h.1,
+    )
 
-pub IsAccount-reserved : (a : AccountRows) (session : List ℕ) (group amount : ℕ) → reservation_in session group a.groups ≡ None → IsAccount a → IsAccount (reserved_account session group amount a)
+pub IsAccount-reserved : (a : AccountRows) (session : List ℕ) (group amount : ℕ) →
+    reservation_in session group a.groups ≡ None → IsAccount a →
+    IsAccount (reserved_account session group amount a)
 IsAccount-reserved a session group amount none h =
     let t : ℕ = a.as_of in
     let hs : List Hold = holds_of group t amount a.buckets in
     let G : Row → ℕ = share (eligible_amount group t) a.buckets amount in
-    let row : SessionGroup = record { session = session; group = group; used = used_in session group a.groups; reservation = Some (reservation_for a.book t hs) } in
-    let held : (b : Row) → held_by (λ s. true) (put (is_of session group) row a.groups) b ≡ held_by (λ s. true) a.groups b + held_in hs b = λ b.
-    (let nothing : held_in (reserved_in session group a.groups) b ≡ 0 = ap (λ x. held_in x b) (reserved_none session group a.groups none) in
+    let row : SessionGroup =
+    record {
+      session = session;
+      group = group;
+      used = used_in session group a.groups;
+      reservation = Some (reservation_for a.book t hs);
+    } in
+    let held : (b : Row) →
+    held_by (λ s. true) (put (is_of session group) row a.groups) b
+    ≡ held_by (λ s. true) a.groups b + held_in hs b = λ b.
+    (let nothing : held_in (reserved_in session group a.groups) b
+    ≡ 0 = ap (λ x. held_in x b) (reserved_none session group a.groups none) in
     omega (arith, held_by-put session group row a.groups b, nothing)) in
     record {
       book = h.book;
-      sound = subst IsSound (sym (by_shares-along with_hold (eligible_amount group t) a.buckets amount h.sound.order)) (IsSound-hold group t amount a.buckets h.sound);
+      sound = subst IsSound
+          (sym (by_shares-along with_hold (eligible_amount group t) a.buckets amount h.sound.order))
+          (IsSound-hold group t amount a.buckets h.sound);
       below = IsBelow-map a.next_bucket (λ b. with_hold b (G b)) a.buckets (λ b. refl) h.below;
       next_bucket = h.next_bucket;
       next_charge = h.next_charge;
       sessions = h.sessions;
       groups = AreApart-put session group row a.groups (own_key session group) h.groups;
       counters = h.counters;
-      used = EachIn-put (λ r. r.used ≤ 1000000000000000000) (is_of session group) row a.groups (used_le session group 1000000000000000000 a.groups h.used) h.used;
+      used = EachIn-put (λ r. r.used ≤ 1000000000000000000) (is_of session group) row a.groups
+          (used_le session group 1000000000000000000 a.groups h.used) h.used;
       counted = h.counted;
-      held = each_held a.groups (put (is_of session group) row a.groups) hs G a.buckets held (sum_at-parts G a.buckets h.sound.distinct) h.held;
-      named = λ b le. omega (arith, held b, h.named b le, held_in-sum_at hs b, sum_at_none G b.number a.buckets (differs_above a.next_bucket b.number a.buckets h.below le));
-      order = EachIn-put _ (is_of session group) row a.groups (order_held G a.buckets h.sound.distinct)
+      held = each_held a.groups (put (is_of session group) row a.groups) hs G a.buckets held
+          (sum_at-parts G a.buckets h.sound.distinct) h.held;
+      named = λ b le. omega (
+        arith,
+        held b,
+        h.named b le,
+        held_in-sum_at hs b,
+        sum_at_none G b.number a.buckets
+            (differs_above a.next_bucket b.number a.buckets h.below le),
+      );
+      order = EachIn-put _ (is_of session group) row a.groups
+          (order_held G a.buckets h.sound.distinct)
           (order_map (λ b. with_hold b (G b)) a.buckets a.groups (λ b. refl) h.order);
     }

@@ -1,5 +1,6 @@
--- Worked cases, computed from the definitions: a book with seconds at 50,000 micro-units a minute, 100,000 on weekdays
--- from 08:00 to 20:00, and octets in blocks of 1,048,576, of which the first 100 of a month are free.
+-- Worked cases, computed from the definitions: a book with seconds at 50,000 micro-units a minute,
+-- 100,000 on weekdays from 08:00 to 20:00, and octets in blocks of 1,048,576, of which the first
+-- 100 of a month are free.
 use Rattle.std.proofs.Common.{◌≡◌, ℕ, Bool, true, false, List, [], ◌∷◌, refl, Option, None, Some}
 use Rattle.std.specs.Prelude.{pos}
 use Rattle.calendar.specs.Timetable.{minutes_from, switch_within}
@@ -30,7 +31,8 @@ abbrev weekend : List Bool
 weekend = false ∷ false ∷ false ∷ false ∷ false ∷ true ∷ true ∷ []
 
 abbrev entry : ℕ → List Bool → ℕ → ℕ → Entry
-entry period days from to = record { period = record { 0 = period }; days = days; from = from; to = to }
+entry period days from to =
+    record { period = record { 0 = period }; days = days; from = from; to = to }
 
 abbrev flat : ℕ → List Tier
 flat price = record { upto = None; price = price } ∷ []
@@ -39,16 +41,43 @@ abbrev octet_tiers : List Tier
 octet_tiers = record { upto = Some 100; price = 0 } ∷ record { upto = None; price = 10000 } ∷ []
 
 abbrev seconds : GroupTariff
-seconds = record { group = 10; unit = Time; block = 60; slice = 600; max_grant = 3600; cycle = cycle.None; final_action = Terminate; prices = flat 50000 ∷ flat 100000 ∷ [] }
+seconds =
+    record {
+      group = 10;
+      unit = Time;
+      block = 60;
+      slice = 600;
+      max_grant = 3600;
+      cycle = cycle.None;
+      final_action = Terminate;
+      prices = flat 50000 ∷ flat 100000 ∷ [];
+    }
 
 abbrev octets : GroupTariff
-octets = record { group = 20; unit = TotalOctets; block = 1048576; slice = 10485760; max_grant = 1048576000; cycle = cycle.Month; final_action = Terminate; prices = octet_tiers ∷ octet_tiers ∷ [] }
+octets = record {
+  group = 20;
+  unit = TotalOctets;
+  block = 1048576;
+  slice = 10485760;
+  max_grant = 1048576000;
+  cycle = cycle.Month;
+  final_action = Terminate;
+  prices =
+      octet_tiers ∷ octet_tiers ∷ [];
+}
 
 -- period 0 is "off", period 1 is "peak"
 abbrev book : Book
 book = record {
   zone_text = 43 ∷ 48 ∷ 48 ∷ 58 ∷ 48 ∷ 48 ∷ [];
-  calendar = record { zone = record { ahead = pos 0 }; entries = entry 1 week 480 1200 ∷ entry 0 week 0 480 ∷ entry 0 week 1200 1440 ∷ entry 0 weekend 0 1440 ∷ [] };
+  calendar =
+      record {
+        zone = record { ahead = pos 0 };
+        entries =
+            entry 1 week 480 1200 ∷ entry 0 week 0 480 ∷ entry 0 week 1200 1440
+            ∷ entry 0 weekend 0 1440
+            ∷ [];
+      };
   currency = 978;
   validity = 3600;
   periods = (111 ∷ 102 ∷ 102 ∷ []) ∷ (112 ∷ 101 ∷ 97 ∷ 107 ∷ []) ∷ [];
@@ -67,18 +96,33 @@ report n = part None n ∷ []
 
 -- credited at 00:00 of a Monday, and opened
 abbrev opened : ℕ → ℕ → Ledger
-opened t credit = record { at = t; fact = Touch s } ∷ record { at = 1767571200; fact = Credit 1 1767571200 4102444800 None credit } ∷ []
+opened t credit =
+    record { at = t; fact = Touch s }
+    ∷ record { at = 1767571200; fact = Credit 1 1767571200 4102444800 None credit } ∷ []
 
 abbrev units_granted : ℕ → ℕ → ℕ → Ledger → ℕ
-units_granted t g wanted ledger = (grant_for book t g (used s g ledger) (Some wanted) ledger).units.0
+units_granted t g wanted ledger =
+    (grant_for book t g (used s g ledger) (Some wanted) ledger).units.0
 
 -- what is wanted is granted as far as the funds go
 abbrev granted : ℕ → ℕ → ℕ → Ledger → Ledger
-granted t g wanted ledger = reserved book t s g (units_granted t g wanted ledger) (grant_for book t g (used s g ledger) (Some wanted) ledger).amount.0 ledger
+granted t g wanted ledger =
+    reserved book t s g (units_granted t g wanted ledger)
+    (grant_for book t g (used s g ledger) (Some wanted) ledger).amount.0 ledger
 
 abbrev bucket : (number from until credited available reserved charged expired : ℕ) → Row
 bucket number from until credited available reserved charged expired =
-    record { number = number; from = from; until = until; scope = None; credited = credited; available = available; reserved = reserved; charged = charged; expired = expired }
+    record {
+      number = number;
+      from = from;
+      until = until;
+      scope = None;
+      credited = credited;
+      available = available;
+      reserved = reserved;
+      charged = charged;
+      expired = expired;
+    }
 
 -- ---- a switch within the validity
 
@@ -92,7 +136,8 @@ unfolding switch_within minutes_from
 switched_validity = refl
 
 -- each of ten blocks is held at the dearer price
-dearer_held : buckets_at 3600 1767598200 (granted 1767598200 10 600 (opened 1767598200 1000000)) ≡ bucket 1 1767571200 4102444800 1000000 0 1000000 0 0 ∷ []
+dearer_held : buckets_at 3600 1767598200 (granted 1767598200 10 600 (opened 1767598200 1000000))
+    ≡ bucket 1 1767571200 4102444800 1000000 0 1000000 0 0 ∷ []
 unfolding switch_within minutes_from dearer greatest_covered
 dearer_held = refl
 
@@ -100,8 +145,13 @@ dearer_held = refl
 switched_report : List UsedPart
 switched_report = part (Some UnitBeforeTariffChange) 300 ∷ part (Some UnitAfterTariffChange) 90 ∷ []
 
-switched_settled : buckets_at 3600 1767600300 (settled_by book 1767600300 s 10 switched_report (record { at = 1767600300; fact = Touch s } ∷ granted 1767598200 10 600 (opened 1767598200 1000000))) ≡ bucket 1 1767571200 4102444800 1000000 550000 0 450000 0 ∷ []
-unfolding switched_report switch_within minutes_from dearer greatest_covered rated_amount report_blocks report_amount
+switched_settled : buckets_at 3600 1767600300
+    (settled_by book 1767600300 s 10 switched_report
+    (record { at = 1767600300; fact = Touch s }
+    ∷ granted 1767598200 10 600 (opened 1767598200 1000000)))
+    ≡ bucket 1 1767571200 4102444800 1000000 550000 0 450000 0 ∷ []
+unfolding switched_report switch_within minutes_from dearer greatest_covered rated_amount
+    report_blocks report_amount
 switched_settled = refl
 
 -- ---- within the dearer period
@@ -111,51 +161,74 @@ few_units : units_granted 1767607200 10 600 (opened 1767607200 250000) ≡ 120
 unfolding switch_within minutes_from dearer greatest_covered
 few_units = refl
 
-few_held : buckets_at 3600 1767607200 (granted 1767607200 10 600 (opened 1767607200 250000)) ≡ bucket 1 1767571200 4102444800 250000 50000 200000 0 0 ∷ []
+few_held : buckets_at 3600 1767607200 (granted 1767607200 10 600 (opened 1767607200 250000))
+    ≡ bucket 1 1767571200 4102444800 250000 50000 200000 0 0 ∷ []
 unfolding switch_within minutes_from dearer greatest_covered
 few_held = refl
 
 -- five blocks are used of them
-few_missing : missing book 1767607500 s 10 (report 300) (granted 1767607200 10 600 (opened 1767607200 250000)) ≡ 250000
-unfolding switch_within minutes_from dearer greatest_covered rated_amount report_blocks report_amount
+few_missing : missing book 1767607500 s 10 (report 300)
+    (granted 1767607200 10 600 (opened 1767607200 250000)) ≡ 250000
+unfolding switch_within minutes_from dearer greatest_covered rated_amount report_blocks
+    report_amount
 few_missing = refl
 
-few_settled : buckets_at 3600 1767607500 (settled_by book 1767607500 s 10 (report 300) (granted 1767607200 10 600 (opened 1767607200 250000))) ≡ bucket 1 1767571200 4102444800 250000 0 0 250000 0 ∷ []
-unfolding switch_within minutes_from dearer greatest_covered rated_amount report_blocks report_amount
+few_settled : buckets_at 3600 1767607500
+    (settled_by book 1767607500 s 10 (report 300)
+    (granted 1767607200 10 600 (opened 1767607200 250000)))
+    ≡ bucket 1 1767571200 4102444800 250000 0 0 250000 0 ∷ []
+unfolding switch_within minutes_from dearer greatest_covered rated_amount report_blocks
+    report_amount
 few_settled = refl
 
 -- 61 seconds of 600 start two blocks; of the 600 wanted then, the rest of the second is free
 abbrev updated : Ledger
-updated = settled_by book 1767607500 s 10 (report 61) (record { at = 1767607500; fact = Touch s } ∷ granted 1767607200 10 600 (opened 1767607200 1000000))
+updated =
+    settled_by book 1767607500 s 10 (report 61)
+    (record { at = 1767607500; fact = Touch s }
+    ∷ granted 1767607200 10 600 (opened 1767607200 1000000))
 
 begun_units : units_granted 1767607500 10 600 updated ≡ 539
-unfolding switch_within minutes_from dearer greatest_covered rated_amount report_blocks report_amount
+unfolding switch_within minutes_from dearer greatest_covered rated_amount report_blocks
+    report_amount
 begun_units = refl
 
-begun_held : buckets_at 3600 1767607500 (granted 1767607500 10 600 updated) ≡ bucket 1 1767571200 4102444800 1000000 0 800000 200000 0 ∷ []
-unfolding switch_within minutes_from dearer greatest_covered rated_amount report_blocks report_amount
+begun_held : buckets_at 3600 1767607500 (granted 1767607500 10 600 updated)
+    ≡ bucket 1 1767571200 4102444800 1000000 0 800000 200000 0 ∷ []
+unfolding switch_within minutes_from dearer greatest_covered rated_amount report_blocks
+    report_amount
 begun_held = refl
 
-begun_settled : buckets_at 3600 1767607560 (settled_by book 1767607560 s 10 (report 59) (granted 1767607500 10 600 updated)) ≡ bucket 1 1767571200 4102444800 1000000 800000 0 200000 0 ∷ []
-unfolding switch_within minutes_from dearer greatest_covered rated_amount report_blocks report_amount
+begun_settled : buckets_at 3600 1767607560
+    (settled_by book 1767607560 s 10 (report 59) (granted 1767607500 10 600 updated))
+    ≡ bucket 1 1767571200 4102444800 1000000 800000 0 200000 0 ∷ []
+unfolding switch_within minutes_from dearer greatest_covered rated_amount report_blocks
+    report_amount
 begun_settled = refl
 
 -- two buckets are held in order; what is released after the first one's end is expired
 abbrev two : Ledger
-two = record { at = 1767571200; fact = Credit 2 1767571200 4102444800 None 300000 } ∷ record { at = 1767571200; fact = Credit 1 1767571200 1767607800 None 150000 } ∷ []
+two = record { at = 1767571200; fact = Credit 2 1767571200 4102444800 None 300000 }
+    ∷ record { at = 1767571200; fact = Credit 1 1767571200 1767607800 None 150000 } ∷ []
 
 abbrev two_granted : Ledger
 two_granted = granted 1767607200 10 180 (record { at = 1767607200; fact = Touch s } ∷ two)
 
-two_held : buckets_at 3600 1767607200 two_granted ≡ bucket 1 1767571200 1767607800 150000 0 150000 0 0 ∷ bucket 2 1767571200 4102444800 300000 150000 150000 0 0 ∷ []
+two_held : buckets_at 3600 1767607200 two_granted
+    ≡ bucket 1 1767571200 1767607800 150000 0 150000 0 0
+    ∷ bucket 2 1767571200 4102444800 300000 150000 150000 0 0 ∷ []
 unfolding switch_within minutes_from dearer greatest_covered
 two_held = refl
 
-two_settled : buckets_at 3600 1767608100 (settled_by book 1767608100 s 10 (report 60) two_granted) ≡ bucket 1 1767571200 1767607800 150000 0 0 100000 50000 ∷ bucket 2 1767571200 4102444800 300000 300000 0 0 0 ∷ []
-unfolding switch_within minutes_from dearer greatest_covered rated_amount report_blocks report_amount
+two_settled : buckets_at 3600 1767608100 (settled_by book 1767608100 s 10 (report 60) two_granted)
+    ≡ bucket 1 1767571200 1767607800 150000 0 0 100000 50000
+    ∷ bucket 2 1767571200 4102444800 300000 300000 0 0 0 ∷ []
+unfolding switch_within minutes_from dearer greatest_covered rated_amount report_blocks
+    report_amount
 two_settled = refl
 
--- a session lives until two validity times after its last request, 1767614400; its reservation lives as long
+-- a session lives until two validity times after its last request, 1767614400; its reservation
+-- lives as long
 abbrev left_alone : Ledger
 left_alone = granted 1767607200 10 600 (opened 1767607200 1000000)
 
@@ -163,12 +236,14 @@ left_alone_live : is_live 3600 1767614399 left_alone s ≡ true
 unfolding switch_within minutes_from dearer greatest_covered
 left_alone_live = refl
 
-left_alone_held : buckets_at 3600 1767614399 left_alone ≡ bucket 1 1767571200 4102444800 1000000 0 1000000 0 0 ∷ []
+left_alone_held : buckets_at 3600 1767614399 left_alone
+    ≡ bucket 1 1767571200 4102444800 1000000 0 1000000 0 0 ∷ []
 unfolding switch_within minutes_from dearer greatest_covered
 left_alone_held = refl
 
 -- a request in its last second gets what its first one held
-left_alone_again : units_granted 1767614399 10 600 (settled_by book 1767614399 s 10 [] left_alone) ≡ 600
+left_alone_again : units_granted 1767614399 10 600 (settled_by book 1767614399 s 10 [] left_alone)
+    ≡ 600
 unfolding switch_within minutes_from dearer greatest_covered
 left_alone_again = refl
 
@@ -176,6 +251,7 @@ left_alone_over : is_live 3600 1767614400 left_alone s ≡ false
 unfolding switch_within minutes_from dearer greatest_covered
 left_alone_over = refl
 
-left_alone_given_up : buckets_at 3600 1767614400 left_alone ≡ bucket 1 1767571200 4102444800 1000000 1000000 0 0 0 ∷ []
+left_alone_given_up : buckets_at 3600 1767614400 left_alone
+    ≡ bucket 1 1767571200 4102444800 1000000 1000000 0 0 0 ∷ []
 unfolding switch_within minutes_from dearer greatest_covered
 left_alone_given_up = refl

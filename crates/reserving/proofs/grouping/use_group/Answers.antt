@@ -8,29 +8,60 @@ use Rattle.reserving.proofs.KeysFound.{used_at, put_at, reserved_at, not_there}
 use Rattle.reserving.proofs.grouping.use_group.Goals.{After-index_mut-row, After-holds_of}
 use Rattle.reserving.proofs.grouping.use_group.Goals as goal
 
-there : (c : After-index_mut-row) → position (is_of c.args.session.now c.args.group) c.args.groups.now.items ≡ Some c.in-Some.place
-there c = ap (position (is_of c.args.session.now c.args.group)) (sym c.deref.ensures.value) ∙ sym c.place_of.ensures ∙ c.in-Some.is
+there : (c : After-index_mut-row) →
+    position (is_of c.args.session.now c.args.group) c.args.groups.now.items ≡ Some c.in-Some.place
+there c = ap (position (is_of c.args.session.now c.args.group)) (sym c.deref.ensures.value)
+    ∙ sym c.place_of.ensures ∙ c.in-Some.is
 
-found : (c : After-holds_of) → position (is_of c.args.session.now c.args.group) c.args.groups.now.items ≡ Some c.in-Some.place
-found c = ap (position (is_of c.args.session.now c.args.group)) (sym c.deref.ensures.value) ∙ sym c.place_of.ensures ∙ c.in-Some.is
+found : (c : After-holds_of) →
+    position (is_of c.args.session.now c.args.group) c.args.groups.now.items ≡ Some c.in-Some.place
+found c = ap (position (is_of c.args.session.now c.args.group)) (sym c.deref.ensures.value)
+    ∙ sym c.place_of.ensures ∙ c.in-Some.is
 
 pub unreachable-requires : goal.unreachable-requires
-unreachable-requires c = not_there c.args.session.now c.args.group c.args.groups.now.items (ap (position (is_of c.args.session.now c.args.group)) (sym c.deref.ensures.value) ∙ sym c.place_of.ensures ∙ c.in_default.is) c.requires.there
+unreachable-requires c =
+    not_there c.args.session.now c.args.group c.args.groups.now.items
+    (ap (position (is_of c.args.session.now c.args.group)) (sym c.deref.ensures.value)
+    ∙ sym c.place_of.ensures ∙ c.in_default.is) c.requires.there
 
 pub overflow_add-row : goal.overflow_add-row
 overflow_add-row c =
-    let used : c.index_mut-row.result.now.used ≡ (get_or c.args.groups.now.items c.in-Some.place c.index_mut-row.result.now).used = ap (λ (x : SessionGroup). x.used) c.index_mut-row.ensures.value in
-    omega (arith, c.requires.fits, used, used_at c.args.session.now c.args.group c.in-Some.place c.args.groups.now.items c.index_mut-row.result.now (there c))
+    let used : c.index_mut-row.result.now.used
+    ≡ (get_or c.args.groups.now.items c.in-Some.place c.index_mut-row.result.now).used =
+    ap (λ (x : SessionGroup). x.used) c.index_mut-row.ensures.value in
+    omega (
+      arith,
+      c.requires.fits,
+      used,
+      used_at c.args.session.now c.args.group c.in-Some.place c.args.groups.now.items
+          c.index_mut-row.result.now (there c),
+    )
 
 pub returns-clause-groups : goal.returns-clause-groups
 returns-clause-groups c =
-    let at : position (is_of c.args.session.now c.args.group) c.args.groups.now.items ≡ Some c.in-Some.place = found c in
-    let used : c.index_mut-row.result.now.used ≡ used_in c.args.session.now c.args.group c.args.groups.now.items =
-    ap (λ (x : SessionGroup). x.used) c.index_mut-row.ensures.value ∙ used_at c.args.session.now c.args.group c.in-Some.place c.args.groups.now.items c.index_mut-row.result.now at in
-    put_at c.args.session.now c.args.group c.in-Some.place c.args.groups.now.items c.index_mut-row.result.now (c.index_mut-row.result.now.used + c.args.units) c.take.new.self c.index_mut-row.ensures.value at
-    ∙ (λ i. put (is_of c.args.session.now c.args.group) (record { session = c.args.session.now; group = c.args.group; used = used i + c.args.units; reservation = c.take.ensures.after i }) c.args.groups.now.items)
+    let at : position (is_of c.args.session.now c.args.group) c.args.groups.now.items
+    ≡ Some c.in-Some.place = found c in
+    let used : c.index_mut-row.result.now.used
+    ≡ used_in c.args.session.now c.args.group c.args.groups.now.items =
+    ap (λ (x : SessionGroup). x.used) c.index_mut-row.ensures.value
+    ∙ used_at c.args.session.now c.args.group c.in-Some.place c.args.groups.now.items
+    c.index_mut-row.result.now at in
+    put_at c.args.session.now c.args.group c.in-Some.place c.args.groups.now.items
+    c.index_mut-row.result.now (c.index_mut-row.result.now.used + c.args.units) c.take.new.self
+    c.index_mut-row.ensures.value at
+    ∙ (λ i. put (is_of c.args.session.now c.args.group)
+    (record {
+      session = c.args.session.now;
+      group = c.args.group;
+      used = used i + c.args.units;
+      reservation = c.take.ensures.after i;
+    }) c.args.groups.now.items)
 
 pub returns-clause-holds : goal.returns-clause-holds
 returns-clause-holds c =
-    c.holds_of.ensures ∙ ap holds_in (c.take.ensures.value ∙ ap (λ (x : SessionGroup). x.reservation) c.index_mut-row.ensures.value)
-    ∙ reserved_at c.args.session.now c.args.group c.in-Some.place c.args.groups.now.items c.index_mut-row.result.now (found c)
+    c.holds_of.ensures
+    ∙ ap holds_in
+    (c.take.ensures.value
+    ∙ ap (λ (x : SessionGroup). x.reservation) c.index_mut-row.ensures.value)
+    ∙ reserved_at c.args.session.now c.args.group c.in-Some.place c.args.groups.now.items
+    c.index_mut-row.result.now (found c)

@@ -7,5 +7,8 @@ use Rattle.reserving.proofs.live.live_counters.Goals as goal
 
 pub returns : goal.returns
 returns c =
-    filter_same _ (λ (r : Counter). r.cycle == cycle_at c.args.book.now r.group c.args.moment) _ (λ x b f' k. search rules) _ _ c.retain.ensures.filtered
-    ∙ ap (filter (λ (r : Counter). r.cycle == cycle_at c.args.book.now r.group c.args.moment)) (c.in_ok-extend_from_slice.ensures.items ∙ ap (λ rows. rows ++ c.args.counters.now) c.in_ok-rows.ensures.items)
+    filter_same _ (λ (r : Counter). r.cycle == cycle_at c.args.book.now r.group c.args.moment) _
+    (λ x b f' k. search rules) _ _ c.retain.ensures.filtered
+    ∙ ap (filter (λ (r : Counter). r.cycle == cycle_at c.args.book.now r.group c.args.moment))
+    (c.in_ok-extend_from_slice.ensures.items
+    ∙ ap (λ rows. rows ++ c.args.counters.now) c.in_ok-rows.ensures.items)

@@ -6,5 +6,6 @@ use Rattle.reserving.proofs.live.live_groups.Goals as goal
 
 pub returns : goal.returns
 returns c =
-    filter_same _ (is_live_group c.args.sessions.now) _ (λ x b f' k. search rules) _ _ c.retain.ensures.filtered
+    filter_same _ (is_live_group c.args.sessions.now) _ (λ x b f' k. search rules) _ _
+    c.retain.ensures.filtered
     ∙ ap (filter (is_live_group c.args.sessions.now)) c.in_ok-rows.ensures

@@ -3,6 +3,7 @@ use Rattle.sqlite.specs.Held.{state}
 use Rattle.sqlite.specs.State.{ExecutesInside}
 use Rattle.sqlite.specs.Values.{or_null, bound_value}
 use Rattle.sqlite_value.specs.declared.value.Value.TheVariants.{Text}
+use Rattle.reserving.specs.declared.charge.ChargeRow.{ChargeRow}
 use Rattle.sql_rows.specs.Values.{nat}
 use Rattle.sql_rows.proofs.PutCharge.{put_charge_text, makes_charge, bound_charge}
 use Rattle.sql_rows.proofs.charge_rows.put_charge.Goals as goal
@@ -16,12 +17,14 @@ returns-clause-makes g c clean =
     (subst (λ p. OnOk c.write.result (ExecutesInside 0 put_charge_text p old new c.write.result))
     (bound_charge c.args.account.now c.args.charge.now _ _ _ _ _ _ _ _ _
     (c.text-of_account.ensures ∙ ap Text c.as_str.ensures.value)
-    c.whole-number.ensures
-    (c.large-moment.ensures ∙ ap nat c.seconds.ensures.value)
-    (c.text-session.ensures ∙ ap Text c.as_str-2.ensures.value)
-    c.whole-group.ensures
-    c.in_ok-blocks.ensures
-    c.in_ok-rated.ensures
-    c.in_ok-collected.ensures
-    c.in_ok-uncollected.ensures)
+    (c.whole-number.ensures ∙ ap (λ (x : ChargeRow). nat x.number) c.charge.view_is)
+    (c.large-moment.ensures ∙ ap nat c.seconds.ensures.value
+    ∙ ap (λ (x : ChargeRow). nat x.moment) c.charge.view_is)
+    (c.text-session.ensures ∙ ap Text c.as_str-2.ensures.value
+    ∙ ap (λ (x : ChargeRow). Text x.session) c.charge.view_is)
+    (c.whole-group.ensures ∙ ap (λ (x : ChargeRow). nat x.group) c.charge.view_is)
+    (c.in_ok-blocks.ensures ∙ ap (λ (x : ChargeRow). nat x.blocks.0) c.charge.view_is)
+    (c.in_ok-rated.ensures ∙ ap (λ (x : ChargeRow). nat x.rated.0) c.charge.view_is)
+    (c.in_ok-collected.ensures ∙ ap (λ (x : ChargeRow). nat x.collected.0) c.charge.view_is)
+    (c.in_ok-uncollected.ensures ∙ ap (λ (x : ChargeRow). nat x.uncollected.0) c.charge.view_is))
     (c.write.ensures.runs clean))

@@ -11,15 +11,21 @@ use Rattle.reserving.proofs.account.Account.advance.Goals as goal
 
 pub invariant_of-self : goal.invariant_of-self
 invariant_of-self c =
-    subst IsAccount (sym (ap (priced c.self.inside.book.now) c.advance.ensures.rows)) (IsAccount-advanced (rows_of c.self.inside) c.args.moment c.self.invariant)
+    subst IsAccount (sym (ap (priced c.self.inside.book.now) c.advance.ensures.rows))
+    (IsAccount-advanced (rows_of c.self.inside) c.args.moment c.self.invariant)
 
 pub returns-clause-rows : goal.returns-clause-rows
-returns-clause-rows c = ap (priced c.self.inside.book.now) c.advance.ensures.rows ∙ ap (advanced c.args.moment) c.self.view_is
+returns-clause-rows c =
+    ap (priced c.self.inside.book.now) c.advance.ensures.rows
+    ∙ ap (advanced c.args.moment) c.self.view_is
 
 pub returns-clause-ledger : goal.returns-clause-ledger
 returns-clause-ledger c = λ ledger rows.
     let account : IsAccount c.args.self.now = subst IsAccount c.self.view_is c.self.invariant in
-    subst (IsRowsOf ledger) (sym (returns-clause-rows c)) (IsRowsOf-advanced ledger c.args.self.now c.args.moment account rows c.requires)
+    subst (IsRowsOf ledger) (sym (returns-clause-rows c))
+    (IsRowsOf-advanced ledger c.args.self.now c.args.moment account rows c.requires)
 
 pub returns-clause-left : goal.returns-clause-left
-returns-clause-left c = λ ledger left h. subst (IsWith ledger left c.args.moment) (sym (returns-clause-rows c)) (with_advanced ledger left c.args.moment c.args.self.now c.requires h)
+returns-clause-left c =
+    λ ledger left h. subst (IsWith ledger left c.args.moment) (sym (returns-clause-rows c))
+    (with_advanced ledger left c.args.moment c.args.self.now c.requires h)

@@ -10,15 +10,25 @@ use Rattle.reserving.proofs.account.Account.charge_use.Goals as goal
 
 pub settle-charged-requires : goal.settle-charged-requires
 settle-charged-requires c =
-    subst (λ h. IsWithin h c.self.inside.rows.purse) (sym c.none-none_held.ensures) (within_none c.self.inside.rows.purse)
+    subst (λ h. IsWithin h c.self.inside.rows.purse) (sym c.none-none_held.ensures)
+    (within_none c.self.inside.rows.purse)
 
 pub invariant_of-self : goal.invariant_of-self
 invariant_of-self c =
     let a : AccountRows = rows_of c.self.inside in
     let now : AccountRows = c.args.self.now in
-    subst IsAccount (sym (debited_parts a c.args.session.now c.args.group c.args.cycle c.args.rated.units.0 c.args.rated.blocks.0 c.args.rated.amount.0 c.none-none_held.result c.settle-charged.new.self c.count_blocks.new.counters.items c.count_units.new.groups.items
-    (c.requires.cycle ∙ sym (ap (λ (x : AccountRows). cycle_at x.book c.args.group x.as_of) c.self.view_is)) c.none-none_held.ensures c.settle-charged.ensures.rows c.count_blocks.ensures c.count_units.ensures
-    ∙ ap (debited_account c.args.session.now c.args.group c.args.rated.units.0 c.args.rated.blocks.0 c.args.rated.amount.0) c.self.view_is))
-    (IsAccount-debited now c.args.session.now c.args.group c.args.rated.units.0 c.args.rated.blocks.0 c.args.rated.amount.0 c.requires.used
-    (subst (λ x. count_in c.args.group x now.counters + c.args.rated.blocks.0 ≤ 4000000000000000000) c.requires.cycle c.requires.counted) c.requires.charges
+    subst IsAccount
+    (sym (debited_parts a c.args.session.now c.args.group c.args.cycle c.args.rated.units.0
+    c.args.rated.blocks.0 c.args.rated.amount.0 c.none-none_held.result
+    c.settle-charged.new.self c.count_blocks.new.counters.items c.count_units.new.groups.items
+    (c.requires.cycle
+    ∙ sym (ap (λ (x : AccountRows). cycle_at x.book c.args.group x.as_of) c.self.view_is))
+    c.none-none_held.ensures c.settle-charged.ensures.rows c.count_blocks.ensures
+    c.count_units.ensures
+    ∙ ap (debited_account c.args.session.now c.args.group c.args.rated.units.0 c.args.rated.blocks.0
+    c.args.rated.amount.0) c.self.view_is))
+    (IsAccount-debited now c.args.session.now c.args.group c.args.rated.units.0
+    c.args.rated.blocks.0 c.args.rated.amount.0 c.requires.used
+    (subst (λ x. count_in c.args.group x now.counters + c.args.rated.blocks.0 ≤ 4000000000000000000)
+    c.requires.cycle c.requires.counted) c.requires.charges
     (subst IsAccount c.self.view_is c.self.invariant))

@@ -16,16 +16,28 @@ use Rattle.reserving.specs.Inside.{rows_of}
 use Rattle.reserving.proofs.account.Account.close.Goals as goal
 
 pub close_groups-requires : goal.close_groups-requires
-close_groups-requires c = lapsable_of (λ s. not (is_other c.args.session.now s)) c.self.inside.rows.groups.items c.self.inside.rows.purse c.self.invariant.held
+close_groups-requires c =
+    lapsable_of (λ s. not (is_other c.args.session.now s)) c.self.inside.rows.groups.items
+    c.self.inside.rows.purse c.self.invariant.held
 
 -- the account after time went on
-advanced_is : (c : goal.After-close_session) → rows_of c.self.inside ≡ advanced c.args.moment c.args.self.now
+advanced_is : (c : goal.After-close_session) →
+    rows_of c.self.inside ≡ advanced c.args.moment c.args.self.now
 advanced_is c = c.self.view_is ∙ c.advance.ensures.rows
 
-after_is : (c : goal.After-close_session) → (let a : AccountRows = record (rows_of c.self.inside) { buckets = c.close_groups.new.purse; sessions = c.close_session.new.sessions.items; groups = c.close_groups.new.groups.items } in a) ≡ closed_account c.args.session.now (advanced c.args.moment c.args.self.now)
+after_is : (c : goal.After-close_session) →
+    (let a : AccountRows = record (rows_of c.self.inside) {
+      buckets = c.close_groups.new.purse;
+      sessions = c.close_session.new.sessions.items;
+      groups = c.close_groups.new.groups.items;
+    } in a)
+    ≡ closed_account c.args.session.now (advanced c.args.moment c.args.self.now)
 after_is c =
-    closed-parts (rows_of c.self.inside) c.args.session.now c.close_groups.new.purse c.close_session.new.sessions.items c.close_groups.new.groups.items
-    (c.close_groups.ensures.purse ∙ ap (λ t. lapsed_rows (is_other c.args.session.now) t c.self.inside.rows.groups.items c.self.inside.rows.purse) moment)
+    closed-parts (rows_of c.self.inside) c.args.session.now c.close_groups.new.purse
+    c.close_session.new.sessions.items c.close_groups.new.groups.items
+    (c.close_groups.ensures.purse
+    ∙ ap (λ t. lapsed_rows (is_other c.args.session.now) t c.self.inside.rows.groups.items
+    c.self.inside.rows.purse) moment)
     c.close_session.ensures c.close_groups.ensures.groups
     ∙ ap (closed_account c.args.session.now) (advanced_is c)
   where
@@ -36,20 +48,34 @@ account_of : (c : goal.After-close_session) → IsAccount (advanced c.args.momen
 account_of c = subst IsAccount (advanced_is c) c.self.invariant
 
 pub invariant_of-self : goal.invariant_of-self
-invariant_of-self c = subst IsAccount (sym (after_is c)) (IsAccount-closed (advanced c.args.moment c.args.self.now) c.args.session.now (account_of c))
+invariant_of-self c =
+    subst IsAccount (sym (after_is c))
+    (IsAccount-closed (advanced c.args.moment c.args.self.now) c.args.session.now (account_of c))
 
 pub returns-clause-rows : goal.returns-clause-rows
 returns-clause-rows c = after_is c
 
 pub returns-clause-ledger : goal.returns-clause-ledger
 returns-clause-ledger c = λ ledger rows.
-    let later : IsRowsOf ledger (advanced c.args.moment c.args.self.now) = subst (IsRowsOf ledger) c.advance.ensures.rows (c.advance.ensures.ledger ledger rows) in
-    let live : is_live c.args.self.now.book.validity c.args.moment ledger c.args.session.now ≡ true = sym (is_live_in-is ledger c.args.self.now c.args.moment c.args.session.now rows c.requires.later) ∙ c.requires.live in
-    subst (IsRowsOf (closed c.args.moment c.args.session.now ledger)) (sym (after_is c)) (IsRowsOf-closed ledger (advanced c.args.moment c.args.self.now) c.args.session.now (account_of c) later live)
+    let later : IsRowsOf ledger (advanced c.args.moment c.args.self.now) =
+    subst (IsRowsOf ledger) c.advance.ensures.rows (c.advance.ensures.ledger ledger rows) in
+    let live : is_live c.args.self.now.book.validity c.args.moment ledger c.args.session.now
+    ≡ true = sym
+    (is_live_in-is ledger c.args.self.now c.args.moment c.args.session.now rows
+    c.requires.later) ∙ c.requires.live in
+    subst (IsRowsOf (closed c.args.moment c.args.session.now ledger)) (sym (after_is c))
+    (IsRowsOf-closed ledger (advanced c.args.moment c.args.self.now) c.args.session.now
+    (account_of c) later live)
 
 pub returns-clause-left : goal.returns-clause-left
 returns-clause-left c = λ ledger left h.
-    let later : IsWith ledger left c.args.moment (advanced c.args.moment c.args.self.now) = subst (IsWith ledger left c.args.moment) c.advance.ensures.rows (c.advance.ensures.left ledger left h) in
-    let live : is_live_in c.args.self.now.book.validity c.args.moment (advanced c.args.moment c.args.self.now).sessions c.args.session.now ≡ true = live_later ledger left c.args.self.now c.args.session.now c.args.moment c.requires.later h later c.requires.live in
-    subst (IsWith (closed c.args.moment c.args.session.now ledger) left c.args.moment) (sym (after_is c))
+    let later : IsWith ledger left c.args.moment (advanced c.args.moment c.args.self.now) =
+    subst (IsWith ledger left c.args.moment) c.advance.ensures.rows
+    (c.advance.ensures.left ledger left h) in
+    let live : is_live_in c.args.self.now.book.validity c.args.moment
+    (advanced c.args.moment c.args.self.now).sessions c.args.session.now ≡ true =
+    live_later ledger left c.args.self.now c.args.session.now c.args.moment c.requires.later h
+    later c.requires.live in
+    subst (IsWith (closed c.args.moment c.args.session.now ledger) left c.args.moment)
+    (sym (after_is c))
     (with_closed ledger left (advanced c.args.moment c.args.self.now) c.args.session.now later live)

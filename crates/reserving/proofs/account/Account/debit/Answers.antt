@@ -1,4 +1,4 @@
-use Rattle.std.proofs.Common.{◌≡◌, true, false, sym, ap, ◌∙◌, arith}
+use Rattle.std.proofs.Common.{◌≡◌, ◌+◌, true, false, sym, ap, ◌∙◌, arith}
 use Rattle.std.specs.Ordering.{is_lt, nat_cmp}
 use Rattle.units.specs.declared.blocks.Units.{Units}
 use Rattle.units.specs.declared.money.Amount.{Amount}
@@ -22,63 +22,143 @@ use Rattle.reserving.proofs.account.Account.debit.Goals as goal
 
 pub returns-then-lt-clause-debit : goal.returns-then-lt-clause-debit
 returns-then-lt-clause-debit c = λ ledger rows.
-    let price : c.event_price-price.result.amount.0 ≡ (event_price_in c.args.group c.args.units.0 c.args.moment c.args.self.now).amount.0 = ap (λ (x : Rated). x.amount.0) c.event_price-price.ensures in
-    covered_is true ledger c.args.self.now c.args.group c.args.units.0 c.args.moment c.funds.result.0 c.event_price-price.result.amount.0 rows (c.funds.ensures.ledger ledger rows) price
+    let price : c.event_price-price.result.amount.0
+    ≡ (event_price_in c.args.group c.args.units.0 c.args.moment c.args.self.now).amount.0 =
+    ap (λ (x : Rated). x.amount.0) c.event_price-price.ensures in
+    covered_is true ledger c.args.self.now c.args.group c.args.units.0 c.args.moment
+    c.funds.result.0 c.event_price-price.result.amount.0 rows
+    (c.funds.ensures.ledger ledger rows) price
     (sym c.lt.ensures ∙ c.if-lt.true)
 
 pub returns-in_default-clause-limit : goal.returns-in_default-clause-limit
 returns-in_default-clause-limit c = λ e ledger rows.
     let a : AccountRows = c.args.self.now in
-    let price : c.event_price-price.result.amount.0 ≡ (event_price_in c.args.group c.args.units.0 c.args.moment c.args.self.now).amount.0 = ap (λ (x : Rated). x.amount.0) c.event_price-price.ensures in (
-      covered_is false ledger c.args.self.now c.args.group c.args.units.0 c.args.moment c.funds.result.0 c.event_price-price.result.amount.0 rows (c.funds.ensures.ledger ledger rows) price (sym c.lt.ensures ∙ c.if-lt.false),
-      debit_passes_is ledger c.args.self.now c.args.session.now c.args.group c.args.units.0 c.args.moment rows
-          ∙ (λ i. passes (used_in c.args.session.now c.args.group a.groups) c.args.units.0 (count_in c.args.group (cycle_at a.book c.args.group c.args.moment) a.counters) (sym c.event_price-price.ensures i).blocks a.next_charge)
+    let price : c.event_price-price.result.amount.0
+    ≡ (event_price_in c.args.group c.args.units.0 c.args.moment c.args.self.now).amount.0 =
+    ap (λ (x : Rated). x.amount.0) c.event_price-price.ensures in (
+      covered_is false ledger c.args.self.now c.args.group c.args.units.0 c.args.moment
+          c.funds.result.0 c.event_price-price.result.amount.0 rows
+          (c.funds.ensures.ledger ledger rows) price (sym c.lt.ensures ∙ c.if-lt.false),
+      debit_passes_is ledger c.args.self.now c.args.session.now c.args.group c.args.units.0
+          c.args.moment rows
+          ∙ (λ i. passes (used_in c.args.session.now c.args.group a.groups) c.args.units.0
+          (count_in c.args.group (cycle_at a.book c.args.group c.args.moment) a.counters)
+          (sym c.event_price-price.ensures i).blocks a.next_charge)
           ∙ c.within_limits.ensures.none c.in_default.is,
     )
 
 pub charge_use-charged-requires-clause-group : goal.charge_use-charged-requires-clause-group
-charge_use-charged-requires-clause-group c = there_later c.args.self.now c.advance.new.self c.args.session.now c.args.group c.cycle_at-cycle.result c.args.moment (c.advance.ensures.rows ∙ ap (advanced c.args.moment) c.in_ok-make_rows.ensures.ok)
+charge_use-charged-requires-clause-group c =
+    there_later c.args.self.now c.advance.new.self c.args.session.now c.args.group
+    c.cycle_at-cycle.result c.args.moment
+    (c.advance.ensures.rows ∙ ap (advanced c.args.moment) c.in_ok-make_rows.ensures.ok)
 
 pub charge_use-charged-requires-clause-counter : goal.charge_use-charged-requires-clause-counter
-charge_use-charged-requires-clause-counter c = counter_there c.args.self.now c.advance.new.self c.args.session.now c.args.group c.cycle_at-cycle.result c.args.moment (c.advance.ensures.rows ∙ ap (advanced c.args.moment) c.in_ok-make_rows.ensures.ok)
+charge_use-charged-requires-clause-counter c =
+    counter_there c.args.self.now c.advance.new.self c.args.session.now c.args.group
+    c.cycle_at-cycle.result c.args.moment
+    (c.advance.ensures.rows ∙ ap (advanced c.args.moment) c.in_ok-make_rows.ensures.ok)
 
 pub charge_use-charged-requires-clause-used : goal.charge_use-charged-requires-clause-used
 charge_use-charged-requires-clause-used c =
-    let same : used_in c.args.session.now c.args.group c.advance.new.self.groups ≡ used_in c.args.session.now c.args.group c.args.self.now.groups = used_middle c.args.self.now c.advance.new.self c.args.session.now c.args.group c.cycle_at-cycle.result c.args.moment (c.advance.ensures.rows ∙ ap (advanced c.args.moment) c.in_ok-make_rows.ensures.ok) in
-    let units : c.in-Some.rated.units.0 ≡ c.args.units.0 = ap (λ (x : Units). x.0) c.in-Some.ensures.units in
-    omega (arith, same, units, within_used (used_in c.args.session.now c.args.group c.args.self.now.groups) c.args.units.0 (count_in c.args.group (cycle_at c.args.self.now.book c.args.group c.args.moment) c.args.self.now.counters) c.event_price-price.result.blocks c.args.self.now.next_charge c.in-Some.ensures.some)
+    let same : used_in c.args.session.now c.args.group c.advance.new.self.groups
+    ≡ used_in c.args.session.now c.args.group c.args.self.now.groups =
+    used_middle c.args.self.now c.advance.new.self c.args.session.now c.args.group
+    c.cycle_at-cycle.result c.args.moment
+    (c.advance.ensures.rows ∙ ap (advanced c.args.moment) c.in_ok-make_rows.ensures.ok) in
+    let units : c.in-Some.rated.units.0 ≡ c.args.units.0 =
+    ap (λ (x : Units). x.0) c.in-Some.ensures.units in
+    omega (
+      arith,
+      same,
+      units,
+      within_used (used_in c.args.session.now c.args.group c.args.self.now.groups) c.args.units.0
+          (count_in c.args.group (cycle_at c.args.self.now.book c.args.group c.args.moment)
+          c.args.self.now.counters) c.event_price-price.result.blocks c.args.self.now.next_charge
+          c.in-Some.ensures.some,
+    )
 
 pub charge_use-charged-requires-clause-counted : goal.charge_use-charged-requires-clause-counted
 charge_use-charged-requires-clause-counted c =
-    let cycle : count_in c.args.group c.cycle_at-cycle.result c.args.self.now.counters ≡ count_in c.args.group (cycle_at c.args.self.now.book c.args.group c.args.moment) c.args.self.now.counters = ap (λ x. count_in c.args.group x c.args.self.now.counters) c.cycle_at-cycle.ensures in
-    let same : count_in c.args.group c.cycle_at-cycle.result c.advance.new.self.counters ≡ count_in c.args.group c.cycle_at-cycle.result c.args.self.now.counters = count_middle c.args.self.now c.advance.new.self c.args.session.now c.args.group c.cycle_at-cycle.result c.args.moment (c.advance.ensures.rows ∙ ap (advanced c.args.moment) c.in_ok-make_rows.ensures.ok) in
-    omega (arith, same, cycle, c.in-Some.ensures.blocks, within_counted (used_in c.args.session.now c.args.group c.args.self.now.groups) c.args.units.0 (count_in c.args.group (cycle_at c.args.self.now.book c.args.group c.args.moment) c.args.self.now.counters) c.event_price-price.result.blocks c.args.self.now.next_charge c.in-Some.ensures.some)
+    let cycle : count_in c.args.group c.cycle_at-cycle.result c.args.self.now.counters
+    ≡ count_in c.args.group (cycle_at c.args.self.now.book c.args.group c.args.moment)
+    c.args.self.now.counters =
+    ap (λ x. count_in c.args.group x c.args.self.now.counters) c.cycle_at-cycle.ensures in
+    let same : count_in c.args.group c.cycle_at-cycle.result c.advance.new.self.counters
+    ≡ count_in c.args.group c.cycle_at-cycle.result c.args.self.now.counters =
+    count_middle c.args.self.now c.advance.new.self c.args.session.now c.args.group
+    c.cycle_at-cycle.result c.args.moment
+    (c.advance.ensures.rows ∙ ap (advanced c.args.moment) c.in_ok-make_rows.ensures.ok) in
+    omega (
+      arith,
+      same,
+      cycle,
+      c.in-Some.ensures.blocks,
+      within_counted (used_in c.args.session.now c.args.group c.args.self.now.groups)
+          c.args.units.0
+          (count_in c.args.group (cycle_at c.args.self.now.book c.args.group c.args.moment)
+          c.args.self.now.counters) c.event_price-price.result.blocks c.args.self.now.next_charge
+          c.in-Some.ensures.some,
+    )
 
 -- the units' blocks and their price, by the rows
-started : (c : goal.After-result-4-1) → c.in-Some.rated.blocks.0 ≡ (event_price_in c.args.group c.args.units.0 c.args.moment c.args.self.now).blocks
+started : (c : goal.After-result-5-1) →
+    c.in-Some.rated.blocks.0
+    ≡ (event_price_in c.args.group c.args.units.0 c.args.moment c.args.self.now).blocks
 started c = c.in-Some.ensures.blocks ∙ ap (λ (x : Rated). x.blocks) c.event_price-price.ensures
 
-price : (c : goal.After-result-4-1) → c.in-Some.rated.amount.0 ≡ (event_price_in c.args.group c.args.units.0 c.args.moment c.args.self.now).amount.0
-price c = ap (λ (x : Amount). x.0) c.in-Some.ensures.amount ∙ ap (λ (x : Rated). x.amount.0) c.event_price-price.ensures
+price : (c : goal.After-result-5-1) →
+    c.in-Some.rated.amount.0
+    ≡ (event_price_in c.args.group c.args.units.0 c.args.moment c.args.self.now).amount.0
+price c =
+    ap (λ (x : Amount). x.0) c.in-Some.ensures.amount
+    ∙ ap (λ (x : Rated). x.amount.0) c.event_price-price.ensures
 
-brought : (c : goal.After-result-4-1) → c.advance.new.self ≡ advanced c.args.moment (with_rows c.args.session.now c.args.group c.cycle_at-cycle.result c.args.self.now)
+brought : (c : goal.After-result-5-1) →
+    c.advance.new.self
+    ≡ advanced c.args.moment
+    (with_rows c.args.session.now c.args.group c.cycle_at-cycle.result c.args.self.now)
 brought c = c.advance.ensures.rows ∙ ap (advanced c.args.moment) c.in_ok-make_rows.ensures.ok
 
-debited : (c : goal.After-result-4-1) → c.charge_use-charged.new.self ≡ debited_account c.args.session.now c.args.group c.args.units.0 c.in-Some.rated.blocks.0 c.in-Some.rated.amount.0 c.advance.new.self
+debited : (c : goal.After-result-5-1) →
+    c.charge_use-charged.new.self
+    ≡ debited_account c.args.session.now c.args.group c.args.units.0 c.in-Some.rated.blocks.0
+    c.in-Some.rated.amount.0 c.advance.new.self
 debited c =
-    c.charge_use-charged.ensures.rows ∙ (λ i. debited_account c.args.session.now c.args.group (c.in-Some.ensures.units i).0 c.in-Some.rated.blocks.0 c.in-Some.rated.amount.0 c.advance.new.self)
+    c.charge_use-charged.ensures.rows
+    ∙ (λ i. debited_account c.args.session.now c.args.group (c.in-Some.ensures.units i).0
+    c.in-Some.rated.blocks.0 c.in-Some.rated.amount.0 c.advance.new.self)
 
-abbrev answered : (c : goal.After-result-4-1) → Settled
-answered c = record { blocks = c.in-Some.rated.blocks; rated = c.in-Some.rated.amount; collected = c.charge_use-charged.result.collected; uncollected = c.charge_use-charged.result.uncollected }
+abbrev Sums : (c : goal.After-result-5-1) → Type 0
+Sums c =
+    c.charge_use-charged.result.collected.0 + c.charge_use-charged.result.uncollected.0
+    ≡ c.in-Some.rated.amount.0
 
-made : (c : goal.After-result-4-1) → IsDebitMade c.args.self.now c.advance.new.self c.charge_use-charged.new.self c.args.session.now c.args.group c.cycle_at-cycle.result c.args.moment c.args.units.0 c.funds.result.0 (answered c)
-made c =
+abbrev answered : (c : goal.After-result-5-1) → Sums c → Settled
+answered c sum =
+    record {
+      blocks = c.in-Some.rated.blocks;
+      rated = c.in-Some.rated.amount;
+      collected = c.charge_use-charged.result.collected;
+      uncollected = c.charge_use-charged.result.uncollected;
+      sum = sum;
+    }
+
+made : (c : goal.After-result-5-1) (sum : Sums c) →
+    IsDebitMade c.args.self.now c.advance.new.self c.charge_use-charged.new.self c.args.session.now
+    c.args.group c.cycle_at-cycle.result c.args.moment c.args.units.0 c.funds.result.0
+    (answered c sum)
+made c sum =
     let a : AccountRows = c.args.self.now in
     record {
       later = c.requires;
       cycle = c.cycle_at-cycle.ensures;
-      covers = ap (λ (x : Amount). is_lt (nat_cmp c.funds.result.0 x.0)) c.in-Some.ensures.amount ∙ sym c.lt.ensures ∙ c.if-lt.false;
-      fits = ap (λ (x : Rated). passes (used_in c.args.session.now c.args.group a.groups) c.args.units.0 (count_in c.args.group (cycle_at a.book c.args.group c.args.moment) a.counters) x.blocks a.next_charge) (sym c.event_price-price.ensures) ∙ c.in-Some.ensures.some;
+      covers = ap (λ (x : Amount). is_lt (nat_cmp c.funds.result.0 x.0)) c.in-Some.ensures.amount
+          ∙ sym c.lt.ensures ∙ c.if-lt.false;
+      fits = ap
+          (λ (x : Rated). passes (used_in c.args.session.now c.args.group a.groups) c.args.units.0
+          (count_in c.args.group (cycle_at a.book c.args.group c.args.moment) a.counters) x.blocks
+          a.next_charge) (sym c.event_price-price.ensures) ∙ c.in-Some.ensures.some;
       started = started c;
       price = price c;
       brought = brought c;
@@ -89,43 +169,69 @@ made c =
 
 pub returns-clause-debit : goal.returns-clause-debit
 returns-clause-debit c = λ ledger rows.
-    debit_is ledger c.args.self.now c.advance.new.self c.charge_use-charged.new.self c.args.session.now c.args.group c.cycle_at-cycle.result c.args.moment c.args.units.0 c.funds.result.0 (answered c)
-    c.in-Some.ensures.account rows (c.funds.ensures.ledger ledger rows) (made c)
+    debit_is ledger c.args.self.now c.advance.new.self c.charge_use-charged.new.self
+    c.args.session.now c.args.group c.cycle_at-cycle.result c.args.moment c.args.units.0
+    c.funds.result.0 (answered c _)
+    c.in-Some.ensures.account rows (c.funds.ensures.ledger ledger rows) (made c _)
 
 pub returns-clause-new : goal.returns-clause-new
 returns-clause-new c = λ x h.
-    let middle : c.charge_use-charged.new.self.sessions ≡ (advanced c.args.moment c.args.self.now).sessions =
-    ap (λ (a : AccountRows). a.sessions) (c.charge_use-charged.ensures.rows ∙ ap (debited_account c.args.session.now c.args.group c.in-Some.rated.units.0 c.in-Some.rated.blocks.0 c.in-Some.rated.amount.0) (c.advance.ensures.rows ∙ ap (advanced c.args.moment) c.in_ok-make_rows.ensures.ok)) in
+    let middle : c.charge_use-charged.new.self.sessions
+    ≡ (advanced c.args.moment c.args.self.now).sessions =
+    ap (λ (a : AccountRows). a.sessions)
+    (c.charge_use-charged.ensures.rows
+    ∙ ap (debited_account c.args.session.now c.args.group c.in-Some.rated.units.0
+    c.in-Some.rated.blocks.0 c.in-Some.rated.amount.0)
+    (c.advance.ensures.rows ∙ ap (advanced c.args.moment) c.in_ok-make_rows.ensures.ok)) in
     ap (session_in x) middle ∙ session_in-advanced x c.args.moment c.args.self.now h
 
 pub returns-clause-number : goal.returns-clause-number
 returns-clause-number c =
-    charge-numbered (used_in c.args.session.now c.args.group c.args.self.now.groups) c.args.units.0 (count_in c.args.group (cycle_at c.args.self.now.book c.args.group c.args.moment) c.args.self.now.counters) c.event_price-price.result.blocks c.args.self.now.next_charge c.in-Some.ensures.some
+    charge-numbered (used_in c.args.session.now c.args.group c.args.self.now.groups) c.args.units.0
+    (count_in c.args.group (cycle_at c.args.self.now.book c.args.group c.args.moment)
+    c.args.self.now.counters) c.event_price-price.result.blocks c.args.self.now.next_charge
+    c.in-Some.ensures.some
 
 pub returns-then-lt-clause-left : goal.returns-then-lt-clause-left
 returns-then-lt-clause-left c = λ ledger left gone h.
-    let price : c.event_price-price.result.amount.0 ≡ (event_price_in c.args.group c.args.units.0 c.args.moment c.args.self.now).amount.0 = ap (λ (x : Rated). x.amount.0) c.event_price-price.ensures in (
+    let price : c.event_price-price.result.amount.0
+    ≡ (event_price_in c.args.group c.args.units.0 c.args.moment c.args.self.now).amount.0 =
+    ap (λ (x : Rated). x.amount.0) c.event_price-price.ensures in (
       record { apart = h.apart; cycles = h.cycles },
-      covered_beside true ledger left c.args.moment c.args.self.now c.args.group c.args.units.0 c.funds.result.0 c.event_price-price.result.amount.0 h (c.funds.ensures.left ledger left h) price (sym c.lt.ensures ∙ c.if-lt.true),
+      covered_beside true ledger left c.args.moment c.args.self.now c.args.group c.args.units.0
+          c.funds.result.0 c.event_price-price.result.amount.0 h
+          (c.funds.ensures.left ledger left h) price (sym c.lt.ensures ∙ c.if-lt.true),
     )
 
 pub returns-in_default-clause-limit_left : goal.returns-in_default-clause-limit_left
 returns-in_default-clause-limit_left c = λ e ledger left gone h.
     let a : AccountRows = c.args.self.now in
-    let price : c.event_price-price.result.amount.0 ≡ (event_price_in c.args.group c.args.units.0 c.args.moment c.args.self.now).amount.0 = ap (λ (x : Rated). x.amount.0) c.event_price-price.ensures in (
-      covered_beside false ledger left c.args.moment a c.args.group c.args.units.0 c.funds.result.0 c.event_price-price.result.amount.0 h (c.funds.ensures.left ledger left h) price (sym c.lt.ensures ∙ c.if-lt.false),
-      debit_passes_told ledger left c.args.moment a c.args.session.now c.args.group c.args.units.0 (none_each (is_of c.args.session.now c.args.group) left.groups gone) h
-          ∙ (λ i. passes (used_in c.args.session.now c.args.group a.groups) c.args.units.0 (count_in c.args.group (cycle_at a.book c.args.group c.args.moment) a.counters) (sym c.event_price-price.ensures i).blocks a.next_charge)
+    let price : c.event_price-price.result.amount.0
+    ≡ (event_price_in c.args.group c.args.units.0 c.args.moment c.args.self.now).amount.0 =
+    ap (λ (x : Rated). x.amount.0) c.event_price-price.ensures in (
+      covered_beside false ledger left c.args.moment a c.args.group c.args.units.0 c.funds.result.0
+          c.event_price-price.result.amount.0 h (c.funds.ensures.left ledger left h) price
+          (sym c.lt.ensures ∙ c.if-lt.false),
+      debit_passes_told ledger left c.args.moment a c.args.session.now c.args.group c.args.units.0
+          (none_each (is_of c.args.session.now c.args.group) left.groups gone) h
+          ∙ (λ i. passes (used_in c.args.session.now c.args.group a.groups) c.args.units.0
+          (count_in c.args.group (cycle_at a.book c.args.group c.args.moment) a.counters)
+          (sym c.event_price-price.ensures i).blocks a.next_charge)
           ∙ c.within_limits.ensures.none c.in_default.is,
     )
 
 pub returns-clause-left : goal.returns-clause-left
 returns-clause-left c = λ ledger left gone h.
-    debit_beside ledger left c.args.self.now c.advance.new.self c.charge_use-charged.new.self c.args.session.now c.args.group c.cycle_at-cycle.result c.args.moment c.args.units.0 c.funds.result.0 (answered c)
-    h gone (c.funds.ensures.left ledger left h) (made c)
+    debit_beside ledger left c.args.self.now c.advance.new.self c.charge_use-charged.new.self
+    c.args.session.now c.args.group c.cycle_at-cycle.result c.args.moment c.args.units.0
+    c.funds.result.0 (answered c _)
+    h gone (c.funds.ensures.left ledger left h) (made c _)
 
 pub returns-clause-by_rows : goal.returns-clause-by_rows
 returns-clause-by_rows c =
     let a : AccountRows = c.args.self.now in
-    debited_is a c.advance.new.self c.charge_use-charged.new.self c.args.session.now c.args.group c.cycle_at-cycle.result c.args.moment c.args.units.0 c.in-Some.rated.blocks.0 c.in-Some.rated.amount.0 c.cycle_at-cycle.ensures (brought c) (debited c)
-    ∙ (λ i. debited_account c.args.session.now c.args.group c.args.units.0 (started c i) (price c i) (advanced c.args.moment a))
+    debited_is a c.advance.new.self c.charge_use-charged.new.self c.args.session.now c.args.group
+    c.cycle_at-cycle.result c.args.moment c.args.units.0 c.in-Some.rated.blocks.0
+    c.in-Some.rated.amount.0 c.cycle_at-cycle.ensures (brought c) (debited c)
+    ∙ (λ i. debited_account c.args.session.now c.args.group c.args.units.0 (started c i) (price c i)
+    (advanced c.args.moment a))

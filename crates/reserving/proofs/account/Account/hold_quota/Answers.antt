@@ -11,14 +11,25 @@ use Rattle.reserving.proofs.account.Account.hold_quota.Goals as goal
 pub invariant_of-self : goal.invariant_of-self
 invariant_of-self c =
     let a : AccountRows = rows_of c.self.inside in
-    let none : reservation_in c.args.session.now c.args.group a.groups ≡ None = subst (λ (x : AccountRows). reservation_in c.args.session.now c.args.group x.groups ≡ None) (sym c.self.view_is) c.requires.free in
-    let periods : c.args.periods ≡ periods_at a.book a.as_of = subst (λ (x : AccountRows). c.args.periods ≡ periods_at x.book x.as_of) (sym c.self.view_is) c.requires.periods in
-    subst IsAccount (sym (reserved_parts a c.args.session.now c.args.group c.args.amount.0 c.args.periods c.hold_in-holds.result c.hold_in-holds.new.self c.reserve_group.new.groups.items periods c.hold_in-holds.ensures.rows c.hold_in-holds.ensures.holds c.reserve_group.ensures))
+    let none : reservation_in c.args.session.now c.args.group a.groups ≡ None =
+    subst (λ (x : AccountRows). reservation_in c.args.session.now c.args.group x.groups ≡ None)
+    (sym c.self.view_is) c.requires.free in
+    let periods : c.args.periods ≡ periods_at a.book a.as_of =
+    subst (λ (x : AccountRows). c.args.periods ≡ periods_at x.book x.as_of) (sym c.self.view_is)
+    c.requires.periods in
+    subst IsAccount
+    (sym (reserved_parts a c.args.session.now c.args.group c.args.amount.0 c.args.periods
+    c.hold_in-holds.result c.hold_in-holds.new.self c.reserve_group.new.groups.items periods
+    c.hold_in-holds.ensures.rows c.hold_in-holds.ensures.holds c.reserve_group.ensures))
     (IsAccount-reserved a c.args.session.now c.args.group c.args.amount.0 none c.self.invariant)
 
 pub returns : goal.returns
 returns c =
     let a : AccountRows = rows_of c.self.inside in
-    let periods : c.args.periods ≡ periods_at a.book a.as_of = subst (λ (x : AccountRows). c.args.periods ≡ periods_at x.book x.as_of) (sym c.self.view_is) c.requires.periods in
-    reserved_parts a c.args.session.now c.args.group c.args.amount.0 c.args.periods c.hold_in-holds.result c.hold_in-holds.new.self c.reserve_group.new.groups.items periods c.hold_in-holds.ensures.rows c.hold_in-holds.ensures.holds c.reserve_group.ensures
+    let periods : c.args.periods ≡ periods_at a.book a.as_of =
+    subst (λ (x : AccountRows). c.args.periods ≡ periods_at x.book x.as_of) (sym c.self.view_is)
+    c.requires.periods in
+    reserved_parts a c.args.session.now c.args.group c.args.amount.0 c.args.periods
+    c.hold_in-holds.result c.hold_in-holds.new.self c.reserve_group.new.groups.items periods
+    c.hold_in-holds.ensures.rows c.hold_in-holds.ensures.holds c.reserve_group.ensures
     ∙ ap (reserved_account c.args.session.now c.args.group c.args.amount.0) c.self.view_is

@@ -7,4 +7,5 @@ use Rattle.reserving.proofs.account.Account.make_row.Goals as goal
 pub invariant_of-self-2 : goal.invariant_of-self-2
 invariant_of-self-2 c =
     let a : AccountRows = rows_of c.self.inside in
-    subst IsAccount (λ i. record a { groups = sym c.in_ok-add_group.ensures.ok i }) (IsAccount-with_group_row a c.args.session.now c.args.group c.self.invariant)
+    subst IsAccount (λ i. record a { groups = sym c.in_ok-add_group.ensures.ok i })
+    (IsAccount-with_group_row a c.args.session.now c.args.group c.self.invariant)

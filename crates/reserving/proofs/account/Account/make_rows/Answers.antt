@@ -8,6 +8,10 @@ use Rattle.reserving.proofs.account.Account.make_rows.Goals as goal
 pub invariant_of-self-2 : goal.invariant_of-self-2
 invariant_of-self-2 c =
     let a : AccountRows = rows_of c.self.inside in
-    let counters : c.add_counter.new.counters.items ≡ with_counter c.args.group c.args.cycle a.counters = c.add_counter.ensures ∙ ap (with_counter c.args.group c.args.cycle) c.in_ok-reserve.ensures.items in
-    subst IsAccount (λ i. record a { counters = sym counters i; groups = sym c.in_ok-add_group.ensures.ok i })
+    let counters : c.add_counter.new.counters.items
+    ≡ with_counter c.args.group c.args.cycle a.counters =
+    c.add_counter.ensures
+    ∙ ap (with_counter c.args.group c.args.cycle) c.in_ok-reserve.ensures.items in
+    subst IsAccount
+    (λ i. record a { counters = sym counters i; groups = sym c.in_ok-add_group.ensures.ok i })
     (IsAccount-with_rows a c.args.session.now c.args.group c.args.cycle c.self.invariant)

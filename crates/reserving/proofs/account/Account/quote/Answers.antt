@@ -6,8 +6,12 @@ use Rattle.reserving.proofs.account.Account.quote.Goals as goal
 
 pub returns-clause-ledger : goal.returns-clause-ledger
 returns-clause-ledger c = λ ledger rows.
-    ap (λ (x : Rated). x.amount.0) (c.event_price.ensures ∙ event_price_is ledger c.args.self.now c.args.group c.args.units.0 c.args.moment rows)
+    ap (λ (x : Rated). x.amount.0)
+    (c.event_price.ensures
+    ∙ event_price_is ledger c.args.self.now c.args.group c.args.units.0 c.args.moment rows)
 
 pub returns-clause-left : goal.returns-clause-left
 returns-clause-left c = λ ledger left h.
-    ap (λ (x : Rated). x.amount.0) (c.event_price.ensures ∙ event_price_told ledger left c.args.moment c.args.self.now c.args.group c.args.units.0 h)
+    ap (λ (x : Rated). x.amount.0)
+    (c.event_price.ensures
+    ∙ event_price_told ledger left c.args.moment c.args.self.now c.args.group c.args.units.0 h)

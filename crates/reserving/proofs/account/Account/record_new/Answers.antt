@@ -8,25 +8,56 @@ use Rattle.reserving.specs.Inside.{rows_of}
 use Rattle.reserving.proofs.account.Account.record_new.Goals as goal
 
 abbrev new_row : (c : goal.After-push_reserved) → Session
-new_row c = record { id = c.in_ok-id.id; last_number = c.args.number; touched = c.args.moment; state = c.args.state }
+new_row c =
+    record {
+      id = c.in_ok-id.id;
+      last_number = c.args.number;
+      touched = c.args.moment;
+      state = c.args.state;
+    }
 
-is_new : (c : goal.After-push_reserved) → session_in c.args.session.now c.self.inside.rows.sessions.items ≡ None
-is_new c = ap (λ (a : AccountRows). session_in c.args.session.now a.sessions) c.self.view_is ∙ c.requires
+is_new : (c : goal.After-push_reserved) →
+    session_in c.args.session.now c.self.inside.rows.sessions.items ≡ None
+is_new c = ap (λ (a : AccountRows). session_in c.args.session.now a.sessions) c.self.view_is
+    ∙ c.requires
 
-sessions_are : (c : goal.After-push_reserved) → c.push_reserved.new.self.items ≡ (with_session c.args.session.now c.args.number c.args.moment c.args.state (rows_of c.self.inside)).sessions
+sessions_are : (c : goal.After-push_reserved) →
+    c.push_reserved.new.self.items
+    ≡ (with_session c.args.session.now c.args.number c.args.moment c.args.state
+    (rows_of c.self.inside)).sessions
 sessions_are c =
-    let row : Session = record { id = c.args.session.now; last_number = c.args.number; touched = c.args.moment; state = c.args.state } in
+    let row : Session =
+    record {
+      id = c.args.session.now;
+      last_number = c.args.number;
+      touched = c.args.moment;
+      state = c.args.state;
+    } in
     c.push_reserved.ensures.items
     ∙ ap (λ xs. xs ++ new_row c ∷ []) c.reserve.ensures.items
-    ∙ ap (λ id. c.self.inside.rows.sessions.items ++ record { id = id; last_number = c.args.number; touched = c.args.moment; state = c.args.state } ∷ []) c.in_ok-id.ensures
+    ∙ ap (λ id. c.self.inside.rows.sessions.items
+    ++ record {
+      id = id;
+      last_number = c.args.number;
+      touched = c.args.moment;
+      state = c.args.state;
+    } ∷ []) c.in_ok-id.ensures
     ∙ sym (put_new (is_session c.args.session.now) row c.self.inside.rows.sessions.items (is_new c))
 
-after_is : (c : goal.After-push_reserved) → (let a : AccountRows = record (rows_of c.self.inside) { sessions = c.push_reserved.new.self.items } in a) ≡ with_session c.args.session.now c.args.number c.args.moment c.args.state (rows_of c.self.inside)
+after_is : (c : goal.After-push_reserved) →
+    (let a : AccountRows =
+    record (rows_of c.self.inside) { sessions = c.push_reserved.new.self.items } in a)
+    ≡ with_session c.args.session.now c.args.number c.args.moment c.args.state
+    (rows_of c.self.inside)
 after_is c = λ i. record (rows_of c.self.inside) { sessions = sessions_are c i }
 
 pub invariant_of-self-2 : goal.invariant_of-self-2
 invariant_of-self-2 c =
-    subst IsAccount (sym (after_is c)) (IsAccount-with_session (rows_of c.self.inside) c.args.session.now c.args.number c.args.moment c.args.state (is_new c) c.self.invariant)
+    subst IsAccount (sym (after_is c))
+    (IsAccount-with_session (rows_of c.self.inside) c.args.session.now c.args.number
+    c.args.moment c.args.state (is_new c) c.self.invariant)
 
 pub returns-clause-rows : goal.returns-clause-rows
-returns-clause-rows c = after_is c ∙ ap (with_session c.args.session.now c.args.number c.args.moment c.args.state) c.self.view_is
+returns-clause-rows c =
+    after_is c
+    ∙ ap (with_session c.args.session.now c.args.number c.args.moment c.args.state) c.self.view_is

@@ -16,35 +16,62 @@ use Rattle.reserving.proofs.left.Granted.{nothing_beside, grant_beside}
 use Rattle.reserving.proofs.account.Account.reserve.Goals as goal
 
 -- the quota that was reckoned with the window's periods
-quota_is : (a : AccountRows) (s : List ℕ) (g t : ℕ) (requested : Option ℕ) (units : ℕ) (grant : Grant) (periods : Periods) → periods ≡ periods_at a.book t →
-    IsQuota a.book (used_in s g a.groups) g requested periods (count_in g (cycle_at a.book g t) a.counters) (funds g t (advanced t a).buckets) units grant → QuotaOf a s g t requested units grant
+quota_is : (a : AccountRows) (s : List ℕ) (g t : ℕ) (requested : Option ℕ) (units : ℕ)
+    (grant : Grant) (periods : Periods) → periods ≡ periods_at a.book t →
+    IsQuota a.book (used_in s g a.groups) g requested periods
+    (count_in g (cycle_at a.book g t) a.counters) (funds g t (advanced t a).buckets) units grant
+    → QuotaOf a s g t requested units grant
 quota_is a s g t requested units grant periods is q =
-    subst (λ p. IsQuota a.book (used_in s g a.groups) g requested p (count_in g (cycle_at a.book g t) a.counters) (funds g t (advanced t a).buckets) units grant) is q
+    subst (λ p. IsQuota a.book (used_in s g a.groups) g requested p
+    (count_in g (cycle_at a.book g t) a.counters) (funds g t (advanced t a).buckets) units
+    grant) is q
 
 pub returns-then-quota-eq0-clause-rows : goal.returns-then-quota-eq0-clause-rows
 returns-then-quota-eq0-clause-rows c = λ ledger rows.
     let a : AccountRows = c.args.self.now in
     let requested : Option ℕ = option_map (λ (u : Units). u.0) c.args.requested in
-    let periods : c.window_at-window.result.periods ≡ periods_at a.book c.args.moment = c.window_at-window.ensures.periods ∙ ap (λ (x : AccountRows). periods_at x.book c.args.moment) c.self.view_is in
-    let q : QuotaOf a c.args.session.now c.args.group c.args.moment requested c.quota-quota.result.wanted c.quota-quota.result.grant = quota_is a c.args.session.now c.args.group c.args.moment requested c.quota-quota.result.wanted c.quota-quota.result.grant c.window_at-window.result.periods periods c.quota-quota.ensures.quota in (
-      sym (ap (λ (x : Grant). x.units.0) (grant_told ledger a c.args.session.now c.args.group c.args.moment requested c.quota-quota.result.wanted c.quota-quota.result.grant c.quota-quota.ensures.account rows c.requires.moment q)) ∙ c.if-quota-eq0.true,
+    let periods : c.window_at-window.result.periods ≡ periods_at a.book c.args.moment =
+    c.window_at-window.ensures.periods
+    ∙ ap (λ (x : AccountRows). periods_at x.book c.args.moment) c.self.view_is in
+    let q : QuotaOf a c.args.session.now c.args.group c.args.moment requested
+    c.quota-quota.result.wanted c.quota-quota.result.grant =
+    quota_is a c.args.session.now c.args.group c.args.moment requested
+    c.quota-quota.result.wanted c.quota-quota.result.grant c.window_at-window.result.periods
+    periods c.quota-quota.ensures.quota in (
+      sym (ap (λ (x : Grant). x.units.0)
+          (grant_told ledger a c.args.session.now c.args.group c.args.moment requested
+          c.quota-quota.result.wanted c.quota-quota.result.grant c.quota-quota.ensures.account rows
+          c.requires.moment q)) ∙ c.if-quota-eq0.true,
       c.advance.ensures.ledger ledger rows,
     )
 
 pub hold_quota-requires-clause-there : goal.hold_quota-requires-clause-there
-hold_quota-requires-clause-there c = group_there c.args.self.now c.advance-2.new.self c.args.session.now c.args.group c.args.moment (c.advance-2.ensures.rows ∙ ap (advanced c.args.moment) c.in_ok-room.ensures.ok)
+hold_quota-requires-clause-there c =
+    group_there c.args.self.now c.advance-2.new.self c.args.session.now c.args.group c.args.moment
+    (c.advance-2.ensures.rows ∙ ap (advanced c.args.moment) c.in_ok-room.ensures.ok)
 
 pub hold_quota-requires-clause-free : goal.hold_quota-requires-clause-free
-hold_quota-requires-clause-free c = free_middle c.args.self.now c.advance-2.new.self c.args.session.now c.args.group c.args.moment c.requires.free (c.advance-2.ensures.rows ∙ ap (advanced c.args.moment) c.in_ok-room.ensures.ok)
+hold_quota-requires-clause-free c =
+    free_middle c.args.self.now c.advance-2.new.self c.args.session.now c.args.group c.args.moment
+    c.requires.free (c.advance-2.ensures.rows ∙ ap (advanced c.args.moment) c.in_ok-room.ensures.ok)
 
 pub hold_quota-requires-clause-covered : goal.hold_quota-requires-clause-covered
 hold_quota-requires-clause-covered c =
     let a : AccountRows = c.args.self.now in
     let requested : Option ℕ = option_map (λ (u : Units). u.0) c.args.requested in
-    let periods : c.window_at-window.result.periods ≡ periods_at a.book c.args.moment = c.window_at-window.ensures.periods ∙ ap (λ (x : AccountRows). periods_at x.book c.args.moment) c.self.view_is in
-    let q : QuotaOf a c.args.session.now c.args.group c.args.moment requested c.quota-quota.result.wanted c.quota-quota.result.grant = quota_is a c.args.session.now c.args.group c.args.moment requested c.quota-quota.result.wanted c.quota-quota.result.grant c.window_at-window.result.periods periods c.quota-quota.ensures.quota in
-    covered_middle a c.advance-2.new.self c.args.session.now c.args.group c.args.moment c.quota-quota.result.grant.amount.0
-    (quota_covered a c.args.session.now c.args.group c.args.moment requested c.quota-quota.result.wanted c.quota-quota.result.grant q) (c.advance-2.ensures.rows ∙ ap (advanced c.args.moment) c.in_ok-room.ensures.ok)
+    let periods : c.window_at-window.result.periods ≡ periods_at a.book c.args.moment =
+    c.window_at-window.ensures.periods
+    ∙ ap (λ (x : AccountRows). periods_at x.book c.args.moment) c.self.view_is in
+    let q : QuotaOf a c.args.session.now c.args.group c.args.moment requested
+    c.quota-quota.result.wanted c.quota-quota.result.grant =
+    quota_is a c.args.session.now c.args.group c.args.moment requested
+    c.quota-quota.result.wanted c.quota-quota.result.grant c.window_at-window.result.periods
+    periods c.quota-quota.ensures.quota in
+    covered_middle a c.advance-2.new.self c.args.session.now c.args.group c.args.moment
+    c.quota-quota.result.grant.amount.0
+    (quota_covered a c.args.session.now c.args.group c.args.moment requested
+    c.quota-quota.result.wanted c.quota-quota.result.grant q)
+    (c.advance-2.ensures.rows ∙ ap (advanced c.args.moment) c.in_ok-room.ensures.ok)
 
 -- what a grant of some units comes from
 abbrev requested_units : (c : goal.After-struct_known-2-1) → Option ℕ
@@ -53,63 +80,107 @@ requested_units c = option_map (λ (u : Units). u.0) c.args.requested
 abbrev granted : (c : goal.After-struct_known-2-1) → Grant
 granted c = c.quota-quota.result.grant
 
-quota_told : (c : goal.After-struct_known-2-1) → QuotaOf c.args.self.now c.args.session.now c.args.group c.args.moment (requested_units c) c.quota-quota.result.wanted (granted c)
+quota_told : (c : goal.After-struct_known-2-1) →
+    QuotaOf c.args.self.now c.args.session.now c.args.group c.args.moment (requested_units c)
+    c.quota-quota.result.wanted (granted c)
 quota_told c =
-    quota_is c.args.self.now c.args.session.now c.args.group c.args.moment (requested_units c) c.quota-quota.result.wanted (granted c) c.window_at-window.result.periods
-    (c.window_at-window.ensures.periods ∙ ap (λ (x : AccountRows). periods_at x.book c.args.moment) c.self.view_is) c.quota-quota.ensures.quota
+    quota_is c.args.self.now c.args.session.now c.args.group c.args.moment (requested_units c)
+    c.quota-quota.result.wanted (granted c) c.window_at-window.result.periods
+    (c.window_at-window.ensures.periods
+    ∙ ap (λ (x : AccountRows). periods_at x.book c.args.moment) c.self.view_is)
+    c.quota-quota.ensures.quota
 
 some_units : (c : goal.After-struct_known-2-1) → 0 < (granted c).units.0
 some_units c = omega (arith, c.if-quota-eq0.false)
 
-switch : (c : goal.After-struct_known-2-1) → c.window_at-window.result.switch ≡ switch_at c.args.self.now.book c.args.moment
-switch c = c.window_at-window.ensures.switch ∙ ap (λ (x : AccountRows). switch_at x.book c.args.moment) c.self.view_is
+switch : (c : goal.After-struct_known-2-1) →
+    c.window_at-window.result.switch ≡ switch_at c.args.self.now.book c.args.moment
+switch c =
+    c.window_at-window.ensures.switch
+    ∙ ap (λ (x : AccountRows). switch_at x.book c.args.moment) c.self.view_is
 
-validity : (c : goal.After-struct_known-2-1) → c.window_at-window.result.validity ≡ validity_at c.args.self.now.book c.args.moment
-validity c = c.window_at-window.ensures.validity ∙ ap (λ (x : AccountRows). validity_at x.book c.args.moment) c.self.view_is
+validity : (c : goal.After-struct_known-2-1) →
+    c.window_at-window.result.validity ≡ validity_at c.args.self.now.book c.args.moment
+validity c =
+    c.window_at-window.ensures.validity
+    ∙ ap (λ (x : AccountRows). validity_at x.book c.args.moment) c.self.view_is
 
-brought : (c : goal.After-struct_known-2-1) → c.advance-2.new.self ≡ advanced c.args.moment (with_group_row c.args.session.now c.args.group c.args.self.now)
+brought : (c : goal.After-struct_known-2-1) →
+    c.advance-2.new.self
+    ≡ advanced c.args.moment (with_group_row c.args.session.now c.args.group c.args.self.now)
 brought c = c.advance-2.ensures.rows ∙ ap (advanced c.args.moment) c.in_ok-room.ensures.ok
 
 pub returns-clause-rows : goal.returns-clause-rows
 returns-clause-rows c = λ ledger rows.
-    grant_is ledger c.args.self.now c.advance-2.new.self c.hold_quota.new.self c.args.session.now c.args.group c.args.moment (requested_units c) c.quota-quota.result.wanted (granted c)
-    c.window_at-window.result.switch c.window_at-window.result.validity (nat_lt (granted c).units.0 c.quota-quota.result.wanted)
-    c.quota-quota.ensures.account rows c.requires.moment c.requires.live c.requires.free (quota_told c) (some_units c) (switch c) (validity c) refl (brought c) c.hold_quota.ensures
+    grant_is ledger c.args.self.now c.advance-2.new.self c.hold_quota.new.self c.args.session.now
+    c.args.group c.args.moment (requested_units c) c.quota-quota.result.wanted (granted c)
+    c.window_at-window.result.switch c.window_at-window.result.validity
+    (nat_lt (granted c).units.0 c.quota-quota.result.wanted)
+    c.quota-quota.ensures.account rows c.requires.moment c.requires.live c.requires.free
+    (quota_told c) (some_units c) (switch c) (validity c) refl (brought c) c.hold_quota.ensures
 
 pub returns-clause-within : goal.returns-clause-within
 returns-clause-within c =
     let some : 0 < c.quota-quota.result.grant.units.0 = omega (arith, c.if-quota-eq0.false) in
-    within_grant c.args.self.now.book (used_in c.args.session.now c.args.group c.args.self.now.groups) c.args.group (option_map (λ (u : Units). u.0) c.args.requested) c.window_at-window.result.periods _ _ c.quota-quota.result.wanted c.quota-quota.result.grant c.quota-quota.ensures.quota some
+    within_grant c.args.self.now.book
+    (used_in c.args.session.now c.args.group c.args.self.now.groups) c.args.group
+    (option_map (λ (u : Units). u.0) c.args.requested) c.window_at-window.result.periods _ _
+    c.quota-quota.result.wanted c.quota-quota.result.grant c.quota-quota.ensures.quota some
 
 pub returns-clause-others : goal.returns-clause-others
 returns-clause-others c = λ g n h.
-    others_reserved c.args.self.now c.advance-2.new.self c.hold_quota.new.self c.args.session.now g c.args.group c.args.moment c.quota-quota.result.grant.amount.0
-    (c.advance-2.ensures.rows ∙ ap (advanced c.args.moment) c.in_ok-room.ensures.ok) c.hold_quota.ensures n h
+    others_reserved c.args.self.now c.advance-2.new.self c.hold_quota.new.self c.args.session.now g
+    c.args.group c.args.moment c.quota-quota.result.grant.amount.0
+    (c.advance-2.ensures.rows ∙ ap (advanced c.args.moment) c.in_ok-room.ensures.ok)
+    c.hold_quota.ensures n h
 
 pub returns-then-quota-eq0-clause-others : goal.returns-then-quota-eq0-clause-others
-returns-then-quota-eq0-clause-others c = λ g n h. others_advanced c.args.self.now c.advance.new.self c.args.session.now g c.args.moment c.advance.ensures.rows h
+returns-then-quota-eq0-clause-others c =
+    λ g n h. others_advanced c.args.self.now c.advance.new.self c.args.session.now g c.args.moment
+    c.advance.ensures.rows h
 
 pub returns-clause-sessions : goal.returns-clause-sessions
 returns-clause-sessions c =
-    ap (λ (x : AccountRows). x.sessions) (c.hold_quota.ensures ∙ ap (reserved_account c.args.session.now c.args.group c.quota-quota.result.grant.amount.0)
+    ap (λ (x : AccountRows). x.sessions)
+    (c.hold_quota.ensures
+    ∙ ap (reserved_account c.args.session.now c.args.group c.quota-quota.result.grant.amount.0)
     (c.advance-2.ensures.rows ∙ ap (advanced c.args.moment) c.in_ok-room.ensures.ok))
 
 pub returns-then-quota-eq0-clause-sessions : goal.returns-then-quota-eq0-clause-sessions
-returns-then-quota-eq0-clause-sessions c = ap (λ (x : AccountRows). x.sessions) c.advance.ensures.rows
+returns-then-quota-eq0-clause-sessions c =
+    ap (λ (x : AccountRows). x.sessions) c.advance.ensures.rows
 
 pub returns-then-quota-eq0-clause-left : goal.returns-then-quota-eq0-clause-left
 returns-then-quota-eq0-clause-left c = λ ledger left h.
     let a : AccountRows = c.args.self.now in
     let requested : Option ℕ = option_map (λ (u : Units). u.0) c.args.requested in
-    let later : IsWith ledger left c.args.moment c.advance.new.self = c.advance.ensures.left ledger left h in
-    let periods : c.window_at-window.result.periods ≡ periods_at a.book c.args.moment = c.window_at-window.ensures.periods ∙ ap (λ (x : AccountRows). periods_at x.book c.args.moment) c.self.view_is in
-    let q : QuotaOf a c.args.session.now c.args.group c.args.moment requested c.quota-quota.result.wanted c.quota-quota.result.grant = quota_is a c.args.session.now c.args.group c.args.moment requested c.quota-quota.result.wanted c.quota-quota.result.grant c.window_at-window.result.periods periods c.quota-quota.ensures.quota in (
+    let later : IsWith ledger left c.args.moment c.advance.new.self =
+    c.advance.ensures.left ledger left h in
+    let periods : c.window_at-window.result.periods ≡ periods_at a.book c.args.moment =
+    c.window_at-window.ensures.periods
+    ∙ ap (λ (x : AccountRows). periods_at x.book c.args.moment) c.self.view_is in
+    let q : QuotaOf a c.args.session.now c.args.group c.args.moment requested
+    c.quota-quota.result.wanted c.quota-quota.result.grant =
+    quota_is a c.args.session.now c.args.group c.args.moment requested
+    c.quota-quota.result.wanted c.quota-quota.result.grant c.window_at-window.result.periods
+    periods c.quota-quota.ensures.quota in (
       record { apart = later.apart; cycles = later.cycles },
-      (sym (ap (λ (x : Grant). x.units.0) (nothing_beside ledger left c.args.moment a c.args.session.now c.args.group requested c.quota-quota.result.wanted c.quota-quota.result.grant h c.requires.moment c.requires.live q)) ∙ c.if-quota-eq0.true, later.rows),
+      (
+        sym (ap (λ (x : Grant). x.units.0)
+            (nothing_beside ledger left c.args.moment a c.args.session.now c.args.group requested
+            c.quota-quota.result.wanted c.quota-quota.result.grant h c.requires.moment
+            c.requires.live
+            q)) ∙ c.if-quota-eq0.true,
+        later.rows,
+      ),
     )
 
 pub returns-clause-left : goal.returns-clause-left
 returns-clause-left c = λ ledger left h.
-    grant_beside ledger left c.args.self.now c.advance-2.new.self c.hold_quota.new.self c.args.session.now c.args.group c.args.moment (requested_units c) c.quota-quota.result.wanted (granted c)
-    c.window_at-window.result.switch c.window_at-window.result.validity (nat_lt (granted c).units.0 c.quota-quota.result.wanted)
-    h c.requires.moment c.requires.live c.requires.free (quota_told c) (some_units c) (switch c) (validity c) refl (brought c) c.hold_quota.ensures
+    grant_beside ledger left c.args.self.now c.advance-2.new.self c.hold_quota.new.self
+    c.args.session.now c.args.group c.args.moment (requested_units c)
+    c.quota-quota.result.wanted (granted c)
+    c.window_at-window.result.switch c.window_at-window.result.validity
+    (nat_lt (granted c).units.0 c.quota-quota.result.wanted)
+    h c.requires.moment c.requires.live c.requires.free (quota_told c) (some_units c) (switch c)
+    (validity c) refl (brought c) c.hold_quota.ensures

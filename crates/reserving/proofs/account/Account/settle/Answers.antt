@@ -1,4 +1,4 @@
-use Rattle.std.proofs.Common.{◌≡◌, sym, ap, ◌∙◌, arith}
+use Rattle.std.proofs.Common.{◌≡◌, refl, sym, ap, ◌∙◌, arith}
 use Rattle.reserving.specs.Changes.{advanced, used_in, count_in, settled_account, ended_rows}
 use Rattle.reserving.specs.Pricing.{cycle_at}
 use Rattle.reserving.specs.Rows.{AccountRows}
@@ -14,120 +14,213 @@ use Rattle.reserving.proofs.account.Account.settle.Goals as goal
 
 pub returns-then-is_empty-clause-rows : goal.returns-then-is_empty-clause-rows
 returns-then-is_empty-clause-rows c = λ ledger rows.
-    rows_ended ledger c.args.self.now c.advance.new.self c.end_reservation.new.self c.args.session.now c.args.group c.args.moment c.args.parts.now
+    rows_ended ledger c.args.self.now c.advance.new.self c.end_reservation.new.self
+    c.args.session.now c.args.group c.args.moment c.args.parts.now
     c.end_reservation.ensures.account rows c.requires.moment c.requires.live
-    (is_nothing c.args.parts.now (sym c.is_empty.ensures ∙ c.if-is_empty.true)) c.advance.ensures.rows (c.advance.ensures.ledger ledger rows) c.end_reservation.ensures.rows
+    (is_nothing c.args.parts.now (sym c.is_empty.ensures ∙ c.if-is_empty.true))
+    c.advance.ensures.rows (c.advance.ensures.ledger ledger rows) c.end_reservation.ensures.rows
 
 pub returns-then-is_empty-clause-settled : goal.returns-then-is_empty-clause-settled
 returns-then-is_empty-clause-settled c = λ ledger rows.
-    nothing_settled ledger c.args.self.now c.args.session.now c.args.group c.args.moment c.args.parts.now (is_nothing c.args.parts.now (sym c.is_empty.ensures ∙ c.if-is_empty.true))
+    nothing_settled ledger c.args.self.now c.args.session.now c.args.group c.args.moment
+    c.args.parts.now _
+    (is_nothing c.args.parts.now (sym c.is_empty.ensures ∙ c.if-is_empty.true)) refl refl refl
 
 pub returns-in_default-clause-limit : goal.returns-in_default-clause-limit
 returns-in_default-clause-limit c = λ e ledger rows.
-    passes_is ledger c.args.self.now c.args.session.now c.args.group c.args.moment c.args.parts.now c.rate.ensures.account rows c.requires.moment c.requires.live (is_something c.args.parts.now (sym c.is_empty.ensures ∙ c.if-is_empty.false))
+    passes_is ledger c.args.self.now c.args.session.now c.args.group c.args.moment c.args.parts.now
+    c.rate.ensures.account rows c.requires.moment c.requires.live
+    (is_something c.args.parts.now (sym c.is_empty.ensures ∙ c.if-is_empty.false))
     ∙ c.rate.ensures.none c.in_default.is
 
 pub settle_use-charged-requires-clause-group : goal.settle_use-charged-requires-clause-group
-settle_use-charged-requires-clause-group c = there_later c.args.self.now c.advance-2.new.self c.args.session.now c.args.group c.cycle_at-cycle.result c.args.moment (c.advance-2.ensures.rows ∙ ap (advanced c.args.moment) c.in_ok-make_rows.ensures.ok)
+settle_use-charged-requires-clause-group c =
+    there_later c.args.self.now c.advance-2.new.self c.args.session.now c.args.group
+    c.cycle_at-cycle.result c.args.moment
+    (c.advance-2.ensures.rows ∙ ap (advanced c.args.moment) c.in_ok-make_rows.ensures.ok)
 
 pub settle_use-charged-requires-clause-counter : goal.settle_use-charged-requires-clause-counter
-settle_use-charged-requires-clause-counter c = counter_there c.args.self.now c.advance-2.new.self c.args.session.now c.args.group c.cycle_at-cycle.result c.args.moment (c.advance-2.ensures.rows ∙ ap (advanced c.args.moment) c.in_ok-make_rows.ensures.ok)
+settle_use-charged-requires-clause-counter c =
+    counter_there c.args.self.now c.advance-2.new.self c.args.session.now c.args.group
+    c.cycle_at-cycle.result c.args.moment
+    (c.advance-2.ensures.rows ∙ ap (advanced c.args.moment) c.in_ok-make_rows.ensures.ok)
 
 pub settle_use-charged-requires-clause-used : goal.settle_use-charged-requires-clause-used
 settle_use-charged-requires-clause-used c =
-    let same : used_in c.args.session.now c.args.group c.advance-2.new.self.groups ≡ used_in c.args.session.now c.args.group c.args.self.now.groups = used_middle c.args.self.now c.advance-2.new.self c.args.session.now c.args.group c.cycle_at-cycle.result c.args.moment (c.advance-2.ensures.rows ∙ ap (advanced c.args.moment) c.in_ok-make_rows.ensures.ok) in
-    omega (arith, same, within_used (used_in c.args.session.now c.args.group c.args.self.now.groups) c.in-Some.rated.units.0 (count_in c.args.group (cycle_at c.args.self.now.book c.args.group c.args.moment) c.args.self.now.counters) c.in-Some.rated.blocks.0 c.args.self.now.next_charge c.in-Some.ensures.some)
+    let same : used_in c.args.session.now c.args.group c.advance-2.new.self.groups
+    ≡ used_in c.args.session.now c.args.group c.args.self.now.groups =
+    used_middle c.args.self.now c.advance-2.new.self c.args.session.now c.args.group
+    c.cycle_at-cycle.result c.args.moment
+    (c.advance-2.ensures.rows ∙ ap (advanced c.args.moment) c.in_ok-make_rows.ensures.ok) in
+    omega (
+      arith,
+      same,
+      within_used (used_in c.args.session.now c.args.group c.args.self.now.groups)
+          c.in-Some.rated.units.0
+          (count_in c.args.group (cycle_at c.args.self.now.book c.args.group c.args.moment)
+          c.args.self.now.counters) c.in-Some.rated.blocks.0 c.args.self.now.next_charge
+          c.in-Some.ensures.some,
+    )
 
 pub settle_use-charged-requires-clause-counted : goal.settle_use-charged-requires-clause-counted
 settle_use-charged-requires-clause-counted c =
-    let cycle : count_in c.args.group c.cycle_at-cycle.result c.args.self.now.counters ≡ count_in c.args.group (cycle_at c.args.self.now.book c.args.group c.args.moment) c.args.self.now.counters = ap (λ x. count_in c.args.group x c.args.self.now.counters) c.cycle_at-cycle.ensures in
-    let same : count_in c.args.group c.cycle_at-cycle.result c.advance-2.new.self.counters ≡ count_in c.args.group c.cycle_at-cycle.result c.args.self.now.counters = count_middle c.args.self.now c.advance-2.new.self c.args.session.now c.args.group c.cycle_at-cycle.result c.args.moment (c.advance-2.ensures.rows ∙ ap (advanced c.args.moment) c.in_ok-make_rows.ensures.ok) in
-    omega (arith, same, cycle, within_counted (used_in c.args.session.now c.args.group c.args.self.now.groups) c.in-Some.rated.units.0 (count_in c.args.group (cycle_at c.args.self.now.book c.args.group c.args.moment) c.args.self.now.counters) c.in-Some.rated.blocks.0 c.args.self.now.next_charge c.in-Some.ensures.some)
+    let cycle : count_in c.args.group c.cycle_at-cycle.result c.args.self.now.counters
+    ≡ count_in c.args.group (cycle_at c.args.self.now.book c.args.group c.args.moment)
+    c.args.self.now.counters =
+    ap (λ x. count_in c.args.group x c.args.self.now.counters) c.cycle_at-cycle.ensures in
+    let same : count_in c.args.group c.cycle_at-cycle.result c.advance-2.new.self.counters
+    ≡ count_in c.args.group c.cycle_at-cycle.result c.args.self.now.counters =
+    count_middle c.args.self.now c.advance-2.new.self c.args.session.now c.args.group
+    c.cycle_at-cycle.result c.args.moment
+    (c.advance-2.ensures.rows ∙ ap (advanced c.args.moment) c.in_ok-make_rows.ensures.ok) in
+    omega (
+      arith,
+      same,
+      cycle,
+      within_counted (used_in c.args.session.now c.args.group c.args.self.now.groups)
+          c.in-Some.rated.units.0
+          (count_in c.args.group (cycle_at c.args.self.now.book c.args.group c.args.moment)
+          c.args.self.now.counters) c.in-Some.rated.blocks.0 c.args.self.now.next_charge
+          c.in-Some.ensures.some,
+    )
 
 pub returns-clause-rows : goal.returns-clause-rows
 returns-clause-rows c = λ ledger rows.
-    rows_settled ledger c.args.self.now c.advance-2.new.self c.settle_use-charged.new.self c.args.session.now c.args.group c.cycle_at-cycle.result c.args.moment c.in-Some.rated.units.0 c.in-Some.rated.blocks.0 c.in-Some.rated.amount.0 c.args.parts.now
-    c.rate.ensures.account rows c.requires.moment c.requires.live (is_something c.args.parts.now (sym c.is_empty.ensures ∙ c.if-is_empty.false)) c.cycle_at-cycle.ensures
+    rows_settled ledger c.args.self.now c.advance-2.new.self c.settle_use-charged.new.self
+    c.args.session.now c.args.group c.cycle_at-cycle.result c.args.moment
+    c.in-Some.rated.units.0 c.in-Some.rated.blocks.0 c.in-Some.rated.amount.0 c.args.parts.now
+    c.rate.ensures.account rows c.requires.moment c.requires.live
+    (is_something c.args.parts.now (sym c.is_empty.ensures ∙ c.if-is_empty.false))
+    c.cycle_at-cycle.ensures
     c.in-Some.ensures.units c.in-Some.ensures.blocks c.in-Some.ensures.amount
-    (c.advance-2.ensures.rows ∙ ap (advanced c.args.moment) c.in_ok-make_rows.ensures.ok) c.settle_use-charged.ensures.rows
+    (c.advance-2.ensures.rows ∙ ap (advanced c.args.moment) c.in_ok-make_rows.ensures.ok)
+    c.settle_use-charged.ensures.rows
 
 pub returns-clause-settled : goal.returns-clause-settled
 returns-clause-settled c = λ ledger rows.
-    settlement_is ledger c.args.self.now c.advance-2.new.self c.args.session.now c.args.group c.cycle_at-cycle.result c.args.moment c.args.parts.now _
-    c.rate.ensures.account rows c.requires.moment c.requires.live c.in-Some.ensures.blocks c.in-Some.ensures.amount
-    (c.advance-2.ensures.rows ∙ ap (advanced c.args.moment) c.in_ok-make_rows.ensures.ok) c.settle_use-charged.ensures.uncollected c.settle_use-charged.ensures.collected
+    settlement_is ledger c.args.self.now c.advance-2.new.self c.args.session.now c.args.group
+    c.cycle_at-cycle.result c.args.moment c.args.parts.now _
+    c.rate.ensures.account rows c.requires.moment c.requires.live c.in-Some.ensures.blocks
+    c.in-Some.ensures.amount
+    (c.advance-2.ensures.rows ∙ ap (advanced c.args.moment) c.in_ok-make_rows.ensures.ok)
+    c.settle_use-charged.ensures.uncollected c.settle_use-charged.ensures.collected
 
 pub returns-clause-within : goal.returns-clause-within
 returns-clause-within c = λ ledger rows.
-    passes_is ledger c.args.self.now c.args.session.now c.args.group c.args.moment c.args.parts.now c.rate.ensures.account rows c.requires.moment c.requires.live (is_something c.args.parts.now (sym c.is_empty.ensures ∙ c.if-is_empty.false))
-    ∙ (λ i. passes (used_in c.args.session.now c.args.group c.args.self.now.groups) (sym c.in-Some.ensures.units i) (count_in c.args.group (cycle_at c.args.self.now.book c.args.group c.args.moment) c.args.self.now.counters) (sym c.in-Some.ensures.blocks i) c.args.self.now.next_charge)
+    passes_is ledger c.args.self.now c.args.session.now c.args.group c.args.moment c.args.parts.now
+    c.rate.ensures.account rows c.requires.moment c.requires.live
+    (is_something c.args.parts.now (sym c.is_empty.ensures ∙ c.if-is_empty.false))
+    ∙ (λ i. passes (used_in c.args.session.now c.args.group c.args.self.now.groups)
+    (sym c.in-Some.ensures.units i)
+    (count_in c.args.group (cycle_at c.args.self.now.book c.args.group c.args.moment)
+    c.args.self.now.counters) (sym c.in-Some.ensures.blocks i) c.args.self.now.next_charge)
     ∙ c.in-Some.ensures.some
 
 pub returns-clause-sessions : goal.returns-clause-sessions
 returns-clause-sessions c =
-    ap (λ (x : AccountRows). x.sessions) (c.settle_use-charged.ensures.rows ∙ ap (settled_account c.args.session.now c.args.group c.in-Some.rated.units.0 c.in-Some.rated.blocks.0 c.in-Some.rated.amount.0)
+    ap (λ (x : AccountRows). x.sessions)
+    (c.settle_use-charged.ensures.rows
+    ∙ ap (settled_account c.args.session.now c.args.group c.in-Some.rated.units.0
+    c.in-Some.rated.blocks.0 c.in-Some.rated.amount.0)
     (c.advance-2.ensures.rows ∙ ap (advanced c.args.moment) c.in_ok-make_rows.ensures.ok))
 
 pub returns-then-is_empty-clause-sessions : goal.returns-then-is_empty-clause-sessions
 returns-then-is_empty-clause-sessions c =
-    ap (λ (x : AccountRows). x.sessions) (c.end_reservation.ensures.rows ∙ ap (ended_rows c.args.session.now c.args.group) c.advance.ensures.rows)
+    ap (λ (x : AccountRows). x.sessions)
+    (c.end_reservation.ensures.rows
+    ∙ ap (ended_rows c.args.session.now c.args.group) c.advance.ensures.rows)
 
 pub returns-clause-free : goal.returns-clause-free
-returns-clause-free c = settled_free c.args.session.now c.args.group c.in-Some.rated.units.0 c.in-Some.rated.blocks.0 c.in-Some.rated.amount.0 c.advance-2.new.self c.settle_use-charged.new.self c.settle_use-charged.ensures.rows
+returns-clause-free c =
+    settled_free c.args.session.now c.args.group c.in-Some.rated.units.0 c.in-Some.rated.blocks.0
+    c.in-Some.rated.amount.0 c.advance-2.new.self c.settle_use-charged.new.self
+    c.settle_use-charged.ensures.rows
 
 pub returns-then-is_empty-clause-free : goal.returns-then-is_empty-clause-free
-returns-then-is_empty-clause-free c = ended_free c.args.session.now c.args.group c.advance.new.self c.end_reservation.new.self c.end_reservation.ensures.rows
+returns-then-is_empty-clause-free c =
+    ended_free c.args.session.now c.args.group c.advance.new.self c.end_reservation.new.self
+    c.end_reservation.ensures.rows
 
 pub returns-clause-others : goal.returns-clause-others
 returns-clause-others c = λ s g h.
-    others_settled c.args.self.now c.advance-2.new.self c.settle_use-charged.new.self s g c.args.session.now c.args.group _ c.args.moment c.in-Some.rated.units.0 c.in-Some.rated.blocks.0 c.in-Some.rated.amount.0
-    (c.advance-2.ensures.rows ∙ ap (advanced c.args.moment) c.in_ok-make_rows.ensures.ok) c.settle_use-charged.ensures.rows h
+    others_settled c.args.self.now c.advance-2.new.self c.settle_use-charged.new.self s g
+    c.args.session.now c.args.group _ c.args.moment c.in-Some.rated.units.0
+    c.in-Some.rated.blocks.0 c.in-Some.rated.amount.0
+    (c.advance-2.ensures.rows ∙ ap (advanced c.args.moment) c.in_ok-make_rows.ensures.ok)
+    c.settle_use-charged.ensures.rows h
 
 pub returns-then-is_empty-clause-others : goal.returns-then-is_empty-clause-others
 returns-then-is_empty-clause-others c = λ s g h.
-    others_ended c.args.self.now c.advance.new.self c.end_reservation.new.self s g c.args.session.now c.args.group c.args.moment c.advance.ensures.rows c.end_reservation.ensures.rows h
+    others_ended c.args.self.now c.advance.new.self c.end_reservation.new.self s g
+    c.args.session.now c.args.group c.args.moment c.advance.ensures.rows
+    c.end_reservation.ensures.rows h
 
 pub returns-then-is_empty-clause-left : goal.returns-then-is_empty-clause-left
 returns-then-is_empty-clause-left c = λ ledger left h.
-    left_ended ledger left c.args.self.now c.advance.new.self c.end_reservation.new.self c.args.session.now c.args.group c.args.moment c.args.parts.now h c.requires.moment c.requires.live
-    (is_nothing c.args.parts.now (sym c.is_empty.ensures ∙ c.if-is_empty.true)) c.advance.ensures.rows c.end_reservation.ensures.rows
+    left_ended ledger left c.args.self.now c.advance.new.self c.end_reservation.new.self
+    c.args.session.now c.args.group c.args.moment c.args.parts.now h c.requires.moment
+    c.requires.live
+    (is_nothing c.args.parts.now (sym c.is_empty.ensures ∙ c.if-is_empty.true))
+    c.advance.ensures.rows c.end_reservation.ensures.rows
 
 pub returns-clause-left : goal.returns-clause-left
 returns-clause-left c = λ ledger left h.
-    left_settled ledger left c.args.self.now c.advance-2.new.self c.settle_use-charged.new.self c.args.session.now c.args.group c.cycle_at-cycle.result c.args.moment c.in-Some.rated.units.0 c.in-Some.rated.blocks.0 c.in-Some.rated.amount.0 c.args.parts.now
-    h c.requires.moment c.requires.live (is_something c.args.parts.now (sym c.is_empty.ensures ∙ c.if-is_empty.false)) c.cycle_at-cycle.ensures
+    left_settled ledger left c.args.self.now c.advance-2.new.self c.settle_use-charged.new.self
+    c.args.session.now c.args.group c.cycle_at-cycle.result c.args.moment
+    c.in-Some.rated.units.0 c.in-Some.rated.blocks.0 c.in-Some.rated.amount.0 c.args.parts.now
+    h c.requires.moment c.requires.live
+    (is_something c.args.parts.now (sym c.is_empty.ensures ∙ c.if-is_empty.false))
+    c.cycle_at-cycle.ensures
     c.in-Some.ensures.units c.in-Some.ensures.blocks c.in-Some.ensures.amount c.in-Some.ensures.some
-    (c.advance-2.ensures.rows ∙ ap (advanced c.args.moment) c.in_ok-make_rows.ensures.ok) c.settle_use-charged.ensures.rows
+    (c.advance-2.ensures.rows ∙ ap (advanced c.args.moment) c.in_ok-make_rows.ensures.ok)
+    c.settle_use-charged.ensures.rows
 
 pub returns-then-is_empty-clause-settled_left : goal.returns-then-is_empty-clause-settled_left
 returns-then-is_empty-clause-settled_left c = λ ledger left h.
-    nothing_settled ledger c.args.self.now c.args.session.now c.args.group c.args.moment c.args.parts.now (is_nothing c.args.parts.now (sym c.is_empty.ensures ∙ c.if-is_empty.true))
+    nothing_settled ledger c.args.self.now c.args.session.now c.args.group c.args.moment
+    c.args.parts.now _
+    (is_nothing c.args.parts.now (sym c.is_empty.ensures ∙ c.if-is_empty.true)) refl refl refl
 
 pub returns-in_default-clause-limit_left : goal.returns-in_default-clause-limit_left
 returns-in_default-clause-limit_left c = λ e ledger left h.
-    passes_told ledger left c.args.moment c.args.self.now c.args.session.now c.args.group c.args.parts.now c.requires.moment h c.requires.live (is_something c.args.parts.now (sym c.is_empty.ensures ∙ c.if-is_empty.false))
+    passes_told ledger left c.args.moment c.args.self.now c.args.session.now c.args.group
+    c.args.parts.now c.requires.moment h c.requires.live
+    (is_something c.args.parts.now (sym c.is_empty.ensures ∙ c.if-is_empty.false))
     ∙ c.rate.ensures.none c.in_default.is
 
 pub returns-clause-settled_left : goal.returns-clause-settled_left
 returns-clause-settled_left c = λ ledger left h.
-    settlement_beside ledger left c.args.self.now c.advance-2.new.self c.args.session.now c.args.group c.cycle_at-cycle.result c.args.moment c.args.parts.now _
+    settlement_beside ledger left c.args.self.now c.advance-2.new.self c.args.session.now
+    c.args.group c.cycle_at-cycle.result c.args.moment c.args.parts.now _
     h c.requires.moment c.requires.live c.in-Some.ensures.blocks c.in-Some.ensures.amount
-    (c.advance-2.ensures.rows ∙ ap (advanced c.args.moment) c.in_ok-make_rows.ensures.ok) c.settle_use-charged.ensures.uncollected c.settle_use-charged.ensures.collected
+    (c.advance-2.ensures.rows ∙ ap (advanced c.args.moment) c.in_ok-make_rows.ensures.ok)
+    c.settle_use-charged.ensures.uncollected c.settle_use-charged.ensures.collected
 
 pub returns-clause-within_left : goal.returns-clause-within_left
 returns-clause-within_left c = λ ledger left h.
-    passes_told ledger left c.args.moment c.args.self.now c.args.session.now c.args.group c.args.parts.now c.requires.moment h c.requires.live (is_something c.args.parts.now (sym c.is_empty.ensures ∙ c.if-is_empty.false))
-    ∙ (λ i. passes (used_in c.args.session.now c.args.group c.args.self.now.groups) (sym c.in-Some.ensures.units i) (count_in c.args.group (cycle_at c.args.self.now.book c.args.group c.args.moment) c.args.self.now.counters) (sym c.in-Some.ensures.blocks i) c.args.self.now.next_charge)
+    passes_told ledger left c.args.moment c.args.self.now c.args.session.now c.args.group
+    c.args.parts.now c.requires.moment h c.requires.live
+    (is_something c.args.parts.now (sym c.is_empty.ensures ∙ c.if-is_empty.false))
+    ∙ (λ i. passes (used_in c.args.session.now c.args.group c.args.self.now.groups)
+    (sym c.in-Some.ensures.units i)
+    (count_in c.args.group (cycle_at c.args.self.now.book c.args.group c.args.moment)
+    c.args.self.now.counters) (sym c.in-Some.ensures.blocks i) c.args.self.now.next_charge)
     ∙ c.in-Some.ensures.some
 
 pub returns-then-is_empty-clause-by_rows : goal.returns-then-is_empty-clause-by_rows
 returns-then-is_empty-clause-by_rows c =
-    ended_is c.args.self.now c.advance.new.self c.end_reservation.new.self c.args.session.now c.args.group c.args.moment c.args.parts.now
-    (is_nothing c.args.parts.now (sym c.is_empty.ensures ∙ c.if-is_empty.true)) c.advance.ensures.rows c.end_reservation.ensures.rows
+    ended_is c.args.self.now c.advance.new.self c.end_reservation.new.self c.args.session.now
+    c.args.group c.args.moment c.args.parts.now
+    (is_nothing c.args.parts.now (sym c.is_empty.ensures ∙ c.if-is_empty.true))
+    c.advance.ensures.rows c.end_reservation.ensures.rows
 
 pub returns-clause-by_rows : goal.returns-clause-by_rows
 returns-clause-by_rows c =
-    settled_is c.args.self.now c.advance-2.new.self c.settle_use-charged.new.self c.args.session.now c.args.group c.cycle_at-cycle.result c.args.moment c.in-Some.rated.units.0 c.in-Some.rated.blocks.0 c.in-Some.rated.amount.0 c.args.parts.now
-    c.requires.live (is_something c.args.parts.now (sym c.is_empty.ensures ∙ c.if-is_empty.false)) c.cycle_at-cycle.ensures
+    settled_is c.args.self.now c.advance-2.new.self c.settle_use-charged.new.self c.args.session.now
+    c.args.group c.cycle_at-cycle.result c.args.moment c.in-Some.rated.units.0
+    c.in-Some.rated.blocks.0 c.in-Some.rated.amount.0 c.args.parts.now
+    c.requires.live (is_something c.args.parts.now (sym c.is_empty.ensures ∙ c.if-is_empty.false))
+    c.cycle_at-cycle.ensures
     c.in-Some.ensures.units c.in-Some.ensures.blocks c.in-Some.ensures.amount
-    (c.advance-2.ensures.rows ∙ ap (advanced c.args.moment) c.in_ok-make_rows.ensures.ok) c.settle_use-charged.ensures.rows
+    (c.advance-2.ensures.rows ∙ ap (advanced c.args.moment) c.in_ok-make_rows.ensures.ok)
+    c.settle_use-charged.ensures.rows

@@ -14,13 +14,20 @@ use Rattle.reserving.specs.Inside.{rows_of}
 use Rattle.reserving.proofs.account.Account.touch.Goals as goal
 
 -- the account after time went on
-advanced_is : (c : goal.After-touch_session) → rows_of c.self.inside ≡ advanced c.args.moment c.args.self.now
+advanced_is : (c : goal.After-touch_session) →
+    rows_of c.self.inside ≡ advanced c.args.moment c.args.self.now
 advanced_is c = c.self.view_is ∙ c.advance.ensures.rows
 
-after_is : (c : goal.After-touch_session) → (let a : AccountRows = record (rows_of c.self.inside) { sessions = c.touch_session.new.sessions.items } in a) ≡ touched_account c.args.session.now c.args.number (advanced c.args.moment c.args.self.now)
+after_is : (c : goal.After-touch_session) →
+    (let a : AccountRows =
+    record (rows_of c.self.inside) { sessions = c.touch_session.new.sessions.items } in a)
+    ≡ touched_account c.args.session.now c.args.number (advanced c.args.moment c.args.self.now)
 after_is c =
     (λ i. record (rows_of c.self.inside) { sessions = c.touch_session.ensures i })
-    ∙ (λ i. record (rows_of c.self.inside) { sessions = map (touched_session c.args.session.now c.args.number (moment i)) c.self.inside.rows.sessions.items })
+    ∙ (λ i. record (rows_of c.self.inside) {
+      sessions = map (touched_session c.args.session.now c.args.number (moment i))
+          c.self.inside.rows.sessions.items;
+    })
     ∙ ap (touched_account c.args.session.now c.args.number) (advanced_is c)
   where
     moment : c.args.moment ≡ c.self.inside.rows.as_of
@@ -28,27 +35,45 @@ after_is c =
 
 pub invariant_of-self : goal.invariant_of-self
 invariant_of-self c =
-    let account : IsAccount (advanced c.args.moment c.args.self.now) = subst IsAccount (advanced_is c) c.self.invariant in
-    subst IsAccount (sym (after_is c)) (IsAccount-touched (advanced c.args.moment c.args.self.now) c.args.session.now c.args.number account)
+    let account : IsAccount (advanced c.args.moment c.args.self.now) =
+    subst IsAccount (advanced_is c) c.self.invariant in
+    subst IsAccount (sym (after_is c))
+    (IsAccount-touched (advanced c.args.moment c.args.self.now) c.args.session.now c.args.number
+    account)
 
 pub returns-clause-rows : goal.returns-clause-rows
 returns-clause-rows c = after_is c
 
 positive : (c : goal.After-touch_session) → 0 < c.args.self.now.book.validity
 positive c =
-    let account : IsAccount (advanced c.args.moment c.args.self.now) = subst IsAccount (advanced_is c) c.self.invariant in
+    let account : IsAccount (advanced c.args.moment c.args.self.now) =
+    subst IsAccount (advanced_is c) c.self.invariant in
     omega (arith, account.book.some_validity)
 
 pub returns-clause-ledger : goal.returns-clause-ledger
 returns-clause-ledger c = λ ledger rows.
     let some : 0 < c.args.self.now.book.validity = positive c in
-    let later : IsRowsOf ledger (advanced c.args.moment c.args.self.now) = subst (IsRowsOf ledger) c.advance.ensures.rows (c.advance.ensures.ledger ledger rows) in
-    let live : is_live c.args.self.now.book.validity c.args.moment ledger c.args.session.now ≡ true = sym (is_live_in-is ledger c.args.self.now c.args.moment c.args.session.now rows c.requires.later) ∙ c.requires.live in
-    subst (IsRowsOf (touched c.args.moment c.args.session.now c.args.number ledger)) (sym (after_is c)) (IsRowsOf-touched ledger (advanced c.args.moment c.args.self.now) c.args.session.now c.args.number later live some)
+    let later : IsRowsOf ledger (advanced c.args.moment c.args.self.now) =
+    subst (IsRowsOf ledger) c.advance.ensures.rows (c.advance.ensures.ledger ledger rows) in
+    let live : is_live c.args.self.now.book.validity c.args.moment ledger c.args.session.now
+    ≡ true = sym
+    (is_live_in-is ledger c.args.self.now c.args.moment c.args.session.now rows
+    c.requires.later) ∙ c.requires.live in
+    subst (IsRowsOf (touched c.args.moment c.args.session.now c.args.number ledger))
+    (sym (after_is c))
+    (IsRowsOf-touched ledger (advanced c.args.moment c.args.self.now) c.args.session.now
+    c.args.number later live some)
 
 pub returns-clause-left : goal.returns-clause-left
 returns-clause-left c = λ ledger left h.
-    let later : IsWith ledger left c.args.moment (advanced c.args.moment c.args.self.now) = subst (IsWith ledger left c.args.moment) c.advance.ensures.rows (c.advance.ensures.left ledger left h) in
-    let live : is_live_in c.args.self.now.book.validity c.args.moment (advanced c.args.moment c.args.self.now).sessions c.args.session.now ≡ true = live_later ledger left c.args.self.now c.args.session.now c.args.moment c.requires.later h later c.requires.live in
-    subst (IsWith (touched c.args.moment c.args.session.now c.args.number ledger) left c.args.moment) (sym (after_is c))
-    (with_touched ledger left (advanced c.args.moment c.args.self.now) c.args.session.now c.args.number (positive c) later live)
+    let later : IsWith ledger left c.args.moment (advanced c.args.moment c.args.self.now) =
+    subst (IsWith ledger left c.args.moment) c.advance.ensures.rows
+    (c.advance.ensures.left ledger left h) in
+    let live : is_live_in c.args.self.now.book.validity c.args.moment
+    (advanced c.args.moment c.args.self.now).sessions c.args.session.now ≡ true =
+    live_later ledger left c.args.self.now c.args.session.now c.args.moment c.requires.later h
+    later c.requires.live in
+    subst (IsWith (touched c.args.moment c.args.session.now c.args.number ledger) left
+    c.args.moment) (sym (after_is c))
+    (with_touched ledger left (advanced c.args.moment c.args.self.now) c.args.session.now
+    c.args.number (positive c) later live)
