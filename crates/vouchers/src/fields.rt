@@ -101,13 +101,13 @@ fn amount(field: &[u8]) -> Result<Money, FaultKind>
     Money::new(micros).ok_or(FaultKind::Amount)
 }
 
-fn days(field: &[u8]) -> Result<Option<u16>, FaultKind>
+fn days(field: &[u8]) -> Result<Option<u32>, FaultKind>
     ensures value { Says (λ d. d) result (optional_in Days 1 3650 field.now) }
     ensures in_range { IfOk result (λ o. IfSome o (λ n. (1 ≤ n) × (n ≤ 3650))) }
 {
     match optional_in(FaultKind::Days, 1, 3650, field)? {
         None => Ok(None),
-        Some(days) => Ok(Some(days as u16)),
+        Some(days) => Ok(Some(days as u32)),
     }
 }
 

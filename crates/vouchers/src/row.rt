@@ -8,7 +8,7 @@ pub struct VoucherRow {
     /// 1 to 10^15 micro-units.
     pub amount: Money,
     /// The days that the bucket lasts, 1 to 3,650; None: without an end.
-    pub days: Option<u16>,
+    pub days: Option<u32>,
     /// The rating group that the bucket pays for; None: all.
     pub scope: Option<u32>,
 }

@@ -344,6 +344,15 @@ fn a_fault_before_the_reader_fails(rt: HostRuntime) -> Result<(), Fail> {
     Ok(())
 }
 
+/// Where an allocation is refused, that is what is told. A run that refuses each in turn shows it.
+#[test]
+fn memory_that_is_refused(rt: HostRuntime) {
+    match read_vouchers(rt.alloc(), TWO.as_bytes()) {
+        Ok(rows) => assert_eq!(rt; rows.len(), 2),
+        Err(fault) => assert_eq!(rt; fault.kind, FaultKind::Memory),
+    }
+}
+
 /// The kinds in the order of their numbers, and their texts.
 const KINDS: [(FaultKind, &str); 8] = [
     (
