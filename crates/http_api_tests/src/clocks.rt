@@ -58,7 +58,8 @@ fn is_asked_for_commands_alone(rt: HostRuntime) -> Result<(), Fail> {
     Ok(())
 }
 
-/// A command that the clock has no moment for isn't served, nor accepted: the next one opens the account.
+/// A command that the clock has no moment for isn't served, nor accepted: the next one opens the
+/// account.
 #[test]
 fn without_a_moment(rt: HostRuntime) -> Result<(), Fail> {
     let alloc = rt.alloc();

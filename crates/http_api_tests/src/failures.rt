@@ -36,7 +36,8 @@ impl Write for Slow {
     }
 }
 
-/// What a writer that fails after so many calls has taken where an account is opened twice, and how the connection ends.
+/// What a writer that fails after so many calls has taken where an account is opened twice, and how
+/// the connection ends.
 fn taken<K: Keeper>(alloc: Global, keeper: &mut K, calls: usize) -> Result<String, Fail> {
     let book = book(alloc)?;
     let stream = OPEN.repeat(alloc, 2)?;
@@ -82,7 +83,8 @@ fn fails_at_each_write(rt: HostRuntime) -> Result<(), Fail> {
     Ok(())
 }
 
-/// What is written where an account is opened twice over a store that fails at the call after so many.
+/// What is written where an account is opened twice over a store that fails at the call after so
+/// many.
 fn told_of_store(alloc: Global, calls: u64) -> Result<String, Fail> {
     let stream = OPEN.repeat(alloc, 2)?;
     let mut bytes = stream.as_bytes();
@@ -119,7 +121,8 @@ fn served_in_turn(alloc: Global) -> Result<String, Fail> {
     Ok(text)
 }
 
-/// The store fails at a call of the first request, then of the second, then no more: the other is served.
+/// The store fails at a call of the first request, then of the second, then no more: the other is
+/// served.
 #[test]
 fn fails_at_each_call_of_the_store(rt: HostRuntime) -> Result<(), Fail> {
     let text = served_in_turn(rt.alloc())?;

@@ -7,11 +7,13 @@ use std::test::Fail;
 
 /// The answer where the connection goes on.
 const FOUND_NONE: &str =
-    "HTTP/1.1 404 Not Found\r\nContent-Type: application/json\r\nContent-Length: 2\r\n\r\n{}\nserved 1";
+    "HTTP/1.1 404 Not Found\r\nContent-Type: application/json\r\nContent-Length: 2\r\n\r\n{}\n\
+     served 1";
 
 /// The answer to a head part that is too long.
 const TOO_LONG: &str =
-    "HTTP/1.1 431 Request Header Fields Too Large\r\nContent-Type: application/json\r\nContent-Length: 2\r\nConnection: close\r\n\r\n{}\nserved 1";
+    "HTTP/1.1 431 Request Header Fields Too Large\r\nContent-Type: application/json\r\n\
+     Content-Length: 2\r\nConnection: close\r\n\r\n{}\nserved 1";
 
 /// A head of 27 bytes and what stands in its fields.
 fn head(alloc: Global, fields: &str) -> Result<String, AllocError> {
@@ -60,7 +62,8 @@ fn two_thousand_fields(rt: HostRuntime) -> Result<(), Fail> {
     try_stream(&rt, alloc, stream.as_str(), FOUND_NONE)
 }
 
-/// Fields of three bytes, as many as a head holds: 27 bytes, 2,721 fields and the two bytes of the last.
+/// Fields of three bytes, as many as a head holds: 27 bytes, 2,721 fields and the two bytes of the
+/// last.
 #[test]
 fn the_most_fields(rt: HostRuntime) -> Result<(), Fail> {
     let alloc = rt.alloc();
@@ -99,7 +102,8 @@ fn two_hundred_arrays(rt: HostRuntime) -> Result<(), Fail> {
     try_stream(&rt, alloc, stream.as_str(), expected.as_str())
 }
 
-/// Requests that come at once are answered one after another, 1,000 of 1,001; the last answer says that it is the last.
+/// Requests that come at once are answered one after another, 1,000 of 1,001; the last answer says
+/// that it is the last.
 #[test]
 fn a_thousand_requests(rt: HostRuntime) -> Result<(), Fail> {
     let alloc = rt.alloc();

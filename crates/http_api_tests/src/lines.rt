@@ -1,6 +1,7 @@
-//! Requests as lines of text, each over a new keeper: `STREAM => STATUS: BODY`, or `STREAM => last STATUS: BODY` where
-//! the connection ends after the answer. In a stream `|` stands for a line's end, CR and LF. Behind each stream comes a
-//! request for a path that there isn't: it is answered where the connection goes on.
+//! Requests as lines of text, each over a new keeper: `STREAM => STATUS: BODY`, or `STREAM => last
+//! STATUS: BODY` where the connection ends after the answer. In a stream `|` stands for a line's
+//! end, CR and LF. Behind each stream comes a request for a path that there isn't: it is answered
+//! where the connection goes on.
 
 use crate::connections::told;
 use crate::streams::{NOT_FOUND, UNKNOWN, response};

@@ -1,4 +1,5 @@
-//! An account is opened twice: the bytes come in pieces, end early, or come from a reader that fails at a call.
+//! An account is opened twice: the bytes come in pieces, end early, or come from a reader that
+//! fails at a call.
 
 use crate::connections::{ending, told};
 use crate::streams::{EXISTS, OPEN, OPENED, post, response};
@@ -11,7 +12,8 @@ use std::test::Fail;
 /// The bytes of a request.
 const LENGTH: usize = 51;
 
-/// Gives a piece of at most so many bytes, then each of at most so many others, and fails after so many calls.
+/// Gives a piece of at most so many bytes, then each of at most so many others, and fails after so
+/// many calls.
 #[derive(Drop)]
 struct Pieces<'a> {
     rest: &'a [u8],
@@ -112,7 +114,8 @@ fn told_of_beginning(alloc: Global, length: usize) -> Result<String, Fail> {
     Ok(format!(in alloc; "{}\n{}", first.as_str(), second.as_str())?)
 }
 
-/// What is expected of it: each request that came whole is answered, and of the others nothing is left.
+/// What is expected of it: each request that came whole is answered, and of the others nothing is
+/// left.
 fn expected_of_beginning(alloc: Global, answered: usize) -> Result<String, AllocError> {
     let ending = format!(in alloc; "served {}", answered)?;
     let first = expected(alloc, answered, ending.as_str())?;
@@ -131,8 +134,8 @@ fn ends_at_each_byte(rt: HostRuntime) -> Result<(), Fail> {
     Ok(())
 }
 
-/// What is written of a reader that gives single bytes and fails after so many calls, and then for the first request
-/// over the same keeper.
+/// What is written of a reader that gives single bytes and fails after so many calls, and then for
+/// the first request over the same keeper.
 fn told_of_failing(alloc: Global, calls: usize) -> Result<String, Fail> {
     let stream = opened_twice(alloc)?;
     let mut reader = Pieces {

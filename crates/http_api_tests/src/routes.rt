@@ -3,7 +3,8 @@
 use crate::lines::try_lines;
 use std::test::Fail;
 
-/// Paths with a row in the table of routes and without, methods that they have and haven't, and bodies with a fault.
+/// Paths with a row in the table of routes and without, methods that they have and haven't, and
+/// bodies with a fault.
 const ROUTES: &str = r##"GET /nothing HTTP/1.1|| => 404 Not Found: {}
 POST /ccr HTTP/1.1|Content-Length: 0|| => 400 Bad Request: {"Result-Code":5012}
 POST /ccr HTTP/1.1|Content-Length: 2||{} => 400 Bad Request: {"Failed-AVP":"Session-Id","Result-Code":5005}

@@ -1,4 +1,5 @@
-//! Sessions over one connection, and a body that ends early. A line is `METHOD PATH BODY => STATUS: BODY`.
+//! Sessions over one connection, and a body that ends early. A line is `METHOD PATH BODY => STATUS:
+//! BODY`.
 
 use crate::connections::{told, try_stream};
 use crate::streams::response;
@@ -6,8 +7,9 @@ use keepers::MemoryKeeper;
 use std::alloc::Global;
 use std::test::Fail;
 
-/// An account is opened and credited; a session begins and reports; the report comes again and is answered with the same
-/// bytes, and with other content it is refused; so are credits; and a price is told.
+/// An account is opened and credited; a session begins and reports; the report comes again and is
+/// answered with the same bytes, and with other content it is refused; so are credits; and a price
+/// is told.
 const SESSION: &str = r##"PUT /accounts/49151  => 200 OK: {"Result-Code":2001}
 POST /accounts/49151/credits {"Amount":1000000,"Reference":"c1"} => 200 OK: {"Bucket":1,"Result-Code":2001}
 POST /ccr {"Session-Id":"s11","CC-Request-Type":1,"CC-Request-Number":0,"Subscription-Id":{"Subscription-Id-Type":0,"Subscription-Id-Data":"49151"},"Multiple-Services-Credit-Control":[{"Rating-Group":10,"Requested-Service-Unit":{"CC-Time":600}}]} => 200 OK: {"CC-Request-Number":0,"CC-Request-Type":1,"Multiple-Services-Credit-Control":[{"Granted-Service-Unit":{"CC-Time":600},"Rating-Group":10,"Result-Code":2001,"Validity-Time":3600}],"Result-Code":2001,"Session-Id":"s11"}
@@ -71,7 +73,8 @@ fn credits_of_the_most_and_of_more(rt: HostRuntime) -> Result<(), Fail> {
     try_stream(&rt, alloc, stream.as_str(), expected.as_str())
 }
 
-/// A connection whose last body is one byte short, and then one with a report of the session that would have begun.
+/// A connection whose last body is one byte short, and then one with a report of the session that
+/// would have begun.
 const SHORT: &str = r##"PUT /accounts/49151  => 200 OK: {"Result-Code":2001}
 POST /accounts/49151/credits {"Amount":1000000,"Reference":"c1"} => 200 OK: {"Bucket":1,"Result-Code":2001}
 POST /ccr {"Session-Id":"s11","CC-Request-Type":1,"CC-Request-Number":0,"Subscription-Id":{"Subscription-Id-Type":0,"Subscription-Id-Data":"49151"},"Multiple-Services-Credit-Control":[{"Rating-Group":10,"Requested-Service-Unit":{"CC-Time":600}}]} => 200 OK: {"CC-Request-Number":0,"CC-Request-Type":1,"Multiple-Services-Credit-Control":[{"Granted-Service-Unit":{"CC-Time":600},"Rating-Group":10,"Result-Code":2001,"Validity-Time":3600}],"Result-Code":2001,"Session-Id":"s11"}"##;

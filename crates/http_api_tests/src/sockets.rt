@@ -18,7 +18,8 @@ fn served(alloc: Global, stream: &TcpStream) -> Result<String, Fail> {
     Ok(ending(alloc, served)?)
 }
 
-/// The client's side connects, writes and ends its writing; the engine serves; the client's side reads.
+/// The client's side connects, writes and ends its writing; the engine serves; the client's side
+/// reads.
 #[test]
 fn over_loopback(rt: HostRuntime) -> Result<(), Fail> {
     let alloc = rt.alloc();
