@@ -260,6 +260,16 @@ either_none : (l : Bool) (hs : List Hold) (p : Option (Option _)) → p ≡ Some
 either_none true hs p e = ap (λ x. reservation_of hs (inner x)) e
 either_none false hs p e = refl
 
+-- the row of a session's group, by its use and its reservation
+abbrev pub row_with : List ℕ → ℕ → ℕ → Option Reservation → SessionGroup
+row_with s g units reservation =
+    record { session = s; group = g; used = units; reservation = reservation }
+
+pub own_row : (s : List ℕ) (g : ℕ) (h : Bool) (u w : ℕ) (o p : Option Reservation) → h ≡ true →
+    u ≡ w → o ≡ p → (if h then Some (row_with s g u o) else None) ≡ Some (row_with s g w p)
+own_row s g h u w o p named used kept =
+    λ i. if named i then Some (row_with s g (used i) (kept i)) else None
+
 own_settled : (v t : ℕ) (session : List ℕ) (group units blocks rated : ℕ) (ledger : Ledger) →
     group_at v t (settled v t session group units blocks rated ledger) session group
     ≡ Some (record {
@@ -287,23 +297,7 @@ own_settled v t session group units blocks rated ledger =
     (newest (grant_in session group) after)
     (λ i. or_else (if own i then Some None else None)
     (newest (grant_in session group) (charge_facts t hs ++ ledger))) in
-    let row :
-    (let r : SessionGroup =
-    record {
-      session = session;
-      group = group;
-      used = used session group after;
-      reservation = reservation_at v t after session group;
-    } in r)
-    ≡ (let r : SessionGroup =
-    record {
-      session = session;
-      group = group;
-      used = used session group ledger + units;
-      reservation = None;
-    } in r) =
-    λ i. record { session = session; group = group; used = so_far i; reservation = none i } in
-    λ i. (if named i then Some (row i) else None)
+    own_row session group _ _ _ _ _ named so_far none
 
 groups-settled : (v t : ℕ) (session : List ℕ) (group units blocks rated : ℕ) (ledger : Ledger)
     (does : Row → Row) (rows : List SessionGroup) →

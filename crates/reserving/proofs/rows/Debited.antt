@@ -24,7 +24,7 @@ use Rattle.reserving.proofs.SettledFacts.{is_barred-front, total-front, newest-f
 use Rattle.reserving.proofs.ledger.Columns.{balanced_le}
 use Rattle.reserving.proofs.ledger.SettledBuckets.{balance_by-settled, eligible_le}
 use Rattle.reserving.proofs.kept.Settled.{settled_number}
-use Rattle.reserving.proofs.SettledRows.{used_in_is, count_in_is, open_none, if_none, counters_used, differs_above, sum_at_none}
+use Rattle.reserving.proofs.SettledRows.{own_row, used_in_is, count_in_is, open_none, if_none, counters_used, differs_above, sum_at_none}
 
 -- what each bucket pays of an event's price
 abbrev shares : ℕ → ℕ → ℕ → ℕ → Ledger → List Hold
@@ -202,23 +202,7 @@ own_debited v t session group units blocks rated ledger does moved =
     (same_sessions-debited v t session group units blocks rated ledger)
     (same_grant v t session group units blocks rated ledger session group)
     (same_held v t session group units blocks rated ledger (only session group)) in
-    let row :
-    (let r : SessionGroup =
-    record {
-      session = session;
-      group = group;
-      used = used session group after;
-      reservation = reservation_at v t after session group;
-    } in r)
-    ≡ (let r : SessionGroup =
-    record {
-      session = session;
-      group = group;
-      used = used session group ledger + units;
-      reservation = reservation_at v t ledger session group;
-    } in r) =
-    λ i. record { session = session; group = group; used = so_far i; reservation = kept i } in
-    λ i. (if named i then Some (row i) else None)
+    own_row session group _ _ _ _ _ named so_far kept
 
 groups-debited : (v t : ℕ) (session : List ℕ) (group units blocks rated : ℕ) (ledger : Ledger)
     (does : Row → Row) (rows : List SessionGroup) →

@@ -31,7 +31,7 @@ use Rattle.reserving.proofs.Keys.{is_key, own_key, key_session, key_group, other
 use Rattle.reserving.proofs.SettledFacts.{is_barred-front, total-front, newest-front, any-front, any_dated-front, each_hold, held-hold_facts, held-hold_facts_other, credits-hold_facts, charged-hold_facts, IsMoved, SameSessions, SameGroup, same_session, same_live, same_touched, same_group}
 use Rattle.reserving.proofs.ledger.Columns.{balance_by, with_columns}
 use Rattle.reserving.proofs.rows.Complete.{held_free}
-use Rattle.reserving.proofs.SettledRows.{used_in_is, if_none, differs_above, sum_at_none}
+use Rattle.reserving.proofs.SettledRows.{own_row, used_in_is, if_none, differs_above, sum_at_none}
 use Rattle.reserving.proofs.kept.Settled.{held_by-put, held_by_number, AreApart-put, used_le, IsBelow-map}
 
 -- ---- the buckets
@@ -245,24 +245,7 @@ own_reserved book t session group units amount ledger live distinct free =
     (sum_at-parts G rows distinct)) in
     let reservation : reservation_at v t after session group ≡ Some (reservation_for book t hs) =
     λ i. (if is_live' i then reservation_of (holds i) (grant i) else None) in
-    let row :
-    (let r : SessionGroup =
-    record {
-      session = session;
-      group = group;
-      used = used session group after;
-      reservation = reservation_at v t after session group;
-    } in r)
-    ≡ (let r : SessionGroup =
-    record {
-      session = session;
-      group = group;
-      used = used session group ledger;
-      reservation = Some (reservation_for book t hs);
-    } in r) =
-    λ i. record { session = session; group = group; used = so_far i; reservation = reservation i }
-    in
-    λ i. (if named i then Some (row i) else None)
+    own_row session group _ _ _ _ _ named so_far reservation
 
 groups-reserved : (book : Book) (t : ℕ) (session : List ℕ) (group units amount : ℕ)
     (ledger : Ledger) (rows : List SessionGroup) (holds : List Hold) →
