@@ -1,4 +1,5 @@
--- The tables of accepted commands: before any, after a sweep, and after a command that names an account.
+-- The tables of accepted commands: before any, after a sweep, and after a command that names an
+-- account.
 use Rattle.std.proofs.Common.{◌≡◌, ℕ, ◌+◌, ◌≤◌, Bool, true, false, List, [], ◌∷◌, ◌++◌, refl, sym, ap, subst, ◌∙◌, arith, Option, Some, None}
 use Rattle.std.specs.Prelude.{if◌then◌else◌, is_some, ◌==◌}
 use Rattle.std.specs.Cmp.Lexicographic.{bytes_decides}
@@ -16,68 +17,109 @@ use Rattle.keepers.specs.Tables.{Head, Rows, Tables, no_rows, no_tables, charge_
 use Rattle.keepers.specs.Change.{kept_after, over, changed, AreRowsAt, IsSwept}
 
 -- an account's rows, by what its head is
-pub row_none : (book : Book) (t : ℕ) (history : History) (r : Rows) → r.head ≡ None → IsRow book t history r → (history.opened ≡ false) × (r ≡ no_rows)
+pub row_none : (book : Book) (t : ℕ) (history : History) (r : Rows) → r.head ≡ None →
+    IsRow book t history r → (history.opened ≡ false) × (r ≡ no_rows)
 row_none book t history r e h = subst (λ (o : Option Head). IsRowOf o book t history r) e h
 
-pub row_some : (book : Book) (t : ℕ) (history : History) (r : Rows) (head : Head) → r.head ≡ Some head → IsRow book t history r → (history.opened ≡ true) × AreRowsAt book history.ledger t r
+pub row_some : (book : Book) (t : ℕ) (history : History) (r : Rows) (head : Head) →
+    r.head ≡ Some head → IsRow book t history r →
+    (history.opened ≡ true) × AreRowsAt book history.ledger t r
 row_some book t history r head e h = subst (λ (o : Option Head). IsRowOf o book t history r) e h
 
-pub row_of : (book : Book) (t : ℕ) (history : History) (r : Rows) → history.opened ≡ true → AreRowsAt book history.ledger t r → IsRow book t history r
-row_of book t history r opened rows = subst (λ (o : Option Head). IsRowOf o book t history r) (sym rows.are.head) (opened, rows)
+pub row_of : (book : Book) (t : ℕ) (history : History) (r : Rows) → history.opened ≡ true →
+    AreRowsAt book history.ledger t r → IsRow book t history r
+row_of book t history r opened rows =
+    subst (λ (o : Option Head). IsRowOf o book t history r) (sym rows.are.head) (opened, rows)
 
-row_later : (book : Book) (t u : ℕ) (history : History) (old new : Rows) → u ≤ t → (old.head ≡ None → new ≡ old) → (AreRowsAt book history.ledger u old → AreRowsAt book history.ledger t new) → IsRow book u history old → IsRow book t history new
+row_later : (book : Book) (t u : ℕ) (history : History) (old new : Rows) → u ≤ t →
+    (old.head ≡ None → new ≡ old) →
+    (AreRowsAt book history.ledger u old → AreRowsAt book history.ledger t new) →
+    IsRow book u history old → IsRow book t history new
 row_later book t u history old new le none some h = at old.head refl
   where
     at : (o : Option Head) → old.head ≡ o → IsRow book t history new
     at None e =
         let was = row_none book u history old e h in
         let same : new ≡ old = none e in
-        subst (λ (o : Option Head). IsRowOf o book t history new) (sym ((λ i. (same i).head) ∙ e)) (was.0, same ∙ was.1)
+        subst (λ (o : Option Head). IsRowOf o book t history new) (sym ((λ i. (same i).head) ∙ e))
+        (was.0, same ∙ was.1)
     at (Some head) e =
         let was = row_some book u history old head e h in
         row_of book t history new was.0 (some was.1)
 
 -- an account doesn't stand for a later moment than the last
-pub as_of-last : (a : List ℕ) (list : List Accepted) → IsInTime list → as_of a list ≤ last_moment list
+pub as_of-last : (a : List ℕ) (list : List Accepted) → IsInTime list →
+    as_of a list ≤ last_moment list
 as_of-last a [] h = omega arith
 as_of-last a (d ∷ before) h = at (reaches a (concerned_by d.command)) (as_of-last a before h.1)
   where
-    at : (t : Bool) → as_of a before ≤ last_moment before → (if t then d.moment else as_of a before) ≤ d.moment
+    at : (t : Bool) → as_of a before ≤ last_moment before →
+        (if t then d.moment else as_of a before) ≤ d.moment
     at true le = omega arith
     at false le = omega (arith, h.0, le)
 
 module _ (outcome : History → Command → ℕ → Outcome) where
   pub tables_none : (book : Book) → AreTablesOf outcome book [] no_tables
-  tables_none book = record { last = refl; accounts = λ a. (refl, refl); answers = λ a k. refl; charges = λ a n. refl; count = refl }
+  tables_none book = record {
+    last = refl;
+    accounts = λ a. (refl, refl);
+    answers = λ a k. refl;
+    charges = λ a n. refl;
+    count = refl;
+  }
 
   -- a sweep
-  pub tables_swept : (book : Book) (d : Accepted) (list : List Accepted) (old new : Tables) → IsInTime list → last_moment list ≤ d.moment → concerned_by d.command ≡ each → is_opening d.command ≡ false →
-      IsSwept book d.moment old new → AreTablesOf outcome book list old → AreTablesOf outcome book (d ∷ list) new
+  pub tables_swept : (book : Book) (d : Accepted) (list : List Accepted) (old new : Tables) →
+      IsInTime list → last_moment list ≤ d.moment → concerned_by d.command ≡ each →
+      is_opening d.command ≡ false →
+      IsSwept book d.moment old new → AreTablesOf outcome book list old →
+      AreTablesOf outcome book (d ∷ list) new
   tables_swept book d list old new time le none opens x h = record {
     last = x.last;
     accounts = λ a.
-        subst (λ o. IsRow book (if reaches a o then d.moment else as_of a list) (if names a o then (outcome (history_of outcome a list) d.command d.moment).after else history_of outcome a list) (new.rows a)) (sym none)
-        (let early : as_of a list ≤ d.moment = (let e : as_of a list ≤ last_moment list = as_of-last a list time in omega arith) in
-        row_later book d.moment (as_of a list) (history_of outcome a list) (old.rows a) (new.rows a) early (x.none a) (x.rows a (history_of outcome a list).ledger (as_of a list) early) (h.accounts a));
+        subst (λ o. IsRow book (if reaches a o then d.moment else as_of a list)
+        (if names a o then (outcome (history_of outcome a list) d.command d.moment).after
+        else history_of outcome a list) (new.rows a)) (sym none)
+        (let early : as_of a list ≤ d.moment =
+        (let e : as_of a list ≤ last_moment list = as_of-last a list time in omega arith) in
+        row_later book d.moment (as_of a list) (history_of outcome a list) (old.rows a)
+        (new.rows a) early (x.none a)
+        (x.rows a (history_of outcome a list).ledger (as_of a list) early) (h.accounts a));
     answers = λ a k.
-        x.answers a k ∙ h.answers a k ∙ (λ i. kept_under k (if names a (sym none i) then (outcome (history_of outcome a list) d.command d.moment).after else history_of outcome a list));
+        x.answers a k ∙ h.answers a k
+        ∙ (λ i. kept_under k (if names a (sym none i)
+        then (outcome (history_of outcome a list) d.command d.moment).after
+        else history_of outcome a list));
     charges = λ a n.
-        x.charges a n ∙ h.charges a n ∙ (λ i. charge_in n (charge_rows (if names a (sym none i) then (outcome (history_of outcome a list) d.command d.moment).after else history_of outcome a list).ledger));
-    count = x.count ∙ h.count ∙ (λ i. if sym opens i then account_count list + 1 else account_count list);
+        x.charges a n ∙ h.charges a n
+        ∙
+        (λ i. charge_in n (charge_rows
+        (if names a (sym none i) then
+        (outcome (history_of outcome a list) d.command d.moment).after
+        else history_of outcome a list).ledger));
+    count = x.count ∙ h.count
+        ∙ (λ i. if sym opens i then account_count list + 1 else account_count list);
   }
 
   -- a command that names an account: its rows are those of its history after the command
-  pub record Adds (book : Book) (d : Accepted) (list : List Accepted) (change : Change) (tables : Tables) : Type 0 where
+  pub record Adds (book : Book) (d : Accepted) (list : List Accepted) (change : Change)
+      (tables : Tables) : Type 0 where
     pub named : concerned_by d.command ≡ one change.number
     pub moment : change.moment ≡ d.moment
     pub opened : (history_of outcome change.number (d ∷ list)).opened ≡ true
-    pub row : AreRowsAt book (history_of outcome change.number (d ∷ list)).ledger d.moment (over change.after (tables.rows change.number))
-    pub kept : (k : Key) → kept_under k (history_of outcome change.number (d ∷ list)) ≡ kept_after change.kept k (kept_under k (history_of outcome change.number list))
-    pub charges : charge_rows (history_of outcome change.number (d ∷ list)).ledger ≡ charge_rows (history_of outcome change.number list).ledger ++ change.charges.items
-    pub count : (if is_some (tables.rows change.number).head then tables.count else tables.count + 1) ≡ (if is_opening d.command then tables.count + 1 else tables.count)
+    pub row : AreRowsAt book (history_of outcome change.number (d ∷ list)).ledger d.moment
+        (over change.after (tables.rows change.number))
+    pub kept : (k : Key) → kept_under k (history_of outcome change.number (d ∷ list)) ≡
+        kept_after change.kept k (kept_under k (history_of outcome change.number list))
+    pub charges : charge_rows (history_of outcome change.number (d ∷ list)).ledger ≡
+        charge_rows (history_of outcome change.number list).ledger ++ change.charges.items
+    pub count : (if is_some (tables.rows change.number).head then tables.count
+        else tables.count + 1) ≡ (if is_opening d.command then tables.count + 1 else tables.count)
 
-  pub tables_changed : (book : Book) (d : Accepted) (list : List Accepted) (change : Change) (tables : Tables) → Adds book d list change tables →
-      AreTablesOf outcome book list tables → AreTablesOf outcome book (d ∷ list) (changed change tables)
+  pub tables_changed : (book : Book) (d : Accepted) (list : List Accepted) (change : Change)
+      (tables : Tables) → Adds book d list change tables →
+      AreTablesOf outcome book list tables →
+      AreTablesOf outcome book (d ∷ list) (changed change tables)
   tables_changed book d list change tables x h = record {
     last = x.moment;
     accounts = λ a. account a (same_name n a) refl;
@@ -95,53 +137,88 @@ module _ (outcome : History → Command → ℕ → Outcome) where
       named : (a : List ℕ) (t : Bool) → same_name n a ≡ t → names a (concerned_by d.command) ≡ t
       named a t e = ap (names a) x.named ∙ e
 
-      row : IsRow book d.moment (history_of outcome n (d ∷ list)) (over change.after (tables.rows n))
-      row = row_of book d.moment (history_of outcome n (d ∷ list)) (over change.after (tables.rows n)) x.opened x.row
+      row : IsRow book d.moment (history_of outcome n (d ∷ list))
+          (over change.after (tables.rows n))
+      row = row_of book d.moment (history_of outcome n (d ∷ list))
+          (over change.after (tables.rows n)) x.opened x.row
 
-      account : (a : List ℕ) (t : Bool) → same_name n a ≡ t → IsRow book (as_of a (d ∷ list)) (history_of outcome a (d ∷ list)) (if same_name n a then over change.after (tables.rows a) else tables.rows a)
+      account : (a : List ℕ) (t : Bool) → same_name n a ≡ t →
+          IsRow book (as_of a (d ∷ list)) (history_of outcome a (d ∷ list))
+          (if same_name n a then over change.after (tables.rows a) else tables.rows a)
       account a true e =
           let same : n ≡ a = (bytes_decides n a).0 e in
-          subst (λ (r : Rows). IsRow book (as_of a (d ∷ list)) (history_of outcome a (d ∷ list)) r) (sym (ap (λ t. if t then over change.after (tables.rows a) else tables.rows a) e))
-          (subst (λ m. IsRow book (as_of a (d ∷ list)) (history_of outcome m (d ∷ list)) (over change.after (tables.rows m))) same
+          subst (λ (r : Rows). IsRow book (as_of a (d ∷ list)) (history_of outcome a (d ∷ list)) r)
+          (sym (ap (λ t. if t then over change.after (tables.rows a) else tables.rows a) e))
+          (subst (λ m. IsRow book (as_of a (d ∷ list)) (history_of outcome m (d ∷ list))
+          (over change.after (tables.rows m))) same
           (rw (reached a true e) row))
       account a false e =
-          let moment : as_of a (d ∷ list) ≡ as_of a list = ap (λ t. if t then d.moment else as_of a list) (reached a false e) in
-          let same : history_of outcome a (d ∷ list) ≡ history_of outcome a list = ap (λ t. if t then (outcome (history_of outcome a list) d.command d.moment).after else history_of outcome a list) (named a false e) in
-          let o : (if same_name n a then over change.after (tables.rows a) else tables.rows a) ≡ tables.rows a = ap (λ t. if t then over change.after (tables.rows a) else tables.rows a) e in
-          subst (λ (r : Rows). IsRow book (as_of a (d ∷ list)) (history_of outcome a (d ∷ list)) r) (sym o) (rw (moment, same) (h.accounts a))
+          let moment : as_of a (d ∷ list) ≡ as_of a list =
+          ap (λ t. if t then d.moment else as_of a list) (reached a false e) in
+          let same : history_of outcome a (d ∷ list) ≡ history_of outcome a list =
+          ap (λ t. if t then (outcome (history_of outcome a list) d.command d.moment).after
+          else history_of outcome a list) (named a false e) in
+          let o : (if same_name n a then over change.after (tables.rows a) else tables.rows a) ≡
+          tables.rows a = ap (λ t. if t then over change.after (tables.rows a)
+          else tables.rows a) e in
+          subst (λ (r : Rows). IsRow book (as_of a (d ∷ list)) (history_of outcome a (d ∷ list)) r)
+          (sym o) (rw (moment, same) (h.accounts a))
 
-      answer : (a : List ℕ) (k : Key) (t : Bool) → same_name n a ≡ t → (if same_name n a then kept_after change.kept k (tables.answers a k) else tables.answers a k) ≡ kept_under k (history_of outcome a (d ∷ list))
+      answer : (a : List ℕ) (k : Key) (t : Bool) → same_name n a ≡ t →
+          (if same_name n a then kept_after change.kept k (tables.answers a k)
+          else tables.answers a k) ≡ kept_under k (history_of outcome a (d ∷ list))
       answer a k true e =
           let same : n ≡ a = (bytes_decides n a).0 e in
-          ap (λ t. if t then kept_after change.kept k (tables.answers a k) else tables.answers a k) e
+          ap (λ t. if t then kept_after change.kept k (tables.answers a k) else tables.answers a k)
+          e
           ∙ ap (kept_after change.kept k) (h.answers a k)
-          ∙ subst (λ m. kept_after change.kept k (kept_under k (history_of outcome m list)) ≡ kept_under k (history_of outcome m (d ∷ list))) same (sym (x.kept k))
+          ∙ subst (λ m. kept_after change.kept k (kept_under k (history_of outcome m list)) ≡
+          kept_under k (history_of outcome m (d ∷ list))) same (sym (x.kept k))
       answer a k false e =
-          let same : history_of outcome a (d ∷ list) ≡ history_of outcome a list = ap (λ t. if t then (outcome (history_of outcome a list) d.command d.moment).after else history_of outcome a list) (named a false e) in
-          ap (λ t. if t then kept_after change.kept k (tables.answers a k) else tables.answers a k) e
+          let same : history_of outcome a (d ∷ list) ≡ history_of outcome a list =
+          ap (λ t. if t then (outcome (history_of outcome a list) d.command d.moment).after
+          else history_of outcome a list) (named a false e) in
+          ap (λ t. if t then kept_after change.kept k (tables.answers a k) else tables.answers a k)
+          e
           ∙ h.answers a k ∙ ap (kept_under k) (sym same)
 
       charged : (a : List ℕ) (m : ℕ) (t : Bool) → same_name n a ≡ t →
-          (if same_name n a then first_of (tables.charges a m) (charge_in m change.charges.items) else tables.charges a m) ≡ charge_in m (charge_rows (history_of outcome a (d ∷ list)).ledger)
+          (if same_name n a then first_of (tables.charges a m) (charge_in m change.charges.items)
+          else tables.charges a m) ≡
+          charge_in m (charge_rows (history_of outcome a (d ∷ list)).ledger)
       charged a m true e =
           let same : n ≡ a = (bytes_decides n a).0 e in
-          ap (λ t. if t then first_of (tables.charges a m) (charge_in m change.charges.items) else tables.charges a m) e
+          ap (λ t. if t then first_of (tables.charges a m) (charge_in m change.charges.items)
+          else tables.charges a m) e
           ∙ ap (λ o. first_of o (charge_in m change.charges.items)) (h.charges a m)
-          ∙ sym (find_both (λ c. c.number == m) (charge_rows (history_of outcome a list).ledger) change.charges.items)
-          ∙ subst (λ b. charge_in m (charge_rows (history_of outcome b list).ledger ++ change.charges.items) ≡ charge_in m (charge_rows (history_of outcome b (d ∷ list)).ledger)) same (ap (charge_in m) (sym x.charges))
+          ∙ sym (find_both (λ c. c.number == m) (charge_rows (history_of outcome a list).ledger)
+          change.charges.items)
+          ∙ subst (λ b. charge_in m
+          (charge_rows (history_of outcome b list).ledger ++ change.charges.items) ≡
+          charge_in m (charge_rows (history_of outcome b (d ∷ list)).ledger)) same
+          (ap (charge_in m) (sym x.charges))
       charged a m false e =
-          let same : history_of outcome a (d ∷ list) ≡ history_of outcome a list = ap (λ t. if t then (outcome (history_of outcome a list) d.command d.moment).after else history_of outcome a list) (named a false e) in
-          ap (λ t. if t then first_of (tables.charges a m) (charge_in m change.charges.items) else tables.charges a m) e
+          let same : history_of outcome a (d ∷ list) ≡ history_of outcome a list =
+          ap (λ t. if t then (outcome (history_of outcome a list) d.command d.moment).after
+          else history_of outcome a list) (named a false e) in
+          ap (λ t. if t then first_of (tables.charges a m) (charge_in m change.charges.items)
+          else tables.charges a m) e
           ∙ h.charges a m ∙ ap (λ h. charge_in m (charge_rows h.ledger)) (sym same)
 
   -- an account's history is that of its own commands alone
-  pub history-own : (a : List ℕ) (list : List Accepted) → history_of outcome a (own a list) ≡ history_of outcome a list
+  pub history-own : (a : List ℕ) (list : List Accepted) →
+      history_of outcome a (own a list) ≡ history_of outcome a list
   history-own a [] = refl
   history-own a (d ∷ before) = at (names a (concerned_by d.command)) refl (history-own a before)
     where
-      at : (t : Bool) → names a (concerned_by d.command) ≡ t → history_of outcome a (own a before) ≡ history_of outcome a before →
-          history_of outcome a (if t then d ∷ own a before else own a before) ≡ (if t then (outcome (history_of outcome a before) d.command d.moment).after else history_of outcome a before)
+      at : (t : Bool) → names a (concerned_by d.command) ≡ t →
+          history_of outcome a (own a before) ≡ history_of outcome a before →
+          history_of outcome a (if t then d ∷ own a before else own a before) ≡
+          (if t then (outcome (history_of outcome a before) d.command d.moment).after
+          else history_of outcome a before)
       at true e rest =
-          ap (λ t. if t then (outcome (history_of outcome a (own a before)) d.command d.moment).after else history_of outcome a (own a before)) e
+          ap
+          (λ t. if t then (outcome (history_of outcome a (own a before)) d.command
+          d.moment).after else history_of outcome a (own a before)) e
           ∙ ap (λ h. (outcome h d.command d.moment).after) rest
       at false e rest = rest

@@ -21,29 +21,41 @@ use Rattle.charging.proofs.Guaranteed.{IsGuaranteed, guaranteed_none, keeps_guar
 use Rattle.charging.proofs.KeptHistories.{kept_history}
 use Rattle.charging.proofs.Repeated.{answers-once}
 
-pub accounted : (b : Book) (commands : List DatedCommand) (old new : Tables) (given : List Answer) → IsBook b → Runs b commands old new given → AreAccounted b commands old new given
+pub accounted : (b : Book) (commands : List DatedCommand) (old new : Tables) (given : List Answer) →
+    IsBook b → Runs b commands old new given → AreAccounted b commands old new given
 accounted b commands old new given ranges runs list time tables a head found =
     let after : List Accepted = after_commands b list (take (length given) commands) in
     let run : IsRun b list commands new given = runs list time tables in
-    let row = row_some b (as_of a after) (history b a after) (new.rows a) head found (run.tables.accounts a) in
-    let same : head ≡ head_of row.1.listed = some_of head (head_of row.1.listed) (sym found ∙ row.1.are.head) in
+    let row = row_some b (as_of a after) (history b a after) (new.rows a) head found
+    (run.tables.accounts a) in
+    let same : head ≡ head_of row.1.listed =
+    some_of head (head_of row.1.listed) (sym found ∙ row.1.are.head) in
     let moment : as_of a after ≡ head.as_of = sym row.1.moment ∙ (λ i. (sym same i).as_of) in
-    let told = buckets_told b (history b a after).ledger head.as_of (new.rows a) (subst (λ m. AreRowsAt b (history b a after).ledger m (new.rows a)) moment row.1) in
+    let told = buckets_told b (history b a after).ledger head.as_of (new.rows a)
+    (subst (λ m. AreRowsAt b (history b a after).ledger m (new.rows a)) moment row.1) in
     record {
       buckets = told.0;
       balanced = told.1;
       charges = run.tables.charges a;
       paid = (kept_history b (IsPaying b) (keeps_paying b) (paying_none b) a after).paid;
-      quotas = (kept_history b (IsGuaranteed b) (keeps_guaranteed b ranges) (guaranteed_none b) a after).quotas;
+      quotas = (kept_history b (IsGuaranteed b) (keeps_guaranteed b ranges)
+          (guaranteed_none b) a after).quotas;
     }
 
-pub answered_again : (b : Book) (c : Command) (t : ℕ) (old new : Tables) (given : Answer) → ((list : List Accepted) → IsInTime list → AreTables b list old → IsServed b list c (moment_of list t) old new given) →
+pub answered_again : (b : Book) (c : Command) (t : ℕ) (old new : Tables) (given : Answer) →
+    ((list : List Accepted) → IsInTime list → AreTables b list old →
+    IsServed b list c (moment_of list t) old new given) →
     IsAnsweredAgain b c old new given
 answered_again b c t old new given served before first between key taken time tables =
-    let list : List Accepted = after_commands b (record { moment = first; command = c } ∷ before) between in
-    let now : IsServed b list c (moment_of list t) old new given = served list time tables in
-    (now.answer ∙ (answers-once b before c first between (moment_of list t) key taken).answer, now.same (answers-once b before c first between (moment_of list t) key taken).accepted)
+    let list : List Accepted =
+    after_commands b (record { moment = first; command = c } ∷ before) between in
+    let now : IsServed b list c (moment_of list t) old new given = served list time tables in (
+      now.answer ∙ (answers-once b before c first between (moment_of list t) key taken).answer,
+      now.same (answers-once b before c first between (moment_of list t) key taken).accepted,
+    )
 
-pub served_again : (b : Book) (c : Command) (t : ℕ) (old new : Tables) (result : Result Answer StoreFault) → Serves b c t old new result → IfOk result (IsAnsweredAgain b c old new)
+pub served_again : (b : Book) (c : Command) (t : ℕ) (old new : Tables)
+    (result : Result Answer StoreFault) → Serves b c t old new result →
+    IfOk result (IsAnsweredAgain b c old new)
 served_again b c t old new (Ok given) served = answered_again b c t old new given served
 served_again b c t old new (Err fault) served = tt

@@ -25,15 +25,19 @@ pub no_credits : AreCredited [] 1
 no_credits = record { order = tt; distinct = tt; below = tt }
 
 -- one more
-pub more_credits : (t from until : ℕ) (scope : Option ℕ) (amount : ℕ) (ledger : Ledger) → AreCredited (credits ledger) (next_bucket ledger) →
-    AreCredited (credits (credited t from until scope amount ledger)) (next_bucket (credited t from until scope amount ledger))
+pub more_credits : (t from until : ℕ) (scope : Option ℕ) (amount : ℕ) (ledger : Ledger) →
+    AreCredited (credits ledger) (next_bucket ledger) →
+    AreCredited (credits (credited t from until scope amount ledger))
+    (next_bucket (credited t from until scope amount ledger))
 more_credits t from until scope amount ledger h =
     let b : Row = new_row (next_bucket ledger) from until scope amount in
-    let next : next_bucket ledger + 1 ≡ next_bucket (credited t from until scope amount ledger) = omega arith in
+    let next : next_bucket ledger + 1 ≡ next_bucket (credited t from until scope amount ledger) =
+    omega arith in
     record {
       order = IsInOrder-inserted b (credits ledger) h.below h.order;
       distinct = AreDistinct-inserted b (credits ledger) h.below h.distinct;
-      below = subst (λ n. IsBelow n (inserted b (credits ledger))) next (IsBelow-inserted (next_bucket ledger) b (credits ledger) (omega arith) h.below);
+      below = subst (λ n. IsBelow n (inserted b (credits ledger))) next
+          (IsBelow-inserted (next_bucket ledger) b (credits ledger) (omega arith) h.below);
     }
 
 -- facts that make no bucket
@@ -41,31 +45,49 @@ pub record SameCredits (new old : Ledger) : Type 0 where
   pub rows : credits new ≡ credits old
   pub next : next_bucket new ≡ next_bucket old
 
-pub same_credits : (new old : Ledger) → SameCredits new old → AreCredited (credits old) (next_bucket old) → AreCredited (credits new) (next_bucket new)
-same_credits new old same h = subst (λ rows. AreCredited rows (next_bucket new)) (sym same.rows) (subst (AreCredited (credits old)) (sym same.next) h)
+pub same_credits : (new old : Ledger) → SameCredits new old →
+    AreCredited (credits old) (next_bucket old) → AreCredited (credits new) (next_bucket new)
+same_credits new old same h =
+    subst (λ rows. AreCredited rows (next_bucket new)) (sym same.rows)
+    (subst (AreCredited (credits old)) (sym same.next) h)
 
-pub quiet_credits : (t : ℕ) (f : Fact) (ledger : Ledger) → is_quiet f ≡ true → SameCredits (record { at = t; fact = f } ∷ ledger) ledger
+pub quiet_credits : (t : ℕ) (f : Fact) (ledger : Ledger) → is_quiet f ≡ true →
+    SameCredits (record { at = t; fact = f } ∷ ledger) ledger
 quiet_credits t (Touch s) ledger q = record { rows = refl; next = omega arith }
 quiet_credits t (Close s) ledger q = record { rows = refl; next = omega arith }
 quiet_credits t (Recorded s n) ledger q = record { rows = refl; next = omega arith }
 quiet_credits t (Barred x) ledger q = record { rows = refl; next = omega arith }
 quiet_credits t _ ledger q = cc
 
-pub charge_credits : (t : ℕ) (hs : List Hold) (ledger : Ledger) → SameCredits (charge_facts t hs ++ ledger) ledger
+pub charge_credits : (t : ℕ) (hs : List Hold) (ledger : Ledger) →
+    SameCredits (charge_facts t hs ++ ledger) ledger
 charge_credits t [] ledger = record { rows = refl; next = refl }
-charge_credits t (h ∷ hs) ledger = record { rows = (charge_credits t hs ledger).rows; next = omega (arith, (charge_credits t hs ledger).next) }
+charge_credits t (h ∷ hs) ledger =
+    record {
+      rows = (charge_credits t hs ledger).rows;
+      next = omega (arith, (charge_credits t hs ledger).next);
+    }
 
-pub hold_credits : (t : ℕ) (s : List ℕ) (g : ℕ) (hs : List Hold) (ledger : Ledger) → SameCredits (hold_facts t s g hs ++ ledger) ledger
+pub hold_credits : (t : ℕ) (s : List ℕ) (g : ℕ) (hs : List Hold) (ledger : Ledger) →
+    SameCredits (hold_facts t s g hs ++ ledger) ledger
 hold_credits t s g [] ledger = record { rows = refl; next = refl }
-hold_credits t s g (h ∷ hs) ledger = record { rows = (hold_credits t s g hs ledger).rows; next = omega (arith, (hold_credits t s g hs ledger).next) }
+hold_credits t s g (h ∷ hs) ledger =
+    record {
+      rows = (hold_credits t s g hs ledger).rows;
+      next = omega (arith, (hold_credits t s g hs ledger).next);
+    }
 
 -- ---- their positions
 
 position_kept : (v t : ℕ) (ledger : Ledger) → KeepsPlace (bucket_at v t ledger)
 position_kept v t ledger = record { number = λ c. refl; until = λ c. refl }
 
-pub in_order : (v t : ℕ) (ledger : Ledger) → AreCredited (credits ledger) (next_bucket ledger) → IsInOrder (buckets_at v t ledger)
-in_order v t ledger h = IsInOrder-map (bucket_at v t ledger) (credits ledger) (position_kept v t ledger) h.order
+pub in_order : (v t : ℕ) (ledger : Ledger) → AreCredited (credits ledger) (next_bucket ledger) →
+    IsInOrder (buckets_at v t ledger)
+in_order v t ledger h = IsInOrder-map (bucket_at v t ledger) (credits ledger)
+    (position_kept v t ledger) h.order
 
-pub distinct : (v t : ℕ) (ledger : Ledger) → AreCredited (credits ledger) (next_bucket ledger) → AreDistinct (buckets_at v t ledger)
-distinct v t ledger h = AreDistinct-map (bucket_at v t ledger) (credits ledger) (position_kept v t ledger) h.distinct
+pub distinct : (v t : ℕ) (ledger : Ledger) → AreCredited (credits ledger) (next_bucket ledger) →
+    AreDistinct (buckets_at v t ledger)
+distinct v t ledger h = AreDistinct-map (bucket_at v t ledger) (credits ledger)
+    (position_kept v t ledger) h.distinct

@@ -35,14 +35,16 @@ use Rattle.charging.proofs.GrantsLeft.{held_together, LeavesGrant, leaves_both, 
 
 -- ---- groups with a tariff have blocks
 
-found_blocks : (g : ℕ) (tariffs : List GroupTariff) → All IsTariff tariffs → HasBlocks (find (λ t. t.group == g) tariffs)
+found_blocks : (g : ℕ) (tariffs : List GroupTariff) → All IsTariff tariffs →
+    HasBlocks (find (λ t. t.group == g) tariffs)
 found_blocks g [] h = tt
 found_blocks g (x ∷ xs) h = by_test (x.group == g) (found_blocks g xs (All-tail IsTariff x xs h))
   where
     is : IsTariff x
     is = All-head IsTariff x xs h
 
-    by_test : (b : Bool) → HasBlocks (find (λ t. t.group == g) xs) → HasBlocks (if b then Some x else find (λ t. t.group == g) xs)
+    by_test : (b : Bool) → HasBlocks (find (λ t. t.group == g) xs) →
+        HasBlocks (if b then Some x else find (λ t. t.group == g) xs)
     by_test true rest = is.some_block
     by_test false rest = rest
 
@@ -52,34 +54,46 @@ has_blocks b is g = found_blocks g b.tariffs is.tariffs
 -- ---- open grants
 
 -- what is held for a grant is at least what its units can cost; its session is recorded
-pub record IsCovered (b : Book) (s : List ℕ) (g : ℕ) (ledger : Ledger) (x : OpenGrant) : Type 0 where
+pub record IsCovered (b : Book) (s : List ℕ) (g : ℕ) (ledger : Ledger) (x : OpenGrant) :
+    Type 0 where
   pub periods : Periods
   pub granted : open_grant s g ledger ≡ Some periods
   pub recorded : last_recording s ledger ≡ None → ⊥
-  pub held : grant_price (tariff_of b g) periods (used s g ledger) x.counter x.units ≤ held_together s g ledger
+  pub held : grant_price (tariff_of b g) periods (used s g ledger) x.counter x.units ≤
+      held_together s g ledger
 
 abbrev pub IsCoveredAt : Book → Ledger → List ℕ → ℕ → Type 0
-IsCoveredAt b ledger s g = (x : OpenGrant) → grant_open s g ledger ≡ Some x → IsCovered b s g ledger x
+IsCoveredAt b ledger s g = (x : OpenGrant) → grant_open s g ledger ≡ Some x →
+    IsCovered b s g ledger x
 
 abbrev pub AreCovered : Book → Ledger → Type 0
 AreCovered b ledger = (s : List ℕ) (g : ℕ) → IsCoveredAt b ledger s g
 
 -- where a grant is left as it was, it stays covered
-covered_left : (b : Book) (s : List ℕ) (g : ℕ) (new old : Ledger) → LeavesGrant s g new old → IsCoveredAt b old s g → IsCoveredAt b new s g
+covered_left : (b : Book) (s : List ℕ) (g : ℕ) (new old : Ledger) → LeavesGrant s g new old →
+    IsCoveredAt b old s g → IsCoveredAt b new s g
 covered_left b s g new old left h x e =
     let before : IsCovered b s g old x = h x (sym left.grant ∙ e) in
     record {
       periods = before.periods;
       granted = left.periods ∙ before.granted;
       recorded = λ none. before.recorded (left.recorded none);
-      held = omega (arith, before.held, left.held, ap (λ n. grant_price (tariff_of b g) before.periods n x.counter x.units) left.used);
+      held = omega (
+        arith,
+        before.held,
+        left.held,
+        ap (λ n. grant_price (tariff_of b g) before.periods n x.counter x.units) left.used,
+      );
     }
 
 pub covered_none : (b : Book) → AreCovered b []
 covered_none b s g x e = cc
 
-pub covered_quiet : (b : Book) (t : ℕ) (f : Fact) (ledger : Ledger) → is_quiet f ≡ true → AreCovered b ledger → AreCovered b (record { at = t; fact = f } ∷ ledger)
-covered_quiet b t f ledger q h s g = covered_left b s g (record { at = t; fact = f } ∷ ledger) ledger (leaves_one s g t f ledger (untold f q)) (h s g)
+pub covered_quiet : (b : Book) (t : ℕ) (f : Fact) (ledger : Ledger) → is_quiet f ≡ true →
+    AreCovered b ledger → AreCovered b (record { at = t; fact = f } ∷ ledger)
+covered_quiet b t f ledger q h s g =
+    covered_left b s g (record { at = t; fact = f } ∷ ledger) ledger
+    (leaves_one s g t f ledger (untold f q)) (h s g)
   where
     untold : (f : Fact) → is_quiet f ≡ true → tells s g f ≡ false
     untold (Touch session) k = refl
@@ -88,69 +102,108 @@ covered_quiet b t f ledger q h s g = covered_left b s g (record { at = t; fact =
     untold (Barred barred) k = refl
     untold _ k = cc
 
-pub covered_credit : (b : Book) (t from until : ℕ) (scope : Option ℕ) (amount : ℕ) (ledger : Ledger) → AreCovered b ledger → AreCovered b (credited t from until scope amount ledger)
-covered_credit b t from until scope amount ledger h s g = covered_left b s g (credited t from until scope amount ledger) ledger (leaves_one s g t _ ledger refl) (h s g)
+pub covered_credit : (b : Book) (t from until : ℕ) (scope : Option ℕ) (amount : ℕ)
+    (ledger : Ledger) → AreCovered b ledger →
+    AreCovered b (credited t from until scope amount ledger)
+covered_credit b t from until scope amount ledger h s g =
+    covered_left b s g (credited t from until scope amount ledger) ledger
+    (leaves_one s g t _ ledger refl) (h s g)
 
 -- ---- settlements
 
-ended : (t : ℕ) (session : List ℕ) (group : ℕ) (ledger : Ledger) (s : List ℕ) (g : ℕ) (x : OpenGrant) → is_key session group s g ≡ true → grant_open s g (record { at = t; fact = End session group } ∷ ledger) ≡ Some x → ⊥
+ended : (t : ℕ) (session : List ℕ) (group : ℕ) (ledger : Ledger) (s : List ℕ) (g : ℕ)
+    (x : OpenGrant) → is_key session group s g ≡ true →
+    grant_open s g (record { at = t; fact = End session group } ∷ ledger) ≡ Some x → ⊥
 ended t session group ledger s g x own e =
-    let none : None ≡ Some x = sym (λ i. inner (or_else (if own i then Some None else None) (newest (grant_told s g) ledger))) ∙ e in
+    let none : None ≡ Some x =
+    sym
+    (λ i. inner (or_else (if own i then Some None else None)
+    (newest (grant_told s g) ledger))) ∙ e in
     cc
 
 -- the end of a grant leaves the others
-covered_end : (b : Book) (t : ℕ) (session : List ℕ) (group : ℕ) (new old : Ledger) → ((s : List ℕ) (g : ℕ) → is_key session group s g ≡ false → LeavesGrant s g new old) →
+covered_end : (b : Book) (t : ℕ) (session : List ℕ) (group : ℕ) (new old : Ledger) →
+    ((s : List ℕ) (g : ℕ) → is_key session group s g ≡ false → LeavesGrant s g new old) →
     AreCovered b old → AreCovered b (record { at = t; fact = End session group } ∷ new)
 covered_end b t session group new old left h s g x = by_test (is_key session group s g) refl
   where
     more : Ledger
     more = record { at = t; fact = End session group } ∷ new
 
-    by_test : (k : Bool) → is_key session group s g ≡ k → grant_open s g more ≡ Some x → IsCovered b s g more x
+    by_test : (k : Bool) → is_key session group s g ≡ k → grant_open s g more ≡ Some x →
+        IsCovered b s g more x
     by_test true own e = absurd (ended t session group new s g x own e)
-    by_test false other e = covered_left b s g more old (leaves_both s g more new old (leaves_one s g t (End session group) new other) (left s g other)) (h s g) x e
+    by_test false other e = covered_left b s g more old
+        (leaves_both s g more new old (leaves_one s g t (End session group) new other)
+        (left s g other)) (h s g) x e
 
 -- a use of a group leaves the grants of others
-leaves_use : (t : ℕ) (session : List ℕ) (group units blocks rated short : ℕ) (hs : List Hold) (ledger : Ledger) (s : List ℕ) (g : ℕ) → is_key session group s g ≡ false →
-    LeavesGrant s g (record { at = t; fact = Use session group units blocks rated short } ∷ charge_facts t hs ++ ledger) ledger
+leaves_use : (t : ℕ) (session : List ℕ) (group units blocks rated short : ℕ) (hs : List Hold)
+    (ledger : Ledger) (s : List ℕ) (g : ℕ) → is_key session group s g ≡ false →
+    LeavesGrant s g (record { at = t; fact = Use session group units blocks rated short }
+    ∷ charge_facts t hs ++ ledger) ledger
 leaves_use t session group units blocks rated short hs ledger s g other =
-    leaves_both s g (record { at = t; fact = Use session group units blocks rated short } ∷ charge_facts t hs ++ ledger) (charge_facts t hs ++ ledger) ledger
-    (leaves_one s g t (Use session group units blocks rated short) (charge_facts t hs ++ ledger) other) (leaves_charges s g t hs ledger)
+    leaves_both s g (record { at = t; fact = Use session group units blocks rated short }
+    ∷ charge_facts t hs ++ ledger) (charge_facts t hs ++ ledger) ledger
+    (leaves_one s g t (Use session group units blocks rated short)
+    (charge_facts t hs ++ ledger) other) (leaves_charges s g t hs ledger)
 
-pub covered_settle : (b : Book) (t : ℕ) (session : List ℕ) (group : ℕ) (used_parts : List UsedPart) (ledger : Ledger) → AreCovered b ledger → AreCovered b (settled_by b t session group used_parts ledger)
-covered_settle b t session group [] ledger h = covered_end b t session group ledger ledger (λ s g other. leaves_same s g ledger) h
-covered_settle b t session group (p ∷ ps) ledger h = covered_end b t session group _ ledger (leaves_use t session group _ _ _ _ _ ledger) h
+pub covered_settle : (b : Book) (t : ℕ) (session : List ℕ) (group : ℕ) (used_parts : List UsedPart)
+    (ledger : Ledger) → AreCovered b ledger →
+    AreCovered b (settled_by b t session group used_parts ledger)
+covered_settle b t session group [] ledger h =
+    covered_end b t session group ledger ledger (λ s g other. leaves_same s g ledger) h
+covered_settle b t session group (p ∷ ps) ledger h =
+    covered_end b t session group _ ledger (leaves_use t session group _ _ _ _ _ ledger) h
 
 -- ---- debits: of a session that has no grant
 
-pub covered_debit : (b : Book) (t : ℕ) (session : List ℕ) (group units : ℕ) (ledger : Ledger) → last_recording session ledger ≡ None → AreCovered b ledger → AreCovered b (debited b t session group units ledger)
+pub covered_debit : (b : Book) (t : ℕ) (session : List ℕ) (group units : ℕ) (ledger : Ledger) →
+    last_recording session ledger ≡ None → AreCovered b ledger →
+    AreCovered b (debited b t session group units ledger)
 covered_debit b t session group units ledger new h s g x = by_test (is_key session group s g) refl
   where
     more : Ledger
     more = debited b t session group units ledger
 
     hs : List Hold
-    hs = parts (paid [] group t (event_price b t group units ledger).amount.0 (buckets_at b.validity t ledger)) (buckets_at b.validity t ledger)
+    hs = parts (paid [] group t (event_price b t group units ledger).amount.0
+        (buckets_at b.validity t ledger)) (buckets_at b.validity t ledger)
 
-    by_test : (k : Bool) → is_key session group s g ≡ k → grant_open s g more ≡ Some x → IsCovered b s g more x
+    by_test : (k : Bool) → is_key session group s g ≡ k → grant_open s g more ≡ Some x →
+        IsCovered b s g more x
     by_test true own e =
-        let before : IsCovered b s g ledger x = h s g x (sym (leaves_charges s g t hs ledger).grant ∙ e) in
-        absurd (before.recorded (ap (λ n. last_recording n ledger) (sym (key_session session group s g own)) ∙ new))
-    by_test false other e = covered_left b s g more ledger (leaves_use t session group units (event_price b t group units ledger).blocks (event_price b t group units ledger).amount.0 0 hs ledger s g other) (h s g) x e
+        let before : IsCovered b s g ledger x =
+        h s g x (sym (leaves_charges s g t hs ledger).grant ∙ e) in
+        absurd
+        (before.recorded (ap (λ n. last_recording n ledger)
+        (sym (key_session session group s g own)) ∙ new))
+    by_test false other e = covered_left b s g more ledger
+        (leaves_use t session group units (event_price b t group units ledger).blocks
+        (event_price b t group units ledger).amount.0 0 hs ledger s g other) (h s g) x e
 
 -- ---- grants
 
 -- what a grant's holds have together is its amount, as the funds have it
-granted_together : (b : Book) (t : ℕ) (s : List ℕ) (g units amount : ℕ) (ledger : Ledger) → AreCredited (credits ledger) (next_bucket ledger) → amount ≤ funds g t (buckets_at b.validity t ledger) →
+granted_together : (b : Book) (t : ℕ) (s : List ℕ) (g units amount : ℕ) (ledger : Ledger) →
+    AreCredited (credits ledger) (next_bucket ledger) →
+    amount ≤ funds g t (buckets_at b.validity t ledger) →
     amount ≤ held_together s g (reserved b t s g units amount ledger)
 granted_together b t s g units amount ledger made le =
     let all : sum_by (λ c. sum_at c.number hs) (credits ledger) ≡ amount =
     sym (sum_by-moved (λ n. sum_at n hs) b.validity t ledger (credits ledger))
     ∙ sym (summed rows)
-    ∙ held_sum-parts (share (eligible_amount g t) rows amount) rows (distinct b.validity t ledger made)
+    ∙ held_sum-parts (share (eligible_amount g t) rows amount) rows
+    (distinct b.validity t ledger made)
     ∙ sum_by-share (eligible_amount g t) rows amount (in_order b.validity t ledger made)
     ∙ omega (arith, le) in
-    omega (arith, all, sum_by-most (λ c. sum_at c.number hs) (λ c. held (only s g) c.number more) (credits ledger) (λ c. omega (arith, own c.number)), same)
+    omega (
+      arith,
+      all,
+      sum_by-most (λ c. sum_at c.number hs) (λ c. held (only s g) c.number more)
+          (credits ledger) (λ c. omega (arith, own c.number)),
+      same,
+    )
   where
     rows : List Row
     rows = buckets_at b.validity t ledger
@@ -161,26 +214,36 @@ granted_together b t s g units amount ledger made le =
     more : Ledger
     more = reserved b t s g units amount ledger
 
-    own : (n : ℕ) → held (only s g) n more ≡ sum_at n hs + held (only s g) n (with_grant b t s g units ledger)
+    own : (n : ℕ) → held (only s g) n more ≡
+        sum_at n hs + held (only s g) n (with_grant b t s g units ledger)
     own n = held-hold_facts (only s g) n t s g hs (with_grant b t s g units ledger) (own_key s g)
 
     summed : (xs : List Row) → held_sum hs xs ≡ sum_by (λ x. sum_at x.number hs) xs
     summed xs = ap (λ f. sum_by f xs) (λ i x. held_in-sum_at hs x i)
 
     same : held_together s g more ≡ sum_by (λ c. held (only s g) c.number more) (credits ledger)
-    same = ap (sum_by (λ c. held (only s g) c.number more)) (credits-hold_facts t s g hs (with_grant b t s g units ledger))
+    same = ap (sum_by (λ c. held (only s g) c.number more))
+        (credits-hold_facts t s g hs (with_grant b t s g units ledger))
 
 -- the grant itself
-covered_own : (b : Book) (t : ℕ) (s : List ℕ) (g units amount : ℕ) (ledger : Ledger) → AreCredited (credits ledger) (next_bucket ledger) → (last_recording s ledger ≡ None → ⊥) →
+covered_own : (b : Book) (t : ℕ) (s : List ℕ) (g units amount : ℕ) (ledger : Ledger) →
+    AreCredited (credits ledger) (next_bucket ledger) → (last_recording s ledger ≡ None → ⊥) →
     amount ≤ funds g t (buckets_at b.validity t ledger) →
-    grant_price (tariff_of b g) (periods_at b t) (used s g ledger) (counter (cycle_at b g) g (cycle_at b g t) ledger) units ≤ amount →
+    grant_price (tariff_of b g) (periods_at b t) (used s g ledger)
+    (counter (cycle_at b g) g (cycle_at b g t) ledger) units ≤ amount →
     IsCoveredAt b (reserved b t s g units amount ledger) s g
 covered_own b t s g units amount ledger made recorded funded priced x e =
-    subst (IsCovered b s g (reserved b t s g units amount ledger)) (some_of here x (sym (left.grant ∙ opened) ∙ e)) (record {
+    subst (IsCovered b s g (reserved b t s g units amount ledger))
+    (some_of here x (sym (left.grant ∙ opened) ∙ e)) (record {
       periods = periods_at b t;
       granted = left.periods ∙ given;
       recorded = λ none. recorded (left.recorded none);
-      held = omega (arith, priced, granted_together b t s g units amount ledger made funded, ap (λ n. grant_price (tariff_of b g) (periods_at b t) n place units) usage);
+      held = omega (
+        arith,
+        priced,
+        granted_together b t s g units amount ledger made funded,
+        ap (λ n. grant_price (tariff_of b g) (periods_at b t) n place units) usage,
+      );
     })
   where
     place : ℕ
@@ -196,17 +259,22 @@ covered_own b t s g units amount ledger made recorded funded priced x e =
     left = leaves_holds s g t s g (holds_of g t amount (buckets_at b.validity t ledger)) first
 
     opened : grant_open s g first ≡ Some here
-    opened = λ i. inner (or_else (if own_key s g i then Some (Some here) else None) (newest (grant_told s g) ledger))
+    opened = λ i. inner (or_else (if own_key s g i then Some (Some here) else None)
+        (newest (grant_told s g) ledger))
 
     given : open_grant s g first ≡ Some (periods_at b t)
-    given = λ i. inner (or_else (if own_key s g i then Some (Some (periods_at b t)) else None) (newest (grant_in s g) ledger))
+    given = λ i. inner (or_else (if own_key s g i then Some (Some (periods_at b t)) else None)
+        (newest (grant_in s g) ledger))
 
     usage : used s g (reserved b t s g units amount ledger) ≡ used s g ledger
     usage = omega (arith, left.used)
 
-pub covered_grant : (b : Book) → IsBook b → (t : ℕ) (session : List ℕ) (group : ℕ) (asked : Option ℕ) (ledger : Ledger) → AreCredited (credits ledger) (next_bucket ledger) → (last_recording session ledger ≡ None → ⊥) →
+pub covered_grant : (b : Book) → IsBook b →
+    (t : ℕ) (session : List ℕ) (group : ℕ) (asked : Option ℕ) (ledger : Ledger) →
+    AreCredited (credits ledger) (next_bucket ledger) → (last_recording session ledger ≡ None → ⊥) →
     AreCovered b ledger → AreCovered b (granted b t session group asked ledger)
-covered_grant b is t session group asked ledger made recorded h s g = by_test (is_key session group s g) refl
+covered_grant b is t session group asked ledger made recorded h s g =
+    by_test (is_key session group s g) refl
   where
     before : ℕ
     before = used session group ledger
@@ -226,13 +294,17 @@ covered_grant b is t session group asked ledger made recorded h s g = by_test (i
     own : IsCoveredAt b more session group
     own = covered_own b t session group grant.units.0 grant.amount.0 ledger made recorded
         (grant_within (tariff_of b group) (periods_at b t) before place asked money)
-        (grant_covers (tariff_of b group) (periods_at b t) before place asked money (has_blocks b is group))
+        (grant_covers (tariff_of b group) (periods_at b t) before place asked money
+        (has_blocks b is group))
 
     others : is_key session group s g ≡ false → LeavesGrant s g more ledger
     others other = leaves_both s g more (with_grant b t session group grant.units.0 ledger) ledger
-        (leaves_holds s g t session group (holds_of group t grant.amount.0 (buckets_at b.validity t ledger)) (with_grant b t session group grant.units.0 ledger))
+        (leaves_holds s g t session group
+        (holds_of group t grant.amount.0 (buckets_at b.validity t ledger))
+        (with_grant b t session group grant.units.0 ledger))
         (leaves_one s g t (Grant session group (periods_at b t) grant.units.0 place) ledger other)
 
     by_test : (k : Bool) → is_key session group s g ≡ k → IsCoveredAt b more s g
-    by_test true same = subst (λ n. IsCoveredAt b more s n) (key_group session group s g same) (subst (λ n. IsCoveredAt b more n group) (key_session session group s g same) own)
+    by_test true same = subst (λ n. IsCoveredAt b more s n) (key_group session group s g same)
+        (subst (λ n. IsCoveredAt b more n group) (key_session session group s g same) own)
     by_test false other = covered_left b s g more ledger (others other) (h s g)

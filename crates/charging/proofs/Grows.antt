@@ -18,7 +18,8 @@ many : (old new xs : Ledger) → Extends old new → Extends old (xs ++ new)
 many old new [] h = h
 many old new (x ∷ xs) h = more old (xs ++ new) x (many old new xs h)
 
-settled_more : (b : Book) (t : ℕ) (s : List ℕ) (g : ℕ) (used_parts : List UsedPart) (old ledger : Ledger) → Extends old ledger → Extends old (settled_by b t s g used_parts ledger)
+settled_more : (b : Book) (t : ℕ) (s : List ℕ) (g : ℕ) (used_parts : List UsedPart)
+    (old ledger : Ledger) → Extends old ledger → Extends old (settled_by b t s g used_parts ledger)
 settled_more b t s g [] old ledger h = more old ledger _ h
 settled_more b t s g (p ∷ ps) old ledger h = many old ledger (_ ∷ _ ∷ _) h
 
@@ -27,7 +28,8 @@ keeps_extends b old = record {
   quiet = λ t f reports ledger q n h. more old ledger _ h;
   touch = λ t s n reports ledger h. more old _ _ (more old ledger _ h);
   credit = λ t from until scope amount reports ledger h. more old ledger _ h;
-  settle = λ t s g used_parts reports ledger touches h. settled_more b t s g used_parts old ledger h;
+  settle = λ t s g used_parts reports ledger touches h.
+      settled_more b t s g used_parts old ledger h;
   grant = λ t s g asked reports ledger has h. many old _ _ (more old ledger _ h);
   event = λ t s g units n reports ledger new covered h. many old ledger (_ ∷ _ ∷ _) h;
 }
@@ -40,5 +42,7 @@ pub one_more : (d : Dated) (ledger : Ledger) → Extends ledger (d ∷ ledger)
 one_more d ledger = more ledger ledger d (same ledger)
 
 -- by a request
-pub grown : (b : Book) (t : ℕ) (r : Request) (ledger : Ledger) → Extends ledger (decision b t r ledger).after
-grown b t r ledger = kept_decided b (λ reports after. Extends ledger after) (keeps_extends b ledger) t r.session r.number r.ask [] ledger (same ledger)
+pub grown : (b : Book) (t : ℕ) (r : Request) (ledger : Ledger) →
+    Extends ledger (decision b t r ledger).after
+grown b t r ledger = kept_decided b (λ reports after. Extends ledger after)
+    (keeps_extends b ledger) t r.session r.number r.ask [] ledger (same ledger)

@@ -27,7 +27,8 @@ use Rattle.charging.proofs.GrantPrices.{grant_price, report_within}
 use Rattle.charging.proofs.GrantsLeft.{held_together}
 use Rattle.charging.proofs.GrantsHeld.{has_blocks, IsCovered, AreCovered, covered_none, covered_quiet, covered_credit, covered_settle, covered_debit, covered_grant}
 
--- what each ledger of an account keeps: it is paid, its open grants are covered, and its uses within them are collected
+-- what each ledger of an account keeps: it is paid, its open grants are covered, and its uses
+-- within them are collected
 pub record IsGuaranteed (b : Book) (reports : List Report) (ledger : Ledger) : Type 0 where
   pub paying : IsPaying b reports ledger
   pub covered : AreCovered b ledger
@@ -35,15 +36,18 @@ pub record IsGuaranteed (b : Book) (reports : List Report) (ledger : Ledger) : T
 
 -- ---- facts that are no uses
 
-AreQuotasPaid-charges : (b : Book) (t : ℕ) (hs : List Hold) (ledger : Ledger) → AreQuotasPaid b ledger → AreQuotasPaid b (charge_facts t hs ++ ledger)
+AreQuotasPaid-charges : (b : Book) (t : ℕ) (hs : List Hold) (ledger : Ledger) →
+    AreQuotasPaid b ledger → AreQuotasPaid b (charge_facts t hs ++ ledger)
 AreQuotasPaid-charges b t [] ledger h = h
 AreQuotasPaid-charges b t (x ∷ xs) ledger h = (tt, AreQuotasPaid-charges b t xs ledger h)
 
-AreQuotasPaid-holds : (b : Book) (t : ℕ) (s : List ℕ) (g : ℕ) (hs : List Hold) (ledger : Ledger) → AreQuotasPaid b ledger → AreQuotasPaid b (hold_facts t s g hs ++ ledger)
+AreQuotasPaid-holds : (b : Book) (t : ℕ) (s : List ℕ) (g : ℕ) (hs : List Hold) (ledger : Ledger) →
+    AreQuotasPaid b ledger → AreQuotasPaid b (hold_facts t s g hs ++ ledger)
 AreQuotasPaid-holds b t s g [] ledger h = h
 AreQuotasPaid-holds b t s g (x ∷ xs) ledger h = (tt, AreQuotasPaid-holds b t s g xs ledger h)
 
-quiet_quotas : (b : Book) (t : ℕ) (f : Fact) (ledger : Ledger) → is_quiet f ≡ true → AreQuotasPaid b ledger → AreQuotasPaid b (record { at = t; fact = f } ∷ ledger)
+quiet_quotas : (b : Book) (t : ℕ) (f : Fact) (ledger : Ledger) → is_quiet f ≡ true →
+    AreQuotasPaid b ledger → AreQuotasPaid b (record { at = t; fact = f } ∷ ledger)
 quiet_quotas b t (Touch s) ledger q h = (tt, h)
 quiet_quotas b t (Close s) ledger q h = (tt, h)
 quiet_quotas b t (Recorded s n) ledger q h = (tt, h)
@@ -53,41 +57,68 @@ quiet_quotas b t _ ledger q h = cc
 -- ---- a report
 
 -- what a session's reservation has together is what is held for it
-held_at : (v t : ℕ) (s : List ℕ) (g : ℕ) (ledger : Ledger) → AreCredited (credits ledger) (next_bucket ledger) → held_sum (holds_at v t s g ledger) (buckets_at v t ledger) ≡ held_together s g ledger
+held_at : (v t : ℕ) (s : List ℕ) (g : ℕ) (ledger : Ledger) →
+    AreCredited (credits ledger) (next_bucket ledger) →
+    held_sum (holds_at v t s g ledger) (buckets_at v t ledger) ≡ held_together s g ledger
 held_at v t s g ledger made =
-    held_sum-parts (λ c. held (only s g) c.number ledger) (buckets_at v t ledger) (distinct v t ledger made)
+    held_sum-parts (λ c. held (only s g) c.number ledger) (buckets_at v t ledger)
+    (distinct v t ledger made)
     ∙ sum_by-moved (λ n. held (only s g) n ledger) v t ledger (credits ledger)
 
-within_grant : (b : Book) → IsBook b → (t : ℕ) (s : List ℕ) (g : ℕ) (used_parts : List UsedPart) (reports : List Report) (ledger : Ledger) → IsGuaranteed b reports ledger →
-    (x : OpenGrant) → grant_open s g ledger ≡ Some x → reported used_parts ≤ x.units → counter (cycle_at b g) g (cycle_at b g t) ledger ≡ x.counter →
-    uncollected (holds_at b.validity t s g ledger) g t (report_price b t s g used_parts ledger).amount.0 (buckets_at b.validity t ledger) ≡ 0
+within_grant : (b : Book) → IsBook b →
+    (t : ℕ) (s : List ℕ) (g : ℕ) (used_parts : List UsedPart) (reports : List Report)
+    (ledger : Ledger) → IsGuaranteed b reports ledger →
+    (x : OpenGrant) → grant_open s g ledger ≡ Some x → reported used_parts ≤ x.units →
+    counter (cycle_at b g) g (cycle_at b g t) ledger ≡ x.counter →
+    uncollected (holds_at b.validity t s g ledger) g t
+    (report_price b t s g used_parts ledger).amount.0 (buckets_at b.validity t ledger) ≡ 0
 within_grant b is t s g used_parts reports ledger h x e le place_is =
     let covered : IsCovered b s g ledger x = h.covered s g x e in
     let place : ℕ = counter (cycle_at b g) g (cycle_at b g t) ledger in
     let before : ℕ = used s g ledger in
-    let price : (report_price b t s g used_parts ledger).amount.0 ≡ (rated_with (tariff_of b g) covered.periods before place used_parts).amount.0 =
-    ap (λ o. (rated_with (tariff_of b g) (unwrap_or o (one_period (period_at b.calendar t))) before place used_parts).amount.0) covered.granted in
-    let most : (rated_with (tariff_of b g) covered.periods before place used_parts).amount.0 ≤ grant_price (tariff_of b g) covered.periods before place x.units =
-    report_within (tariff_of b g) covered.periods before place x.units used_parts (has_blocks b is g) le in
-    let moved : grant_price (tariff_of b g) covered.periods before place x.units ≡ grant_price (tariff_of b g) covered.periods before x.counter x.units =
+    let price : (report_price b t s g used_parts ledger).amount.0 ≡
+    (rated_with (tariff_of b g) covered.periods before place used_parts).amount.0 =
+    ap
+    (λ o. (rated_with (tariff_of b g) (unwrap_or o (one_period (period_at b.calendar t))) before
+    place used_parts).amount.0) covered.granted in
+    let most : (rated_with (tariff_of b g) covered.periods before place used_parts).amount.0 ≤
+    grant_price (tariff_of b g) covered.periods before place x.units =
+    report_within (tariff_of b g) covered.periods before place x.units used_parts
+    (has_blocks b is g) le in
+    let moved : grant_price (tariff_of b g) covered.periods before place x.units ≡
+    grant_price (tariff_of b g) covered.periods before x.counter x.units =
     ap (λ n. grant_price (tariff_of b g) covered.periods before n x.units) place_is in
-    omega (arith, price, most, moved, covered.held, held_at b.validity t s g ledger h.paying.credits)
+    omega (
+      arith,
+      price,
+      most,
+      moved,
+      covered.held,
+      held_at b.validity t s g ledger h.paying.credits,
+    )
 
-settled_quotas : (b : Book) → IsBook b → (t : ℕ) (s : List ℕ) (g : ℕ) (used_parts : List UsedPart) (reports : List Report) (ledger : Ledger) → IsGuaranteed b reports ledger → AreQuotasPaid b (settled_by b t s g used_parts ledger)
+settled_quotas : (b : Book) → IsBook b →
+    (t : ℕ) (s : List ℕ) (g : ℕ) (used_parts : List UsedPart) (reports : List Report)
+    (ledger : Ledger) → IsGuaranteed b reports ledger →
+    AreQuotasPaid b (settled_by b t s g used_parts ledger)
 settled_quotas b is t s g [] reports ledger h = (tt, h.quotas)
 settled_quotas b is t s g (p ∷ ps) reports ledger h =
     let hs : List Hold = paid_parts b t s g (p ∷ ps) ledger in (
       tt,
       (
-        subst (IsWithinGrant b t s g (reported (p ∷ ps)) (missing b t s g (p ∷ ps) ledger)) (sym (before_charges-charges t hs ledger h.paying.begins)) (within_grant b is t s g (p ∷ ps) reports ledger h),
+        subst (IsWithinGrant b t s g (reported (p ∷ ps)) (missing b t s g (p ∷ ps) ledger))
+            (sym (before_charges-charges t hs ledger h.paying.begins))
+            (within_grant b is t s g (p ∷ ps) reports ledger h),
         AreQuotasPaid-charges b t hs ledger h.quotas,
       ),
     )
 
-granted_quotas : (b : Book) (t : ℕ) (s : List ℕ) (g : ℕ) (asked : Option ℕ) (ledger : Ledger) → AreQuotasPaid b ledger → AreQuotasPaid b (granted b t s g asked ledger)
+granted_quotas : (b : Book) (t : ℕ) (s : List ℕ) (g : ℕ) (asked : Option ℕ) (ledger : Ledger) →
+    AreQuotasPaid b ledger → AreQuotasPaid b (granted b t s g asked ledger)
 granted_quotas b t s g asked ledger h =
     let grant : RatedGrant = grant_for b t g (used s g ledger) asked ledger in
-    AreQuotasPaid-holds b t s g (holds_of g t grant.amount.0 (buckets_at b.validity t ledger)) (with_grant b t s g grant.units.0 ledger) (tt, h)
+    AreQuotasPaid-holds b t s g (holds_of g t grant.amount.0 (buckets_at b.validity t ledger))
+    (with_grant b t s g grant.units.0 ledger) (tt, h)
 
 -- ---- each step
 
@@ -103,7 +134,8 @@ keeps_guaranteed b is = record {
   };
   touch = λ t s n reports ledger h. record {
     paying = paying.touch t s n reports ledger h.paying;
-    covered = covered_quiet b t (Recorded s n) (record { at = t; fact = Touch s } ∷ ledger) refl (covered_quiet b t (Touch s) ledger refl h.covered);
+    covered = covered_quiet b t (Recorded s n) (record { at = t; fact = Touch s } ∷ ledger) refl
+        (covered_quiet b t (Touch s) ledger refl h.covered);
     quotas = (tt, (tt, h.quotas));
   };
   credit = λ t from until scope amount reports ledger h. record {
@@ -123,7 +155,8 @@ keeps_guaranteed b is = record {
   };
   event = λ t s g units n reports ledger new covered h. record {
     paying = paying.event t s g units n reports ledger new covered h.paying;
-    covered = covered_quiet b t (Recorded s n) (debited b t s g units ledger) refl (covered_debit b t s g units ledger new h.covered);
+    covered = covered_quiet b t (Recorded s n) (debited b t s g units ledger) refl
+        (covered_debit b t s g units ledger new h.covered);
     quotas = (tt, (λ x e le place. refl, AreQuotasPaid-charges b t _ ledger h.quotas));
   };
 }

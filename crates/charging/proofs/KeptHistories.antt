@@ -27,49 +27,67 @@ use Rattle.charging.proofs.KeptDecisions.{kept_decided}
 module _ (b : Book) (P : List Report → Ledger → Type 0) (k : Keeps b P) where
   -- what a command comes to, with its reports where it is accepted
   abbrev IsKept : Command → ℕ → List Report → Outcome → Type 0
-  IsKept c t reports o = P (if o.accepted then with_reports b t c reports else reports) o.after.ledger
+  IsKept c t reports o = P (if o.accepted then with_reports b t c reports else reports)
+      o.after.ledger
 
-  either_outcome : (c : Command) (t : ℕ) (reports : List Report) (v : Bool) (x y : Outcome) → IsKept c t reports x → IsKept c t reports y → IsKept c t reports (if v then x else y)
+  either_outcome : (c : Command) (t : ℕ) (reports : List Report) (v : Bool) (x y : Outcome) →
+      IsKept c t reports x → IsKept c t reports y → IsKept c t reports (if v then x else y)
   either_outcome c t reports true x y p q = p
   either_outcome c t reports false x y p q = q
 
-  kept_unless : (c : Command) (t : ℕ) (reports : List Report) (o : Option KeptAnswer) (new : Content) (conflict : Answer) (h : History) (fresh : Outcome) → P reports h.ledger → IsKept c t reports fresh →
+  kept_unless : (c : Command) (t : ℕ) (reports : List Report) (o : Option KeptAnswer)
+      (new : Content) (conflict : Answer) (h : History) (fresh : Outcome) → P reports h.ledger →
+      IsKept c t reports fresh →
       IsKept c t reports (unless_kept o new conflict h fresh)
   kept_unless c t reports None new conflict h fresh p q = q
   kept_unless c t reports (Some kept) new conflict h fresh p q = p
 
   -- ---- a command
 
-  kept_decision : (r : Request) (t : ℕ) (reports : List Report) (d : Decision) (h : History) → P reports h.ledger → P (if d.accepted then with_ask b t r.session r.ask reports else reports) d.after →
+  kept_decision : (r : Request) (t : ℕ) (reports : List Report) (d : Decision) (h : History) →
+      P reports h.ledger → P (if d.accepted then with_ask b t r.session r.ask reports else reports)
+      d.after →
       IsKept (command.Ccr r) t reports (decided_by r d h)
   kept_decision r t reports d h p = at d.accepted
     where
       at : (v : Bool) → P (if v then with_ask b t r.session r.ask reports else reports) d.after →
-          IsKept (command.Ccr r) t reports (if v then keeping (content.Request r) (answer.Request (answer_of r d.outcome)) d.after h else told (answer.Request (answer_of r d.outcome)) h)
+          IsKept (command.Ccr r) t reports
+          (if v then keeping (content.Request r)
+          (answer.Request (answer_of r d.outcome)) d.after h
+          else told (answer.Request (answer_of r d.outcome)) h)
       at true q = q
       at false q = p
 
-  kept_request : (r : Request) (t : ℕ) (reports : List Report) (h : History) → P reports h.ledger → IsKept (command.Ccr r) t reports (request_outcome b r t h)
+  kept_request : (r : Request) (t : ℕ) (reports : List Report) (h : History) → P reports h.ledger →
+      IsKept (command.Ccr r) t reports (request_outcome b r t h)
   kept_request r t reports h p =
       let d : Decision = decision b t r h.ledger in
       either_outcome (command.Ccr r) t reports (is_read r.ask) _ _ p
-      (kept_unless (command.Ccr r) t reports (kept_under (key_of (content.Request r)) h) (content.Request r) _ h (decided_by r d h) p
-      (kept_decision r t reports d h p (kept_decided b P k t r.session r.number r.ask reports h.ledger p)))
+      (kept_unless (command.Ccr r) t reports (kept_under (key_of (content.Request r)) h)
+      (content.Request r) _ h (decided_by r d h) p
+      (kept_decision r t reports d h p
+      (kept_decided b P k t r.session r.number r.ask reports h.ledger p)))
 
-  kept_credit : (c : Credit) (t : ℕ) (reports : List Report) (h : History) → P reports h.ledger → IsKept (command.Credit c) t reports (credit_outcome c t h)
+  kept_credit : (c : Credit) (t : ℕ) (reports : List Report) (h : History) → P reports h.ledger →
+      IsKept (command.Credit c) t reports (credit_outcome c t h)
   kept_credit c t reports h p =
-      kept_unless (command.Credit c) t reports (kept_under (key_of (content.Credit c)) h) (content.Credit c) _ h (new_credit c t h) p
-      (either_outcome (command.Credit c) t reports (is_out_of_range c t h.ledger) _ _ p (k.credit t (from_of c t) (until_of c) c.scope c.amount reports h.ledger p))
+      kept_unless (command.Credit c) t reports (kept_under (key_of (content.Credit c)) h)
+      (content.Credit c) _ h (new_credit c t h) p
+      (either_outcome (command.Credit c) t reports (is_out_of_range c t h.ledger) _ _ p
+      (k.credit t (from_of c t) (until_of c) c.scope c.amount reports h.ledger p))
 
-  kept_opened : (h : History) (c : Command) (t : ℕ) (reports : List Report) → P reports h.ledger → IsKept c t reports (opened_outcome b h c t)
+  kept_opened : (h : History) (c : Command) (t : ℕ) (reports : List Report) → P reports h.ledger →
+      IsKept c t reports (opened_outcome b h c t)
   kept_opened h (command.Ccr r) t reports p = kept_request r t reports h p
   kept_opened h (command.OpenAccount n) t reports p = p
   kept_opened h (command.Credit c) t reports p = kept_credit c t reports h p
   kept_opened h (command.Bar n) t reports p = k.quiet t (Barred true) reports h.ledger refl refl p
-  kept_opened h (command.Unbar n) t reports p = k.quiet t (Barred false) reports h.ledger refl refl p
+  kept_opened h (command.Unbar n) t reports p =
+      k.quiet t (Barred false) reports h.ledger refl refl p
   kept_opened h command.Sweep t reports p = p
 
-  kept_unopened : (h : History) (c : Command) (t : ℕ) (reports : List Report) → P reports h.ledger → IsKept c t reports (unopened_outcome h c)
+  kept_unopened : (h : History) (c : Command) (t : ℕ) (reports : List Report) → P reports h.ledger →
+      IsKept c t reports (unopened_outcome h c)
   kept_unopened h (command.Ccr r) t reports p = p
   kept_unopened h (command.OpenAccount n) t reports p = p
   kept_unopened h (command.Credit c) t reports p = p
@@ -77,18 +95,25 @@ module _ (b : Book) (P : List Report → Ledger → Type 0) (k : Keeps b P) wher
   kept_unopened h (command.Unbar n) t reports p = p
   kept_unopened h command.Sweep t reports p = p
 
-  kept_outcome : (h : History) (c : Command) (t : ℕ) (reports : List Report) → P reports h.ledger → IsKept c t reports (outcome b h c t)
+  kept_outcome : (h : History) (c : Command) (t : ℕ) (reports : List Report) → P reports h.ledger →
+      IsKept c t reports (outcome b h c t)
   kept_outcome h c t reports p =
-      either_outcome c t reports h.opened (opened_outcome b h c t) (unopened_outcome h c) (kept_opened h c t reports p) (kept_unopened h c t reports p)
+      either_outcome c t reports h.opened (opened_outcome b h c t) (unopened_outcome h c)
+      (kept_opened h c t reports p) (kept_unopened h c t reports p)
 
   -- ---- a list of accepted commands
 
-  either_history : (v : Bool) (more reports : List Report) (x y : History) → P more x.ledger → P reports y.ledger → P (if v then more else reports) (if v then x else y).ledger
+  either_history : (v : Bool) (more reports : List Report) (x y : History) → P more x.ledger →
+      P reports y.ledger → P (if v then more else reports) (if v then x else y).ledger
   either_history true more reports x y p q = p
   either_history false more reports x y p q = q
 
-  pub kept_history : P [] [] → (a : List ℕ) (list : List Accepted) → P (reports_of b a list) (history b a list).ledger
+  pub kept_history : P [] [] → (a : List ℕ) (list : List Accepted) →
+      P (reports_of b a list) (history b a list).ledger
   kept_history none a [] = none
   kept_history none a (d ∷ before) =
-      let older : P (reports_of b a before) (history b a before).ledger = kept_history none a before in
-      either_history (names a (concerned_by d.command)) _ (reports_of b a before) _ (history b a before) (kept_outcome (history b a before) d.command d.moment (reports_of b a before) older) older
+      let older : P (reports_of b a before) (history b a before).ledger =
+      kept_history none a before in
+      either_history (names a (concerned_by d.command)) _ (reports_of b a before) _
+      (history b a before) (kept_outcome (history b a before) d.command d.moment
+      (reports_of b a before) older) older

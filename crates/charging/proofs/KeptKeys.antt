@@ -35,7 +35,8 @@ use Rattle.charging.specs.Outcomes.{told, keeping, same_content, repeated, unles
 -- ---- equal contents
 
 content_exact : (x y : Content) → Decides (same_content x y) (x ≡ y)
-content_exact (content.Request r) (content.Request q) = ((λ e. ap content.Request ((request_exact r q).0 e)), λ e. (request_exact r q).1 (request_of e))
+content_exact (content.Request r) (content.Request q) =
+    ((λ e. ap content.Request ((request_exact r q).0 e)), λ e. (request_exact r q).1 (request_of e))
   where
     request_in : Content → Request
     request_in (content.Request x) = x
@@ -43,17 +44,20 @@ content_exact (content.Request r) (content.Request q) = ((λ e. ap content.Reque
 
     request_of : content.Request r ≡ content.Request q → r ≡ q
     request_of e = ap request_in e
-content_exact (content.Request r) (content.Credit d) = ((λ e. absurd (true≢false (sym e))), λ e. absurd (true≢false (ap is_request e)))
+content_exact (content.Request r) (content.Credit d) =
+    ((λ e. absurd (true≢false (sym e))), λ e. absurd (true≢false (ap is_request e)))
   where
     is_request : Content → Bool
     is_request (content.Request x) = true
     is_request (content.Credit x) = false
-content_exact (content.Credit c) (content.Request q) = ((λ e. absurd (true≢false (sym e))), λ e. absurd (true≢false (sym (ap is_request e))))
+content_exact (content.Credit c) (content.Request q) =
+    ((λ e. absurd (true≢false (sym e))), λ e. absurd (true≢false (sym (ap is_request e))))
   where
     is_request : Content → Bool
     is_request (content.Request x) = true
     is_request (content.Credit x) = false
-content_exact (content.Credit c) (content.Credit d) = ((λ e. ap content.Credit ((credit_exact c d).0 e)), λ e. (credit_exact c d).1 (credit_of e))
+content_exact (content.Credit c) (content.Credit d) =
+    ((λ e. ap content.Credit ((credit_exact c d).0 e)), λ e. (credit_exact c d).1 (credit_of e))
   where
     credit_in : Content → Credit
     credit_in (content.Request x) = c
@@ -74,16 +78,22 @@ same-content test x y h = at test (same_content x y) h (content_exact x y)
 
 -- ---- a request
 
-told_or : (o : Option Failure) (ledger : Ledger) (outcome : RequestOutcome) → (refused_or o ledger (told_of outcome ledger)).accepted ≡ false
+told_or : (o : Option Failure) (ledger : Ledger) (outcome : RequestOutcome) →
+    (refused_or o ledger (told_of outcome ledger)).accepted ≡ false
 told_or None ledger outcome = refl
 told_or (Some failure) ledger outcome = refl
 
-read_action : (x : EventAction) (b : Book) (t : ℕ) (s : List ℕ) (n : ℕ) (e : Event) (ledger : Ledger) → is_read_action x ≡ true → (decided_action x b t s n e ledger).accepted ≡ false
+read_action : (x : EventAction) (b : Book) (t : ℕ) (s : List ℕ) (n : ℕ) (e : Event)
+    (ledger : Ledger) → is_read_action x ≡ true →
+    (decided_action x b t s n e ledger).accepted ≡ false
 read_action action.DirectDebiting b t s n e ledger h = absurd (true≢false (sym h))
-read_action action.CheckBalance b t s n e ledger h = told_or (read_refusal b e) ledger (checked_by (tariff_of b e.group) b t e ledger)
-read_action action.PriceEnquiry b t s n e ledger h = told_or (read_refusal b e) ledger (priced_by (tariff_of b e.group) b t e ledger)
+read_action action.CheckBalance b t s n e ledger h =
+    told_or (read_refusal b e) ledger (checked_by (tariff_of b e.group) b t e ledger)
+read_action action.PriceEnquiry b t s n e ledger h =
+    told_or (read_refusal b e) ledger (priced_by (tariff_of b e.group) b t e ledger)
 
-read_ask : (x : Ask) (b : Book) (t : ℕ) (s : List ℕ) (n : ℕ) (ledger : Ledger) → is_read x ≡ true → (decided b t s n x ledger).accepted ≡ false
+read_ask : (x : Ask) (b : Book) (t : ℕ) (s : List ℕ) (n : ℕ) (ledger : Ledger) → is_read x ≡ true →
+    (decided b t s n x ledger).accepted ≡ false
 read_ask (ask.Initial services) b t s n ledger h = absurd (true≢false (sym h))
 read_ask (ask.Update services) b t s n ledger h = absurd (true≢false (sym h))
 read_ask (ask.Termination services) b t s n ledger h = absurd (true≢false (sym h))
@@ -91,50 +101,78 @@ read_ask (ask.Event e) b t s n ledger h = read_action e.action b t s n e ledger 
 read_ask (ask.Refund refund) b t s n ledger h = absurd (true≢false (sym h))
 
 -- a read isn't accepted
-pub reads-refused : (b : Book) (t : ℕ) (r : Request) (ledger : Ledger) → is_read r.ask ≡ true → (decision b t r ledger).accepted ≡ false
+pub reads-refused : (b : Book) (t : ℕ) (r : Request) (ledger : Ledger) → is_read r.ask ≡ true →
+    (decision b t r ledger).accepted ≡ false
 reads-refused b t r ledger h = read_ask r.ask b t r.session r.number ledger h
 
 -- a decision that isn't an acceptance is told, and one that is is kept
-pub decided-told : (b : Book) (r : Request) (t : ℕ) (h : History) → (decision b t r h.ledger).accepted ≡ false →
-    decided_by r (decision b t r h.ledger) h ≡ told (answer.Request (answer_of r (decision b t r h.ledger).outcome)) h
-decided-told b r t h e = ap (λ v. if v then keeping (content.Request r) (answer.Request (answer_of r (decision b t r h.ledger).outcome)) (decision b t r h.ledger).after h else told (answer.Request (answer_of r (decision b t r h.ledger).outcome)) h) e
+pub decided-told : (b : Book) (r : Request) (t : ℕ) (h : History) →
+    (decision b t r h.ledger).accepted ≡ false →
+    decided_by r (decision b t r h.ledger) h ≡
+    told (answer.Request (answer_of r (decision b t r h.ledger).outcome)) h
+decided-told b r t h e = ap
+    (λ v. if v then keeping (content.Request r)
+    (answer.Request (answer_of r (decision b t r h.ledger).outcome))
+    (decision b t r h.ledger).after h
+    else told (answer.Request (answer_of r (decision b t r h.ledger).outcome)) h) e
 
-pub decided-kept : (b : Book) (r : Request) (t : ℕ) (h : History) → (decision b t r h.ledger).accepted ≡ true →
-    decided_by r (decision b t r h.ledger) h ≡ keeping (content.Request r) (answer.Request (answer_of r (decision b t r h.ledger).outcome)) (decision b t r h.ledger).after h
-decided-kept b r t h e = ap (λ v. if v then keeping (content.Request r) (answer.Request (answer_of r (decision b t r h.ledger).outcome)) (decision b t r h.ledger).after h else told (answer.Request (answer_of r (decision b t r h.ledger).outcome)) h) e
+pub decided-kept : (b : Book) (r : Request) (t : ℕ) (h : History) →
+    (decision b t r h.ledger).accepted ≡ true →
+    decided_by r (decision b t r h.ledger) h ≡
+    keeping (content.Request r) (answer.Request (answer_of r (decision b t r h.ledger).outcome))
+    (decision b t r h.ledger).after h
+decided-kept b r t h e = ap
+    (λ v. if v then keeping (content.Request r)
+    (answer.Request (answer_of r (decision b t r h.ledger).outcome))
+    (decision b t r h.ledger).after h
+    else told (answer.Request (answer_of r (decision b t r h.ledger).outcome)) h) e
 
 module _ (b : Book) (r : Request) (t : ℕ) (h : History) where
   abbrev conflict : Answer
   conflict = failed r (InvalidAvpValue RequestNumber)
 
   abbrev of_kept : Option KeptAnswer → Outcome
-  of_kept o = unless_kept o (content.Request r) conflict h (decided_by r (decision b t r h.ledger) h)
+  of_kept o = unless_kept o (content.Request r) conflict h
+      (decided_by r (decision b t r h.ledger) h)
 
   abbrev read_told : Outcome
   read_told = told (answer.Request (answer_of r (decision b t r h.ledger).outcome)) h
 
   -- whose key is kept
-  pub request-repeated : (kept : KeptAnswer) (o : Option KeptAnswer) → o ≡ kept_under (key_of (content.Request r)) h → (if is_read r.ask then None else o) ≡ Some kept →
+  pub request-repeated : (kept : KeptAnswer) (o : Option KeptAnswer) →
+      o ≡ kept_under (key_of (content.Request r)) h →
+      (if is_read r.ask then None else o) ≡ Some kept →
       request_outcome b r t h ≡ told (repeated kept (content.Request r) conflict) h
   request-repeated kept o under found = at (is_read r.ask) found
     where
-      at : (v : Bool) → (if v then None else o) ≡ Some kept → (if v then read_told else of_kept (kept_under (key_of (content.Request r)) h)) ≡ told (repeated kept (content.Request r) conflict) h
+      at : (v : Bool) → (if v then None else o) ≡ Some kept →
+          (if v then read_told else of_kept (kept_under (key_of (content.Request r)) h)) ≡
+          told (repeated kept (content.Request r) conflict) h
       at true e = absurd (no_some kept e)
       at false e = ap of_kept (sym under ∙ e)
 
   -- whose key isn't, or that is a read
-  pub request-fresh : (o : Option KeptAnswer) → o ≡ kept_under (key_of (content.Request r)) h → (if is_read r.ask then None else o) ≡ None →
+  pub request-fresh : (o : Option KeptAnswer) → o ≡ kept_under (key_of (content.Request r)) h →
+      (if is_read r.ask then None else o) ≡ None →
       request_outcome b r t h ≡ decided_by r (decision b t r h.ledger) h
   request-fresh o under found = at (is_read r.ask) refl found
     where
-      at : (v : Bool) → is_read r.ask ≡ v → (if v then None else o) ≡ None → (if v then read_told else of_kept (kept_under (key_of (content.Request r)) h)) ≡ decided_by r (decision b t r h.ledger) h
+      at : (v : Bool) → is_read r.ask ≡ v → (if v then None else o) ≡ None →
+          (if v then read_told else of_kept (kept_under (key_of (content.Request r)) h)) ≡
+          decided_by r (decision b t r h.ledger) h
       at true read e = sym (decided-told b r t h (reads-refused b t r h.ledger read))
       at false read e = ap of_kept (sym under ∙ e)
 
 -- ---- a credit
 
-pub credit-repeated : (c : Credit) (t : ℕ) (h : History) (kept : KeptAnswer) → kept_under (key_of (content.Credit c)) h ≡ Some kept → credit_outcome c t h ≡ told (repeated kept (content.Credit c) (answer.Refused ContentDiffers)) h
-credit-repeated c t h kept e = ap (λ o. unless_kept o (content.Credit c) (answer.Refused ContentDiffers) h (new_credit c t h)) e
+pub credit-repeated : (c : Credit) (t : ℕ) (h : History) (kept : KeptAnswer) →
+    kept_under (key_of (content.Credit c)) h ≡ Some kept →
+    credit_outcome c t h ≡ told (repeated kept (content.Credit c) (answer.Refused ContentDiffers)) h
+credit-repeated c t h kept e =
+    ap (λ o. unless_kept o (content.Credit c) (answer.Refused ContentDiffers) h (new_credit c t h))
+    e
 
-pub credit-fresh : (c : Credit) (t : ℕ) (h : History) → kept_under (key_of (content.Credit c)) h ≡ None → credit_outcome c t h ≡ new_credit c t h
-credit-fresh c t h e = ap (λ o. unless_kept o (content.Credit c) (answer.Refused ContentDiffers) h (new_credit c t h)) e
+pub credit-fresh : (c : Credit) (t : ℕ) (h : History) →
+    kept_under (key_of (content.Credit c)) h ≡ None → credit_outcome c t h ≡ new_credit c t h
+credit-fresh c t h e = ap
+    (λ o. unless_kept o (content.Credit c) (answer.Refused ContentDiffers) h (new_credit c t h)) e

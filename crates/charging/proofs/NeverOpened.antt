@@ -29,35 +29,52 @@ use Rattle.charging.specs.Served.{history}
 
 -- ---- an account that is there stays
 
-kept_stays : (o : Option KeptAnswer) (new : Content) (conflict : Answer) (h : History) (fresh : Outcome) → fresh.after.opened ≡ h.opened → (unless_kept o new conflict h fresh).after.opened ≡ h.opened
+kept_stays : (o : Option KeptAnswer) (new : Content) (conflict : Answer) (h : History)
+    (fresh : Outcome) → fresh.after.opened ≡ h.opened →
+    (unless_kept o new conflict h fresh).after.opened ≡ h.opened
 kept_stays None new conflict h fresh e = e
 kept_stays (Some kept) new conflict h fresh e = refl
 
-decided_stays : (r : Request) (d : Decision) (h : History) → (decided_by r d h).after.opened ≡ h.opened
+decided_stays : (r : Request) (d : Decision) (h : History) →
+    (decided_by r d h).after.opened ≡ h.opened
 decided_stays r d h = at d.accepted
   where
-    at : (v : Bool) → (if v then keeping (content.Request r) (answer.Request (answer_of r d.outcome)) d.after h else told (answer.Request (answer_of r d.outcome)) h).after.opened ≡ h.opened
+    at : (v : Bool) →
+        (if v then keeping (content.Request r) (answer.Request (answer_of r d.outcome)) d.after h
+        else told (answer.Request (answer_of r d.outcome)) h).after.opened ≡ h.opened
     at true = refl
     at false = refl
 
-request_stays : (b : Book) (r : Request) (t : ℕ) (h : History) → (request_outcome b r t h).after.opened ≡ h.opened
+request_stays : (b : Book) (r : Request) (t : ℕ) (h : History) →
+    (request_outcome b r t h).after.opened ≡ h.opened
 request_stays b r t h = at (is_read r.ask)
   where
-    at : (v : Bool) → (if v then told (answer.Request (answer_of r (decision b t r h.ledger).outcome)) h else unless_kept (kept_under (key_of (content.Request r)) h) (content.Request r) (failed r (InvalidAvpValue RequestNumber)) h (decided_by r (decision b t r h.ledger) h)).after.opened ≡ h.opened
+    at : (v : Bool) →
+        (if v then told (answer.Request (answer_of r (decision b t r h.ledger).outcome)) h
+        else unless_kept (kept_under (key_of (content.Request r)) h) (content.Request r)
+        (failed r (InvalidAvpValue RequestNumber)) h
+        (decided_by r (decision b t r h.ledger) h)).after.opened ≡ h.opened
     at true = refl
-    at false = kept_stays (kept_under (key_of (content.Request r)) h) (content.Request r) (failed r (InvalidAvpValue RequestNumber)) h (decided_by r (decision b t r h.ledger) h) (decided_stays r (decision b t r h.ledger) h)
+    at false = kept_stays (kept_under (key_of (content.Request r)) h) (content.Request r)
+        (failed r (InvalidAvpValue RequestNumber)) h (decided_by r (decision b t r h.ledger) h)
+        (decided_stays r (decision b t r h.ledger) h)
 
 credit_stays : (c : Credit) (t : ℕ) (h : History) → (new_credit c t h).after.opened ≡ h.opened
 credit_stays c t h = at (is_out_of_range c t h.ledger)
   where
-    at : (v : Bool) → (if v then told (answer.Refused OutOfRange) h else keeping (content.Credit c) (answer.Bucket (next_bucket h.ledger)) (credited t (from_of c t) (until_of c) c.scope c.amount h.ledger) h).after.opened ≡ h.opened
+    at : (v : Bool) → (if v then told (answer.Refused OutOfRange) h
+        else keeping (content.Credit c) (answer.Bucket (next_bucket h.ledger))
+        (credited t (from_of c t) (until_of c) c.scope c.amount h.ledger) h).after.opened ≡ h.opened
     at true = refl
     at false = refl
 
-opened_stays : (b : Book) (h : History) (c : Command) (t : ℕ) → (opened_outcome b h c t).after.opened ≡ h.opened
+opened_stays : (b : Book) (h : History) (c : Command) (t : ℕ) →
+    (opened_outcome b h c t).after.opened ≡ h.opened
 opened_stays b h (command.Ccr r) t = request_stays b r t h
 opened_stays b h (command.OpenAccount n) t = refl
-opened_stays b h (command.Credit c) t = kept_stays (kept_under (key_of (content.Credit c)) h) (content.Credit c) (answer.Refused ContentDiffers) h (new_credit c t h) (credit_stays c t h)
+opened_stays b h (command.Credit c) t =
+    kept_stays (kept_under (key_of (content.Credit c)) h) (content.Credit c)
+    (answer.Refused ContentDiffers) h (new_credit c t h) (credit_stays c t h)
 opened_stays b h (command.Bar n) t = refl
 opened_stays b h (command.Unbar n) t = refl
 opened_stays b h command.Sweep t = refl
@@ -75,29 +92,40 @@ unopened_empty h (command.Bar n) e = e
 unopened_empty h (command.Unbar n) e = e
 unopened_empty h command.Sweep e = e
 
-outcome_empty : (b : Book) (h : History) (c : Command) (t : ℕ) → (h.opened ≡ false → IsEmpty h) → (outcome b h c t).after.opened ≡ false → IsEmpty (outcome b h c t).after
+outcome_empty : (b : Book) (h : History) (c : Command) (t : ℕ) → (h.opened ≡ false → IsEmpty h) →
+    (outcome b h c t).after.opened ≡ false → IsEmpty (outcome b h c t).after
 outcome_empty b h c t empty = at h.opened refl
   where
-    at : (v : Bool) → h.opened ≡ v → (if v then opened_outcome b h c t else unopened_outcome h c).after.opened ≡ false → IsEmpty (if v then opened_outcome b h c t else unopened_outcome h c).after
+    at : (v : Bool) → h.opened ≡ v →
+        (if v then opened_outcome b h c t else unopened_outcome h c).after.opened ≡ false →
+        IsEmpty (if v then opened_outcome b h c t else unopened_outcome h c).after
     at true opened e = absurd (true≢false (sym opened ∙ sym (opened_stays b h c t) ∙ e))
     at false opened e = unopened_empty h c (empty opened)
 
-unopened-empty : (b : Book) (a : List ℕ) (list : List Accepted) → (history b a list).opened ≡ false → IsEmpty (history b a list)
+unopened-empty : (b : Book) (a : List ℕ) (list : List Accepted) →
+    (history b a list).opened ≡ false → IsEmpty (history b a list)
 unopened-empty b a [] e = (refl, refl)
-unopened-empty b a (d ∷ before) e = at (names a (concerned_by d.command)) (unopened-empty b a before) e
+unopened-empty b a (d ∷ before) e =
+    at (names a (concerned_by d.command)) (unopened-empty b a before) e
   where
-    at : (v : Bool) → ((history b a before).opened ≡ false → IsEmpty (history b a before)) → (if v then (outcome b (history b a before) d.command d.moment).after else history b a before).opened ≡ false →
-        IsEmpty (if v then (outcome b (history b a before) d.command d.moment).after else history b a before)
+    at : (v : Bool) → ((history b a before).opened ≡ false → IsEmpty (history b a before)) →
+        (if v then (outcome b (history b a before) d.command d.moment).after
+        else history b a before).opened ≡ false →
+        IsEmpty (if v then (outcome b (history b a before) d.command d.moment).after
+        else history b a before)
     at true empty closed = outcome_empty b (history b a before) d.command d.moment empty closed
     at false empty closed = empty closed
 
-pub unopened-ledger : (b : Book) (a : List ℕ) (list : List Accepted) → (history b a list).opened ≡ false → (history b a list).ledger ≡ []
+pub unopened-ledger : (b : Book) (a : List ℕ) (list : List Accepted) →
+    (history b a list).opened ≡ false → (history b a list).ledger ≡ []
 unopened-ledger b a list e = (unopened-empty b a list e).0
 
 -- an account of which something is kept was opened
-pub kept-opened : (b : Book) (a : List ℕ) (list : List Accepted) (k : Key) (kept : KeptAnswer) → kept_under k (history b a list) ≡ Some kept → (history b a list).opened ≡ true
+pub kept-opened : (b : Book) (a : List ℕ) (list : List Accepted) (k : Key) (kept : KeptAnswer) →
+    kept_under k (history b a list) ≡ Some kept → (history b a list).opened ≡ true
 kept-opened b a list k kept is = at (history b a list).opened refl
   where
     at : (v : Bool) → (history b a list).opened ≡ v → (history b a list).opened ≡ true
     at true e = e
-    at false e = absurd (no_some kept (sym (ap (find (is_kept_under k)) (unopened-empty b a list e).1) ∙ is))
+    at false e = absurd (no_some kept
+        (sym (ap (find (is_kept_under k)) (unopened-empty b a list e).1) ∙ is))

@@ -39,11 +39,13 @@ use Rattle.charging.proofs.Serving.{IsOpened, is_opened, keeps-none, keeps-some,
 
 -- ---- a sweep
 
-pub sweep-served : (b : Book) (list : List Accepted) (t n : ℕ) (old new : Tables) → IsInTime list → AreTables b list old → last_moment list ≤ t → n ≡ old.count → IsSwept b t old new →
+pub sweep-served : (b : Book) (list : List Accepted) (t n : ℕ) (old new : Tables) → IsInTime list →
+    AreTables b list old → last_moment list ≤ t → n ≡ old.count → IsSwept b t old new →
     IsServed b list command.Sweep t old new (answer.Swept n)
 sweep-served b list t n old new time tables le count swept = record {
   answer = ap answer.Swept (count ∙ tables.count);
-  tables = tables_swept (outcome b) b (record { moment = t; command = command.Sweep }) list old new time le refl refl swept tables;
+  tables = tables_swept (outcome b) b (record { moment = t; command = command.Sweep }) list old new
+      time le refl refl swept tables;
   time = (le, time);
   same = λ e. absurd (true≢false e);
 }
@@ -54,23 +56,35 @@ no_head : (o : Option Head) → is_some o ≡ false → o ≡ None
 no_head None e = refl
 no_head (Some head) e = absurd (true≢false e)
 
-pub not-there : (old : Tables) (n : List ℕ) → is_some (old.rows n).head ≡ false → (old.rows n).head ≡ None
+pub not-there : (old : Tables) (n : List ℕ) → is_some (old.rows n).head ≡ false →
+    (old.rows n).head ≡ None
 not-there old n e = no_head (old.rows n).head e
 
-pub open-again : (b : Book) (list : List Accepted) (n : List ℕ) (t : ℕ) (old new : Tables) → IsInTime list → last_moment list ≤ t → AreTables b list old → is_some (old.rows n).head ≡ true → new ≡ old →
+pub open-again : (b : Book) (list : List Accepted) (n : List ℕ) (t : ℕ) (old new : Tables) →
+    IsInTime list → last_moment list ≤ t → AreTables b list old → is_some (old.rows n).head ≡ true →
+    new ≡ old →
     IsServed b list (command.OpenAccount n) t old new (answer.Refused AccountExists)
 open-again b list n t old new time le tables there same =
-    served-told b list (command.OpenAccount n) t n refl time le (told (answer.Refused AccountExists) (history b n list)) (answer.Refused AccountExists) old new
-    (outcome-opened b list (command.OpenAccount n) t n refl (is-there b list n old tables there)) refl refl same tables
+    served-told b list (command.OpenAccount n) t n refl time le
+    (told (answer.Refused AccountExists) (history b n list))
+    (answer.Refused AccountExists) old new
+    (outcome-opened b list (command.OpenAccount n) t n refl (is-there b list n old tables there))
+    refl refl same tables
 
 -- of an account that isn't there no row is
-made_of_nothing : (before after : StoredRows) (r : Rows) → r ≡ no_rows → before.buckets ≡ [] → before.counters ≡ [] → before.sessions ≡ [] → before.groups ≡ [] → IsMadeFrom before after r
+made_of_nothing : (before after : StoredRows) (r : Rows) → r ≡ no_rows → before.buckets ≡ [] →
+    before.counters ≡ [] → before.sessions ≡ [] → before.groups ≡ [] → IsMadeFrom before after r
 made_of_nothing before after r none bs cs ss gs = record {
-  buckets = λ n x e. absurd (no_some x ((λ i. Rattle.reserving.specs.Left.bucket_in n (sym bs i)) ∙ e));
-  counters = λ g c x e. absurd (no_some x ((λ i. Rattle.reserving.specs.Sessions.counter_in g c (sym cs i)) ∙ e));
-  sessions = λ s x e. absurd (no_some x ((λ i. Rattle.reserving.specs.Sessions.session_in s (sym ss i)) ∙ e));
-  groups = λ s g x e. absurd (no_some x ((λ i. Rattle.reserving.specs.Sessions.group_in s g (sym gs i)) ∙ e));
-  holds = λ s g n x e. absurd (no_some x ((λ i. Rattle.reserving.specs.Sessions.group_in s g (sym gs i)) ∙ e));
+  buckets = λ n x e. absurd
+      (no_some x ((λ i. Rattle.reserving.specs.Left.bucket_in n (sym bs i)) ∙ e));
+  counters = λ g c x e. absurd
+      (no_some x ((λ i. Rattle.reserving.specs.Sessions.counter_in g c (sym cs i)) ∙ e));
+  sessions = λ s x e. absurd
+      (no_some x ((λ i. Rattle.reserving.specs.Sessions.session_in s (sym ss i)) ∙ e));
+  groups = λ s g x e. absurd
+      (no_some x ((λ i. Rattle.reserving.specs.Sessions.group_in s g (sym gs i)) ∙ e));
+  holds = λ s g n x e. absurd
+      (no_some x ((λ i. Rattle.reserving.specs.Sessions.group_in s g (sym gs i)) ∙ e));
   dead = λ n x e k. absurd (no_some x ((λ i. (sym none i).buckets n) ∙ e));
   ended = λ s x e k. absurd (no_some x ((λ i. (sym none i).sessions s) ∙ e));
   free = λ s g x e k. absurd (no_some x ((λ i. (sym none i).groups s g) ∙ e));
@@ -85,7 +99,8 @@ held_alone n None = refl
 held_alone n (Some x) = refl
 
 -- the rows of a new account are its own
-new_rows : (b : Book) (t : ℕ) (x : AccountRows) → IsAccount x → x.book ≡ b → x.as_of ≡ t → IsRowsOf [] x → AreRowsAt b [] t (over (stored x) no_rows)
+new_rows : (b : Book) (t : ℕ) (x : AccountRows) → IsAccount x → x.book ≡ b → x.as_of ≡ t →
+    IsRowsOf [] x → AreRowsAt b [] t (over (stored x) no_rows)
 new_rows b t x is book as_of rows = record {
   listed = stored x;
   are = record {
@@ -93,7 +108,8 @@ new_rows b t x is book as_of rows = record {
     buckets = λ n. first_alone _;
     counters = λ g c. first_alone _;
     sessions = λ s. first_alone _;
-    groups = λ s g. first_alone (option_map group_row (Rattle.reserving.specs.Sessions.group_in s g x.groups));
+    groups = λ s g. first_alone
+        (option_map group_row (Rattle.reserving.specs.Sessions.group_in s g x.groups));
     holds = λ s g n. held_alone n (Rattle.reserving.specs.Sessions.group_in s g x.groups);
   };
   kept = IsStored-stored x is;
@@ -102,7 +118,8 @@ new_rows b t x is book as_of rows = record {
 }
 
 -- a new account, and the change that tells it
-pub record IsNew (b : Book) (n : List ℕ) (t : ℕ) (x fresh : AccountRows) (change : Change) : Type 0 where
+pub record IsNew (b : Book) (n : List ℕ) (t : ℕ) (x fresh : AccountRows) (change : Change) :
+    Type 0 where
   pub account : IsAccount x
   pub priced_by : x.book ≡ b
   pub at_moment : x.as_of ≡ t
@@ -118,26 +135,40 @@ pub record IsNew (b : Book) (n : List ℕ) (t : ℕ) (x fresh : AccountRows) (ch
   pub sessions : fresh.sessions ≡ []
   pub groups : fresh.groups ≡ []
 
-pub open-done : (b : Book) (list : List Accepted) (n : List ℕ) (t : ℕ) (x fresh : AccountRows) (change : Change) (old new : Tables) → IsInTime list → last_moment list ≤ t → AreTables b list old → (old.rows n).head ≡ None →
-    IsNew b n t x fresh change → (IsMadeFrom (stored fresh) (stored x) (old.rows n) → new ≡ changed change old) → IsServed b list (command.OpenAccount n) t old new answer.Done
+pub open-done : (b : Book) (list : List Accepted) (n : List ℕ) (t : ℕ) (x fresh : AccountRows)
+    (change : Change) (old new : Tables) → IsInTime list → last_moment list ≤ t →
+    AreTables b list old → (old.rows n).head ≡ None →
+    IsNew b n t x fresh change →
+    (IsMadeFrom (stored fresh) (stored x) (old.rows n) → new ≡ changed change old) →
+    IsServed b list (command.OpenAccount n) t old new answer.Done
 open-done b list n t x fresh change old new time le tables none is grown =
     let h : History = history b n list in
-    let closed : (h.opened ≡ false) × (old.rows n ≡ no_rows) = not-opened b list (command.OpenAccount n) t n refl old tables none in
+    let closed : (h.opened ≡ false)
+    × (old.rows n ≡ no_rows) =
+    not-opened b list (command.OpenAccount n) t n refl old tables none in
     let empty : h.ledger ≡ [] = unopened-ledger b n list closed.0 in
-    served-done b list (command.OpenAccount n) t n refl time le (unopened_outcome h (command.OpenAccount n)) answer.Done change old new
+    served-done b list (command.OpenAccount n) t n refl time le
+    (unopened_outcome h (command.OpenAccount n)) answer.Done change old new
     (outcome-unopened b list (command.OpenAccount n) t n refl old tables none)
     refl refl (sym is.named)
     (record {
       moment = is.moment ∙ is.at_moment;
       opened = refl;
-      row = subst (λ (l : Ledger). AreRowsAt b l t (over change.after (old.rows change.number))) (sym empty)
-          (subst (λ (w : StoredRows). AreRowsAt b [] t (over w (old.rows change.number))) (sym is.after)
-          (subst (λ (r : Rows). AreRowsAt b [] t (over (stored x) r)) (sym closed.1 ∙ ap old.rows (sym is.named)) (new_rows b t x is.account is.priced_by is.at_moment is.rows)));
+      row = subst (λ (l : Ledger). AreRowsAt b l t (over change.after (old.rows change.number)))
+          (sym empty)
+          (subst (λ (w : StoredRows). AreRowsAt b [] t (over w (old.rows change.number)))
+          (sym is.after)
+          (subst (λ (r : Rows). AreRowsAt b [] t (over (stored x) r))
+          (sym closed.1 ∙ ap old.rows (sym is.named))
+          (new_rows b t x is.account is.priced_by is.at_moment is.rows)));
       kept = keeps-none is.kept h.kept;
-      charges = sym (ap (λ xs. charge_rows h.ledger ++ xs) is.charges ∙ append-nil (charge_rows h.ledger));
-      count = ap (λ o. if is_some o then old.count else old.count + 1) (ap (λ (m : List ℕ). (old.rows m).head) is.named ∙ none);
+      charges = sym (ap (λ xs. charge_rows h.ledger ++ xs) is.charges
+          ∙ append-nil (charge_rows h.ledger));
+      count = ap (λ o. if is_some o then old.count else old.count + 1)
+          (ap (λ (m : List ℕ). (old.rows m).head) is.named ∙ none);
     })
-    (grown (made_of_nothing (stored fresh) (stored x) (old.rows n) closed.1 is.buckets is.counters is.sessions is.groups)) tables
+    (grown (made_of_nothing (stored fresh) (stored x) (old.rows n) closed.1 is.buckets is.counters
+    is.sessions is.groups)) tables
 
 -- ---- an account is barred
 
@@ -145,11 +176,14 @@ bar-named : (n : List ℕ) (barred : Bool) → concerned_by (bar_command n barre
 bar-named n true = refl
 bar-named n false = refl
 
-bar-unopened : (h : History) (n : List ℕ) (barred : Bool) → unopened_outcome h (bar_command n barred) ≡ told (answer.Refused AccountUnknown) h
+bar-unopened : (h : History) (n : List ℕ) (barred : Bool) →
+    unopened_outcome h (bar_command n barred) ≡ told (answer.Refused AccountUnknown) h
 bar-unopened h n true = refl
 bar-unopened h n false = refl
 
-bar-opened : (b : Book) (h : History) (n : List ℕ) (barred : Bool) (t : ℕ) → opened_outcome b h (bar_command n barred) t ≡ done answer.Done (with_ledger (with_bar t barred h.ledger) h)
+bar-opened : (b : Book) (h : History) (n : List ℕ) (barred : Bool) (t : ℕ) →
+    opened_outcome b h (bar_command n barred) t ≡
+    done answer.Done (with_ledger (with_bar t barred h.ledger) h)
 bar-opened b h n true t = refl
 bar-opened b h n false t = refl
 
@@ -157,37 +191,55 @@ bar-opens : (n : List ℕ) (barred : Bool) → is_opening (bar_command n barred)
 bar-opens n true = refl
 bar-opens n false = refl
 
-pub bar-unknown : (b : Book) (list : List Accepted) (n : List ℕ) (barred : Bool) (t : ℕ) (old new : Tables) → IsInTime list → last_moment list ≤ t → AreTables b list old → (old.rows n).head ≡ None → new ≡ old →
+pub bar-unknown : (b : Book) (list : List Accepted) (n : List ℕ) (barred : Bool) (t : ℕ)
+    (old new : Tables) → IsInTime list → last_moment list ≤ t → AreTables b list old →
+    (old.rows n).head ≡ None → new ≡ old →
     IsServed b list (bar_command n barred) t old new (answer.Refused AccountUnknown)
 bar-unknown b list n barred t old new time le tables none same =
-    served-told b list (bar_command n barred) t n (bar-named n barred) time le (told (answer.Refused AccountUnknown) (history b n list)) (answer.Refused AccountUnknown) old new
-    (outcome-unopened b list (bar_command n barred) t n (bar-named n barred) old tables none ∙ bar-unopened (history b n list) n barred) refl refl same tables
+    served-told b list (bar_command n barred) t n (bar-named n barred) time le
+    (told (answer.Refused AccountUnknown) (history b n list))
+    (answer.Refused AccountUnknown) old new
+    (outcome-unopened b list (bar_command n barred) t n (bar-named n barred) old tables none
+    ∙ bar-unopened (history b n list) n barred) refl refl same tables
 
 -- the change tells the account as it stands after a command without charges
-pub record Tells (change : Change) (found : Loaded) (x : AccountRows) (kept : Option KeptAnswer) : Type 0 where
+pub record Tells (change : Change) (found : Loaded) (x : AccountRows) (kept : Option KeptAnswer) :
+    Type 0 where
   pub number : change.number ≡ found.number
   pub moment : change.moment ≡ x.as_of
   pub after : change.after ≡ stored x
   pub charges : change.charges.items ≡ []
   pub kept_is : change.kept ≡ kept
 
-pub bar-done : (b : Book) (list : List Accepted) (n : List ℕ) (barred : Bool) (t m : ℕ) (found : Loaded) (x : AccountRows) (change : Change) (old new : Tables) → IsInTime list → last_moment list ≤ t → AreTables b list old → IsTaken b t n old found →
-    m ≡ max t found.account.as_of → x.book ≡ found.account.book → x.as_of ≡ m → ((ledger : Ledger) (left : LeftRows) → IsWith ledger left m found.account → IsWith (with_bar m barred ledger) left m x) → Tells change found x None →
-    (IsMadeFrom found.before (stored x) (old.rows found.number) → new ≡ changed change old) → IsServed b list (bar_command n barred) t old new answer.Done
-bar-done b list n barred t m found x change old new time le tables loads moment book as_of rows tells grown =
+pub bar-done : (b : Book) (list : List Accepted) (n : List ℕ) (barred : Bool) (t m : ℕ)
+    (found : Loaded) (x : AccountRows) (change : Change) (old new : Tables) → IsInTime list →
+    last_moment list ≤ t → AreTables b list old → IsTaken b t n old found →
+    m ≡ max t found.account.as_of → x.book ≡ found.account.book → x.as_of ≡ m →
+    ((ledger : Ledger) (left : LeftRows) → IsWith ledger left m found.account →
+    IsWith (with_bar m barred ledger) left m x) → Tells change found x None →
+    (IsMadeFrom found.before (stored x) (old.rows found.number) → new ≡ changed change old) →
+    IsServed b list (bar_command n barred) t old new answer.Done
+bar-done b list n barred t m found x change old new time le tables loads moment book as_of rows
+    tells grown =
     let h : History = history b n list in
-    let account : IsOpened b list t n old found.account = is_opened b list t n old found.account time le tables loads.load.1 loads.account in
+    let account : IsOpened b list t n old found.account =
+    is_opened b list t n old found.account time le tables loads.load.1 loads.account in
     let now : m ≡ t = moment ∙ account.moment in
     let left : LeftRows = left_of t (priced b account.are.listed) in
-    served-loaded b list (bar_command n barred) t n (bar-named n barred) time le old new tables found loads
-    (done answer.Done (with_ledger (with_bar t barred h.ledger) h)) answer.Done x change (bar-opens n barred)
-    (outcome-opened b list (bar_command n barred) t n (bar-named n barred) account.opened ∙ bar-opened b h n barred t)
+    served-loaded b list (bar_command n barred) t n (bar-named n barred) time le old new tables
+    found loads
+    (done answer.Done (with_ledger (with_bar t barred h.ledger) h)) answer.Done x change
+    (bar-opens n barred)
+    (outcome-opened b list (bar_command n barred) t n (bar-named n barred) account.opened
+    ∙ bar-opened b h n barred t)
     refl refl
     (record {
       book = book;
       at_moment = as_of ∙ now;
       grows = one_more (record { at = t; fact = Barred barred }) h.ledger;
-      rows = subst (λ (u : ℕ). IsWith (with_bar u barred h.ledger) left u x) now (rows h.ledger left (subst (λ (u : ℕ). IsWith h.ledger left u found.account) (sym now) account.with_left));
+      rows = subst (λ (u : ℕ). IsWith (with_bar u barred h.ledger) left u x) now
+          (rows h.ledger left (subst (λ (u : ℕ). IsWith h.ledger left u found.account)
+          (sym now) account.with_left));
       opened = account.opened;
       kept = keeps-none tells.kept_is h.kept;
       charges = ap (λ xs. charge_rows h.ledger ++ xs) (sym tells.charges);
@@ -199,24 +251,39 @@ bar-done b list n barred t m found x change old new time le tables loads moment 
 
 -- ---- a credit
 
-pub credit-unknown : (b : Book) (list : List Accepted) (c : Credit) (t : ℕ) (old new : Tables) → IsInTime list → last_moment list ≤ t → AreTables b list old → (old.rows c.account).head ≡ None → new ≡ old →
+pub credit-unknown : (b : Book) (list : List Accepted) (c : Credit) (t : ℕ) (old new : Tables) →
+    IsInTime list → last_moment list ≤ t → AreTables b list old → (old.rows c.account).head ≡ None →
+    new ≡ old →
     IsServed b list (command.Credit c) t old new (answer.Refused AccountUnknown)
 credit-unknown b list c t old new time le tables none same =
-    served-told b list (command.Credit c) t c.account refl time le (told (answer.Refused AccountUnknown) (history b c.account list)) (answer.Refused AccountUnknown) old new
-    (outcome-unopened b list (command.Credit c) t c.account refl old tables none) refl refl same tables
+    served-told b list (command.Credit c) t c.account refl time le
+    (told (answer.Refused AccountUnknown) (history b c.account list))
+    (answer.Refused AccountUnknown) old new
+    (outcome-unopened b list (command.Credit c) t c.account refl old tables none) refl refl same
+    tables
 
-pub credit-again : (b : Book) (list : List Accepted) (c : Credit) (t : ℕ) (old new : Tables) (kept : KeptAnswer) (given : Answer) → IsInTime list → last_moment list ≤ t → AreTables b list old →
-    old.answers c.account (key_of (content.Credit c)) ≡ Some kept → given ≡ repeated kept (content.Credit c) (answer.Refused ContentDiffers) → new ≡ old → IsServed b list (command.Credit c) t old new given
+pub credit-again : (b : Book) (list : List Accepted) (c : Credit) (t : ℕ) (old new : Tables)
+    (kept : KeptAnswer) (given : Answer) → IsInTime list → last_moment list ≤ t →
+    AreTables b list old →
+    old.answers c.account (key_of (content.Credit c)) ≡ Some kept →
+    given ≡ repeated kept (content.Credit c) (answer.Refused ContentDiffers) → new ≡ old →
+    IsServed b list (command.Credit c) t old new given
 credit-again b list c t old new kept given time le tables is answers same =
     let h : History = history b c.account list in
     let k : Key = key_of (content.Credit c) in
-    served-told b list (command.Credit c) t c.account refl time le (told (repeated kept (content.Credit c) (answer.Refused ContentDiffers)) h) given old new
-    (outcome-kept b list (command.Credit c) t c.account refl old k kept tables is ∙ credit-repeated c t h kept (sym (tables.answers c.account k) ∙ is))
+    served-told b list (command.Credit c) t c.account refl time le
+    (told (repeated kept (content.Credit c) (answer.Refused ContentDiffers)) h) given old new
+    (outcome-kept b list (command.Credit c) t c.account refl old k kept tables is
+    ∙ credit-repeated c t h kept (sym (tables.answers c.account k) ∙ is))
     refl answers same tables
 
-module _ (b : Book) (list : List Accepted) (c : Credit) (t : ℕ) (old new : Tables) (found : Loaded) (time : IsInTime list) (le : last_moment list ≤ t) (tables : AreTables b list old) (loads : IsTaken b t c.account old found)
-    (m : ℕ) (fresh : old.answers c.account (key_of (content.Credit c)) ≡ None) (moment : m ≡ max t found.account.as_of)
-    (o : Option ℕ) (x : AccountRows) (credits : (ledger : Ledger) (left : LeftRows) → IsWith ledger left m found.account → Credits o c m ledger left x) where
+module _ (b : Book) (list : List Accepted) (c : Credit) (t : ℕ) (old new : Tables) (found : Loaded)
+    (time : IsInTime list) (le : last_moment list ≤ t) (tables : AreTables b list old)
+    (loads : IsTaken b t c.account old found)
+    (m : ℕ) (fresh : old.answers c.account (key_of (content.Credit c)) ≡ None)
+    (moment : m ≡ max t found.account.as_of)
+    (o : Option ℕ) (x : AccountRows) (credits : (ledger : Ledger) (left : LeftRows) →
+    IsWith ledger left m found.account → Credits o c m ledger left x) where
   abbrev h : History
   h = history b c.account list
 
@@ -230,36 +297,57 @@ module _ (b : Book) (list : List Accepted) (c : Credit) (t : ℕ) (old new : Tab
   left = left_of t (priced b account.are.listed)
 
   credit : Credits o c m h.ledger left x
-  credit = credits h.ledger left (subst (λ (u : ℕ). IsWith h.ledger left u found.account) (sym now) account.with_left)
+  credit = credits h.ledger left
+      (subst (λ (u : ℕ). IsWith h.ledger left u found.account) (sym now) account.with_left)
 
   fresh-is : outcome b h (command.Credit c) t ≡ new_credit c t h
-  fresh-is = outcome-opened b list (command.Credit c) t c.account refl account.opened ∙ credit-fresh c t h (sym (tables.answers c.account (key_of (content.Credit c))) ∙ fresh)
+  fresh-is = outcome-opened b list (command.Credit c) t c.account refl account.opened
+      ∙ credit-fresh c t h (sym (tables.answers c.account (key_of (content.Credit c))) ∙ fresh)
 
-  pub credit-told : o ≡ None → new ≡ old → IsServed b list (command.Credit c) t old new (answer.Refused OutOfRange)
+  pub credit-told : o ≡ None → new ≡ old →
+      IsServed b list (command.Credit c) t old new (answer.Refused OutOfRange)
   credit-told none same =
-      let refused : is_out_of_range c t h.ledger ≡ true = ap (λ u. is_out_of_range c u h.ledger) (sym now) ∙ subst (λ (q : Option ℕ). Credits q c m h.ledger left x) none credit in
-      served-told b list (command.Credit c) t c.account refl time le (told (answer.Refused OutOfRange) h) (answer.Refused OutOfRange) old new
-      (fresh-is ∙ ap (λ v. if v then told (answer.Refused OutOfRange) h else keeping (content.Credit c) (answer.Bucket (next_bucket h.ledger)) (credited t (from_of c t) (until_of c) c.scope c.amount h.ledger) h) refused)
+      let refused : is_out_of_range c t h.ledger ≡ true =
+      ap (λ u. is_out_of_range c u h.ledger) (sym now)
+      ∙ subst (λ (q : Option ℕ). Credits q c m h.ledger left x) none credit in
+      served-told b list (command.Credit c) t c.account refl time le
+      (told (answer.Refused OutOfRange) h) (answer.Refused OutOfRange) old new
+      (fresh-is ∙ ap (λ v. if v then told (answer.Refused OutOfRange) h
+      else keeping (content.Credit c) (answer.Bucket (next_bucket h.ledger))
+      (credited t (from_of c t) (until_of c) c.scope c.amount h.ledger) h) refused)
       refl refl same tables
 
-  pub credit-done : (number : ℕ) (change : Change) → o ≡ Some number → x.book ≡ found.account.book → IfSome o (λ n. x.as_of ≡ m) → Tells change found x (Some (record { content = content.Credit c; answer = answer.Bucket number })) →
-      (IsMadeFrom found.before (stored x) (old.rows found.number) → new ≡ changed change old) → IsServed b list (command.Credit c) t old new (answer.Bucket number)
+  pub credit-done : (number : ℕ) (change : Change) → o ≡ Some number → x.book ≡ found.account.book →
+      IfSome o (λ n. x.as_of ≡ m) →
+      Tells change found x (Some
+      (record { content = content.Credit c; answer = answer.Bucket number })) →
+      (IsMadeFrom found.before (stored x) (old.rows found.number) → new ≡ changed change old) →
+      IsServed b list (command.Credit c) t old new (answer.Bucket number)
   credit-done number change some book stands tells grown =
       let done = subst (λ (q : Option ℕ). Credits q c m h.ledger left x) some credit in
       let as_of : x.as_of ≡ m = subst (λ (q : Option ℕ). IfSome q (λ n. x.as_of ≡ m)) some stands in
       let after : Ledger = credited t (from_of c t) (until_of c) c.scope c.amount h.ledger in
-      let allowed : is_out_of_range c t h.ledger ≡ false = ap (λ u. is_out_of_range c u h.ledger) (sym now) ∙ done.0 in
+      let allowed : is_out_of_range c t h.ledger ≡ false =
+      ap (λ u. is_out_of_range c u h.ledger) (sym now) ∙ done.0 in
       served-loaded b list (command.Credit c) t c.account refl time le old new tables found loads
-      (keeping (content.Credit c) (answer.Bucket (next_bucket h.ledger)) after h) (answer.Bucket number) x change refl
-      (fresh-is ∙ ap (λ v. if v then told (answer.Refused OutOfRange) h else keeping (content.Credit c) (answer.Bucket (next_bucket h.ledger)) after h) allowed)
+      (keeping (content.Credit c) (answer.Bucket (next_bucket h.ledger)) after h)
+      (answer.Bucket number) x change refl
+      (fresh-is ∙ ap (λ v. if v then told (answer.Refused OutOfRange) h
+      else keeping (content.Credit c) (answer.Bucket (next_bucket h.ledger)) after h) allowed)
       refl (ap answer.Bucket done.1)
       (record {
         book = book;
         at_moment = as_of ∙ now;
-        grows = one_more (record { at = t; fact = Bucket (next_bucket h.ledger) (from_of c t) (until_of c) c.scope c.amount }) h.ledger;
-        rows = subst (λ (u : ℕ). IsWith (credited u (from_of c u) (until_of c) c.scope c.amount h.ledger) left u x) now done.2;
+        grows = one_more (record {
+          at = t;
+          fact = Bucket (next_bucket h.ledger) (from_of c t) (until_of c) c.scope c.amount;
+        })
+            h.ledger;
+        rows = subst (λ (u : ℕ). IsWith
+            (credited u (from_of c u) (until_of c) c.scope c.amount h.ledger) left u x) now done.2;
         opened = account.opened;
-        kept = (λ i. record { content = content.Credit c; answer = answer.Bucket (sym done.1 i) } ∷ h.kept) ∙ keeps-some (sym tells.kept_is) h.kept;
+        kept = (λ i. record { content = content.Credit c; answer = answer.Bucket (sym done.1 i) }
+            ∷ h.kept) ∙ keeps-some (sym tells.kept_is) h.kept;
         charges = ap (λ xs. charge_rows h.ledger ++ xs) (sym tells.charges);
         number = tells.number;
         moment = tells.moment;

@@ -27,19 +27,23 @@ use Rattle.charging.proofs.Credited.{AreCredited, no_credits, more_credits, Same
 
 -- ---- charges in front
 
-pub before_charges-charges : (t : ℕ) (hs : List Hold) (ledger : Ledger) → before_charges ledger ≡ ledger → before_charges (charge_facts t hs ++ ledger) ≡ ledger
+pub before_charges-charges : (t : ℕ) (hs : List Hold) (ledger : Ledger) →
+    before_charges ledger ≡ ledger → before_charges (charge_facts t hs ++ ledger) ≡ ledger
 before_charges-charges t [] ledger begins = begins
 before_charges-charges t (h ∷ hs) ledger begins = before_charges-charges t hs ledger begins
 
-collected-charges : (t : ℕ) (hs : List Hold) (ledger : Ledger) → collected (charge_facts t hs ++ ledger) ≡ amounts hs + collected ledger
+collected-charges : (t : ℕ) (hs : List Hold) (ledger : Ledger) →
+    collected (charge_facts t hs ++ ledger) ≡ amounts hs + collected ledger
 collected-charges t [] ledger = omega arith
 collected-charges t (h ∷ hs) ledger = omega (arith, collected-charges t hs ledger)
 
-ArePaid-charges : (b : Book) (t : ℕ) (hs : List Hold) (reports : List Report) (ledger : Ledger) → ArePaid b reports ledger → ArePaid b reports (charge_facts t hs ++ ledger)
+ArePaid-charges : (b : Book) (t : ℕ) (hs : List Hold) (reports : List Report) (ledger : Ledger) →
+    ArePaid b reports ledger → ArePaid b reports (charge_facts t hs ++ ledger)
 ArePaid-charges b t [] reports ledger h = h
 ArePaid-charges b t (x ∷ xs) reports ledger h = (tt, ArePaid-charges b t xs reports ledger h)
 
-ArePaid-holds : (b : Book) (t : ℕ) (s : List ℕ) (g : ℕ) (hs : List Hold) (reports : List Report) (ledger : Ledger) → ArePaid b reports ledger → ArePaid b reports (hold_facts t s g hs ++ ledger)
+ArePaid-holds : (b : Book) (t : ℕ) (s : List ℕ) (g : ℕ) (hs : List Hold) (reports : List Report)
+    (ledger : Ledger) → ArePaid b reports ledger → ArePaid b reports (hold_facts t s g hs ++ ledger)
 ArePaid-holds b t s g [] reports ledger h = h
 ArePaid-holds b t s g (x ∷ xs) reports ledger h = (tt, ArePaid-holds b t s g xs reports ledger h)
 
@@ -52,27 +56,32 @@ rest-none : {A : Type 0} (x y : Option A) → or_else x y ≡ None → y ≡ Non
 rest-none None y e = e
 rest-none (Some x) y e = absurd (no_some x (sym e))
 
-recorded-touched : (t : ℕ) (s : List ℕ) (n : ℕ) (ledger : Ledger) → AreRecorded ledger → AreRecorded (touched t s n ledger)
+recorded-touched : (t : ℕ) (s : List ℕ) (n : ℕ) (ledger : Ledger) → AreRecorded ledger →
+    AreRecorded (touched t s n ledger)
 recorded-touched t s n ledger h other = at (is_same s other)
   where
     own : Recording
     own = record { number = n; at = t }
 
-    at : (v : Bool) → or_else (if v then Some own else None) (last_recording other ledger) ≡ None → or_else (if v then Some t else None) (last_touch other ledger) ≡ None
+    at : (v : Bool) → or_else (if v then Some own else None) (last_recording other ledger) ≡ None →
+        or_else (if v then Some t else None) (last_touch other ledger) ≡ None
     at true e = absurd (no_some own (sym e))
     at false e = h other e
 
-recorded-charges : (t : ℕ) (hs : List Hold) (ledger : Ledger) → AreRecorded ledger → AreRecorded (charge_facts t hs ++ ledger)
+recorded-charges : (t : ℕ) (hs : List Hold) (ledger : Ledger) → AreRecorded ledger →
+    AreRecorded (charge_facts t hs ++ ledger)
 recorded-charges t [] ledger h = h
 recorded-charges t (x ∷ xs) ledger h = recorded-charges t xs ledger h
 
-recorded-holds : (t : ℕ) (s : List ℕ) (g : ℕ) (hs : List Hold) (ledger : Ledger) → AreRecorded ledger → AreRecorded (hold_facts t s g hs ++ ledger)
+recorded-holds : (t : ℕ) (s : List ℕ) (g : ℕ) (hs : List Hold) (ledger : Ledger) →
+    AreRecorded ledger → AreRecorded (hold_facts t s g hs ++ ledger)
 recorded-holds t s g [] ledger h = h
 recorded-holds t s g (x ∷ xs) ledger h = recorded-holds t s g xs ledger h
 
 -- ---- what each ledger of an account keeps
 
--- its buckets are in order, its newest fact is no charge, what isn't recorded wasn't touched, and its uses are paid
+-- its buckets are in order, its newest fact is no charge, what isn't recorded wasn't touched, and
+-- its uses are paid
 pub record IsPaying (b : Book) (reports : List Report) (ledger : Ledger) : Type 0 where
   pub credits : AreCredited (credits ledger) (next_bucket ledger)
   pub begins : before_charges ledger ≡ ledger
@@ -80,22 +89,42 @@ pub record IsPaying (b : Book) (reports : List Report) (ledger : Ledger) : Type 
   pub recorded : AreRecorded ledger
   pub paid : ArePaid b reports ledger
 
-paying_quiet : (b : Book) (t : ℕ) (f : Fact) (reports : List Report) (ledger : Ledger) → is_quiet f ≡ true → is_touch f ≡ false → IsPaying b reports ledger → IsPaying b reports (record { at = t; fact = f } ∷ ledger)
-paying_quiet b t (Close s) reports ledger q n h = record { credits = same_credits _ ledger (quiet_credits t (Close s) ledger q) h.credits; begins = refl; nothing = refl; recorded = h.recorded; paid = (tt, h.paid) }
+paying_quiet : (b : Book) (t : ℕ) (f : Fact) (reports : List Report) (ledger : Ledger) →
+    is_quiet f ≡ true → is_touch f ≡ false → IsPaying b reports ledger →
+    IsPaying b reports (record { at = t; fact = f } ∷ ledger)
+paying_quiet b t (Close s) reports ledger q n h =
+    record {
+      credits = same_credits _ ledger (quiet_credits t (Close s) ledger q) h.credits;
+      begins = refl;
+      nothing = refl;
+      recorded = h.recorded;
+      paid = (tt, h.paid);
+    }
 paying_quiet b t (Recorded s n) reports ledger q n' h = record {
   credits = same_credits _ ledger (quiet_credits t (Recorded s n) ledger q) h.credits;
   begins = refl;
   nothing = refl;
-  recorded = λ other e. h.recorded other (rest-none (if is_same s other then Some (record { number = n; at = t }) else None) (last_recording other ledger) e);
+  recorded = λ other e. h.recorded other
+      (rest-none (if is_same s other then Some (record { number = n; at = t }) else None)
+      (last_recording other ledger) e);
   paid = (tt, h.paid);
 }
-paying_quiet b t (Barred x) reports ledger q n h = record { credits = same_credits _ ledger (quiet_credits t (Barred x) ledger q) h.credits; begins = refl; nothing = refl; recorded = h.recorded; paid = (tt, h.paid) }
+paying_quiet b t (Barred x) reports ledger q n h =
+    record {
+      credits = same_credits _ ledger (quiet_credits t (Barred x) ledger q) h.credits;
+      begins = refl;
+      nothing = refl;
+      recorded = h.recorded;
+      paid = (tt, h.paid);
+    }
 paying_quiet b t (Touch s) reports ledger q n h = absurd (true≢false n)
 paying_quiet b t _ reports ledger q n h = cc
 
-paying_touch : (b : Book) (t : ℕ) (s : List ℕ) (n : ℕ) (reports : List Report) (ledger : Ledger) → IsPaying b reports ledger → IsPaying b reports (touched t s n ledger)
+paying_touch : (b : Book) (t : ℕ) (s : List ℕ) (n : ℕ) (reports : List Report) (ledger : Ledger) →
+    IsPaying b reports ledger → IsPaying b reports (touched t s n ledger)
 paying_touch b t s n reports ledger h = record {
-  credits = same_credits _ (record { at = t; fact = Touch s } ∷ ledger) (quiet_credits t (Recorded s n) (record { at = t; fact = Touch s } ∷ ledger) refl)
+  credits = same_credits _ (record { at = t; fact = Touch s } ∷ ledger)
+      (quiet_credits t (Recorded s n) (record { at = t; fact = Touch s } ∷ ledger) refl)
       (same_credits _ ledger (quiet_credits t (Touch s) ledger refl) h.credits);
   begins = refl;
   nothing = refl;
@@ -103,26 +132,49 @@ paying_touch b t s n reports ledger h = record {
   paid = (tt, (tt, h.paid));
 }
 
-paying_credit : (b : Book) (t from until : ℕ) (scope : Option ℕ) (amount : ℕ) (reports : List Report) (ledger : Ledger) → IsPaying b reports ledger → IsPaying b reports (credited t from until scope amount ledger)
-paying_credit b t from until scope amount reports ledger h = record { credits = more_credits t from until scope amount ledger h.credits; begins = refl; nothing = refl; recorded = h.recorded; paid = (tt, h.paid) }
+paying_credit : (b : Book) (t from until : ℕ) (scope : Option ℕ) (amount : ℕ)
+    (reports : List Report) (ledger : Ledger) → IsPaying b reports ledger →
+    IsPaying b reports (credited t from until scope amount ledger)
+paying_credit b t from until scope amount reports ledger h =
+    record {
+      credits = more_credits t from until scope amount ledger h.credits;
+      begins = refl;
+      nothing = refl;
+      recorded = h.recorded;
+      paid = (tt, h.paid);
+    }
 
 -- what buckets pay of a report
 abbrev pub paid_parts : Book → ℕ → List ℕ → ℕ → List UsedPart → Ledger → List Hold
 paid_parts b t s g used_parts ledger =
-    parts (paid (holds_at b.validity t s g ledger) g t (report_price b t s g used_parts ledger).amount.0 (buckets_at b.validity t ledger)) (buckets_at b.validity t ledger)
+    parts (paid (holds_at b.validity t s g ledger) g t
+    (report_price b t s g used_parts ledger).amount.0 (buckets_at b.validity t ledger))
+    (buckets_at b.validity t ledger)
 
 -- what a report's charges collect and what isn't collected are its price
-settled_is_paid : (b : Book) (t : ℕ) (s : List ℕ) (g : ℕ) (p : UsedPart) (ps : List UsedPart) (reports : List Report) (ledger : Ledger) → is_touched s ledger ≡ true → IsPaying b reports ledger →
+settled_is_paid : (b : Book) (t : ℕ) (s : List ℕ) (g : ℕ) (p : UsedPart) (ps : List UsedPart)
+    (reports : List Report) (ledger : Ledger) → is_touched s ledger ≡ true →
+    IsPaying b reports ledger →
     ArePaid b (with_report t s g (p ∷ ps) reports) (settled_by b t s g (p ∷ ps) ledger)
 settled_is_paid b t s g p ps reports ledger touches h = (
   tt,
   (
     record {
-      sum = omega (arith, collected-charges t hs ledger, h.nothing, amounts-parts (paid holds g t rated rows) rows, sum_by-paid holds g t rated rows (in_order b.validity t ledger h.credits));
-      report = λ e. subst (IsReport b own t s g (reported (p ∷ ps)) (report_price b t s g (p ∷ ps) ledger).blocks rated (uncollected holds g t rated rows)) (sym before) report;
+      sum = omega (
+        arith,
+        collected-charges t hs ledger,
+        h.nothing,
+        amounts-parts (paid holds g t rated rows) rows,
+        sum_by-paid holds g t rated rows
+            (in_order b.validity t ledger h.credits),
+      );
+      report = λ e. subst (IsReport b own t s g (reported (p ∷ ps))
+          (report_price b t s g (p ∷ ps) ledger).blocks rated (uncollected holds g t rated rows))
+          (sym before) report;
       event = λ e. absurd (true≢false (sym is_touched_before ∙ e));
     },
-    subst (λ v. ArePaid b (if v then reports else own ∷ reports) (charge_facts t hs ++ ledger)) (sym is_touched_before) (ArePaid-charges b t hs reports ledger h.paid),
+    subst (λ v. ArePaid b (if v then reports else own ∷ reports) (charge_facts t hs ++ ledger))
+        (sym is_touched_before) (ArePaid-charges b t hs reports ledger h.paid),
   ),
 )
   where
@@ -147,7 +199,8 @@ settled_is_paid b t s g p ps reports ledger touches h = (
     is_touched_before : is_touched s (before_charges (charge_facts t hs ++ ledger)) ≡ true
     is_touched_before = ap (is_touched s) before ∙ touches
 
-    report : IsReport b own t s g (reported (p ∷ ps)) (report_price b t s g (p ∷ ps) ledger).blocks rated (uncollected holds g t rated rows) ledger
+    report : IsReport b own t s g (reported (p ∷ ps)) (report_price b t s g (p ∷ ps) ledger).blocks
+        rated (uncollected holds g t rated rows) ledger
     report = record {
       moment = refl;
       session = refl;
@@ -160,65 +213,99 @@ settled_is_paid b t s g p ps reports ledger touches h = (
     }
 
 -- a settlement makes no bucket
-settled_credits : (v t : ℕ) (s : List ℕ) (g units blocks rated : ℕ) (ledger : Ledger) → SameCredits (settled v t s g units blocks rated ledger) ledger
+settled_credits : (v t : ℕ) (s : List ℕ) (g units blocks rated : ℕ) (ledger : Ledger) →
+    SameCredits (settled v t s g units blocks rated ledger) ledger
 settled_credits v t s g units blocks rated ledger =
-    let same : SameCredits (charge_facts t (parts (paid (holds_at v t s g ledger) g t rated (buckets_at v t ledger)) (buckets_at v t ledger)) ++ ledger) ledger =
-    charge_credits t (parts (paid (holds_at v t s g ledger) g t rated (buckets_at v t ledger)) (buckets_at v t ledger)) ledger in
+    let same : SameCredits (charge_facts t
+    (parts (paid (holds_at v t s g ledger) g t rated (buckets_at v t ledger))
+    (buckets_at v t ledger)) ++ ledger) ledger =
+    charge_credits t (parts (paid (holds_at v t s g ledger) g t rated (buckets_at v t ledger))
+    (buckets_at v t ledger)) ledger in
     record { rows = same.rows; next = omega (arith, same.next) }
 
-paying_settle : (b : Book) (t : ℕ) (s : List ℕ) (g : ℕ) (used_parts : List UsedPart) (reports : List Report) (ledger : Ledger) → is_touched s ledger ≡ true → IsPaying b reports ledger →
+paying_settle : (b : Book) (t : ℕ) (s : List ℕ) (g : ℕ) (used_parts : List UsedPart)
+    (reports : List Report) (ledger : Ledger) → is_touched s ledger ≡ true →
+    IsPaying b reports ledger →
     IsPaying b (with_report t s g used_parts reports) (settled_by b t s g used_parts ledger)
 paying_settle b t s g [] reports ledger touches h = record {
-  credits = same_credits (settled_by b t s g [] ledger) ledger (record { rows = refl; next = omega arith }) h.credits;
+  credits = same_credits (settled_by b t s g [] ledger) ledger
+      (record { rows = refl; next = omega arith }) h.credits;
   begins = refl;
   nothing = refl;
   recorded = h.recorded;
   paid = (tt, h.paid);
 }
 paying_settle b t s g (p ∷ ps) reports ledger touches h = record {
-  credits = same_credits (settled_by b t s g (p ∷ ps) ledger) ledger (settled_credits b.validity t s g (reported (p ∷ ps)) (report_price b t s g (p ∷ ps) ledger).blocks (report_price b t s g (p ∷ ps) ledger).amount.0 ledger) h.credits;
+  credits = same_credits (settled_by b t s g (p ∷ ps) ledger) ledger
+      (settled_credits b.validity t s g (reported (p ∷ ps))
+      (report_price b t s g (p ∷ ps) ledger).blocks (report_price b t s g (p ∷ ps) ledger).amount.0
+      ledger) h.credits;
   begins = refl;
   nothing = refl;
-  recorded = recorded-charges t (parts (paid (holds_at b.validity t s g ledger) g t (report_price b t s g (p ∷ ps) ledger).amount.0 (buckets_at b.validity t ledger)) (buckets_at b.validity t ledger)) ledger h.recorded;
+  recorded = recorded-charges t
+      (parts (paid (holds_at b.validity t s g ledger) g t
+      (report_price b t s g (p ∷ ps) ledger).amount.0 (buckets_at b.validity t ledger))
+      (buckets_at b.validity t ledger)) ledger h.recorded;
   paid = settled_is_paid b t s g p ps reports ledger touches h;
 }
 
 -- ---- grants and debits
 
-paying_holds : (b : Book) (t : ℕ) (s : List ℕ) (g : ℕ) (hs : List Hold) (reports : List Report) (ledger : Ledger) → IsPaying b reports ledger → IsPaying b reports (hold_facts t s g hs ++ ledger)
+paying_holds : (b : Book) (t : ℕ) (s : List ℕ) (g : ℕ) (hs : List Hold) (reports : List Report)
+    (ledger : Ledger) → IsPaying b reports ledger →
+    IsPaying b reports (hold_facts t s g hs ++ ledger)
 paying_holds b t s g [] reports ledger h = h
 paying_holds b t s g (x ∷ xs) reports ledger h = record {
-  credits = same_credits (hold_facts t s g (x ∷ xs) ++ ledger) ledger (hold_credits t s g (x ∷ xs) ledger) h.credits;
+  credits = same_credits (hold_facts t s g (x ∷ xs) ++ ledger) ledger
+      (hold_credits t s g (x ∷ xs) ledger) h.credits;
   begins = refl;
   nothing = refl;
   recorded = recorded-holds t s g (x ∷ xs) ledger h.recorded;
   paid = (tt, ArePaid-holds b t s g xs reports ledger h.paid);
 }
 
-paying_reserved : (b : Book) (t : ℕ) (s : List ℕ) (g units amount : ℕ) (reports : List Report) (ledger : Ledger) → IsPaying b reports ledger → IsPaying b reports (reserved b t s g units amount ledger)
+paying_reserved : (b : Book) (t : ℕ) (s : List ℕ) (g units amount : ℕ) (reports : List Report)
+    (ledger : Ledger) → IsPaying b reports ledger →
+    IsPaying b reports (reserved b t s g units amount ledger)
 paying_reserved b t s g units amount reports ledger h =
-    paying_holds b t s g (holds_of g t amount (buckets_at b.validity t ledger)) reports (with_grant b t s g units ledger) (record {
-      credits = same_credits (with_grant b t s g units ledger) ledger (record { rows = refl; next = omega arith }) h.credits;
+    paying_holds b t s g (holds_of g t amount (buckets_at b.validity t ledger)) reports
+    (with_grant b t s g units ledger) (record {
+      credits = same_credits (with_grant b t s g units ledger) ledger
+          (record { rows = refl; next = omega arith }) h.credits;
       begins = refl;
       nothing = refl;
       recorded = h.recorded;
       paid = (tt, h.paid);
     })
 
-paying_debit : (b : Book) (t : ℕ) (s : List ℕ) (g units : ℕ) (reports : List Report) (ledger : Ledger) → last_recording s ledger ≡ None → is_covered b t g units ledger ≡ true → IsPaying b reports ledger →
+paying_debit : (b : Book) (t : ℕ) (s : List ℕ) (g units : ℕ) (reports : List Report)
+    (ledger : Ledger) → last_recording s ledger ≡ None → is_covered b t g units ledger ≡ true →
+    IsPaying b reports ledger →
     IsPaying b reports (debited b t s g units ledger)
 paying_debit b t s g units reports ledger new covered h = record {
-  credits = same_credits (debited b t s g units ledger) ledger (record { rows = same.rows; next = omega (arith, same.next) }) h.credits;
+  credits = same_credits (debited b t s g units ledger) ledger
+      (record { rows = same.rows; next = omega (arith, same.next) }) h.credits;
   begins = refl;
   nothing = refl;
   recorded = recorded-charges t hs ledger h.recorded;
   paid = (
     record {
-      sum = omega (arith, collected-charges t hs ledger, h.nothing, amounts-parts (paid [] g t rated rows) rows, sum_by-paid [] g t rated rows (in_order b.validity t ledger h.credits), within);
+      sum = omega (
+        arith,
+        collected-charges t hs ledger,
+        h.nothing,
+        amounts-parts (paid [] g t rated rows) rows,
+        sum_by-paid [] g t rated rows
+            (in_order b.validity t ledger h.credits),
+        within,
+      );
       report = λ e. absurd (true≢false (sym e ∙ untouched));
-      event = λ e. subst (IsEvent b t g units (event_price b t g units ledger).blocks rated 0) (sym before) event;
+      event = λ e. subst (IsEvent b t g units (event_price b t g units ledger).blocks rated 0)
+          (sym before) event;
     },
-    subst (λ v. ArePaid b (if v then without_last reports else reports) (charge_facts t hs ++ ledger)) (sym untouched) (ArePaid-charges b t hs reports ledger h.paid),
+    subst (λ v. ArePaid b (if v then without_last reports else reports)
+        (charge_facts t hs ++ ledger)) (sym untouched)
+        (ArePaid-charges b t hs reports ledger h.paid),
   );
 }
   where
@@ -247,7 +334,13 @@ paying_debit b t s g units reports ledger new covered h = record {
     event = record { blocks_are = refl; rated_is = refl; covered = covered; whole = refl }
 
 pub paying_none : (b : Book) → IsPaying b [] []
-paying_none b = record { credits = no_credits; begins = refl; nothing = refl; recorded = λ s e. refl; paid = refl }
+paying_none b = record {
+  credits = no_credits;
+  begins = refl;
+  nothing = refl;
+  recorded = λ s e. refl;
+  paid = refl;
+}
 
 pub keeps_paying : (b : Book) → Keeps b (IsPaying b)
 keeps_paying b = record {
@@ -256,5 +349,7 @@ keeps_paying b = record {
   credit = paying_credit b;
   settle = paying_settle b;
   grant = λ t s g asked reports ledger recorded h. paying_reserved b t s g _ _ reports ledger h;
-  event = λ t s g units n reports ledger new covered h. paying_quiet b t (Recorded s n) reports _ refl refl (paying_debit b t s g units reports ledger new covered h);
+  event = λ t s g units n reports ledger new covered h.
+      paying_quiet b t (Recorded s n) reports _ refl refl
+      (paying_debit b t s g units reports ledger new covered h);
 }

@@ -24,13 +24,15 @@ use Rattle.charging.proofs.Steps.{is_quiet, is_touch, granted, Keeps}
 use Rattle.charging.proofs.KeptHistories.{kept_history}
 
 pub record AreRecorded (ledger : Ledger) : Type 0 where
-  pub groups : (s : List ℕ) (g : ℕ) → last_recording s ledger ≡ None → has_group s g ledger ≡ true → ⊥
+  pub groups : (s : List ℕ) (g : ℕ) → last_recording s ledger ≡ None → has_group s g ledger ≡ true →
+      ⊥
   pub touches : (s : List ℕ) → last_recording s ledger ≡ None → last_touch s ledger ≡ None
 
 abbrev front : ℕ → Fact → Ledger → Ledger
 front t f ledger = record { at = t; fact = f } ∷ ledger
 
-no_record : (b : Bool) (r : Recording) (o : Option Recording) → or_else (if b then Some r else None) o ≡ None → o ≡ None
+no_record : (b : Bool) (r : Recording) (o : Option Recording) →
+    or_else (if b then Some r else None) o ≡ None → o ≡ None
 no_record true r o e = absurd (no_some r (sym e))
 no_record false r o e = e
 
@@ -39,53 +41,91 @@ no_record false r o e = e
 record IsPlain (f : Fact) : Type 0 where
   names : (s : List ℕ) (g : ℕ) → names_group s g f ≡ false
   touch : (s : List ℕ) (t : ℕ) → touch_in s (record { at = t; fact = f }) ≡ None
-  record_before : (s : List ℕ) (t : ℕ) (ledger : Ledger) → last_recording s (front t f ledger) ≡ None → last_recording s ledger ≡ None
+  record_before : (s : List ℕ) (t : ℕ) (ledger : Ledger) →
+      last_recording s (front t f ledger) ≡ None → last_recording s ledger ≡ None
 
-plain : (t : ℕ) (f : Fact) (ledger : Ledger) → IsPlain f → AreRecorded ledger → AreRecorded (front t f ledger)
+plain : (t : ℕ) (f : Fact) (ledger : Ledger) → IsPlain f → AreRecorded ledger →
+    AreRecorded (front t f ledger)
 plain t f ledger p h = record {
-  groups = λ s g e k. h.groups s g (p.record_before s t ledger e) (sym (ap (λ x. x || has_group s g ledger) (p.names s g)) ∙ k);
-  touches = λ s e. ap (λ o. or_else o (last_touch s ledger)) (p.touch s t) ∙ h.touches s (p.record_before s t ledger e);
+  groups = λ s g e k. h.groups s g (p.record_before s t ledger e)
+      (sym (ap (λ x. x || has_group s g ledger) (p.names s g)) ∙ k);
+  touches = λ s e. ap (λ o. or_else o (last_touch s ledger)) (p.touch s t)
+      ∙ h.touches s (p.record_before s t ledger e);
 }
 
 charge_plain : (n m : ℕ) → IsPlain (Charge n m)
-charge_plain n m = record { names = λ s g. refl; touch = λ s t. refl; record_before = λ s t ledger e. e }
+charge_plain n m = record {
+  names = λ s g. refl;
+  touch = λ s t. refl;
+  record_before = λ s t ledger e. e;
+}
 
 hold_plain : (s : List ℕ) (g n m : ℕ) → IsPlain (HoldFact s g n m)
-hold_plain s g n m = record { names = λ s g. refl; touch = λ s t. refl; record_before = λ s t ledger e. e }
+hold_plain s g n m = record {
+  names = λ s g. refl;
+  touch = λ s t. refl;
+  record_before = λ s t ledger e. e;
+}
 
 end_plain : (s : List ℕ) (g : ℕ) → IsPlain (End s g)
 end_plain s g = record { names = λ x y. refl; touch = λ x u. refl; record_before = λ x u l e. e }
 
-charges : (t : ℕ) (hs : List Hold) (ledger : Ledger) → AreRecorded ledger → AreRecorded (charge_facts t hs ++ ledger)
+charges : (t : ℕ) (hs : List Hold) (ledger : Ledger) → AreRecorded ledger →
+    AreRecorded (charge_facts t hs ++ ledger)
 charges t [] ledger h = h
-charges t (x ∷ xs) ledger h = plain t (Charge x.bucket x.amount) (charge_facts t xs ++ ledger) (charge_plain x.bucket x.amount) (charges t xs ledger h)
+charges t (x ∷ xs) ledger h =
+    plain t (Charge x.bucket x.amount) (charge_facts t xs ++ ledger)
+    (charge_plain x.bucket x.amount) (charges t xs ledger h)
 
-holds : (t : ℕ) (s : List ℕ) (g : ℕ) (hs : List Hold) (ledger : Ledger) → AreRecorded ledger → AreRecorded (hold_facts t s g hs ++ ledger)
+holds : (t : ℕ) (s : List ℕ) (g : ℕ) (hs : List Hold) (ledger : Ledger) → AreRecorded ledger →
+    AreRecorded (hold_facts t s g hs ++ ledger)
 holds t s g [] ledger h = h
-holds t s g (x ∷ xs) ledger h = plain t (HoldFact s g x.bucket x.amount) (hold_facts t s g xs ++ ledger) (hold_plain s g x.bucket x.amount) (holds t s g xs ledger h)
+holds t s g (x ∷ xs) ledger h =
+    plain t (HoldFact s g x.bucket x.amount) (hold_facts t s g xs ++ ledger)
+    (hold_plain s g x.bucket x.amount) (holds t s g xs ledger h)
 
-charges_record : (s : List ℕ) (t : ℕ) (hs : List Hold) (ledger : Ledger) → last_recording s (charge_facts t hs ++ ledger) ≡ last_recording s ledger
+charges_record : (s : List ℕ) (t : ℕ) (hs : List Hold) (ledger : Ledger) →
+    last_recording s (charge_facts t hs ++ ledger) ≡ last_recording s ledger
 charges_record s t [] ledger = refl
 charges_record s t (x ∷ xs) ledger = charges_record s t xs ledger
 
-quiet_kept : (t : ℕ) (f : Fact) (ledger : Ledger) → is_quiet f ≡ true → is_touch f ≡ false → AreRecorded ledger → AreRecorded (front t f ledger)
+quiet_kept : (t : ℕ) (f : Fact) (ledger : Ledger) → is_quiet f ≡ true → is_touch f ≡ false →
+    AreRecorded ledger → AreRecorded (front t f ledger)
 quiet_kept t (Touch s) ledger q n h = absurd (true≢false n)
-quiet_kept t (Close s) ledger q n h = plain t (Close s) ledger (record { names = λ x g. refl; touch = λ x u. refl; record_before = λ x u l e. e }) h
+quiet_kept t (Close s) ledger q n h =
+    plain t (Close s) ledger (record {
+      names = λ x g. refl;
+      touch = λ x u. refl;
+      record_before = λ x u l e. e;
+    }) h
 quiet_kept t (Recorded s n) ledger q e h =
-    plain t (Recorded s n) ledger (record { names = λ x g. refl; touch = λ x u. refl; record_before = λ x u l e. no_record (is_same s x) (record { number = n; at = u }) (last_recording x l) e }) h
-quiet_kept t (Barred x) ledger q n h = plain t (Barred x) ledger (record { names = λ x g. refl; touch = λ x u. refl; record_before = λ x u l e. e }) h
+    plain t (Recorded s n) ledger
+    (record {
+      names = λ x g. refl;
+      touch = λ x u. refl;
+      record_before = λ x u l e.
+          no_record (is_same s x) (record { number = n; at = u }) (last_recording x l) e;
+    }) h
+quiet_kept t (Barred x) ledger q n h =
+    plain t (Barred x) ledger
+    (record { names = λ x g. refl; touch = λ x u. refl; record_before = λ x u l e. e }) h
 quiet_kept t _ ledger q n h = cc
 
 -- ---- a fact of a recorded session's group
 
-named : (t : ℕ) (s : List ℕ) (f : Fact) (ledger : Ledger) → ((x : List ℕ) (g : ℕ) → names_group x g f ≡ true → s ≡ x) → ((x : List ℕ) → touch_in x (record { at = t; fact = f }) ≡ None) →
-    ((x : List ℕ) → last_recording x (front t f ledger) ≡ last_recording x ledger) → (last_recording s ledger ≡ None → ⊥) → AreRecorded ledger → AreRecorded (front t f ledger)
+named : (t : ℕ) (s : List ℕ) (f : Fact) (ledger : Ledger) →
+    ((x : List ℕ) (g : ℕ) → names_group x g f ≡ true → s ≡ x) →
+    ((x : List ℕ) → touch_in x (record { at = t; fact = f }) ≡ None) →
+    ((x : List ℕ) → last_recording x (front t f ledger) ≡ last_recording x ledger) →
+    (last_recording s ledger ≡ None → ⊥) → AreRecorded ledger → AreRecorded (front t f ledger)
 named t s f ledger own none same has h = record {
   groups = λ x g e k. at x g (names_group x g f) refl (sym (same x) ∙ e) k;
-  touches = λ x e. ap (λ o. or_else o (last_touch x ledger)) (none x) ∙ h.touches x (sym (same x) ∙ e);
+  touches = λ x e. ap (λ o. or_else o (last_touch x ledger)) (none x)
+      ∙ h.touches x (sym (same x) ∙ e);
 }
   where
-    at : (x : List ℕ) (g : ℕ) (n : Bool) → names_group x g f ≡ n → last_recording x ledger ≡ None → (n || has_group x g ledger) ≡ true → ⊥
+    at : (x : List ℕ) (g : ℕ) (n : Bool) → names_group x g f ≡ n → last_recording x ledger ≡ None →
+        (n || has_group x g ledger) ≡ true → ⊥
     at x g true p e k = has (ap (λ y. last_recording y ledger) (own x g p) ∙ e)
     at x g false p e k = h.groups x g e k
 
@@ -93,47 +133,77 @@ first : (a b : Bool) → (a && b) ≡ true → a ≡ true
 first true b e = refl
 first false b e = e
 
-touched_kept : (t : ℕ) (s : List ℕ) (n : ℕ) (ledger : Ledger) → AreRecorded ledger → AreRecorded (touched t s n ledger)
+touched_kept : (t : ℕ) (s : List ℕ) (n : ℕ) (ledger : Ledger) → AreRecorded ledger →
+    AreRecorded (touched t s n ledger)
 touched_kept t s n ledger h = record {
-  groups = λ x g e k. h.groups x g (no_record (is_same s x) (record { number = n; at = t }) (last_recording x ledger) e) k;
+  groups = λ x g e k. h.groups x g
+      (no_record (is_same s x) (record { number = n; at = t }) (last_recording x ledger) e) k;
   touches = λ x e. at x (is_same s x) e (h.touches x);
 }
   where
-    at : (x : List ℕ) (b : Bool) → or_else (if b then Some (record { number = n; at = t }) else None) (last_recording x ledger) ≡ None → (last_recording x ledger ≡ None → last_touch x ledger ≡ None) → or_else (if b then Some t else None) (last_touch x ledger) ≡ None
-    at x true e rest = absurd (no_some (let r : Recording = record { number = n; at = t } in r) (sym e))
+    at : (x : List ℕ) (b : Bool) →
+        or_else (if b then Some (record { number = n; at = t }) else None)
+        (last_recording x ledger) ≡ None →
+        (last_recording x ledger ≡ None → last_touch x ledger ≡ None) →
+        or_else (if b then Some t else None) (last_touch x ledger) ≡ None
+    at x true e rest = absurd
+        (no_some (let r : Recording = record { number = n; at = t } in r) (sym e))
     at x false e rest = rest e
 
 -- a session that was touched is recorded
-touched_recorded : (s : List ℕ) (ledger : Ledger) → is_touched s ledger ≡ true → AreRecorded ledger → last_recording s ledger ≡ None → ⊥
+touched_recorded : (s : List ℕ) (ledger : Ledger) → is_touched s ledger ≡ true →
+    AreRecorded ledger → last_recording s ledger ≡ None → ⊥
 touched_recorded s ledger touches h e = true≢false (sym touches ∙ ap is_some (h.touches s e))
 
-settled_kept : (b : Book) (t : ℕ) (s : List ℕ) (g : ℕ) (used_parts : List UsedPart) (ledger : Ledger) → is_touched s ledger ≡ true → AreRecorded ledger → AreRecorded (settled_by b t s g used_parts ledger)
+settled_kept : (b : Book) (t : ℕ) (s : List ℕ) (g : ℕ) (used_parts : List UsedPart)
+    (ledger : Ledger) → is_touched s ledger ≡ true → AreRecorded ledger →
+    AreRecorded (settled_by b t s g used_parts ledger)
 settled_kept b t s g [] ledger touches h = plain t (End s g) ledger (end_plain s g) h
 settled_kept b t s g (p ∷ ps) ledger touches h =
-    let hs : List Hold = parts (paid (holds_at b.validity t s g ledger) g t (report_price b t s g (p ∷ ps) ledger).amount.0 (buckets_at b.validity t ledger)) (buckets_at b.validity t ledger) in
+    let hs : List Hold = parts
+    (paid (holds_at b.validity t s g ledger) g t
+    (report_price b t s g (p ∷ ps) ledger).amount.0 (buckets_at b.validity t ledger))
+    (buckets_at b.validity t ledger) in
     plain t (End s g) _ (end_plain s g)
-    (named t s (Use s g _ _ _ _) _ (λ x y e. same_from s x (first (is_same s x) (g == y) e)) (λ x. refl) (λ x. refl)
-    (λ e. touched_recorded s ledger touches h (sym (charges_record s t hs ledger) ∙ e)) (charges t hs ledger h))
+    (named t s (Use s g _ _ _ _) _ (λ x y e. same_from s x (first (is_same s x) (g == y) e))
+    (λ x. refl) (λ x. refl)
+    (λ e. touched_recorded s ledger touches h (sym (charges_record s t hs ledger) ∙ e))
+    (charges t hs ledger h))
 
-granted_kept : (b : Book) (t : ℕ) (s : List ℕ) (g : ℕ) (asked : Option ℕ) (ledger : Ledger) → (last_recording s ledger ≡ None → ⊥) → AreRecorded ledger → AreRecorded (granted b t s g asked ledger)
+granted_kept : (b : Book) (t : ℕ) (s : List ℕ) (g : ℕ) (asked : Option ℕ) (ledger : Ledger) →
+    (last_recording s ledger ≡ None → ⊥) → AreRecorded ledger →
+    AreRecorded (granted b t s g asked ledger)
 granted_kept b t s g asked ledger has h =
-    holds t s g _ _ (named t s (Grant s g _ _ _) ledger (λ x y e. same_from s x (first (is_same s x) (g == y) e)) (λ x. refl) (λ x. refl) has h)
+    holds t s g _ _ (named t s (Grant s g _ _ _) ledger
+    (λ x y e. same_from s x (first (is_same s x) (g == y) e)) (λ x. refl) (λ x. refl) has h)
 
 -- ---- an event
 
 -- the ledger with a debit's charges
 abbrev with_charges : Book → ℕ → ℕ → ℕ → Ledger → Ledger
-with_charges b t g units ledger = charge_facts t (parts (paid [] g t (event_price b t g units ledger).amount.0 (buckets_at b.validity t ledger)) (buckets_at b.validity t ledger)) ++ ledger
+with_charges b t g units ledger =
+    charge_facts t
+    (parts (paid [] g t (event_price b t g units ledger).amount.0 (buckets_at b.validity t ledger))
+    (buckets_at b.validity t ledger)) ++ ledger
 
-event_kept : (b : Book) (t : ℕ) (s : List ℕ) (g units n : ℕ) (ledger : Ledger) → AreRecorded ledger → AreRecorded (recorded t s n (debited b t s g units ledger))
+event_kept : (b : Book) (t : ℕ) (s : List ℕ) (g units n : ℕ) (ledger : Ledger) →
+    AreRecorded ledger → AreRecorded (recorded t s n (debited b t s g units ledger))
 event_kept b t s g units n ledger h =
-    let k : AreRecorded (with_charges b t g units ledger) = charges t (parts (paid [] g t (event_price b t g units ledger).amount.0 (buckets_at b.validity t ledger)) (buckets_at b.validity t ledger)) ledger h in
+    let k : AreRecorded (with_charges b t g units ledger) =
+    charges t
+    (parts (paid [] g t (event_price b t g units ledger).amount.0
+    (buckets_at b.validity t ledger)) (buckets_at b.validity t ledger)) ledger h in
     record {
       groups = λ x y e q. at x y k (is_same s x) refl e q;
-      touches = λ x e. k.touches x (no_record (is_same s x) (record { number = n; at = t }) (last_recording x (with_charges b t g units ledger)) e);
+      touches = λ x e. k.touches x
+          (no_record (is_same s x) (record { number = n; at = t })
+          (last_recording x (with_charges b t g units ledger)) e);
     }
   where
-    at : (x : List ℕ) (y : ℕ) → AreRecorded (with_charges b t g units ledger) → (c : Bool) → is_same s x ≡ c → or_else (if c then Some (record { number = n; at = t }) else None) (last_recording x (with_charges b t g units ledger)) ≡ None → ((c && g == y) || has_group x y (with_charges b t g units ledger)) ≡ true → ⊥
+    at : (x : List ℕ) (y : ℕ) → AreRecorded (with_charges b t g units ledger) → (c : Bool) →
+        is_same s x ≡ c → or_else (if c then Some (record { number = n; at = t }) else None)
+        (last_recording x (with_charges b t g units ledger)) ≡ None →
+        ((c && g == y) || has_group x y (with_charges b t g units ledger)) ≡ true → ⊥
     at x y k true p e q = no_some (let r : Recording = record { number = n; at = t } in r) (sym e)
     at x y k false p e q = k.groups x y e q
 
@@ -143,8 +213,11 @@ keeps_recorded : (b : Book) → Keeps b (λ reports ledger. AreRecorded ledger)
 keeps_recorded b = record {
   quiet = λ t f reports ledger q n h. quiet_kept t f ledger q n h;
   touch = λ t s n reports ledger h. touched_kept t s n ledger h;
-  credit = λ t from until scope amount reports ledger h. plain t (Credit _ from until scope amount) ledger (record { names = λ x y. refl; touch = λ x u. refl; record_before = λ x u l e. e }) h;
-  settle = λ t s g used_parts reports ledger touches h. settled_kept b t s g used_parts ledger touches h;
+  credit = λ t from until scope amount reports ledger h.
+      plain t (Credit _ from until scope amount) ledger
+      (record { names = λ x y. refl; touch = λ x u. refl; record_before = λ x u l e. e }) h;
+  settle = λ t s g used_parts reports ledger touches h.
+      settled_kept b t s g used_parts ledger touches h;
   grant = λ t s g asked reports ledger has h. granted_kept b t s g asked ledger has h;
   event = λ t s g units n reports ledger new covered h. event_kept b t s g units n ledger h;
 }
@@ -152,11 +225,15 @@ keeps_recorded b = record {
 none_recorded : AreRecorded []
 none_recorded = record { groups = λ s g e k. true≢false (sym k); touches = λ s e. refl }
 
-pub recorded_history : (b : Book) (a : List ℕ) (list : List Accepted) → AreRecorded (history b a list).ledger
-recorded_history b a list = kept_history b (λ reports ledger. AreRecorded ledger) (keeps_recorded b) none_recorded a list
+pub recorded_history : (b : Book) (a : List ℕ) (list : List Accepted) →
+    AreRecorded (history b a list).ledger
+recorded_history b a list =
+    kept_history b (λ reports ledger. AreRecorded ledger) (keeps_recorded b) none_recorded a list
 
 -- a session without a record has no group
-pub new_has_no_groups : (b : Book) (a : List ℕ) (list : List Accepted) (s : List ℕ) → last_recording s (history b a list).ledger ≡ None → (g : ℕ) → has_group s g (history b a list).ledger ≡ false
+pub new_has_no_groups : (b : Book) (a : List ℕ) (list : List Accepted) (s : List ℕ) →
+    last_recording s (history b a list).ledger ≡ None → (g : ℕ) →
+    has_group s g (history b a list).ledger ≡ false
 new_has_no_groups b a list s e g = at (has_group s g (history b a list).ledger) refl
   where
     at : (v : Bool) → has_group s g (history b a list).ledger ≡ v → v ≡ false

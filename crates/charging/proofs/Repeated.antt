@@ -1,4 +1,5 @@
--- What an account keeps of an accepted command stays kept whatever commands come, so a repeat is answered by it.
+-- What an account keeps of an accepted command stays kept whatever commands come, so a repeat is
+-- answered by it.
 use Rattle.std.proofs.Common.{◌≡◌, ℕ, List, [], ◌∷◌, Option, Some, None, Bool, true, false, true≢false, not, refl, sym, ap, subst, ◌∙◌}
 use Rattle.std.proofs.lemmas.Option.{none-some}
 use Rattle.std.specs.Prelude.{if◌then◌else◌}
@@ -42,85 +43,124 @@ no : {X : Type 0} → false ≡ true → X
 no e = absurd (true≢false (sym e))
 
 -- the newest is found first
-found_newest : (kept : KeptAnswer) (older : List KeptAnswer) → find (is_kept_under (key_of kept.content)) (kept ∷ older) ≡ Some kept
-found_newest kept older = ap (λ t. if t then Some kept else find (is_kept_under (key_of kept.content)) older) ((key_decides (key_of kept.content) (key_of kept.content)).1 refl)
+found_newest : (kept : KeptAnswer) (older : List KeptAnswer) →
+    find (is_kept_under (key_of kept.content)) (kept ∷ older) ≡ Some kept
+found_newest kept older =
+    ap (λ t. if t then Some kept else find (is_kept_under (key_of kept.content)) older)
+    ((key_decides (key_of kept.content) (key_of kept.content)).1 refl)
 
 -- one under whose key nothing was kept hides none
-found_older : (kept new : KeptAnswer) (older : List KeptAnswer) → find (is_kept_under (key_of new.content)) older ≡ None → find (is_kept_under (key_of kept.content)) older ≡ Some kept →
+found_older : (kept new : KeptAnswer) (older : List KeptAnswer) →
+    find (is_kept_under (key_of new.content)) older ≡ None →
+    find (is_kept_under (key_of kept.content)) older ≡ Some kept →
     find (is_kept_under (key_of kept.content)) (new ∷ older) ≡ Some kept
 found_older kept new older free found = at (is_kept_under (key_of kept.content) new) refl
   where
-    at : (t : Bool) → is_kept_under (key_of kept.content) new ≡ t → (if t then Some new else find (is_kept_under (key_of kept.content)) older) ≡ Some kept
+    at : (t : Bool) → is_kept_under (key_of kept.content) new ≡ t →
+        (if t then Some new else find (is_kept_under (key_of kept.content)) older) ≡ Some kept
     at false e = found
     at true e =
-        let same : key_of new.content ≡ key_of kept.content = (key_decides (key_of new.content) (key_of kept.content)).0 e in
+        let same : key_of new.content ≡ key_of kept.content =
+        (key_decides (key_of new.content) (key_of kept.content)).0 e in
         absurd (none-some kept (sym free ∙ ap (λ k. find (is_kept_under k) older) same ∙ found))
 
 -- ---- outcomes
 
-if_both : (P : Outcome → Type 0) (test : Bool) (x y : Outcome) → P x → P y → P (if test then x else y)
+if_both : (P : Outcome → Type 0) (test : Bool) (x y : Outcome) → P x → P y →
+    P (if test then x else y)
 if_both P true x y p q = p
 if_both P false x y p q = q
 
-unless_both : (P : Outcome → Type 0) (found : Option KeptAnswer) (new : Content) (conflict : Answer) (h : History) (fresh : Outcome) →
-    ((given : Answer) → P (told given h)) → (found ≡ None → P fresh) → P (unless_kept found new conflict h fresh)
+unless_both : (P : Outcome → Type 0) (found : Option KeptAnswer) (new : Content) (conflict : Answer)
+    (h : History) (fresh : Outcome) →
+    ((given : Answer) → P (told given h)) → (found ≡ None → P fresh) →
+    P (unless_kept found new conflict h fresh)
 unless_both P None new conflict h fresh p q = q refl
 unless_both P (Some kept) new conflict h fresh p q = p (repeated kept new conflict)
 
 -- a property of what a request comes to on the history of an account that is there
-of_request : (P : Outcome → Type 0) (b : Book) (r : Request) (t : ℕ) (h : History) → ((given : Answer) → P (told given h)) →
-    ((given : Answer) (ledger : Ledger) → kept_under (key_of (content.Request r)) h ≡ None → P (keeping (content.Request r) given ledger h)) → P (request_outcome b r t h)
+of_request : (P : Outcome → Type 0) (b : Book) (r : Request) (t : ℕ) (h : History) →
+    ((given : Answer) → P (told given h)) →
+    ((given : Answer) (ledger : Ledger) → kept_under (key_of (content.Request r)) h ≡ None →
+    P (keeping (content.Request r) given ledger h)) → P (request_outcome b r t h)
 of_request P b r t h same kept =
     let d : Decision = decision b t r h.ledger in
     let given : Answer = answer.Request (answer_of r d.outcome) in
     let conflict : Answer = failed r (InvalidAvpValue RequestNumber) in
     let found : Option KeptAnswer = kept_under (key_of (content.Request r)) h in
-    if_both P (is_read r.ask) (told given h) (unless_kept found (content.Request r) conflict h (decided_by r d h)) (same given)
+    if_both P (is_read r.ask) (told given h)
+    (unless_kept found (content.Request r) conflict h (decided_by r d h)) (same given)
     (unless_both P found (content.Request r) conflict h (decided_by r d h) same (λ free.
-    if_both P d.accepted (keeping (content.Request r) given d.after h) (told given h) (kept given d.after free) (same given)))
+    if_both P d.accepted (keeping (content.Request r) given d.after h) (told given h)
+    (kept given d.after free) (same given)))
 
 -- of what a credit comes to
-of_credit : (P : Outcome → Type 0) (c : Credit) (t : ℕ) (h : History) → ((given : Answer) → P (told given h)) →
-    ((given : Answer) (ledger : Ledger) → kept_under (key_of (content.Credit c)) h ≡ None → P (keeping (content.Credit c) given ledger h)) → P (credit_outcome c t h)
+of_credit : (P : Outcome → Type 0) (c : Credit) (t : ℕ) (h : History) →
+    ((given : Answer) → P (told given h)) →
+    ((given : Answer) (ledger : Ledger) → kept_under (key_of (content.Credit c)) h ≡ None →
+    P (keeping (content.Credit c) given ledger h)) → P (credit_outcome c t h)
 of_credit P c t h same kept =
     let given : Answer = answer.Bucket (next_bucket h.ledger) in
     let ledger : Ledger = credited t (from_of c t) (until_of c) c.scope c.amount h.ledger in
-    unless_both P (kept_under (key_of (content.Credit c)) h) (content.Credit c) (answer.Refused ContentDiffers) h (new_credit c t h) same (λ free.
-    if_both P (is_out_of_range c t h.ledger) (told (answer.Refused OutOfRange) h) (keeping (content.Credit c) given ledger h) (same (answer.Refused OutOfRange)) (kept given ledger free))
+    unless_both P (kept_under (key_of (content.Credit c)) h) (content.Credit c)
+    (answer.Refused ContentDiffers) h (new_credit c t h) same (λ free.
+    if_both P (is_out_of_range c t h.ledger) (told (answer.Refused OutOfRange) h)
+    (keeping (content.Credit c) given ledger h) (same (answer.Refused OutOfRange))
+    (kept given ledger free))
 
 -- ---- the commands between
 
 -- an answer stays kept where another command is kept whose key was free
-keeps_kept : (kept new : KeptAnswer) (h : History) (ledger : Ledger) → Keeps kept h → kept_under (key_of new.content) h ≡ None → Keeps kept (record { opened = h.opened; ledger = ledger; kept = new ∷ h.kept })
-keeps_kept kept new h ledger keeps free = record { there = keeps.there; found = found_older kept new h.kept free keeps.found }
+keeps_kept : (kept new : KeptAnswer) (h : History) (ledger : Ledger) → Keeps kept h →
+    kept_under (key_of new.content) h ≡ None →
+    Keeps kept (record { opened = h.opened; ledger = ledger; kept = new ∷ h.kept })
+keeps_kept kept new h ledger keeps free =
+    record { there = keeps.there; found = found_older kept new h.kept free keeps.found }
 
-keeps_opened : (b : Book) (kept : KeptAnswer) (h : History) (c : Command) (t : ℕ) → Keeps kept h → Keeps kept (opened_outcome b h c t).after
+keeps_opened : (b : Book) (kept : KeptAnswer) (h : History) (c : Command) (t : ℕ) → Keeps kept h →
+    Keeps kept (opened_outcome b h c t).after
 keeps_opened b kept h (command.Ccr r) t keeps =
-    of_request (λ o. Keeps kept o.after) b r t h (λ given. keeps) (λ given ledger free. keeps_kept kept (record { content = content.Request r; answer = given }) h ledger keeps free)
+    of_request (λ o. Keeps kept o.after) b r t h (λ given. keeps)
+    (λ given ledger free. keeps_kept kept
+    (record { content = content.Request r; answer = given }) h ledger keeps free)
 keeps_opened b kept h (command.OpenAccount n) t keeps = keeps
 keeps_opened b kept h (command.Credit c) t keeps =
-    of_credit (λ o. Keeps kept o.after) c t h (λ given. keeps) (λ given ledger free. keeps_kept kept (record { content = content.Credit c; answer = given }) h ledger keeps free)
+    of_credit (λ o. Keeps kept o.after) c t h (λ given. keeps)
+    (λ given ledger free. keeps_kept kept
+    (record { content = content.Credit c; answer = given }) h ledger keeps free)
 keeps_opened b kept h (command.Bar n) t keeps = record { there = keeps.there; found = keeps.found }
-keeps_opened b kept h (command.Unbar n) t keeps = record { there = keeps.there; found = keeps.found }
+keeps_opened b kept h (command.Unbar n) t keeps =
+    record { there = keeps.there; found = keeps.found }
 keeps_opened b kept h command.Sweep t keeps = keeps
 
-keeps_after : (b : Book) (kept : KeptAnswer) (h : History) (c : Command) (t : ℕ) → Keeps kept h → Keeps kept (outcome b h c t).after
-keeps_after b kept h c t keeps = subst (λ o. Keeps kept (if o then opened_outcome b h c t else unopened_outcome h c).after) (sym keeps.there) (keeps_opened b kept h c t keeps)
+keeps_after : (b : Book) (kept : KeptAnswer) (h : History) (c : Command) (t : ℕ) → Keeps kept h →
+    Keeps kept (outcome b h c t).after
+keeps_after b kept h c t keeps =
+    subst (λ o. Keeps kept (if o then opened_outcome b h c t else unopened_outcome h c).after)
+    (sym keeps.there) (keeps_opened b kept h c t keeps)
 
 -- an accepted command, of the account or of others
-keeps_accepted : (b : Book) (kept : KeptAnswer) (a : List ℕ) (list : List Accepted) (d : Accepted) (taken : Bool) → Keeps kept (history b a list) → Keeps kept (history b a (if taken then d ∷ list else list))
+keeps_accepted : (b : Book) (kept : KeptAnswer) (a : List ℕ) (list : List Accepted) (d : Accepted)
+    (taken : Bool) → Keeps kept (history b a list) →
+    Keeps kept (history b a (if taken then d ∷ list else list))
 keeps_accepted b kept a list d false keeps = keeps
 keeps_accepted b kept a list d true keeps = at (names a (concerned_by d.command))
   where
-    at : (named : Bool) → Keeps kept (if named then (outcome b (history b a list) d.command d.moment).after else history b a list)
+    at : (named : Bool) → Keeps kept
+        (if named then (outcome b (history b a list) d.command d.moment).after
+        else history b a list)
     at true = keeps_after b kept (history b a list) d.command d.moment keeps
     at false = keeps
 
-keeps_through : (b : Book) (kept : KeptAnswer) (a : List ℕ) (list : List Accepted) (ds : List DatedCommand) → Keeps kept (history b a list) → Keeps kept (history b a (after_commands b list ds))
+keeps_through : (b : Book) (kept : KeptAnswer) (a : List ℕ) (list : List Accepted)
+    (ds : List DatedCommand) → Keeps kept (history b a list) →
+    Keeps kept (history b a (after_commands b list ds))
 keeps_through b kept a list [] keeps = keeps
 keeps_through b kept a list (d ∷ ds) keeps =
     let t : ℕ = moment_of list d.moment in
-    keeps_through b kept a (after_command b list d) ds (keeps_accepted b kept a list (record { moment = t; command = d.command }) (accepts b list d.command t) keeps)
+    keeps_through b kept a (after_command b list d) ds
+    (keeps_accepted b kept a list (record { moment = t; command = d.command })
+    (accepts b list d.command t) keeps)
 
 -- ---- the first time
 
@@ -128,21 +168,31 @@ keeps_through b kept a list (d ∷ ds) keeps =
 abbrev IsKeptFirst : Content → Outcome → Type 0
 IsKeptFirst new o = o.accepted ≡ true → Keeps (record { content = new; answer = o.answer }) o.after
 
-first_kept : (new : Content) (given : Answer) (ledger : Ledger) (h : History) → h.opened ≡ true → IsKeptFirst new (keeping new given ledger h)
-first_kept new given ledger h there taken = record { there = there; found = found_newest (record { content = new; answer = given }) h.kept }
+first_kept : (new : Content) (given : Answer) (ledger : Ledger) (h : History) → h.opened ≡ true →
+    IsKeptFirst new (keeping new given ledger h)
+first_kept new given ledger h there taken =
+    record { there = there; found = found_newest (record { content = new; answer = given }) h.kept }
 
-first_request : (b : Book) (r : Request) (t : ℕ) (h : History) → IsKeptFirst (content.Request r) (outcome b h (command.Ccr r) t)
+first_request : (b : Book) (r : Request) (t : ℕ) (h : History) →
+    IsKeptFirst (content.Request r) (outcome b h (command.Ccr r) t)
 first_request b r t h = at h.opened refl
   where
-    at : (there : Bool) → h.opened ≡ there → IsKeptFirst (content.Request r) (if there then request_outcome b r t h else told (failed r UserUnknown) h)
-    at true there = of_request (IsKeptFirst (content.Request r)) b r t h (λ given. no) (λ given ledger free. first_kept (content.Request r) given ledger h there)
+    at : (there : Bool) → h.opened ≡ there →
+        IsKeptFirst (content.Request r)
+        (if there then request_outcome b r t h else told (failed r UserUnknown) h)
+    at true there = of_request (IsKeptFirst (content.Request r)) b r t h (λ given. no)
+        (λ given ledger free. first_kept (content.Request r) given ledger h there)
     at false there = no
 
-first_credit : (b : Book) (c : Credit) (t : ℕ) (h : History) → IsKeptFirst (content.Credit c) (outcome b h (command.Credit c) t)
+first_credit : (b : Book) (c : Credit) (t : ℕ) (h : History) →
+    IsKeptFirst (content.Credit c) (outcome b h (command.Credit c) t)
 first_credit b c t h = at h.opened refl
   where
-    at : (there : Bool) → h.opened ≡ there → IsKeptFirst (content.Credit c) (if there then credit_outcome c t h else unopened_outcome h (command.Credit c))
-    at true there = of_credit (IsKeptFirst (content.Credit c)) c t h (λ given. no) (λ given ledger free. first_kept (content.Credit c) given ledger h there)
+    at : (there : Bool) → h.opened ≡ there →
+        IsKeptFirst (content.Credit c)
+        (if there then credit_outcome c t h else unopened_outcome h (command.Credit c))
+    at true there = of_credit (IsKeptFirst (content.Credit c)) c t h (λ given. no)
+        (λ given ledger free. first_kept (content.Credit c) given ledger h there)
     at false there = no
 
 -- ---- the repeat
@@ -152,51 +202,73 @@ unread true x y e = no e
 unread false x y e = refl
 
 -- on a history that keeps it, a command is told its first answer
-repeat_request : (b : Book) (r : Request) (given : Answer) (t : ℕ) (h : History) → not (is_read r.ask) ≡ true → Keeps (record { content = content.Request r; answer = given }) h →
+repeat_request : (b : Book) (r : Request) (given : Answer) (t : ℕ) (h : History) →
+    not (is_read r.ask) ≡ true → Keeps (record { content = content.Request r; answer = given }) h →
     outcome b h (command.Ccr r) t ≡ told given h
 repeat_request b r given t h key keeps =
     let d : Decision = decision b t r h.ledger in
     let conflict : Answer = failed r (InvalidAvpValue RequestNumber) in
     ap (λ o. if o then request_outcome b r t h else told (failed r UserUnknown) h) keeps.there
-    ∙ unread (is_read r.ask) (told (answer.Request (answer_of r d.outcome)) h) (unless_kept (kept_under (key_of (content.Request r)) h) (content.Request r) conflict h (decided_by r d h)) key
+    ∙ unread (is_read r.ask) (told (answer.Request (answer_of r d.outcome)) h)
+    (unless_kept (kept_under (key_of (content.Request r)) h) (content.Request r) conflict h
+    (decided_by r d h)) key
     ∙ ap (λ found. unless_kept found (content.Request r) conflict h (decided_by r d h)) keeps.found
     ∙ ap (λ same. told (if same then given else conflict) h) ((request_exact r r).1 refl)
 
-repeat_credit : (b : Book) (c : Credit) (given : Answer) (t : ℕ) (h : History) → Keeps (record { content = content.Credit c; answer = given }) h → outcome b h (command.Credit c) t ≡ told given h
+repeat_credit : (b : Book) (c : Credit) (given : Answer) (t : ℕ) (h : History) →
+    Keeps (record { content = content.Credit c; answer = given }) h →
+    outcome b h (command.Credit c) t ≡ told given h
 repeat_credit b c given t h keeps =
     ap (λ o. if o then credit_outcome c t h else unopened_outcome h (command.Credit c)) keeps.there
-    ∙ ap (λ found. unless_kept found (content.Credit c) (answer.Refused ContentDiffers) h (new_credit c t h)) keeps.found
-    ∙ ap (λ same. told (if same then given else answer.Refused ContentDiffers) h) ((credit_exact c c).1 refl)
+    ∙ ap (λ found. unless_kept found (content.Credit c) (answer.Refused ContentDiffers) h
+    (new_credit c t h)) keeps.found
+    ∙ ap (λ same. told (if same then given else answer.Refused ContentDiffers) h)
+    ((credit_exact c c).1 refl)
 
 -- ---- once
 
 -- the history of an account after a command that names it
-own_after : (b : Book) (a : List ℕ) (list : List Accepted) (d : Accepted) → concerned_by d.command ≡ one a → history b a (d ∷ list) ≡ (outcome b (history b a list) d.command d.moment).after
+own_after : (b : Book) (a : List ℕ) (list : List Accepted) (d : Accepted) →
+    concerned_by d.command ≡ one a →
+    history b a (d ∷ list) ≡ (outcome b (history b a list) d.command d.moment).after
 own_after b a list d named =
-    ap (λ who. if names a who then (outcome b (history b a list) d.command d.moment).after else history b a list) named
-    ∙ ap (λ own. if own then (outcome b (history b a list) d.command d.moment).after else history b a list) ((bytes_decides a a).1 refl)
+    ap (λ who. if names a who then (outcome b (history b a list) d.command d.moment).after
+    else history b a list) named
+    ∙ ap (λ own. if own then (outcome b (history b a list) d.command d.moment).after
+    else history b a list) ((bytes_decides a a).1 refl)
 
 -- so the history after the commands between keeps the command that was accepted
-kept_between : (b : Book) (kept : KeptAnswer) (a : List ℕ) (list : List Accepted) (c : Command) (t : ℕ) (between : List DatedCommand) → concerned_by c ≡ one a → Keeps kept (outcome b (history b a list) c t).after →
+kept_between : (b : Book) (kept : KeptAnswer) (a : List ℕ) (list : List Accepted) (c : Command)
+    (t : ℕ) (between : List DatedCommand) → concerned_by c ≡ one a →
+    Keeps kept (outcome b (history b a list) c t).after →
     Keeps kept (history b a (after_commands b (record { moment = t; command = c } ∷ list) between))
 kept_between b kept a list c t between named keeps =
     let first : Accepted = record { moment = t; command = c } in
-    keeps_through b kept a (first ∷ list) between (subst (Keeps kept) (sym (own_after b a list first named)) keeps)
+    keeps_through b kept a (first ∷ list) between
+    (subst (Keeps kept) (sym (own_after b a list first named)) keeps)
 
 pub answers-once : AnswersOnce
 answers-once b list (command.Ccr r) t between u key taken =
     let given : Answer = answer_to b list (command.Ccr r) t in
     let kept : KeptAnswer = record { content = content.Request r; answer = given } in
-    let after : List Accepted = after_commands b (record { moment = t; command = command.Ccr r } ∷ list) between in
-    let told_again : outcome b (history b r.account after) (command.Ccr r) u ≡ told given (history b r.account after) =
-    repeat_request b r given u (history b r.account after) key (kept_between b kept r.account list (command.Ccr r) t between refl (first_request b r t (history b r.account list) taken)) in
+    let after : List Accepted =
+    after_commands b (record { moment = t; command = command.Ccr r } ∷ list) between in
+    let told_again : outcome b (history b r.account after) (command.Ccr r) u ≡
+    told given (history b r.account after) =
+    repeat_request b r given u (history b r.account after) key
+    (kept_between b kept r.account list (command.Ccr r) t between refl
+    (first_request b r t (history b r.account list) taken)) in
     record { answer = λ i. (told_again i).answer; accepted = λ i. (told_again i).accepted }
 answers-once b list (command.Credit c) t between u key taken =
     let given : Answer = answer_to b list (command.Credit c) t in
     let kept : KeptAnswer = record { content = content.Credit c; answer = given } in
-    let after : List Accepted = after_commands b (record { moment = t; command = command.Credit c } ∷ list) between in
-    let told_again : outcome b (history b c.account after) (command.Credit c) u ≡ told given (history b c.account after) =
-    repeat_credit b c given u (history b c.account after) (kept_between b kept c.account list (command.Credit c) t between refl (first_credit b c t (history b c.account list) taken)) in
+    let after : List Accepted =
+    after_commands b (record { moment = t; command = command.Credit c } ∷ list) between in
+    let told_again : outcome b (history b c.account after) (command.Credit c) u ≡
+    told given (history b c.account after) =
+    repeat_credit b c given u (history b c.account after)
+    (kept_between b kept c.account list (command.Credit c) t between refl
+    (first_credit b c t (history b c.account list) taken)) in
     record { answer = λ i. (told_again i).answer; accepted = λ i. (told_again i).accepted }
 answers-once b list (command.OpenAccount n) t between u key taken = no key
 answers-once b list (command.Bar n) t between u key taken = no key

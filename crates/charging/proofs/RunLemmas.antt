@@ -14,52 +14,73 @@ use Rattle.charging.specs.Runs.{after_command, answers_to, after_commands, IsRun
 
 -- ---- one command more
 
-pub time-more : (b : Book) (list : List Accepted) (d : DatedCommand) → IsInTime list → IsInTime (after_command b list d)
+pub time-more : (b : Book) (list : List Accepted) (d : DatedCommand) → IsInTime list →
+    IsInTime (after_command b list d)
 time-more b list d time = at (accepts b list d.command (moment_of list d.moment))
   where
-    at : (v : Bool) → IsInTime (if v then record { moment = moment_of list d.moment; command = d.command } ∷ list else list)
+    at : (v : Bool) → IsInTime
+        (if v then record { moment = moment_of list d.moment; command = d.command } ∷ list
+        else list)
     at true = (le-max_right d.moment (last_moment list), time)
     at false = time
 
 answers-more : (b : Book) (list : List Accepted) (ds : List DatedCommand) (d : DatedCommand) →
-    answers_to b list (ds ++ d ∷ []) ≡ answers_to b list ds ++ answer_to b (after_commands b list ds) d.command (moment_of (after_commands b list ds) d.moment) ∷ []
+    answers_to b list (ds ++ d ∷ []) ≡
+    answers_to b list ds ++ answer_to b (after_commands b list ds) d.command
+    (moment_of (after_commands b list ds) d.moment) ∷ []
 answers-more b list [] d = refl
-answers-more b list (e ∷ ds) d = ap (λ (given : List Answer). answer_to b list e.command (moment_of list e.moment) ∷ given) (answers-more b (after_command b list e) ds d)
+answers-more b list (e ∷ ds) d =
+    ap (λ (given : List Answer). answer_to b list e.command (moment_of list e.moment) ∷ given)
+    (answers-more b (after_command b list e) ds d)
 
-commands-more : (b : Book) (list : List Accepted) (ds : List DatedCommand) (d : DatedCommand) → after_commands b list (ds ++ d ∷ []) ≡ after_command b (after_commands b list ds) d
+commands-more : (b : Book) (list : List Accepted) (ds : List DatedCommand) (d : DatedCommand) →
+    after_commands b list (ds ++ d ∷ []) ≡ after_command b (after_commands b list ds) d
 commands-more b list [] d = refl
 commands-more b list (e ∷ ds) d = commands-more b (after_command b list e) ds d
 
 -- ---- so far
 
 -- the answers are those of these commands, and the tables those of the list after them
-pub record IsSoFar (b : Book) (list : List Accepted) (ds : List DatedCommand) (new : Tables) (given : List Answer) : Type 0 where
+pub record IsSoFar (b : Book) (list : List Accepted) (ds : List DatedCommand) (new : Tables)
+    (given : List Answer) : Type 0 where
   pub answers : given ≡ answers_to b list ds
   pub tables : AreTables b (after_commands b list ds) new
   pub time : IsInTime (after_commands b list ds)
 
 abbrev pub RunsSoFar : Book → List DatedCommand → Tables → Tables → List Answer → Type 0
-RunsSoFar b ds old new given = (list : List Accepted) → IsInTime list → AreTables b list old → IsSoFar b list ds new given
+RunsSoFar b ds old new given = (list : List Accepted) → IsInTime list → AreTables b list old →
+    IsSoFar b list ds new given
 
-pub so-far-more : (b : Book) (list : List Accepted) (ds : List DatedCommand) (d : DatedCommand) (mid new : Tables) (given all : List Answer) (x : Answer) → IsSoFar b list ds mid given →
-    IsServed b (after_commands b list ds) d.command (moment_of (after_commands b list ds) d.moment) mid new x → all ≡ given ++ x ∷ [] → IsSoFar b list (ds ++ d ∷ []) new all
+pub so-far-more : (b : Book) (list : List Accepted) (ds : List DatedCommand) (d : DatedCommand)
+    (mid new : Tables) (given all : List Answer) (x : Answer) → IsSoFar b list ds mid given →
+    IsServed b (after_commands b list ds) d.command (moment_of (after_commands b list ds) d.moment)
+    mid new x → all ≡ given ++ x ∷ [] → IsSoFar b list (ds ++ d ∷ []) new all
 so-far-more b list ds d mid new given all x so served grown = record {
   answers = grown ∙ (λ i. so.answers i ++ served.answer i ∷ []) ∙ sym (answers-more b list ds d);
-  tables = subst (λ (l : List Accepted). AreTables b l new) (sym (commands-more b list ds d)) served.tables;
-  time = subst IsInTime (sym (commands-more b list ds d)) (time-more b (after_commands b list ds) d so.time);
+  tables = subst (λ (l : List Accepted). AreTables b l new)
+      (sym (commands-more b list ds d)) served.tables;
+  time = subst IsInTime (sym (commands-more b list ds d))
+      (time-more b (after_commands b list ds) d so.time);
 }
 
 -- the commands that were answered are a beginning of all
-pub run-of : (b : Book) (list : List Accepted) (commands ds rest : List DatedCommand) (new : Tables) (given : List Answer) → ds ++ rest ≡ commands → length given ≡ length ds → IsSoFar b list ds new given → IsRun b list commands new given
+pub run-of : (b : Book) (list : List Accepted) (commands ds rest : List DatedCommand) (new : Tables)
+    (given : List Answer) → ds ++ rest ≡ commands → length given ≡ length ds →
+    IsSoFar b list ds new given → IsRun b list commands new given
 run-of b list commands ds rest new given all count so =
-    let begun : take (length given) commands ≡ ds = (λ i. take (count i) (sym all i)) ∙ take-append_seam ds rest in
+    let begun : take (length given) commands ≡ ds = (λ i. take (count i) (sym all i))
+    ∙ take-append_seam ds rest in
     record {
       answers = so.answers ∙ ap (answers_to b list) (sym begun);
-      tables = subst (λ (x : List DatedCommand). AreTables b (after_commands b list x) new) (sym begun) so.tables;
-      time = subst (λ (x : List DatedCommand). IsInTime (after_commands b list x)) (sym begun) so.time;
+      tables = subst (λ (x : List DatedCommand). AreTables b (after_commands b list x) new)
+          (sym begun) so.tables;
+      time = subst (λ (x : List DatedCommand). IsInTime (after_commands b list x))
+          (sym begun) so.time;
     }
 
-pub begun-length : (commands ds rest : List DatedCommand) (given : List Answer) → ds ++ rest ≡ commands → length given ≡ length ds → length given ≤ length commands
+pub begun-length : (commands ds rest : List DatedCommand) (given : List Answer) →
+    ds ++ rest ≡ commands → length given ≡ length ds → length given ≤ length commands
 begun-length commands ds rest given all count =
-    let long : length ds + length rest ≡ length commands = sym (length-append ds rest) ∙ ap length all in
+    let long : length ds + length rest ≡ length commands = sym (length-append ds rest)
+    ∙ ap length all in
     omega (arith, long, count)

@@ -38,18 +38,26 @@ abbrev pub keeps : Option KeptAnswer → List KeptAnswer → List KeptAnswer
 keeps None before = before
 keeps (Some kept) before = kept ∷ before
 
-keeps-under : (kept : Option KeptAnswer) (k : Key) (before after : History) → after.kept ≡ keeps kept before.kept → kept_under k after ≡ kept_after kept k (kept_under k before)
-keeps-under None k before after e = ap (λ (xs : List KeptAnswer). kept_under k (record { opened = after.opened; ledger = after.ledger; kept = xs })) e
-keeps-under (Some kept) k before after e = ap (λ (xs : List KeptAnswer). kept_under k (record { opened = after.opened; ledger = after.ledger; kept = xs })) e
+keeps-under : (kept : Option KeptAnswer) (k : Key) (before after : History) →
+    after.kept ≡ keeps kept before.kept →
+    kept_under k after ≡ kept_after kept k (kept_under k before)
+keeps-under None k before after e =
+    ap (λ (xs : List KeptAnswer). kept_under k
+    (record { opened = after.opened; ledger = after.ledger; kept = xs })) e
+keeps-under (Some kept) k before after e =
+    ap (λ (xs : List KeptAnswer). kept_under k
+    (record { opened = after.opened; ledger = after.ledger; kept = xs })) e
 
-pub keeps-some : {o : Option KeptAnswer} {kept : KeptAnswer} → Some kept ≡ o → (xs : List KeptAnswer) → kept ∷ xs ≡ keeps o xs
+pub keeps-some : {o : Option KeptAnswer} {kept : KeptAnswer} → Some kept ≡ o →
+    (xs : List KeptAnswer) → kept ∷ xs ≡ keeps o xs
 keeps-some e xs = ap (λ o. keeps o xs) e
 
 pub keeps-none : {o : Option KeptAnswer} → o ≡ None → (xs : List KeptAnswer) → xs ≡ keeps o xs
 keeps-none e xs = sym (ap (λ o. keeps o xs) e)
 
 -- the list stays in time
-pub in-time : (b : Book) (list : List Accepted) (c : Command) (t : ℕ) → IsInTime list → last_moment list ≤ t → IsInTime (with_command b list c t)
+pub in-time : (b : Book) (list : List Accepted) (c : Command) (t : ℕ) → IsInTime list →
+    last_moment list ≤ t → IsInTime (with_command b list c t)
 in-time b list c t time le = at (accepts b list c t)
   where
     at : (v : Bool) → IsInTime (if v then record { moment = t; command = c } ∷ list else list)
@@ -59,14 +67,23 @@ in-time b list c t time le = at (accepts b list c t)
 -- ---- what a keeper loaded
 
 -- what a call found is so of the tables before the calls before it
-pub none_loaded : (b : Book) (t : ℕ) (a : List ℕ) (mid old : Tables) (o : Option Loaded) → mid ≡ old → IsLoad b t a (mid.rows a) o → o ≡ None → (old.rows a).head ≡ None
-none_loaded b t a mid old o same found none = subst (λ (x : Tables). (x.rows a).head ≡ None) same (subst (λ (q : Option Loaded). IsLoad b t a (mid.rows a) q) none found)
+pub none_loaded : (b : Book) (t : ℕ) (a : List ℕ) (mid old : Tables) (o : Option Loaded) →
+    mid ≡ old → IsLoad b t a (mid.rows a) o → o ≡ None → (old.rows a).head ≡ None
+none_loaded b t a mid old o same found none =
+    subst (λ (x : Tables). (x.rows a).head ≡ None) same
+    (subst (λ (q : Option Loaded). IsLoad b t a (mid.rows a) q) none found)
 
-pub some_loaded : (b : Book) (t : ℕ) (a : List ℕ) (mid old : Tables) (o : Option Loaded) (l : Loaded) → mid ≡ old → IsLoad b t a (mid.rows a) o → o ≡ Some l → IsLoad b t a (old.rows a) (Some l)
-some_loaded b t a mid old o l same found there = subst (λ (x : Tables). IsLoad b t a (x.rows a) (Some l)) same (subst (λ (q : Option Loaded). IsLoad b t a (mid.rows a) q) there found)
+pub some_loaded : (b : Book) (t : ℕ) (a : List ℕ) (mid old : Tables) (o : Option Loaded)
+    (l : Loaded) → mid ≡ old → IsLoad b t a (mid.rows a) o → o ≡ Some l →
+    IsLoad b t a (old.rows a) (Some l)
+some_loaded b t a mid old o l same found there =
+    subst (λ (x : Tables). IsLoad b t a (x.rows a) (Some l)) same
+    (subst (λ (q : Option Loaded). IsLoad b t a (mid.rows a) q) there found)
 
--- an account that was loaded is there: the rows of its history are those that were loaded with those that were left
-pub record IsOpened (b : Book) (list : List Accepted) (t : ℕ) (a : List ℕ) (old : Tables) (x : AccountRows) : Type 0 where
+-- an account that was loaded is there: the rows of its history are those that were loaded with
+-- those that were left
+pub record IsOpened (b : Book) (list : List Accepted) (t : ℕ) (a : List ℕ) (old : Tables)
+    (x : AccountRows) : Type 0 where
   pub opened : (history b a list).opened ≡ true
   pub of_book : x.book ≡ b
   pub head : is_some (old.rows a).head ≡ true
@@ -75,12 +92,17 @@ pub record IsOpened (b : Book) (list : List Accepted) (t : ℕ) (a : List ℕ) (
   -- and the moment isn't before its own
   pub moment : max t x.as_of ≡ t
 
-pub is_opened : (b : Book) (list : List Accepted) (t : ℕ) (a : List ℕ) (old : Tables) (x : AccountRows) →
-    IsInTime list → last_moment list ≤ t → AreTables b list old → IsLoadedFrom b t (old.rows a) x → IsAccount x → IsOpened b list t a old x
+pub is_opened : (b : Book) (list : List Accepted) (t : ℕ) (a : List ℕ) (old : Tables)
+    (x : AccountRows) →
+    IsInTime list → last_moment list ≤ t → AreTables b list old → IsLoadedFrom b t (old.rows a) x →
+    IsAccount x → IsOpened b list t a old x
 is_opened b list t a old x time le tables loads is =
-    let row : ((history b a list).opened ≡ true) × AreRowsAt b (history b a list).ledger (as_of a list) (old.rows a) =
-    row_some b (as_of a list) (history b a list) (old.rows a) (head_of (stored x)) loads.head (tables.accounts a) in
-    let same : head_of (stored x) ≡ head_of row.1.listed = some_of (head_of (stored x)) (head_of row.1.listed) (sym loads.head ∙ row.1.are.head) in
+    let row : ((history b a list).opened ≡ true)
+    × AreRowsAt b (history b a list).ledger (as_of a list) (old.rows a) =
+    row_some b (as_of a list) (history b a list) (old.rows a) (head_of (stored x)) loads.head
+    (tables.accounts a) in
+    let same : head_of (stored x) ≡ head_of row.1.listed =
+    some_of (head_of (stored x)) (head_of row.1.listed) (sym loads.head ∙ row.1.are.head) in
     let early : as_of a list ≤ last_moment list = as_of-last a list time in
     let now : x.as_of ≡ as_of a list = (λ i. (same i).as_of) ∙ row.1.moment in
     let before : x.as_of ≤ t = subst (λ (m : ℕ). m ≤ t) (sym now) (omega arith) in
@@ -96,99 +118,147 @@ is_opened b list t a old x time le tables loads is =
 -- ---- what a command comes to
 
 -- a change is what an accepted command makes of the history of the account that it names
-pub record IsChange (b : Book) (t : ℕ) (c : Command) (before after : History) (change : Change) (tables : Tables) : Type 0 where
+pub record IsChange (b : Book) (t : ℕ) (c : Command) (before after : History) (change : Change)
+    (tables : Tables) : Type 0 where
   pub moment : change.moment ≡ t
   pub opened : after.opened ≡ true
   pub row : AreRowsAt b after.ledger t (over change.after (tables.rows change.number))
   pub kept : after.kept ≡ keeps change.kept before.kept
   pub charges : charge_rows after.ledger ≡ charge_rows before.ledger ++ change.charges.items
-  pub count : (if is_some (tables.rows change.number).head then tables.count else tables.count + 1) ≡ (if is_opening c then tables.count + 1 else tables.count)
+  pub count : (if is_some (tables.rows change.number).head then tables.count
+      else tables.count + 1) ≡ (if is_opening c then tables.count + 1 else tables.count)
 
 -- an account whose head is there was opened
-pub is-there : (b : Book) (list : List Accepted) (a : List ℕ) (old : Tables) → AreTables b list old → is_some (old.rows a).head ≡ true → (history b a list).opened ≡ true
+pub is-there : (b : Book) (list : List Accepted) (a : List ℕ) (old : Tables) →
+    AreTables b list old → is_some (old.rows a).head ≡ true → (history b a list).opened ≡ true
 is-there b list a old tables e = at (old.rows a).head refl e
   where
-    at : (o : Option Head) → (old.rows a).head ≡ o → is_some o ≡ true → (history b a list).opened ≡ true
+    at : (o : Option Head) → (old.rows a).head ≡ o → is_some o ≡ true →
+        (history b a list).opened ≡ true
     at None is k = absurd (true≢false (sym k))
-    at (Some head) is k = (row_some b (as_of a list) (history b a list) (old.rows a) head is (tables.accounts a)).0
+    at (Some head) is k = (row_some b (as_of a list) (history b a list) (old.rows a) head is
+        (tables.accounts a)).0
 
-module _ (b : Book) (list : List Accepted) (c : Command) (t : ℕ) (a : List ℕ) (named : concerned_by c ≡ one a) where
+module _ (b : Book) (list : List Accepted) (c : Command) (t : ℕ) (a : List ℕ)
+    (named : concerned_by c ≡ one a) where
   answer_named : answer_to b list c t ≡ (outcome b (history b a list) c t).answer
   answer_named = ap (λ o. answer_on o b list c t) named
 
   accepts_named : accepts b list c t ≡ (outcome b (history b a list) c t).accepted
   accepts_named = ap (λ o. accepts_on o b list c t) named
 
-  history_named : history b a (record { moment = t; command = c } ∷ list) ≡ (outcome b (history b a list) c t).after
+  history_named : history b a (record { moment = t; command = c } ∷ list) ≡
+      (outcome b (history b a list) c t).after
   history_named =
-      ap (λ o. if names a o then (outcome b (history b a list) c t).after else history b a list) named
-      ∙ ap (λ v. if v then (outcome b (history b a list) c t).after else history b a list) (name_itself a)
+      ap (λ o. if names a o then (outcome b (history b a list) c t).after else history b a list)
+      named
+      ∙ ap (λ v. if v then (outcome b (history b a list) c t).after else history b a list)
+      (name_itself a)
 
-  with_accepted : (outcome b (history b a list) c t).accepted ≡ true → with_command b list c t ≡ record { moment = t; command = c } ∷ list
-  with_accepted e = ap (λ v. if v then record { moment = t; command = c } ∷ list else list) (accepts_named ∙ e)
+  with_accepted : (outcome b (history b a list) c t).accepted ≡ true →
+      with_command b list c t ≡ record { moment = t; command = c } ∷ list
+  with_accepted e = ap (λ v. if v then record { moment = t; command = c } ∷ list else list)
+      (accepts_named ∙ e)
 
   with_told : (outcome b (history b a list) c t).accepted ≡ false → with_command b list c t ≡ list
-  with_told e = ap (λ v. if v then record { moment = t; command = c } ∷ list else list) (accepts_named ∙ e)
+  with_told e = ap (λ v. if v then record { moment = t; command = c } ∷ list else list)
+      (accepts_named ∙ e)
 
   -- it isn't accepted
-  pub served-told : IsInTime list → last_moment list ≤ t → (o : Outcome) (given : Answer) (old new : Tables) → outcome b (history b a list) c t ≡ o → o.accepted ≡ false → given ≡ o.answer → new ≡ old → AreTables b list old → IsServed b list c t old new given
+  pub served-told : IsInTime list → last_moment list ≤ t →
+      (o : Outcome) (given : Answer) (old new : Tables) → outcome b (history b a list) c t ≡ o →
+      o.accepted ≡ false → given ≡ o.answer → new ≡ old → AreTables b list old →
+      IsServed b list c t old new given
   served-told time le o given old new is refused answers same tables = record {
     answer = answers ∙ sym (answer_named ∙ (λ i. (is i).answer));
-    tables = subst (λ (x : List Accepted). AreTables b x new) (sym (with_told ((λ i. (is i).accepted) ∙ refused))) (subst (λ (x : Tables). AreTables b list x) (sym same) tables);
+    tables = subst (λ (x : List Accepted). AreTables b x new)
+        (sym (with_told ((λ i. (is i).accepted) ∙ refused)))
+        (subst (λ (x : Tables). AreTables b list x) (sym same) tables);
     time = in-time b list c t time le;
     same = λ e. same;
   }
 
   -- it is accepted
-  adds : (o : Outcome) (change : Change) (old : Tables) → outcome b (history b a list) c t ≡ o → a ≡ change.number → IsChange b t c (history b a list) o.after change old →
+  adds : (o : Outcome) (change : Change) (old : Tables) → outcome b (history b a list) c t ≡ o →
+      a ≡ change.number → IsChange b t c (history b a list) o.after change old →
       Adds (outcome b) b (record { moment = t; command = c }) list change old
   adds o change old is number x =
-      let after : history b a (record { moment = t; command = c } ∷ list) ≡ o.after = history_named ∙ (λ i. (is i).after) in
+      let after : history b a (record { moment = t; command = c } ∷ list) ≡ o.after = history_named
+      ∙ (λ i. (is i).after) in
       record {
         named = named ∙ ap one number;
         moment = x.moment;
-        opened = subst (λ (n : List ℕ). (history b n (record { moment = t; command = c } ∷ list)).opened ≡ true) number ((λ i. (after i).opened) ∙ x.opened);
-        row = subst (λ (n : List ℕ). AreRowsAt b (history b n (record { moment = t; command = c } ∷ list)).ledger t (over change.after (old.rows change.number))) number
-            (subst (λ (h : History). AreRowsAt b h.ledger t (over change.after (old.rows change.number))) (sym after) x.row);
-        kept = λ k. subst (λ (n : List ℕ). kept_under k (history b n (record { moment = t; command = c } ∷ list)) ≡ kept_after change.kept k (kept_under k (history b n list))) number
+        opened = subst (λ (n : List ℕ).
+            (history b n (record { moment = t; command = c } ∷ list)).opened ≡ true) number
+            ((λ i. (after i).opened) ∙ x.opened);
+        row = subst (λ (n : List ℕ). AreRowsAt b
+            (history b n (record { moment = t; command = c } ∷ list)).ledger t
+            (over change.after (old.rows change.number))) number
+            (subst (λ (h : History). AreRowsAt b h.ledger t
+            (over change.after (old.rows change.number))) (sym after) x.row);
+        kept = λ k. subst (λ (n : List ℕ). kept_under k
+            (history b n (record { moment = t; command = c } ∷ list)) ≡
+            kept_after change.kept k (kept_under k (history b n list))) number
             (ap (kept_under k) after ∙ keeps-under change.kept k (history b a list) o.after x.kept);
-        charges = subst (λ (n : List ℕ). charge_rows (history b n (record { moment = t; command = c } ∷ list)).ledger ≡ charge_rows (history b n list).ledger ++ change.charges.items) number
+        charges = subst (λ (n : List ℕ). charge_rows
+            (history b n (record { moment = t; command = c } ∷ list)).ledger ≡
+            charge_rows (history b n list).ledger ++ change.charges.items) number
             ((λ i. charge_rows (after i).ledger) ∙ x.charges);
         count = x.count;
       }
 
-  pub served-done : IsInTime list → last_moment list ≤ t → (o : Outcome) (given : Answer) (change : Change) (old new : Tables) → outcome b (history b a list) c t ≡ o → o.accepted ≡ true → given ≡ o.answer → a ≡ change.number →
-      IsChange b t c (history b a list) o.after change old → new ≡ changed change old → AreTables b list old → IsServed b list c t old new given
+  pub served-done : IsInTime list → last_moment list ≤ t →
+      (o : Outcome) (given : Answer) (change : Change) (old new : Tables) →
+      outcome b (history b a list) c t ≡ o → o.accepted ≡ true → given ≡ o.answer →
+      a ≡ change.number →
+      IsChange b t c (history b a list) o.after change old → new ≡ changed change old →
+      AreTables b list old → IsServed b list c t old new given
   served-done time le o given change old new is done answers number x grown tables = record {
     answer = answers ∙ sym (answer_named ∙ (λ i. (is i).answer));
-    tables = subst (λ (x : List Accepted). AreTables b x new) (sym (with_accepted ((λ i. (is i).accepted) ∙ done)))
-        (subst (λ (x : Tables). AreTables b (record { moment = t; command = c } ∷ list) x) (sym grown) (tables_changed (outcome b) b (record { moment = t; command = c }) list change old (adds o change old is number x) tables));
+    tables = subst (λ (x : List Accepted). AreTables b x new)
+        (sym (with_accepted ((λ i. (is i).accepted) ∙ done)))
+        (subst (λ (x : Tables). AreTables b (record { moment = t; command = c } ∷ list) x)
+        (sym grown) (tables_changed (outcome b) b (record { moment = t; command = c }) list
+        change old (adds o change old is number x) tables));
     time = in-time b list c t time le;
     same = λ e. absurd (true≢false (sym done ∙ sym (λ i. (is i).accepted) ∙ sym accepts_named ∙ e));
   }
 
   -- the account isn't there
-  pub not-opened : (old : Tables) → AreTables b list old → (old.rows a).head ≡ None → ((history b a list).opened ≡ false) × (old.rows a ≡ no_rows)
-  not-opened old tables none = row_none b (as_of a list) (history b a list) (old.rows a) none (tables.accounts a)
+  pub not-opened : (old : Tables) → AreTables b list old → (old.rows a).head ≡ None →
+      ((history b a list).opened ≡ false) × (old.rows a ≡ no_rows)
+  not-opened old tables none =
+      row_none b (as_of a list) (history b a list) (old.rows a) none (tables.accounts a)
 
-  pub outcome-unopened : (old : Tables) → AreTables b list old → (old.rows a).head ≡ None → outcome b (history b a list) c t ≡ unopened_outcome (history b a list) c
-  outcome-unopened old tables none = ap (λ v. if v then opened_outcome b (history b a list) c t else unopened_outcome (history b a list) c) (not-opened old tables none).0
+  pub outcome-unopened : (old : Tables) → AreTables b list old → (old.rows a).head ≡ None →
+      outcome b (history b a list) c t ≡ unopened_outcome (history b a list) c
+  outcome-unopened old tables none =
+      ap (λ v. if v then opened_outcome b (history b a list) c t
+      else unopened_outcome (history b a list) c) (not-opened old tables none).0
 
   -- it is
-  pub outcome-opened : (history b a list).opened ≡ true → outcome b (history b a list) c t ≡ opened_outcome b (history b a list) c t
-  outcome-opened opened = ap (λ v. if v then opened_outcome b (history b a list) c t else unopened_outcome (history b a list) c) opened
+  pub outcome-opened : (history b a list).opened ≡ true →
+      outcome b (history b a list) c t ≡ opened_outcome b (history b a list) c t
+  outcome-opened opened = ap
+      (λ v. if v then opened_outcome b (history b a list) c t
+      else unopened_outcome (history b a list) c) opened
 
   -- something is kept of it: it is there
-  pub outcome-kept : (old : Tables) (k : Key) (kept : KeptAnswer) → AreTables b list old → old.answers a k ≡ Some kept → outcome b (history b a list) c t ≡ opened_outcome b (history b a list) c t
-  outcome-kept old k kept tables is = outcome-opened (kept-opened b a list k kept (sym (tables.answers a k) ∙ is))
+  pub outcome-kept : (old : Tables) (k : Key) (kept : KeptAnswer) → AreTables b list old →
+      old.answers a k ≡ Some kept →
+      outcome b (history b a list) c t ≡ opened_outcome b (history b a list) c t
+  outcome-kept old k kept tables is =
+      outcome-opened (kept-opened b a list k kept (sym (tables.answers a k) ∙ is))
 
   -- ---- on an account that was loaded
 
-  module _ (time : IsInTime list) (le : last_moment list ≤ t) (old new : Tables) (tables : AreTables b list old) (found : Loaded) (loads : IsTaken b t a old found) where
+  module _ (time : IsInTime list) (le : last_moment list ≤ t) (old new : Tables)
+      (tables : AreTables b list old) (found : Loaded) (loads : IsTaken b t a old found) where
     abbrev account : IsOpened b list t a old found.account
     account = is_opened b list t a old found.account time le tables loads.load.1 loads.account
 
-    -- the call left the account with the rows that weren't loaded the ledger's after the command, and the change tells it
+    -- the call left the account with the rows that weren't loaded the ledger's after the command,
+    -- and the change tells it
     pub record IsCalled (o : Outcome) (x : AccountRows) (change : Change) : Type 0 where
       pub book : x.book ≡ found.account.book
       pub at_moment : x.as_of ≡ t
@@ -196,33 +266,47 @@ module _ (b : Book) (list : List Accepted) (c : Command) (t : ℕ) (a : List ℕ
       pub rows : IsWith o.after.ledger (left_of t (priced b account.are.listed)) t x
       pub opened : o.after.opened ≡ true
       pub kept : o.after.kept ≡ keeps change.kept (history b a list).kept
-      pub charges : charge_rows o.after.ledger ≡ charge_rows (history b a list).ledger ++ change.charges.items
+      pub charges : charge_rows o.after.ledger ≡ charge_rows (history b a list).ledger
+          ++ change.charges.items
       pub number : change.number ≡ found.number
       pub moment : change.moment ≡ x.as_of
       pub after : change.after ≡ stored x
 
-    left : (o : Outcome) (x : AccountRows) (change : Change) → IsCalled o x change → IsMadeFrom (stored found.account) (stored x) (old.rows a) × AreRowsAt b o.after.ledger x.as_of (over (stored x) (old.rows a))
-    left o x change is = left_behind b (history b a list).ledger o.after.ledger (as_of a list) t (old.rows a) found.account x account.are loads.account loads.load.1 (is.book ∙ account.of_book) is.grows is.rows
+    left : (o : Outcome) (x : AccountRows) (change : Change) → IsCalled o x change →
+        IsMadeFrom (stored found.account) (stored x) (old.rows a)
+        × AreRowsAt b o.after.ledger x.as_of (over (stored x) (old.rows a))
+    left o x change is = left_behind b (history b a list).ledger o.after.ledger (as_of a list) t
+        (old.rows a) found.account x account.are loads.account loads.load.1
+        (is.book ∙ account.of_book) is.grows is.rows
 
-    made : (o : Outcome) (x : AccountRows) (change : Change) → IsCalled o x change → IsMadeFrom found.before (stored x) (old.rows found.number)
+    made : (o : Outcome) (x : AccountRows) (change : Change) → IsCalled o x change →
+        IsMadeFrom found.before (stored x) (old.rows found.number)
     made o x change is =
         subst (λ (n : List ℕ). IsMadeFrom found.before (stored x) (old.rows n)) (sym loads.load.0)
-        (subst (λ (w : StoredRows). IsMadeFrom w (stored x) (old.rows a)) (sym loads.load.2) (left o x change is).0)
+        (subst (λ (w : StoredRows). IsMadeFrom w (stored x) (old.rows a)) (sym loads.load.2)
+        (left o x change is).0)
 
-    pub served-loaded : (o : Outcome) (given : Answer) (x : AccountRows) (change : Change) → is_opening c ≡ false → outcome b (history b a list) c t ≡ o → o.accepted ≡ true → given ≡ o.answer → IsCalled o x change →
-        (IsMadeFrom found.before (stored x) (old.rows found.number) → new ≡ changed change old) → IsServed b list c t old new given
+    pub served-loaded : (o : Outcome) (given : Answer) (x : AccountRows) (change : Change) →
+        is_opening c ≡ false → outcome b (history b a list) c t ≡ o → o.accepted ≡ true →
+        given ≡ o.answer → IsCalled o x change →
+        (IsMadeFrom found.before (stored x) (old.rows found.number) → new ≡ changed change old) →
+        IsServed b list c t old new given
     served-loaded o given x change opens is done answers called grown =
         let where_is : a ≡ change.number = sym loads.load.0 ∙ sym called.number in
         served-done time le o given change old new is done answers where_is
         (record {
           moment = called.moment ∙ called.at_moment;
           opened = called.opened;
-          row = subst (λ (n : List ℕ). AreRowsAt b o.after.ledger t (over change.after (old.rows n))) where_is
-              (subst (λ (w : StoredRows). AreRowsAt b o.after.ledger t (over w (old.rows a))) (sym called.after)
-              (subst (λ (u : ℕ). AreRowsAt b o.after.ledger u (over (stored x) (old.rows a))) called.at_moment (left o x change called).1));
+          row = subst (λ (n : List ℕ). AreRowsAt b o.after.ledger t
+              (over change.after (old.rows n))) where_is
+              (subst (λ (w : StoredRows). AreRowsAt b o.after.ledger t (over w (old.rows a)))
+              (sym called.after)
+              (subst (λ (u : ℕ). AreRowsAt b o.after.ledger u (over (stored x) (old.rows a)))
+              called.at_moment (left o x change called).1));
           kept = called.kept;
           charges = called.charges;
-          count = ap (λ v. if v then old.count else old.count + 1) (ap (λ (n : List ℕ). is_some (old.rows n).head) (sym where_is) ∙ account.head)
+          count = ap (λ v. if v then old.count else old.count + 1)
+              (ap (λ (n : List ℕ). is_some (old.rows n).head) (sym where_is) ∙ account.head)
               ∙ sym (ap (λ v. if v then old.count + 1 else old.count) opens);
         })
         (grown (made o x change called)) tables

@@ -23,11 +23,18 @@ is_quiet _ = false
 
 -- a grant's first fact, before its holds
 abbrev pub with_grant : Book → ℕ → List ℕ → ℕ → ℕ → Ledger → Ledger
-with_grant b t s g units ledger = record { at = t; fact = Grant s g (periods_at b t) units (counter (cycle_at b g) g (cycle_at b g t) ledger) } ∷ ledger
+with_grant b t s g units ledger =
+    record {
+      at = t;
+      fact = Grant s g (periods_at b t) units
+          (counter (cycle_at b g) g (cycle_at b g t) ledger);
+    } ∷ ledger
 
 -- the ledger with the grant of a session's group, as far as the funds cover it
 abbrev pub granted : Book → ℕ → List ℕ → ℕ → Option ℕ → Ledger → Ledger
-granted b t s g asked ledger = let grant : RatedGrant = grant_for b t g (used s g ledger) asked ledger in reserved b t s g grant.units.0 grant.amount.0 ledger
+granted b t s g asked ledger = let grant : RatedGrant =
+    grant_for b t g (used s g ledger) asked ledger in reserved b t s g grant.units.0 grant.amount.0
+    ledger
 
 abbrev pub is_touch : Fact → Bool
 is_touch (Touch session) = true
@@ -35,14 +42,21 @@ is_touch _ = false
 
 -- a property of an account's reports and ledger is kept by each step that its commands take
 pub record Keeps (b : Book) (P : List Report → Ledger → Type 0) : Type 0 where
-  pub quiet : (t : ℕ) (f : Fact) (reports : List Report) (ledger : Ledger) → is_quiet f ≡ true → is_touch f ≡ false → P reports ledger → P reports (record { at = t; fact = f } ∷ ledger)
-  pub touch : (t : ℕ) (s : List ℕ) (n : ℕ) (reports : List Report) (ledger : Ledger) → P reports ledger → P reports (touched t s n ledger)
-  pub credit : (t from until : ℕ) (scope : Option ℕ) (amount : ℕ) (reports : List Report) (ledger : Ledger) → P reports ledger → P reports (credited t from until scope amount ledger)
+  pub quiet : (t : ℕ) (f : Fact) (reports : List Report) (ledger : Ledger) → is_quiet f ≡ true →
+      is_touch f ≡ false → P reports ledger → P reports (record { at = t; fact = f } ∷ ledger)
+  pub touch : (t : ℕ) (s : List ℕ) (n : ℕ) (reports : List Report) (ledger : Ledger) →
+      P reports ledger → P reports (touched t s n ledger)
+  pub credit : (t from until : ℕ) (scope : Option ℕ) (amount : ℕ) (reports : List Report)
+      (ledger : Ledger) → P reports ledger → P reports (credited t from until scope amount ledger)
   -- of a session that was touched
-  pub settle : (t : ℕ) (s : List ℕ) (g : ℕ) (parts : List UsedPart) (reports : List Report) (ledger : Ledger) → is_touched s ledger ≡ true → P reports ledger →
+  pub settle : (t : ℕ) (s : List ℕ) (g : ℕ) (parts : List UsedPart) (reports : List Report)
+      (ledger : Ledger) → is_touched s ledger ≡ true → P reports ledger →
       P (with_report t s g parts reports) (settled_by b t s g parts ledger)
   -- of a session that is recorded
-  pub grant : (t : ℕ) (s : List ℕ) (g : ℕ) (asked : Option ℕ) (reports : List Report) (ledger : Ledger) → (last_recording s ledger ≡ None → ⊥) → P reports ledger → P reports (granted b t s g asked ledger)
+  pub grant : (t : ℕ) (s : List ℕ) (g : ℕ) (asked : Option ℕ) (reports : List Report)
+      (ledger : Ledger) → (last_recording s ledger ≡ None → ⊥) → P reports ledger →
+      P reports (granted b t s g asked ledger)
   -- of an event whose name isn't recorded yet, with its record
-  pub event : (t : ℕ) (s : List ℕ) (g units n : ℕ) (reports : List Report) (ledger : Ledger) → last_recording s ledger ≡ None → is_covered b t g units ledger ≡ true → P reports ledger →
+  pub event : (t : ℕ) (s : List ℕ) (g units n : ℕ) (reports : List Report) (ledger : Ledger) →
+      last_recording s ledger ≡ None → is_covered b t g units ledger ≡ true → P reports ledger →
       P reports (recorded t s n (debited b t s g units ledger))

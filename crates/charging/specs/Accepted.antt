@@ -1,4 +1,5 @@
--- Accepted commands, the newest first: the history that they leave of each account, and the tables that hold it.
+-- Accepted commands, the newest first: the history that they leave of each account, and the tables
+-- that hold it.
 -- Source: profile.
 use Rattle.std.specs.Prelude.{◌≡◌, ℕ, ◌+◌, ◌≤◌, Bool, true, false, if◌then◌else◌, List, [], ◌∷◌, Option, Some, None}
 use Rattle.identifiers.specs.Texts.{same_name}
@@ -17,7 +18,8 @@ pub record Accepted : Type 0 where
   pub moment : ℕ
   pub command : Command
 
--- what a command is answered on an account's history, whether it is accepted, and the history after it
+-- what a command is answered on an account's history, whether it is accepted, and the history after
+-- it
 pub record Outcome : Type 0 where
   pub answer : Answer
   pub accepted : Bool
@@ -67,7 +69,8 @@ as_of a (d ∷ before) = if reaches a (concerned_by d.command) then d.moment els
 -- how many accounts there are
 abbrev pub account_count : List Accepted → ℕ
 account_count [] = 0
-account_count (d ∷ before) = if is_opening d.command then account_count before + 1 else account_count before
+account_count (d ∷ before) = if is_opening d.command then account_count before + 1
+    else account_count before
 
 -- moments don't fall
 abbrev pub IsInTime : List Accepted → Type 0
@@ -107,5 +110,6 @@ module _ (outcome : History → Command → ℕ → Outcome) where
     pub last : tables.last ≡ last_moment list
     pub accounts : (a : List ℕ) → IsRow book (as_of a list) (history_of a list) (tables.rows a)
     pub answers : (a : List ℕ) (k : Key) → tables.answers a k ≡ kept_under k (history_of a list)
-    pub charges : (a : List ℕ) (n : ℕ) → tables.charges a n ≡ charge_in n (charge_rows (history_of a list).ledger)
+    pub charges : (a : List ℕ) (n : ℕ) →
+        tables.charges a n ≡ charge_in n (charge_rows (history_of a list).ledger)
     pub count : tables.count ≡ account_count list

@@ -7,8 +7,8 @@ use Rattle.keepers.specs.declared.key.Key.{Key}
 use Rattle.keepers.specs.declared.key.KeptAnswer.{KeptAnswer}
 use Rattle.keepers.specs.Keys.{same_key, key_of}
 
--- whether the account was opened; its ledger; and the accepted commands that have a key with their answers, the newest
--- first
+-- whether the account was opened; its ledger; and the accepted commands that have a key with their
+-- answers, the newest first
 pub record History : Type 0 where
   pub opened : Bool
   pub ledger : Ledger

@@ -1,5 +1,6 @@
--- What a command comes to on the history of the account that it names: its answer, whether it is accepted, and the
--- history after it (requests: RFC 8506; operators' commands, keys and repeats: profile).
+-- What a command comes to on the history of the account that it names: its answer, whether it is
+-- accepted, and the history after it (requests: RFC 8506; operators' commands, keys and repeats:
+-- profile).
 use Rattle.std.specs.Prelude.{ℕ, ◌==◌, ◌||◌, nat_le, nat_lt, Bool, true, false, if◌then◌else◌, ◌∷◌, Option, Some, None, unwrap_or}
 use Rattle.commands.specs.Alike.{same_request, same_credit}
 use Rattle.commands.specs.declared.avp.Avp.TheVariants.{RequestNumber}
@@ -36,7 +37,11 @@ done given after = record { answer = given; accepted = true; after = after }
 -- an accepted command is kept with its answer
 abbrev pub keeping : Content → Answer → Ledger → History → Outcome
 keeping kept given ledger h =
-    done given (record { opened = h.opened; ledger = ledger; kept = record { content = kept; answer = given } ∷ h.kept })
+    done given (record {
+      opened = h.opened;
+      ledger = ledger;
+      kept = record { content = kept; answer = given } ∷ h.kept;
+    })
 
 -- ---- repeats
 
@@ -69,7 +74,8 @@ abbrev pub request_outcome : Book → Request → ℕ → History → Outcome
 request_outcome b r t h =
     if is_read r.ask
     then told (answer.Request (answer_of r (decision b t r h.ledger).outcome)) h
-    else unless_kept (kept_under (key_of (content.Request r)) h) (content.Request r) (failed r (InvalidAvpValue RequestNumber)) h (decided_by r (decision b t r h.ledger) h)
+    else unless_kept (kept_under (key_of (content.Request r)) h) (content.Request r)
+    (failed r (InvalidAvpValue RequestNumber)) h (decided_by r (decision b t r h.ledger) h)
 
 -- ---- credits
 
@@ -92,10 +98,12 @@ abbrev pub new_credit : Credit → ℕ → History → Outcome
 new_credit c t h =
     if is_out_of_range c t h.ledger
     then told (answer.Refused OutOfRange) h
-    else keeping (content.Credit c) (answer.Bucket (next_bucket h.ledger)) (credited t (from_of c t) (until_of c) c.scope c.amount h.ledger) h
+    else keeping (content.Credit c) (answer.Bucket (next_bucket h.ledger))
+    (credited t (from_of c t) (until_of c) c.scope c.amount h.ledger) h
 
 abbrev pub credit_outcome : Credit → ℕ → History → Outcome
-credit_outcome c t h = unless_kept (kept_under (key_of (content.Credit c)) h) (content.Credit c) (answer.Refused ContentDiffers) h (new_credit c t h)
+credit_outcome c t h = unless_kept (kept_under (key_of (content.Credit c)) h) (content.Credit c)
+    (answer.Refused ContentDiffers) h (new_credit c t h)
 
 -- ---- a command
 
@@ -108,13 +116,15 @@ opened_outcome b h (command.Ccr r) t = request_outcome b r t h
 opened_outcome b h (command.OpenAccount n) t = told (answer.Refused AccountExists) h
 opened_outcome b h (command.Credit c) t = credit_outcome c t h
 opened_outcome b h (command.Bar n) t = done answer.Done (with_ledger (with_bar t true h.ledger) h)
-opened_outcome b h (command.Unbar n) t = done answer.Done (with_ledger (with_bar t false h.ledger) h)
+opened_outcome b h (command.Unbar n) t =
+    done answer.Done (with_ledger (with_bar t false h.ledger) h)
 opened_outcome b h command.Sweep t = told answer.Done h
 
 -- of an account that isn't: it can be opened
 abbrev pub unopened_outcome : History → Command → Outcome
 unopened_outcome h (command.Ccr r) = told (failed r UserUnknown) h
-unopened_outcome h (command.OpenAccount n) = done answer.Done (record { opened = true; ledger = h.ledger; kept = h.kept })
+unopened_outcome h (command.OpenAccount n) =
+    done answer.Done (record { opened = true; ledger = h.ledger; kept = h.kept })
 unopened_outcome h (command.Credit c) = told (answer.Refused AccountUnknown) h
 unopened_outcome h (command.Bar n) = told (answer.Refused AccountUnknown) h
 unopened_outcome h (command.Unbar n) = told (answer.Refused AccountUnknown) h

@@ -1,5 +1,5 @@
--- What each use in an account's ledger came from, and what paid for it (RFC 8506 section 5.3: used units are debited;
--- TS 32.296, account balance management function).
+-- What each use in an account's ledger came from, and what paid for it (RFC 8506 section 5.3: used
+-- units are debited; TS 32.296, account balance management function).
 use Rattle.std.specs.Prelude.{◌≡◌, ℕ, ◌+◌, ◌<◌, Bool, true, false, List, [], ◌∷◌, is_some, if◌then◌else◌}
 use Rattle.tariffs.specs.Books.{Book}
 use Rattle.buckets.specs.Row.{Row, eligible_amount}
@@ -35,16 +35,20 @@ collected (d ∷ older) = if is_charge d.fact then charge_amount d.fact + collec
 
 -- ---- a report
 
--- something is uncollected only where all that the report's reservation held is paid, and no eligible bucket has
--- anything left
+-- something is uncollected only where all that the report's reservation held is paid, and no
+-- eligible bucket has anything left
 abbrev pub IsSpent : Book → ℕ → List ℕ → ℕ → ℕ → Ledger → Type 0
 IsSpent b t s g rated before =
     (x : Row) → IsAmong x (buckets_at b.validity t before) →
-    (paid_of_hold (holds_at b.validity t s g before) rated (buckets_at b.validity t before) x ≡ held_in (holds_at b.validity t s g before) x)
-    × (eligible_amount g t (settled_row (holds_at b.validity t s g before) g t rated (buckets_at b.validity t before) x) ≡ 0)
+    (paid_of_hold (holds_at b.validity t s g before) rated (buckets_at b.validity t before) x ≡
+    held_in (holds_at b.validity t s g before) x)
+    × (eligible_amount g t (settled_row (holds_at b.validity t s g before) g t rated
+    (buckets_at b.validity t before) x) ≡ 0)
 
--- the use that a report made: it has the price of the blocks that the report's parts started, each part in its period
-pub record IsReport (b : Book) (r : Report) (t : ℕ) (s : List ℕ) (g units blocks rated uncollected : ℕ) (before : Ledger) : Type 0 where
+-- the use that a report made: it has the price of the blocks that the report's parts started, each
+-- part in its period
+pub record IsReport (b : Book) (r : Report) (t : ℕ) (s : List ℕ)
+    (g units blocks rated uncollected : ℕ) (before : Ledger) : Type 0 where
   pub moment : t ≡ r.at
   pub session : s ≡ r.session
   pub group : g ≡ r.group
@@ -61,7 +65,8 @@ IsLastReport b (r ∷ older) t s g units blocks rated uncollected before =
     IsReport b r t s g units blocks rated uncollected before
 
 -- a debit: the eligible buckets had the price of the blocks that it started
-pub record IsEvent (b : Book) (t : ℕ) (g units blocks rated uncollected : ℕ) (before : Ledger) : Type 0 where
+pub record IsEvent (b : Book) (t : ℕ) (g units blocks rated uncollected : ℕ) (before : Ledger) :
+    Type 0 where
   pub blocks_are : blocks ≡ (event_price b t g units before).blocks
   pub rated_is : rated ≡ (event_price b t g units before).amount.0
   pub covered : is_covered b t g units before ≡ true
@@ -73,8 +78,10 @@ pub record IsEvent (b : Book) (t : ℕ) (g units blocks rated uncollected : ℕ)
 abbrev pub is_touched : List ℕ → Ledger → Bool
 is_touched s ledger = is_some (last_touch s ledger)
 
--- what is collected and what isn't are the price: of the session's report where its session was touched, else of a debit
-pub record IsPaidUse (b : Book) (reports : List Report) (t : ℕ) (s : List ℕ) (g units blocks rated uncollected : ℕ) (older : Ledger) : Type 0 where
+-- what is collected and what isn't are the price: of the session's report where its session was
+-- touched, else of a debit
+pub record IsPaidUse (b : Book) (reports : List Report) (t : ℕ) (s : List ℕ)
+    (g units blocks rated uncollected : ℕ) (older : Ledger) : Type 0 where
   pub sum : collected older + uncollected ≡ rated
   pub report : is_touched s (before_charges older) ≡ true →
       IsLastReport b reports t s g units blocks rated uncollected (before_charges older)

@@ -1,4 +1,5 @@
--- The quota guarantee: a report within its grant is collected whole (TS 32.299, session charging with unit reservation).
+-- The quota guarantee: a report within its grant is collected whole (TS 32.299, session charging
+-- with unit reservation).
 use Rattle.std.specs.Prelude.{◌≡◌, ℕ, ◌≤◌, ◌==◌, ◌&&◌, List, [], ◌∷◌, Option, Some, None, if◌then◌else◌}
 use Rattle.tariffs.specs.Books.{Book}
 use Rattle.reserving.specs.Ledger.{Fact, Dated, Ledger, is_same, newest, inner, counter}
@@ -15,7 +16,8 @@ abbrev pub grant_told : List ℕ → ℕ → Dated → Option (Option OpenGrant)
 grant_told s g d = told_by d.fact
   where
     told_by : Fact → Option (Option OpenGrant)
-    told_by (Grant session group periods units counter) = if is_same session s && group == g then Some (Some (record { units = units; counter = counter })) else None
+    told_by (Grant session group periods units counter) = if is_same session s && group == g
+        then Some (Some (record { units = units; counter = counter })) else None
     told_by (End session group) = if is_same session s && group == g then Some None else None
     told_by _ = None
 
@@ -26,10 +28,12 @@ grant_open s g ledger = inner (newest (grant_told s g) ledger)
 -- a use that ends a grant, has at most its units and starts at its counter is collected whole
 abbrev pub IsWithinGrant : Book → ℕ → List ℕ → ℕ → ℕ → ℕ → Ledger → Type 0
 IsWithinGrant b t s g units uncollected before =
-    (x : OpenGrant) → grant_open s g before ≡ Some x → units ≤ x.units → counter (cycle_at b g) g (cycle_at b g t) before ≡ x.counter → uncollected ≡ 0
+    (x : OpenGrant) → grant_open s g before ≡ Some x → units ≤ x.units →
+    counter (cycle_at b g) g (cycle_at b g t) before ≡ x.counter → uncollected ≡ 0
 
 abbrev pub IsQuotaPaid : Book → ℕ → Fact → Ledger → Type 0
-IsQuotaPaid b t (Use s g units blocks rated uncollected) older = IsWithinGrant b t s g units uncollected (before_charges older)
+IsQuotaPaid b t (Use s g units blocks rated uncollected) older =
+    IsWithinGrant b t s g units uncollected (before_charges older)
 IsQuotaPaid b t _ older = Unit {0}
 
 -- so each use of a ledger, whatever stood between

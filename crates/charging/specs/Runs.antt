@@ -15,19 +15,23 @@ after_command b list d = with_command b list d.command (moment_of list d.moment)
 -- the answers to dated commands, each after those before it
 abbrev pub answers_to : Book → List Accepted → List DatedCommand → List Answer
 answers_to b list [] = []
-answers_to b list (d ∷ ds) = answer_to b list d.command (moment_of list d.moment) ∷ answers_to b (after_command b list d) ds
+answers_to b list (d ∷ ds) = answer_to b list d.command (moment_of list d.moment)
+    ∷ answers_to b (after_command b list d) ds
 
 -- the list of accepted commands after them
 abbrev pub after_commands : Book → List Accepted → List DatedCommand → List Accepted
 after_commands b list [] = list
 after_commands b list (d ∷ ds) = after_commands b (after_command b list d) ds
 
--- the answers are those of a beginning of the commands, and the tables are those of the list after it
-pub record IsRun (b : Book) (list : List Accepted) (commands : List DatedCommand) (new : Tables) (given : List Answer) : Type 0 where
+-- the answers are those of a beginning of the commands, and the tables are those of the list after
+-- it
+pub record IsRun (b : Book) (list : List Accepted) (commands : List DatedCommand) (new : Tables)
+    (given : List Answer) : Type 0 where
   pub answers : given ≡ answers_to b list (take (length given) commands)
   pub tables : AreTables b (after_commands b list (take (length given) commands)) new
   pub time : IsInTime (after_commands b list (take (length given) commands))
 
 -- for every list of accepted commands whose tables a keeper holds
 abbrev pub Runs : Book → List DatedCommand → Tables → Tables → List Answer → Type 0
-Runs b commands old new given = (list : List Accepted) → IsInTime list → AreTables b list old → IsRun b list commands new given
+Runs b commands old new given = (list : List Accepted) → IsInTime list → AreTables b list old →
+    IsRun b list commands new given

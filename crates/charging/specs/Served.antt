@@ -28,7 +28,8 @@ abbrev pub answer_on : Concerned → Book → List Accepted → Command → ℕ 
 answer_on each b list c t = Swept (account_count list)
 answer_on (one a) b list c t = (outcome b (history b a list) c t).answer
 
--- a command's answer at its moment: by the history of the account that it names; a sweep's is the number of accounts
+-- a command's answer at its moment: by the history of the account that it names; a sweep's is the
+-- number of accounts
 abbrev pub answer_to : Book → List Accepted → Command → ℕ → Answer
 answer_to b list c t = answer_on (concerned_by c) b list c t
 
@@ -41,20 +42,24 @@ accepts b list c t = accepts_on (concerned_by c) b list c t
 
 -- the list with the command where it is accepted
 abbrev pub with_command : Book → List Accepted → Command → ℕ → List Accepted
-with_command b list c t = if accepts b list c t then record { moment = t; command = c } ∷ list else list
+with_command b list c t = if accepts b list c t then record { moment = t; command = c } ∷ list
+    else list
 
 -- ---- a step
 
--- the answer is the definition's, and the tables are those of the list with the command where it is accepted, which is in
--- time again; a command that isn't accepted changes no table
-pub record IsServed (b : Book) (list : List Accepted) (c : Command) (t : ℕ) (old new : Tables) (given : Answer) : Type 0 where
+-- the answer is the definition's, and the tables are those of the list with the command where it is
+-- accepted, which is in time again; a command that isn't accepted changes no table
+pub record IsServed (b : Book) (list : List Accepted) (c : Command) (t : ℕ) (old new : Tables)
+    (given : Answer) : Type 0 where
   pub answer : given ≡ answer_to b list c t
   pub tables : AreTables b (with_command b list c t) new
   pub time : IsInTime (with_command b list c t)
   pub same : accepts b list c t ≡ false → new ≡ old
 
--- for every list of accepted commands whose tables a keeper holds: the command is served, or the tables are as before
+-- for every list of accepted commands whose tables a keeper holds: the command is served, or the
+-- tables are as before
 abbrev pub Serves : Book → Command → ℕ → Tables → Tables → Result Answer StoreFault → Type 0
 Serves b c t old new result =
     (list : List Accepted) → IsInTime list → AreTables b list old →
-    MatchResult result (λ given. IsServed b list c (moment_of list t) old new given) (λ fault. new ≡ old)
+    MatchResult result (λ given. IsServed b list c (moment_of list t) old new given) (λ fault. new ≡
+    old)

@@ -1,4 +1,5 @@
--- What the sessions of an account report, as its accepted commands tell (RFC 8506 sections 8.16 and 8.18).
+-- What the sessions of an account report, as its accepted commands tell (RFC 8506 sections 8.16 and
+-- 8.18).
 use Rattle.std.specs.Prelude.{ℕ, List, [], ◌∷◌, if◌then◌else◌}
 use Rattle.units.specs.declared.blocks.UsedPart.{UsedPart}
 use Rattle.commands.specs.declared.command.Command.{Command}
@@ -13,8 +14,8 @@ use Rattle.charging.specs.Accepted.{Accepted, concerned_by, names}
 use Rattle.charging.specs.Outcomes.{outcome}
 use Rattle.charging.specs.Served.{history}
 
--- a session's report of a rating group: its parts tell which units were used before, on both sides of and after a
--- tariff switch
+-- a session's report of a rating group: its parts tell which units were used before, on both sides
+-- of and after a tariff switch
 pub record Report : Type 0 where
   pub at : ℕ
   pub session : List ℕ

@@ -1,4 +1,5 @@
--- What the parts of a step come to, for every list of accepted commands whose tables a keeper holds.
+-- What the parts of a step come to, for every list of accepted commands whose tables a keeper
+-- holds.
 -- Source: profile.
 use Rattle.std.specs.Prelude.{◌≡◌, ℕ, ◌≤◌, Bool, true, false, List, Option, Some, None, Result, ◌&&◌, is_some, if◌then◌else◌, MatchResult}
 use Rattle.commands.specs.declared.answer.Answer.{Answer}
@@ -24,7 +25,8 @@ use Rattle.charging.specs.Accepted.{Accepted, last_moment, IsInTime}
 use Rattle.charging.specs.Outcomes.{from_of, until_of, is_out_of_range}
 use Rattle.charging.specs.Served.{AreTables, IsServed}
 
--- a command is served at a moment that isn't before that of the last accepted command, or the tables are as before
+-- a command is served at a moment that isn't before that of the last accepted command, or the
+-- tables are as before
 abbrev pub ServesAt : Book → Command → ℕ → Tables → Tables → Result Answer StoreFault → Type 0
 ServesAt b c t old new result =
     (list : List Accepted) → IsInTime list → AreTables b list old → last_moment list ≤ t →
@@ -32,7 +34,8 @@ ServesAt b c t old new result =
 
 -- so it is, with this answer
 abbrev pub Answers : Book → Command → ℕ → Tables → Tables → Answer → Type 0
-Answers b c t old new given = (list : List Accepted) → IsInTime list → AreTables b list old → last_moment list ≤ t → IsServed b list c t old new given
+Answers b c t old new given = (list : List Accepted) → IsInTime list → AreTables b list old →
+    last_moment list ≤ t → IsServed b list c t old new given
 
 -- the command that bars an account, or ends that
 abbrev pub bar_command : List ℕ → Bool → Command
@@ -47,11 +50,13 @@ pub record IsTaken (b : Book) (t : ℕ) (a : List ℕ) (tables : Tables) (found 
 abbrev pub Credits : Option ℕ → Credit → ℕ → Ledger → LeftRows → AccountRows → Type 0
 Credits None c t ledger left new = is_out_of_range c t ledger ≡ true
 Credits (Some n) c t ledger left new =
-    (is_out_of_range c t ledger ≡ false) × (n ≡ next_bucket ledger) × IsWith (credited t (from_of c t) (until_of c) c.scope c.amount ledger) left t new
+    (is_out_of_range c t ledger ≡ false) × (n ≡ next_bucket ledger)
+    × IsWith (credited t (from_of c t) (until_of c) c.scope c.amount ledger) left t new
 
 -- what is kept under a request's key; reads have none
 abbrev pub kept_of_request : Request → Tables → Option KeptAnswer
-kept_of_request r tables = if is_read r.ask then None else tables.answers r.account (key_of (content.Request r))
+kept_of_request r tables =
+    if is_read r.ask then None else tables.answers r.account (key_of (content.Request r))
 
 -- a request begins a session of which the tables have a row
 abbrev pub is_known : Request → Tables → Bool

@@ -1,10 +1,10 @@
 //! Changes of one account.
 
-ghost use Rattle.std.specs.Prelude.{◌≡◌, ◌≤◌, max, OnOk, OnErr};
+ghost use Rattle.std.specs.Prelude.{◌≡◌, ◌≤◌, max, OnOk};
 ghost use Rattle.reserving.specs.Rows.{IsAccount};
 ghost use Rattle.reserving.specs.Stored.{stored};
 ghost use Rattle.keepers.specs.Change.{IsMadeFrom, changed};
-ghost use Rattle.keepers.specs.Faults.{HasCause};
+ghost use Rattle.keepers.specs.Keeping.{Keeps};
 
 use keepers::{Keeper, KeptAnswer, Loaded, StoreFault};
 use reserving::{Account, ChargeRow};
@@ -26,18 +26,18 @@ pub(crate) fn commit<K: Keeper>(
     charges: Vec<ChargeRow>,
     kept: Option<KeptAnswer>,
 ) -> Result<(), StoreFault>
-    ensures done { K.clean keeper.new → OnOk result (IsMadeFrom loaded.entry.before (stored loaded.entry.account) ((K.content keeper.old).rows loaded.entry.number) → K.content keeper.new ≡ changed (record {
-      moment = loaded.entry.account.as_of;
-      number = loaded.entry.number;
-      after = stored loaded.entry.account;
-      before = loaded.entry.before;
-      charges = charges;
-      kept = kept;
-    }) (K.content keeper.old)) }
+    ensures done { K.clean keeper.new →
+        OnOk result (IsMadeFrom loaded.entry.before (stored loaded.entry.account)
+        ((K.content keeper.old).rows loaded.entry.number) → K.content keeper.new ≡ changed (record {
+          moment = loaded.entry.account.as_of;
+          number = loaded.entry.number;
+          after = stored loaded.entry.account;
+          before = loaded.entry.before;
+          charges = charges;
+          kept = kept;
+        }) (K.content keeper.old)) }
     ensures account { IsAccount loaded.entry.account }
-    ensures err { K.clean keeper.new → OnErr result (K.content keeper.new ≡ K.content keeper.old) }
-    ensures cleanness { K.clean keeper.new → K.clean keeper.old }
-    ensures cause { HasCause (K.failed keeper.old) (K.failed keeper.new) result }
+    ensures kept { Keeps K.content K.failed K.clean keeper.old keeper.new result }
 {
     let moment = loaded.account.as_of();
     keeper.commit(loaded.into_change(moment, charges, kept))

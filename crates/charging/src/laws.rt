@@ -12,36 +12,42 @@ ghost use Rattle.charging.specs.Repeats.{AnswersOnce};
 ghost use Rattle.charging.specs.declared.running.DatedCommand.{DatedCommand};
 ghost use Rattle.charging.specs.Isolation.{IsIsolated};
 
-/// Before any command the tables are empty: those of `MemoryKeeper::new`, with which a first call can begin.
+/// Before any command the tables are empty: those of `MemoryKeeper::new`, with which a first call
+/// can begin.
 pub fn beginning()
     ensures time { IsInTime [] }
     ensures tables { (b : Book) → AreTables b [] no_tables }
 {}
 
-/// Each report and each debit of an account has the price of the blocks that it started: what is collected of it and
-/// what isn't are that price, and something is uncollected only where its reservation is used up and no eligible
-/// bucket has anything left (RFC 8506 section 5.3; TS 32.296, account balance management function). The reports are
-/// those of the accepted updates and terminations, in their order, each priced by the parts that it names.
+/// Each report and each debit of an account has the price of the blocks that it started: what is
+/// collected of it and what isn't are that price, and something is uncollected only where its
+/// reservation is used up and no eligible bucket has anything left (RFC 8506 section 5.3; TS
+/// 32.296, account balance management function). The reports are those of the accepted updates and
+/// terminations, in their order, each priced by the parts that it names.
 pub fn payment()
     ensures { (b : Book) (a : List ℕ) (list : List Accepted) →
         ArePaid b (reports_of b a list) (history b a list).ledger }
 {}
 
-/// A quota pays: a report that ends a grant, has at most its units and starts at its place of the group's counter is
-/// collected whole, whatever stood between (TS 32.299, session charging with unit reservation).
+/// A quota pays: a report that ends a grant, has at most its units and starts at its place of the
+/// group's counter is collected whole, whatever stood between (TS 32.299, session charging with
+/// unit reservation).
 pub fn quota()
-    ensures { (b : Book) → IsBook b → (a : List ℕ) (list : List Accepted) → AreQuotasPaid b (history b a list).ledger }
+    ensures { (b : Book) → IsBook b → (a : List ℕ) (list : List Accepted) →
+        AreQuotasPaid b (history b a list).ledger }
 {}
 
-/// Repeats: once a request that isn't a read or a credit is accepted, it has one answer for good. Whatever commands stand
-/// between, the same command is answered as the first time and isn't accepted again (RFC 8506 section 8.2; references of
-/// credits: profile).
+/// Repeats: once a request that isn't a read or a credit is accepted, it has one answer for good.
+/// Whatever commands stand between, the same command is answered as the first time and isn't
+/// accepted again (RFC 8506 section 8.2; references of credits: profile).
 pub fn repeats()
     ensures { AnswersOnce }
 {}
 
-/// Isolation: in a run of commands from nothing an account's answers and rows are those of its own commands alone.
-/// Others and sweeps reach it through the moments of its commands, and where moments never fall not at all (profile).
+/// Isolation: in a run of commands from nothing an account's answers and rows are those of its own
+/// commands alone. Others and sweeps reach it through the moments of its commands, and where
+/// moments never fall not at all (profile).
 pub fn isolation()
-    ensures { (book : Book) → IsBook book → (account : List ℕ) (commands : List DatedCommand) → IsIsolated book account commands }
+    ensures { (book : Book) → IsBook book → (account : List ℕ) (commands : List DatedCommand) →
+        IsIsolated book account commands }
 {}

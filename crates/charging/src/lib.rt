@@ -1,5 +1,5 @@
-//! Commands of gateways and operators over any keeper: each is answered by the history of accepted commands, and leaves
-//! the tables of that history.
+//! Commands of gateways and operators over any keeper: each is answered by the history of accepted
+//! commands, and leaves the tables of that history.
 #![tactic(auto)]
 
 mod answers;

@@ -1,6 +1,6 @@
 //! Operators' commands: accounts are opened, credited, barred, and swept.
 
-ghost use Rattle.std.specs.Prelude.{◌≡◌, ◌≤◌, IfOk, IfSome, None, Some, OnErr};
+ghost use Rattle.std.specs.Prelude.{◌≡◌, ◌≤◌, IfOk, IfSome, None, Some};
 ghost use Rattle.commands.specs.declared.command.Command.TheVariants as command;
 ghost use Rattle.commands.specs.declared.command.Content.TheVariants as content;
 ghost use Rattle.tariffs.specs.Books.{Book};
@@ -8,7 +8,7 @@ ghost use Rattle.reserving.specs.Ledger.{Ledger};
 ghost use Rattle.reserving.specs.Left.{LeftRows, IsWith};
 ghost use Rattle.keepers.specs.Keys.{key_of};
 ghost use Rattle.keepers.specs.Change.{IsLoad};
-ghost use Rattle.keepers.specs.Faults.{HasCause};
+ghost use Rattle.keepers.specs.Keeping.{Keeps, Reads};
 ghost use Rattle.charging.specs.Outcomes.{is_unusable};
 ghost use Rattle.charging.specs.Stepping.{ServesAt, Credits, bar_command};
 
@@ -30,10 +30,10 @@ pub(crate) fn open_account<K: Keeper>(
     number: AccountNumber,
     moment: Moment,
 ) -> Result<Answer, StoreFault>
-    ensures served { K.clean keeper.new → ServesAt book.now (command.OpenAccount number) moment (K.content keeper.old) (K.content keeper.new) result }
-    ensures err { K.clean keeper.new → OnErr result (K.content keeper.new ≡ K.content keeper.old) }
-    ensures cleanness { K.clean keeper.new → K.clean keeper.old }
-    ensures cause { HasCause (K.failed keeper.old) (K.failed keeper.new) result }
+    ensures served { K.clean keeper.new →
+        ServesAt book.now (command.OpenAccount number) moment (K.content keeper.old)
+        (K.content keeper.new) result }
+    ensures kept { Keeps K.content K.failed K.clean keeper.old keeper.new result }
 {
     if keeper.has_account(&number)? {
         return Ok(Answer::Refused(Refusal::AccountExists));
@@ -59,10 +59,10 @@ pub(crate) fn set_barred<K: Keeper>(
     barred: bool,
     moment: Moment,
 ) -> Result<Answer, StoreFault>
-    ensures served { K.clean keeper.new → ServesAt book.now (bar_command number barred) moment (K.content keeper.old) (K.content keeper.new) result }
-    ensures err { K.clean keeper.new → OnErr result (K.content keeper.new ≡ K.content keeper.old) }
-    ensures cleanness { K.clean keeper.new → K.clean keeper.old }
-    ensures cause { HasCause (K.failed keeper.old) (K.failed keeper.new) result }
+    ensures served { K.clean keeper.new →
+        ServesAt book.now (bar_command number barred) moment (K.content keeper.old)
+        (K.content keeper.new) result }
+    ensures kept { Keeps K.content K.failed K.clean keeper.old keeper.new result }
 {
     let Some(mut loaded) = keeper.load(book, &number, moment)? else {
         return Ok(Answer::Refused(Refusal::AccountUnknown));
@@ -79,10 +79,10 @@ pub(crate) fn sweep<K: Keeper>(
     book: &TariffBook,
     moment: Moment,
 ) -> Result<Answer, StoreFault>
-    ensures served { K.clean keeper.new → ServesAt book.now command.Sweep moment (K.content keeper.old) (K.content keeper.new) result }
-    ensures err { K.clean keeper.new → OnErr result (K.content keeper.new ≡ K.content keeper.old) }
-    ensures cleanness { K.clean keeper.new → K.clean keeper.old }
-    ensures cause { HasCause (K.failed keeper.old) (K.failed keeper.new) result }
+    ensures served { K.clean keeper.new →
+        ServesAt book.now command.Sweep moment (K.content keeper.old)
+        (K.content keeper.new) result }
+    ensures kept { Keeps K.content K.failed K.clean keeper.old keeper.new result }
 {
     let count = keeper.sweep(book, moment)?;
     Ok(Answer::Swept(count))
@@ -96,10 +96,10 @@ pub(crate) fn serve_credit<K: Keeper>(
     credit: Credit,
     moment: Moment,
 ) -> Result<Answer, StoreFault>
-    ensures served { K.clean keeper.new → ServesAt book.now (command.Credit credit) moment (K.content keeper.old) (K.content keeper.new) result }
-    ensures err { K.clean keeper.new → OnErr result (K.content keeper.new ≡ K.content keeper.old) }
-    ensures cleanness { K.clean keeper.new → K.clean keeper.old }
-    ensures cause { HasCause (K.failed keeper.old) (K.failed keeper.new) result }
+    ensures served { K.clean keeper.new →
+        ServesAt book.now (command.Credit credit) moment (K.content keeper.old)
+        (K.content keeper.new) result }
+    ensures kept { Keeps K.content K.failed K.clean keeper.old keeper.new result }
 {
     let kept = find_credit(keeper, &credit)?;
     if let Some(kept) = kept {
@@ -114,10 +114,10 @@ pub(crate) fn serve_credit<K: Keeper>(
 
 /// What is kept under a credit's reference.
 fn find_credit<K: Keeper>(keeper: &mut K, credit: &Credit) -> Result<Option<KeptAnswer>, StoreFault>
-    ensures found { K.clean keeper.new → IfOk result (λ found. found ≡ (K.content keeper.old).answers credit.now.account (key_of (content.Credit credit.now))) }
-    ensures same { K.clean keeper.new → K.content keeper.new ≡ K.content keeper.old }
-    ensures cleanness { K.clean keeper.new → K.clean keeper.old }
-    ensures cause { HasCause (K.failed keeper.old) (K.failed keeper.new) result }
+    ensures { Reads K.content K.failed K.clean keeper.old keeper.new
+        (λ found. found ≡
+        (K.content keeper.old).answers credit.now.account (key_of (content.Credit credit.now)))
+        result }
 {
     let key = Key::Reference(credit.reference.clone()?);
     keeper.find_answer(&credit.account, &key)
@@ -132,14 +132,17 @@ fn is_unusable(credit: &Credit, moment: Moment) -> bool
     credit.amount.micros() == 0 || until <= from || until <= moment
 }
 
-/// What became of a credit on an account: the number of its bucket, or None where a value is out of range.
+/// What became of a credit on an account: the number of its bucket, or None where a value is out of
+/// range.
 fn add_bucket(
     account: &mut Account,
     credit: &Credit,
     moment: Moment,
 ) -> Result<Option<u32>, AllocError>
     requires later { account.old.as_of ≤ moment }
-    ensures credits { IfOk result (λ number. (ledger : Ledger) (left : LeftRows) → IsWith ledger left moment account.old → Credits number credit.now moment ledger left account.new) }
+    ensures credits { IfOk result (λ number. (ledger : Ledger) (left : LeftRows) →
+        IsWith ledger left moment account.old →
+        Credits number credit.now moment ledger left account.new) }
     ensures moment { IfOk result (λ number. IfSome number (λ n. account.new.as_of ≡ moment)) }
     ensures tariff { account.new.book ≡ account.old.book }
 {
@@ -163,11 +166,13 @@ fn credit_account<K: Keeper>(
     credit: Credit,
     moment: Moment,
 ) -> Result<Answer, StoreFault>
-    ensures served { K.clean keeper.new → (b : Book) → IsLoad b moment credit.account ((K.content keeper.old).rows credit.account) (Some loaded.entry) → (K.content keeper.old).answers credit.account (key_of (content.Credit credit)) ≡ None →
-        ServesAt b (command.Credit credit) moment (K.content keeper.old) (K.content keeper.new) result }
-    ensures err { K.clean keeper.new → OnErr result (K.content keeper.new ≡ K.content keeper.old) }
-    ensures cleanness { K.clean keeper.new → K.clean keeper.old }
-    ensures cause { HasCause (K.failed keeper.old) (K.failed keeper.new) result }
+    ensures served { K.clean keeper.new → (b : Book) →
+        IsLoad b moment credit.account ((K.content keeper.old).rows credit.account)
+        (Some loaded.entry) → (K.content keeper.old).answers credit.account
+        (key_of (content.Credit credit)) ≡ None →
+        ServesAt b (command.Credit credit) moment (K.content keeper.old)
+        (K.content keeper.new) result }
+    ensures kept { Keeps K.content K.failed K.clean keeper.old keeper.new result }
 {
     let moment = moment_on(&loaded.account, moment);
     match add_bucket(&mut loaded.account, &credit, moment) {

@@ -1,6 +1,6 @@
 //! Requests of gateways.
 
-ghost use Rattle.std.specs.Prelude.{◌≡◌, Some, None, false, IfOk, IfSome, OnErr};
+ghost use Rattle.std.specs.Prelude.{◌≡◌, Some, None, false, IfOk, IfSome};
 ghost use Rattle.commands.specs.declared.answer.Answer.TheVariants as answer;
 ghost use Rattle.commands.specs.declared.answer.Failure.TheVariants.{InvalidAvpValue};
 ghost use Rattle.commands.specs.declared.avp.Avp.TheVariants.{RequestNumber};
@@ -10,7 +10,7 @@ ghost use Rattle.tariffs.specs.Books.{Book};
 ghost use Rattle.reserving.specs.Stored.{stored};
 ghost use Rattle.decisions.specs.Decisions.{is_read};
 ghost use Rattle.keepers.specs.Change.{IsLoad, IsMadeFrom, changed};
-ghost use Rattle.keepers.specs.Faults.{HasCause};
+ghost use Rattle.keepers.specs.Keeping.{Keeps, Reads};
 ghost use Rattle.charging.specs.Outcomes.{failed, repeated};
 ghost use Rattle.charging.specs.Stepping.{Answers, ServesAt, is_known, kept_of_request};
 
@@ -31,10 +31,10 @@ pub(crate) fn serve_request<K: Keeper>(
     request: Request,
     moment: Moment,
 ) -> Result<Answer, StoreFault>
-    ensures served { K.clean keeper.new → ServesAt book.now (Ccr request) moment (K.content keeper.old) (K.content keeper.new) result }
-    ensures err { K.clean keeper.new → OnErr result (K.content keeper.new ≡ K.content keeper.old) }
-    ensures cleanness { K.clean keeper.new → K.clean keeper.old }
-    ensures cause { HasCause (K.failed keeper.old) (K.failed keeper.new) result }
+    ensures served { K.clean keeper.new →
+        ServesAt book.now (Ccr request) moment (K.content keeper.old)
+        (K.content keeper.new) result }
+    ensures kept { Keeps K.content K.failed K.clean keeper.old keeper.new result }
 {
     let kept = find_kept(keeper, &request)?;
     if let Some(kept) = kept {
@@ -55,10 +55,8 @@ pub(crate) fn serve_request<K: Keeper>(
 
 /// Whether a request begins a session of which the account has a row.
 fn is_known<K: Keeper>(keeper: &mut K, request: &Request) -> Result<bool, StoreFault>
-    ensures found { K.clean keeper.new → IfOk result (λ known. known ≡ is_known request.now (K.content keeper.old)) }
-    ensures same { K.clean keeper.new → K.content keeper.new ≡ K.content keeper.old }
-    ensures cleanness { K.clean keeper.new → K.clean keeper.old }
-    ensures cause { HasCause (K.failed keeper.old) (K.failed keeper.new) result }
+    ensures { Reads K.content K.failed K.clean keeper.old keeper.new
+        (λ known. known ≡ is_known request.now (K.content keeper.old)) result }
 {
     if begins_session(&request.ask) {
         keeper.knows_session(&request.account, &request.session)
@@ -79,10 +77,8 @@ fn is_read(ask: &Ask) -> bool
 
 /// What is kept under a request's key; reads have none.
 fn find_kept<K: Keeper>(keeper: &mut K, request: &Request) -> Result<Option<KeptAnswer>, StoreFault>
-    ensures found { K.clean keeper.new → IfOk result (λ found. found ≡ kept_of_request request.now (K.content keeper.old)) }
-    ensures same { K.clean keeper.new → K.content keeper.new ≡ K.content keeper.old }
-    ensures cleanness { K.clean keeper.new → K.clean keeper.old }
-    ensures cause { HasCause (K.failed keeper.old) (K.failed keeper.new) result }
+    ensures { Reads K.content K.failed K.clean keeper.old keeper.new
+        (λ found. found ≡ kept_of_request request.now (K.content keeper.old)) result }
 {
     if is_read(&request.ask) {
         return Ok(None);
@@ -109,7 +105,8 @@ fn failed(request: &Request, failure: Failure) -> Result<Answer, AllocError>
 
 /// The answer to a request whose key is kept: its first answer where it is the same request.
 fn repeat(kept: KeptAnswer, request: Request) -> Result<Answer, AllocError>
-    ensures { IfOk result (λ given. given ≡ repeated kept (content.Request request) (failed request (InvalidAvpValue RequestNumber))) }
+    ensures { IfOk result (λ given. given ≡
+        repeated kept (content.Request request) (failed request (InvalidAvpValue RequestNumber))) }
 {
     let conflict = failed(&request, Failure::InvalidAvpValue(Avp::RequestNumber))?;
     Ok(repeated(kept, &Content::Request(request), conflict))
@@ -122,10 +119,12 @@ fn answer_read<K: Keeper>(
     request: &Request,
     moment: Moment,
 ) -> Result<Option<Answer>, StoreFault>
-    ensures served { K.clean keeper.new → IfOk result (λ o. IfSome o (λ given. Answers book.now (Ccr request.now) moment (K.content keeper.old) (K.content keeper.new) given)) }
+    ensures served { K.clean keeper.new →
+        IfOk result (λ o. IfSome o (λ given.
+        Answers book.now (Ccr request.now) moment (K.content keeper.old)
+        (K.content keeper.new) given)) }
     ensures same { K.clean keeper.new → K.content keeper.new ≡ K.content keeper.old }
-    ensures cleanness { K.clean keeper.new → K.clean keeper.old }
-    ensures cause { HasCause (K.failed keeper.old) (K.failed keeper.new) result }
+    ensures kept { Keeps K.content K.failed K.clean keeper.old keeper.new result }
 {
     if !is_read(&request.ask) {
         return Ok(None);
@@ -148,12 +147,13 @@ fn decide_on<K: Keeper>(
     request: Request,
     moment: Moment,
 ) -> Result<Answer, StoreFault>
-    ensures served { K.clean keeper.new → (b : Book) → IsLoad b moment request.account ((K.content keeper.old).rows request.account) (Some loaded.entry) →
-        kept_of_request request (K.content keeper.old) ≡ None → is_known request (K.content keeper.old) ≡ false →
+    ensures served { K.clean keeper.new → (b : Book) →
+        IsLoad b moment request.account ((K.content keeper.old).rows request.account)
+        (Some loaded.entry) →
+        kept_of_request request (K.content keeper.old) ≡ None →
+        is_known request (K.content keeper.old) ≡ false →
         ServesAt b (Ccr request) moment (K.content keeper.old) (K.content keeper.new) result }
-    ensures err { K.clean keeper.new → OnErr result (K.content keeper.new ≡ K.content keeper.old) }
-    ensures cleanness { K.clean keeper.new → K.clean keeper.old }
-    ensures cause { HasCause (K.failed keeper.old) (K.failed keeper.new) result }
+    ensures kept { Keeps K.content K.failed K.clean keeper.old keeper.new result }
 {
     let moment = moment_on(&loaded.account, moment);
     match decide(alloc, &mut loaded.account, &request, false, moment) {
@@ -176,17 +176,21 @@ fn keep<K: Keeper>(
     decided: Decided,
     request: Request,
 ) -> Result<Answer, StoreFault>
-    ensures done { K.clean keeper.new → IfOk result (λ given. (given ≡ answer.Request decided.answer) × (IsMadeFrom loaded.entry.before (stored loaded.entry.account) ((K.content keeper.old).rows loaded.entry.number) → K.content keeper.new ≡ changed (record {
-      moment = loaded.entry.account.as_of;
-      number = loaded.entry.number;
-      after = stored loaded.entry.account;
-      before = loaded.entry.before;
-      charges = decided.charges;
-      kept = Some (record { content = content.Request request; answer = answer.Request decided.answer });
-    }) (K.content keeper.old))) }
-    ensures err { K.clean keeper.new → OnErr result (K.content keeper.new ≡ K.content keeper.old) }
-    ensures cleanness { K.clean keeper.new → K.clean keeper.old }
-    ensures cause { HasCause (K.failed keeper.old) (K.failed keeper.new) result }
+    ensures done { K.clean keeper.new →
+        IfOk result (λ given. (given ≡ answer.Request decided.answer)
+        × (IsMadeFrom loaded.entry.before (stored loaded.entry.account)
+        ((K.content keeper.old).rows loaded.entry.number) → K.content keeper.new ≡ changed (record {
+          moment = loaded.entry.account.as_of;
+          number = loaded.entry.number;
+          after = stored loaded.entry.account;
+          before = loaded.entry.before;
+          charges = decided.charges;
+          kept = Some (record {
+            content = content.Request request;
+            answer = answer.Request decided.answer;
+          });
+        }) (K.content keeper.old))) }
+    ensures kept { Keeps K.content K.failed K.clean keeper.old keeper.new result }
 {
     let answer = Answer::Request(decided.answer);
     let Ok(copy) = copy_answer(&answer) else {

@@ -21,27 +21,35 @@ pub struct DatedCommand {
     pub command: Command,
 }
 
-/// Answers commands one after another, up to the first store fault, and commits those that are accepted. The answers are
-/// those of the definitions, each by the histories that the commands before it left; each account's buckets and charges
-/// are then the sums of its ledger.
+/// Answers commands one after another, up to the first store fault, and commits those that are
+/// accepted. The answers are those of the definitions, each by the histories that the commands
+/// before it left; each account's buckets and charges are then the sums of its ledger.
 ///
-/// At a store fault the answers before it are given, and what was accepted is that of a beginning of the commands: fault
-/// 1 where a growth was refused, 2 where the store failed. Where none is answered nothing has changed.
+/// At a store fault the answers before it are given, and what was accepted is that of a beginning
+/// of the commands: fault 1 where a growth was refused, 2 where the store failed. Where none is
+/// answered nothing has changed.
 pub fn run<K: Keeper>(
     alloc: Global,
     keeper: &mut K,
     book: &TariffBook,
     commands: Vec<DatedCommand>,
 ) -> Run
-    ensures runs { K.clean keeper.new → Runs book.now commands.items (K.content keeper.old) (K.content keeper.new) result.answers.items }
+    ensures runs { K.clean keeper.new →
+        Runs book.now commands.items (K.content keeper.old)
+        (K.content keeper.new) result.answers.items }
     ensures beginning { length result.answers.items ≤ length commands.items }
     ensures whole { IfNone result.fault (length result.answers.items ≡ length commands.items) }
-    ensures stopped { IfSome result.fault (λ fault. length result.answers.items < length commands.items) }
-    ensures unchanged { K.clean keeper.new → result.answers.items ≡ [] → K.content keeper.new ≡ K.content keeper.old }
+    ensures stopped { IfSome result.fault (λ fault.
+        length result.answers.items < length commands.items) }
+    ensures unchanged { K.clean keeper.new → result.answers.items ≡ [] →
+        K.content keeper.new ≡ K.content keeper.old }
     ensures cleanness { K.clean keeper.new → K.clean keeper.old }
     ensures failures { K.failed keeper.old ≤ K.failed keeper.new }
-    ensures cause { result.fault ≡ Some Store → min (K.failed keeper.old + 1) max_failures ≤ K.failed keeper.new }
-    ensures accounted { K.clean keeper.new → AreAccounted book.now commands.items (K.content keeper.old) (K.content keeper.new) result.answers.items }
+    ensures cause { result.fault ≡ Some Store →
+        min (K.failed keeper.old + 1) max_failures ≤ K.failed keeper.new }
+    ensures accounted { K.clean keeper.new →
+        AreAccounted book.now commands.items (K.content keeper.old)
+        (K.content keeper.new) result.answers.items }
 {
     let _ranges = book.validity();
     answer_each(alloc, keeper, book, commands)
@@ -54,14 +62,19 @@ fn answer_each<K: Keeper>(
     book: &TariffBook,
     commands: Vec<DatedCommand>,
 ) -> Run
-    ensures runs { K.clean keeper.new → Runs book.now commands.items (K.content keeper.old) (K.content keeper.new) result.answers.items }
+    ensures runs { K.clean keeper.new →
+        Runs book.now commands.items (K.content keeper.old)
+        (K.content keeper.new) result.answers.items }
     ensures beginning { length result.answers.items ≤ length commands.items }
     ensures whole { IfNone result.fault (length result.answers.items ≡ length commands.items) }
-    ensures stopped { IfSome result.fault (λ fault. length result.answers.items < length commands.items) }
-    ensures unchanged { K.clean keeper.new → result.answers.items ≡ [] → K.content keeper.new ≡ K.content keeper.old }
+    ensures stopped { IfSome result.fault (λ fault.
+        length result.answers.items < length commands.items) }
+    ensures unchanged { K.clean keeper.new → result.answers.items ≡ [] →
+        K.content keeper.new ≡ K.content keeper.old }
     ensures cleanness { K.clean keeper.new → K.clean keeper.old }
     ensures failures { K.failed keeper.old ≤ K.failed keeper.new }
-    ensures cause { result.fault ≡ Some Store → min (K.failed keeper.old + 1) max_failures ≤ K.failed keeper.new }
+    ensures cause { result.fault ≡ Some Store →
+        min (K.failed keeper.old + 1) max_failures ≤ K.failed keeper.new }
 {
     let mut answers = Vec::new(alloc);
     for dated in commands {

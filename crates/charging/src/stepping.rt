@@ -1,4 +1,5 @@
 ghost use Rattle.keepers.specs.Faults.{HasCause};
+ghost use Rattle.keepers.specs.Keeping.{Keeps};
 ghost use Rattle.std.specs.Prelude.{◌≡◌, IfOk, OnErr};
 ghost use Rattle.charging.specs.Served.{Serves};
 ghost use Rattle.charging.specs.Repeats.{IsAnsweredAgain};
@@ -11,8 +12,9 @@ use std::alloc::Global;
 use tariffs::TariffBook;
 use units::Moment;
 
-/// Answers a command, and commits it where it is accepted, at the later of this moment and that of the last accepted
-/// command. A repeat gets its first answer and changes nothing; neither does a read or a refused command.
+/// Answers a command, and commits it where it is accepted, at the later of this moment and that of
+/// the last accepted command. A repeat gets its first answer and changes nothing; neither does a
+/// read or a refused command.
 ///
 /// # Errors
 /// Store fault 1 where a growth was refused, 2 where the store failed. Then nothing has changed.
@@ -23,11 +25,14 @@ pub fn step<K: Keeper>(
     command: Command,
     moment: Moment,
 ) -> Result<Answer, StoreFault>
-    ensures served { K.clean keeper.new → Serves book.now command moment (K.content keeper.old) (K.content keeper.new) result }
+    ensures served { K.clean keeper.new →
+        Serves book.now command moment (K.content keeper.old) (K.content keeper.new) result }
     ensures err { K.clean keeper.new → OnErr result (K.content keeper.new ≡ K.content keeper.old) }
     ensures cleanness { K.clean keeper.new → K.clean keeper.old }
     ensures cause { HasCause (K.failed keeper.old) (K.failed keeper.new) result }
-    ensures again { K.clean keeper.new → IfOk result (IsAnsweredAgain book.now command (K.content keeper.old) (K.content keeper.new)) }
+    ensures again { K.clean keeper.new →
+        IfOk result (IsAnsweredAgain book.now command (K.content keeper.old)
+        (K.content keeper.new)) }
 {
     serve(alloc, keeper, book, command, moment)
 }
@@ -40,10 +45,9 @@ fn serve<K: Keeper>(
     command: Command,
     moment: Moment,
 ) -> Result<Answer, StoreFault>
-    ensures served { K.clean keeper.new → Serves book.now command moment (K.content keeper.old) (K.content keeper.new) result }
-    ensures err { K.clean keeper.new → OnErr result (K.content keeper.new ≡ K.content keeper.old) }
-    ensures cleanness { K.clean keeper.new → K.clean keeper.old }
-    ensures cause { HasCause (K.failed keeper.old) (K.failed keeper.new) result }
+    ensures served { K.clean keeper.new →
+        Serves book.now command moment (K.content keeper.old) (K.content keeper.new) result }
+    ensures kept { Keeps K.content K.failed K.clean keeper.old keeper.new result }
 {
     let last = keeper.last()?;
     let moment = moment.max(last);

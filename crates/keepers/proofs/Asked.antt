@@ -17,12 +17,14 @@ use Rattle.keepers.specs.Tables.{Rows}
 use Rattle.keepers.specs.Change.{AreRowsAt}
 use Rattle.keepers.specs.Steps.{HasNoGroups}
 
-row_is : (s : List ℕ) (state : SessionState) (o : Option Recording) → is_some (session_row s state o) ≡ is_some o
+row_is : (s : List ℕ) (state : SessionState) (o : Option Recording) →
+    is_some (session_row s state o) ≡ is_some o
 row_is s state None = refl
 row_is s state (Some r) = refl
 
 -- what a keeper answers of a session is what the ledger tells
-pub known_is : (book : Book) (ledger : Ledger) (u : ℕ) (r : Rows) (s : List ℕ) → AreRowsAt book ledger u r → is_some (r.sessions s) ≡ is_some (last_recording s ledger)
+pub known_is : (book : Book) (ledger : Ledger) (u : ℕ) (r : Rows) (s : List ℕ) →
+    AreRowsAt book ledger u r → is_some (r.sessions s) ≡ is_some (last_recording s ledger)
 known_is book ledger u r s h =
     ap is_some (h.are.sessions s ∙ h.rows.sessions s)
     ∙ row_is s (state_at book.validity h.listed.as_of ledger s) (last_recording s ledger)
@@ -32,8 +34,13 @@ if_none true x e = cc
 if_none false x e = refl
 
 -- a session without a record has no group among those left
-pub new_unleft : (book : Book) (ledger : Ledger) (u t : ℕ) (r : Rows) (s : List ℕ) (g : ℕ) (h : AreRowsAt book ledger u r) → IsBook book → HasNoGroups s ledger → group_in s g (left_of t (priced book h.listed)).groups ≡ None
+pub new_unleft : (book : Book) (ledger : Ledger) (u t : ℕ) (r : Rows) (s : List ℕ) (g : ℕ)
+    (h : AreRowsAt book ledger u r) → IsBook book → HasNoGroups s ledger →
+    group_in s g (left_of t (priced book h.listed)).groups ≡ None
 new_unleft book ledger u t r s g h ranges none =
     let whole : IsAccount (priced book h.listed) = IsAccount-priced book h.listed ranges h.kept in
-    find_filter (λ y z. is_of y.session y.group z) (is_of s g) (one_group s g) (λ y. not (is_open_row (session_in y.session h.listed.sessions))) h.listed.groups whole.groups
-    ∙ ap (only (λ (y : SessionGroup). not (is_open_row (session_in y.session h.listed.sessions)))) (h.rows.groups s g ∙ if_none (has_group s g ledger) _ (none g))
+    find_filter (λ y z. is_of y.session y.group z) (is_of s g) (one_group s g)
+    (λ y. not (is_open_row (session_in y.session h.listed.sessions))) h.listed.groups
+    whole.groups
+    ∙ ap (only (λ (y : SessionGroup). not (is_open_row (session_in y.session h.listed.sessions))))
+    (h.rows.groups s g ∙ if_none (has_group s g ledger) _ (none g))

@@ -19,26 +19,33 @@ either_true : (a b : Bool) → b ≡ true → (a || b) ≡ true
 either_true true b e = refl
 either_true false b e = e
 
-pub any_at : {A : Type 0} (q : A → Bool) (xs : List A) (i : ℕ) (d : A) → i < length xs → q (get_or xs i d) ≡ true → list_any q xs ≡ true
+pub any_at : {A : Type 0} (q : A → Bool) (xs : List A) (i : ℕ) (d : A) → i < length xs →
+    q (get_or xs i d) ≡ true → list_any q xs ≡ true
 any_at q [] i d h e = absurd (no_less i h)
 any_at q (x ∷ xs) zero d h e = ap (λ b. b || list_any q xs) e
-any_at q (x ∷ xs) (suc i) d h e = either_true (q x) (list_any q xs) (any_at q xs i d (omega (arith, h)) e)
+any_at q (x ∷ xs) (suc i) d h e =
+    either_true (q x) (list_any q xs) (any_at q xs i d (omega (arith, h)) e)
 
 neither : (a b : Bool) → a ≡ false → b ≡ false → (a || b) ≡ false
 neither a b e k = ap (λ x. x || b) e ∙ k
 
 -- no row with another key is equal
-none_equal : {A : Type 0} (same : A → A → Bool) (q : A → Bool) (x : A) → ((y : A) → same x y ≡ false → q y ≡ false) → (xs : List A) → EachIn (λ y. same x y ≡ false) xs → list_any q xs ≡ false
+none_equal : {A : Type 0} (same : A → A → Bool) (q : A → Bool) (x : A) →
+    ((y : A) → same x y ≡ false → q y ≡ false) → (xs : List A) → EachIn (λ y. same x y ≡ false) xs →
+    list_any q xs ≡ false
 none_equal same q x k [] h = refl
-none_equal same q x k (y ∷ ys) h = neither (q y) (list_any q ys) (k y h.0) (none_equal same q x k ys h.1)
+none_equal same q x k (y ∷ ys) h =
+    neither (q y) (list_any q ys) (k y h.0) (none_equal same q x k ys h.1)
 
-at_place : {A : Type 0} (same : A → A → Bool) (x : A) (xs : List A) (i : ℕ) (d : A) → i < length xs → EachIn (λ y. same x y ≡ false) xs → same x (get_or xs i d) ≡ false
+at_place : {A : Type 0} (same : A → A → Bool) (x : A) (xs : List A) (i : ℕ) (d : A) →
+    i < length xs → EachIn (λ y. same x y ≡ false) xs → same x (get_or xs i d) ≡ false
 at_place same x [] i d h e = absurd (no_less i h)
 at_place same x (y ∷ ys) zero d h e = e.0
 at_place same x (y ∷ ys) (suc i) d h e = at_place same x ys i d (omega (arith, h)) e.1
 
 -- a row with another key isn't equal
-other : {A : Type 0} (same eq : A → A → Bool) → ((x y : A) → eq x y ≡ true → x ≡ y) → (row old : A) → same old row ≡ true → (y : A) → same old y ≡ false → eq row y ≡ false
+other : {A : Type 0} (same eq : A → A → Bool) → ((x y : A) → eq x y ≡ true → x ≡ y) →
+    (row old : A) → same old row ≡ true → (y : A) → same old y ≡ false → eq row y ≡ false
 other {A} same eq sound row old key y h = at (eq row y) refl
   where
     at : (t : Bool) → eq row y ≡ t → t ≡ false
@@ -49,19 +56,25 @@ turned : (a b : ℕ) → (a == b) ≡ true → (b == a) ≡ true
 turned a b e = ap (λ n. b == n) (number_from a b e) ∙ number_itself b
 
 -- the row with the key stands at the place and differs: so do all
-pub new_at : {A : Type 0} (same eq : A → A → Bool) → ((x y : A) → same x y ≡ same y x) → ((x y : A) → eq x y ≡ true → x ≡ y) → (row : A) (xs : List A) (i : ℕ) (d : A) → i < length xs → AreApart same xs →
+pub new_at : {A : Type 0} (same eq : A → A → Bool) → ((x y : A) → same x y ≡ same y x) →
+    ((x y : A) → eq x y ≡ true → x ≡ y) → (row : A) (xs : List A) (i : ℕ) (d : A) → i < length xs →
+    AreApart same xs →
     same (get_or xs i d) row ≡ true → eq row (get_or xs i d) ≡ false → list_any (eq row) xs ≡ false
 new_at {A} same eq turn sound row [] i d h a key e = absurd (no_less i h)
-new_at {A} same eq turn sound row (x ∷ xs) zero d h a key e = neither (eq row x) (list_any (eq row) xs) e (none_equal same (eq row) x (other same eq sound row x key) xs a.0)
+new_at {A} same eq turn sound row (x ∷ xs) zero d h a key e =
+    neither (eq row x) (list_any (eq row) xs) e
+    (none_equal same (eq row) x (other same eq sound row x key) xs a.0)
 new_at {A} same eq turn sound row (x ∷ xs) (suc i) d h a key e =
     neither (eq row x) (list_any (eq row) xs)
-    (other same eq sound row (get_or xs i d) key x (turn (get_or xs i d) x ∙ at_place same x xs i d (omega (arith, h)) a.0))
+    (other same eq sound row (get_or xs i d) key x
+    (turn (get_or xs i d) x ∙ at_place same x xs i d (omega (arith, h)) a.0))
     (new_at same eq turn sound row xs i d (omega (arith, h)) a.1 key e)
 
 -- ---- keys, read either way
 
 pub turn_bucket : (x y : Row) → same_bucket x y ≡ same_bucket y x
-turn_bucket x y = same_tests (y.number == x.number) (x.number == y.number) (λ e. turned y.number x.number e) (λ e. turned x.number y.number e)
+turn_bucket x y = same_tests (y.number == x.number) (x.number == y.number)
+    (λ e. turned y.number x.number e) (λ e. turned x.number y.number e)
 
 pub turn_session : (x y : Session) → same_session x y ≡ same_session y x
 turn_session x y = is_same-sym y.id x.id
@@ -72,5 +85,7 @@ turn_group x y = is_key-sym y.session y.group x.session x.group
 pub turn_counter : (x y : Counter) → same_counter x y ≡ same_counter y x
 turn_counter x y =
     same_tests (same_counter x y) (same_counter y x)
-    (λ e. let p = both (y.group == x.group) (y.cycle == x.cycle) e in both_true (x.group == y.group) (x.cycle == y.cycle) (turned y.group x.group p.0) (turned y.cycle x.cycle p.1))
-    (λ e. let p = both (x.group == y.group) (x.cycle == y.cycle) e in both_true (y.group == x.group) (y.cycle == x.cycle) (turned x.group y.group p.0) (turned x.cycle y.cycle p.1))
+    (λ e. let p = both (y.group == x.group) (y.cycle == x.cycle) e in both_true (x.group == y.group)
+    (x.cycle == y.cycle) (turned y.group x.group p.0) (turned y.cycle x.cycle p.1))
+    (λ e. let p = both (x.group == y.group) (x.cycle == y.cycle) e in both_true (y.group == x.group)
+    (y.cycle == x.cycle) (turned x.group y.group p.0) (turned x.cycle y.cycle p.1))

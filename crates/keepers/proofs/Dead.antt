@@ -14,10 +14,12 @@ use Rattle.keepers.proofs.Found.{one_bucket}
 pub none_dead : (rows : List Row) → rows ≡ [] → AreDeadOf no_rows rows
 none_dead rows is = subst (AreDeadOf no_rows) (sym is) (record { found = λ n. refl; apart = tt })
 
-pub parts_dead : (p : Parts) → AreParts p → (rows : List Row) → rows ≡ filter is_dead (p.left.buckets ++ p.live.buckets) → AreDeadOf (rows_of p) rows
+pub parts_dead : (p : Parts) → AreParts p → (rows : List Row) →
+    rows ≡ filter is_dead (p.left.buckets ++ p.live.buckets) → AreDeadOf (rows_of p) rows
 parts_dead p h rows is =
     let all : List Row = p.left.buckets ++ p.live.buckets in
     subst (AreDeadOf (rows_of p)) (sym is) (record {
-      found = λ n. find_filter same_bucket (λ b. b.number == n) (one_bucket n) is_dead all h.buckets;
+      found = λ n. find_filter same_bucket (λ b. b.number == n)
+          (one_bucket n) is_dead all h.buckets;
       apart = apart_filter same_bucket is_dead all h.buckets;
     })

@@ -87,7 +87,10 @@ periods_from x y e =
 hold_from : (x y : Hold) → equal_hold x y ≡ true → x ≡ y
 hold_from x y e =
     let parts = both (x.bucket == y.bucket) (x.amount == y.amount) e in
-    λ i. record { bucket = number_from x.bucket y.bucket parts.0 i; amount = number_from x.amount y.amount parts.1 i }
+    λ i. record {
+      bucket = number_from x.bucket y.bucket parts.0 i;
+      amount = number_from x.amount y.amount parts.1 i;
+    }
 
 holds_from : (xs ys : List Hold) → pointwise equal_hold xs ys ≡ true → xs ≡ ys
 holds_from [] [] e = refl
@@ -103,7 +106,10 @@ reservation_from None (Some y) e = absurd (not_both e)
 reservation_from (Some x) None e = absurd (not_both e)
 reservation_from (Some x) (Some y) e =
     let parts = both (equal_periods x.periods y.periods) (pointwise equal_hold x.holds y.holds) e in
-    λ i. Some (record { periods = periods_from x.periods y.periods parts.0 i; holds = holds_from x.holds y.holds parts.1 i })
+    λ i. Some (record {
+      periods = periods_from x.periods y.periods parts.0 i;
+      holds = holds_from x.holds y.holds parts.1 i;
+    })
 
 pub group_from : (x y : SessionGroup) → equal_group x y ≡ true → x ≡ y
 group_from x y e =

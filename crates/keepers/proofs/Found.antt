@@ -13,28 +13,57 @@ use Rattle.keepers.specs.Keyed.{same_bucket}
 
 -- ---- what passes
 
-all_filter : (x : Row) (p : Row → Bool) (xs : List Row) → PrecedesAll x xs → PrecedesAll x (filter p xs)
+all_filter : (x : Row) (p : Row → Bool) (xs : List Row) → PrecedesAll x xs →
+    PrecedesAll x (filter p xs)
 all_filter x p [] h = tt
-all_filter x p (y ∷ ys) h = elim (p y) as (λ t. PrecedesAll x (cond t (y ∷ filter p ys) (filter p ys))) [ true ↦ (h.0, all_filter x p ys h.1) | false ↦ all_filter x p ys h.1 ]
+all_filter x p (y ∷ ys) h =
+    elim (p y) as (λ t. PrecedesAll x (cond t (y ∷ filter p ys) (filter p ys))) [
+      | true ↦
+          (h.0, all_filter x p ys h.1)
+      | false ↦ all_filter x p ys h.1
+    ]
 
 order_filter : (p : Row → Bool) (xs : List Row) → IsInOrder xs → IsInOrder (filter p xs)
 order_filter p [] h = tt
-order_filter p (x ∷ xs) h = elim (p x) as (λ t. IsInOrder (cond t (x ∷ filter p xs) (filter p xs))) [ true ↦ (all_filter x p xs h.0, order_filter p xs h.1) | false ↦ order_filter p xs h.1 ]
+order_filter p (x ∷ xs) h =
+    elim (p x) as (λ t. IsInOrder (cond t (x ∷ filter p xs) (filter p xs))) [
+      | true ↦
+          (all_filter x p xs h.0, order_filter p xs h.1)
+      | false ↦ order_filter p xs h.1
+    ]
 
-pub each_filter : (P : Row → Type 0) (p : Row → Bool) (xs : List Row) → Each P xs → Each P (filter p xs)
+pub each_filter : (P : Row → Type 0) (p : Row → Bool) (xs : List Row) → Each P xs →
+    Each P (filter p xs)
 each_filter P p [] h = tt
-each_filter P p (x ∷ xs) h = elim (p x) as (λ t. Each P (cond t (x ∷ filter p xs) (filter p xs))) [ true ↦ (h.0, each_filter P p xs h.1) | false ↦ each_filter P p xs h.1 ]
+each_filter P p (x ∷ xs) h =
+    elim (p x) as (λ t. Each P (cond t (x ∷ filter p xs) (filter p xs))) [
+      | true ↦
+          (h.0, each_filter P p xs h.1)
+      | false ↦ each_filter P p xs h.1
+    ]
 
 distinct_filter : (p : Row → Bool) (xs : List Row) → AreDistinct xs → AreDistinct (filter p xs)
 distinct_filter p [] h = tt
-distinct_filter p (x ∷ xs) h = elim (p x) as (λ t. AreDistinct (cond t (x ∷ filter p xs) (filter p xs))) [ true ↦ (each_filter (λ b. b.number ≢ x.number) p xs h.0, distinct_filter p xs h.1) | false ↦ distinct_filter p xs h.1 ]
+distinct_filter p (x ∷ xs) h =
+    elim (p x) as (λ t. AreDistinct (cond t (x ∷ filter p xs) (filter p xs))) [
+      | true ↦ (
+        each_filter (λ b. b.number ≢ x.number) p xs h.0,
+        distinct_filter p xs h.1,
+      )
+      | false ↦ distinct_filter p xs h.1
+    ]
 
 pub sound_filter : (p : Row → Bool) (xs : List Row) → IsSound xs → IsSound (filter p xs)
-sound_filter p xs h = record { order = order_filter p xs h.order; distinct = distinct_filter p xs h.distinct; balanced = each_filter IsBalanced p xs h.balanced }
+sound_filter p xs h = record {
+  order = order_filter p xs h.order;
+  distinct = distinct_filter p xs h.distinct;
+  balanced = each_filter IsBalanced p xs h.balanced;
+}
 
 -- ---- one number each
 
-number_apart : (x : Row) (xs : List Row) → DiffersFromAll x.number xs → EachIn (λ y. (y.number == x.number) ≡ false) xs
+number_apart : (x : Row) (xs : List Row) → DiffersFromAll x.number xs →
+    EachIn (λ y. (y.number == x.number) ≡ false) xs
 number_apart x [] h = tt
 number_apart x (y ∷ ys) h = (at (y.number == x.number) refl, number_apart x ys h.1)
   where
@@ -46,42 +75,56 @@ pub distinct_apart : (xs : List Row) → AreDistinct xs → AreApart same_bucket
 distinct_apart [] h = tt
 distinct_apart (x ∷ xs) h = (number_apart x xs h.0, distinct_apart xs h.1)
 
-pub one_bucket : (n : ℕ) (x y : Row) → (x.number == n) ≡ true → (y.number == n) ≡ true → same_bucket x y ≡ true
+pub one_bucket : (n : ℕ) (x y : Row) → (x.number == n) ≡ true → (y.number == n) ≡ true →
+    same_bucket x y ≡ true
 one_bucket n x y e k = (λ i. y.number == same_number x.number n e i) ∙ k
 
-pub bucket_filter : (n : ℕ) (p : Row → Bool) (xs : List Row) → AreDistinct xs → bucket_in n (filter p xs) ≡ only p (bucket_in n xs)
-bucket_filter n p xs h = find_filter same_bucket (λ b. b.number == n) (one_bucket n) p xs (distinct_apart xs h)
+pub bucket_filter : (n : ℕ) (p : Row → Bool) (xs : List Row) → AreDistinct xs →
+    bucket_in n (filter p xs) ≡ only p (bucket_in n xs)
+bucket_filter n p xs h = find_filter same_bucket (λ b. b.number == n) (one_bucket n) p xs
+    (distinct_apart xs h)
 
 -- ---- merged
 
-differs_placed : (n : ℕ) (b : Row) (xs : List Row) → DiffersFromAll n (placed b xs) → (b.number ≢ n) × DiffersFromAll n xs
+differs_placed : (n : ℕ) (b : Row) (xs : List Row) → DiffersFromAll n (placed b xs) →
+    (b.number ≢ n) × DiffersFromAll n xs
 differs_placed n b [] h = (h.0, tt)
 differs_placed n b (x ∷ xs) h = at (precedes b x) h (differs_placed n b xs)
   where
-    at : (t : Bool) → DiffersFromAll n (if t then b ∷ x ∷ xs else x ∷ placed b xs) → (DiffersFromAll n (placed b xs) → (b.number ≢ n) × DiffersFromAll n xs) → (b.number ≢ n) × DiffersFromAll n (x ∷ xs)
+    at : (t : Bool) → DiffersFromAll n (if t then b ∷ x ∷ xs else x ∷ placed b xs) →
+        (DiffersFromAll n (placed b xs) → (b.number ≢ n) × DiffersFromAll n xs) →
+        (b.number ≢ n) × DiffersFromAll n (x ∷ xs)
     at true k rest = (k.0, k.1)
     at false k rest = let r = rest k.1 in (r.0, (k.0, r.1))
 
-distinct_placed : (b : Row) (xs : List Row) → AreDistinct (placed b xs) → DiffersFromAll b.number xs × AreDistinct xs
+distinct_placed : (b : Row) (xs : List Row) → AreDistinct (placed b xs) →
+    DiffersFromAll b.number xs × AreDistinct xs
 distinct_placed b [] h = (tt, tt)
 distinct_placed b (x ∷ xs) h = at (precedes b x) h (distinct_placed b xs)
   where
     turned : b.number ≢ x.number → x.number ≢ b.number
     turned n e = n (sym e)
 
-    at : (t : Bool) → AreDistinct (if t then b ∷ x ∷ xs else x ∷ placed b xs) → (AreDistinct (placed b xs) → DiffersFromAll b.number xs × AreDistinct xs) → DiffersFromAll b.number (x ∷ xs) × AreDistinct (x ∷ xs)
+    at : (t : Bool) → AreDistinct (if t then b ∷ x ∷ xs else x ∷ placed b xs) →
+        (AreDistinct (placed b xs) → DiffersFromAll b.number xs × AreDistinct xs) →
+        DiffersFromAll b.number (x ∷ xs) × AreDistinct (x ∷ xs)
     at true k rest = (k.0, k.1)
-    at false k rest = let r = rest k.1 in let d = differs_placed x.number b xs k.0 in ((turned d.0, r.0), (d.1, r.1))
+    at false k rest = let r = rest k.1 in let d =
+        differs_placed x.number b xs k.0 in ((turned d.0, r.0), (d.1, r.1))
 
-bucket_placed : (n : ℕ) (b : Row) (xs : List Row) → DiffersFromAll b.number xs → bucket_in n (placed b xs) ≡ first_of (bucket_in n xs) (cond (b.number == n) (Some b) None)
+bucket_placed : (n : ℕ) (b : Row) (xs : List Row) → DiffersFromAll b.number xs →
+    bucket_in n (placed b xs) ≡ first_of (bucket_in n xs) (cond (b.number == n) (Some b) None)
 bucket_placed n b [] h = refl
-bucket_placed n b (x ∷ xs) h = at (precedes b x) (b.number == n) (x.number == n) refl refl (bucket_placed n b xs h.1)
+bucket_placed n b (x ∷ xs) h =
+    at (precedes b x) (b.number == n) (x.number == n) refl refl (bucket_placed n b xs h.1)
   where
-    none : (b.number == n) ≡ true → (ys : List Row) → DiffersFromAll b.number ys → bucket_in n ys ≡ None
+    none : (b.number == n) ≡ true → (ys : List Row) → DiffersFromAll b.number ys →
+        bucket_in n ys ≡ None
     none e [] d = refl
     none e (y ∷ ys) d = by (y.number == n) refl (none e ys d.1)
       where
-        by : (t : Bool) → (y.number == n) ≡ t → bucket_in n ys ≡ None → cond t (Some y) (bucket_in n ys) ≡ None
+        by : (t : Bool) → (y.number == n) ≡ t → bucket_in n ys ≡ None →
+            cond t (Some y) (bucket_in n ys) ≡ None
         by true k rest = absurd (d.0 (same_number y.number n k ∙ sym (same_number b.number n e)))
         by false k rest = rest
 
@@ -89,20 +132,30 @@ bucket_placed n b (x ∷ xs) h = at (precedes b x) (b.number == n) (x.number == 
     both None = refl
     both (Some y) = refl
 
-    at : (p u v : Bool) → (b.number == n) ≡ u → (x.number == n) ≡ v → bucket_in n (placed b xs) ≡ first_of (bucket_in n xs) (cond (b.number == n) (Some b) None) →
-        bucket_in n (if p then b ∷ x ∷ xs else x ∷ placed b xs) ≡ first_of (cond v (Some x) (bucket_in n xs)) (cond u (Some b) None)
-    at true true v e k rest = rw e (sym (ap (λ o. first_of o (Some b)) (ap (λ t. cond t (Some x) (bucket_in n xs)) (sym k) ∙ none e (x ∷ xs) h)))
+    at : (p u v : Bool) → (b.number == n) ≡ u → (x.number == n) ≡ v →
+        bucket_in n (placed b xs) ≡ first_of (bucket_in n xs) (cond (b.number == n) (Some b) None) →
+        bucket_in n (if p then b ∷ x ∷ xs else x ∷ placed b xs) ≡
+        first_of (cond v (Some x) (bucket_in n xs)) (cond u (Some b) None)
+    at true true v e k rest =
+        rw e
+        (sym (ap (λ o. first_of o (Some b)) (ap (λ t. cond t (Some x) (bucket_in n xs)) (sym k)
+        ∙ none e (x ∷ xs) h)))
     at true false v e k rest = rw (e, k) (sym (both (cond v (Some x) (bucket_in n xs))))
-    at false true true e k rest = absurd (h.0 (same_number x.number n k ∙ sym (same_number b.number n e)))
-    at false true false e k rest = rw k (rest ∙ ap (λ t. first_of (bucket_in n xs) (cond t (Some b) None)) e)
+    at false true true e k rest =
+        absurd (h.0 (same_number x.number n k ∙ sym (same_number b.number n e)))
+    at false true false e k rest =
+        rw k (rest ∙ ap (λ t. first_of (bucket_in n xs) (cond t (Some b) None)) e)
     at false false true e k rest = rw k refl
-    at false false false e k rest = rw k (rest ∙ ap (λ t. first_of (bucket_in n xs) (cond t (Some b) None)) e)
+    at false false false e k rest =
+        rw k (rest ∙ ap (λ t. first_of (bucket_in n xs) (cond t (Some b) None)) e)
 
-later_first : {A : Type 0} (o p q : Option A) → first_of (first_of o p) q ≡ first_of o (first_of p q)
+later_first : {A : Type 0} (o p q : Option A) →
+    first_of (first_of o p) q ≡ first_of o (first_of p q)
 later_first None p q = refl
 later_first (Some x) p q = refl
 
-cond_first : (t : Bool) (b : Row) (o : Option Row) → (t ≡ true → o ≡ None) → first_of o (cond t (Some b) None) ≡ cond t (Some b) o
+cond_first : (t : Bool) (b : Row) (o : Option Row) → (t ≡ true → o ≡ None) →
+    first_of o (cond t (Some b) None) ≡ cond t (Some b) o
 cond_first true b o h = ap (λ p. first_of p (Some b)) (h refl)
 cond_first false b None h = refl
 cond_first false b (Some x) h = refl
@@ -112,7 +165,8 @@ distinct_merged [] rows h = h
 distinct_merged (b ∷ bs) rows h = distinct_merged bs rows (distinct_placed b (merged bs rows) h).1
 
 -- found among those loaded, or among those left
-pub bucket_merged : (n : ℕ) (left rows : List Row) → AreDistinct (merged left rows) → bucket_in n (merged left rows) ≡ first_of (bucket_in n rows) (bucket_in n left)
+pub bucket_merged : (n : ℕ) (left rows : List Row) → AreDistinct (merged left rows) →
+    bucket_in n (merged left rows) ≡ first_of (bucket_in n rows) (bucket_in n left)
 bucket_merged n [] rows h = sym (both (bucket_in n rows))
   where
     both : {A : Type 0} (o : Option A) → first_of o None ≡ o
@@ -120,17 +174,20 @@ bucket_merged n [] rows h = sym (both (bucket_in n rows))
     both (Some y) = refl
 bucket_merged n (b ∷ bs) rows h =
     let d = distinct_placed b (merged bs rows) h in
-    let rest : bucket_in n (merged bs rows) ≡ first_of (bucket_in n rows) (bucket_in n bs) = bucket_merged n bs rows d.1 in
+    let rest : bucket_in n (merged bs rows) ≡ first_of (bucket_in n rows) (bucket_in n bs) =
+    bucket_merged n bs rows d.1 in
     bucket_placed n b (merged bs rows) d.0
     ∙ ap (λ o. first_of o (cond (b.number == n) (Some b) None)) rest
     ∙ later_first (bucket_in n rows) (bucket_in n bs) (cond (b.number == n) (Some b) None)
     ∙ at (sym rest) (b.number == n) refl
   where
-    none : (ys : List Row) → (b.number == n) ≡ true → DiffersFromAll b.number ys → bucket_in n ys ≡ None
+    none : (ys : List Row) → (b.number == n) ≡ true → DiffersFromAll b.number ys →
+        bucket_in n ys ≡ None
     none [] e d = refl
     none (y ∷ ys) e d = by (y.number == n) refl (none ys e d.1)
       where
-        by : (t : Bool) → (y.number == n) ≡ t → bucket_in n ys ≡ None → cond t (Some y) (bucket_in n ys) ≡ None
+        by : (t : Bool) → (y.number == n) ≡ t → bucket_in n ys ≡ None →
+            cond t (Some y) (bucket_in n ys) ≡ None
         by true k rest = absurd (d.0 (same_number y.number n k ∙ sym (same_number b.number n e)))
         by false k rest = rest
 
@@ -138,6 +195,10 @@ bucket_merged n (b ∷ bs) rows h =
     second_none None p e = e
     second_none (Some x) p e = absurd (no_some x (sym e))
 
-    at : first_of (bucket_in n rows) (bucket_in n bs) ≡ bucket_in n (merged bs rows) → (t : Bool) → (b.number == n) ≡ t → first_of (bucket_in n rows) (first_of (bucket_in n bs) (cond t (Some b) None)) ≡ first_of (bucket_in n rows) (cond t (Some b) (bucket_in n bs))
+    at : first_of (bucket_in n rows) (bucket_in n bs) ≡ bucket_in n (merged bs rows) → (t : Bool) →
+        (b.number == n) ≡ t → first_of (bucket_in n rows)
+        (first_of (bucket_in n bs) (cond t (Some b) None)) ≡
+        first_of (bucket_in n rows) (cond t (Some b) (bucket_in n bs))
     at is t e = ap (first_of (bucket_in n rows)) (cond_first t b (bucket_in n bs) (λ k.
-        second_none (bucket_in n rows) (bucket_in n bs) (is ∙ none (merged bs rows) (e ∙ k) (distinct_placed b (merged bs rows) h).0)))
+        second_none (bucket_in n rows) (bucket_in n bs)
+        (is ∙ none (merged bs rows) (e ∙ k) (distinct_placed b (merged bs rows) h).0)))

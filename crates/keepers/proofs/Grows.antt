@@ -16,11 +16,13 @@ use Rattle.reserving.proofs.Lists.{find-map, no_some, not_both}
 use Rattle.reserving.specs.Left.{bucket_in}
 use Rattle.keepers.specs.Steps.{Extends}
 
-newest_front : {A : Type 0} (f : Dated → Option A) (front old : Ledger) → newest f (front ++ old) ≡ None → newest f old ≡ None
+newest_front : {A : Type 0} (f : Dated → Option A) (front old : Ledger) →
+    newest f (front ++ old) ≡ None → newest f old ≡ None
 newest_front f [] old e = e
 newest_front f (d ∷ ds) old e = at (f d) e (newest_front f ds old)
   where
-    at : (o : Option _) → or_else o (newest f (ds ++ old)) ≡ None → (newest f (ds ++ old) ≡ None → newest f old ≡ None) → newest f old ≡ None
+    at : (o : Option _) → or_else o (newest f (ds ++ old)) ≡ None →
+        (newest f (ds ++ old) ≡ None → newest f old ≡ None) → newest f old ≡ None
     at None k rest = rest k
     at (Some x) k rest = absurd (no_some x (sym k))
 
@@ -28,17 +30,20 @@ either_false : (x y : Bool) → (x || y) ≡ false → y ≡ false
 either_false true y e = absurd (not_both (sym e))
 either_false false y e = e
 
-any_front : (p : Fact → Bool) (front old : Ledger) → any p (front ++ old) ≡ false → any p old ≡ false
+any_front : (p : Fact → Bool) (front old : Ledger) → any p (front ++ old) ≡ false →
+    any p old ≡ false
 any_front p [] old e = e
 any_front p (d ∷ ds) old e = any_front p ds old (either_false (p d.fact) (any p (ds ++ old)) e)
 
-dated_front : (p : Dated → Bool) (front old : Ledger) → any_dated p (front ++ old) ≡ false → any_dated p old ≡ false
+dated_front : (p : Dated → Bool) (front old : Ledger) → any_dated p (front ++ old) ≡ false →
+    any_dated p old ≡ false
 dated_front p [] old e = e
 dated_front p (d ∷ ds) old e = dated_front p ds old (either_false (p d) (any_dated p (ds ++ old)) e)
 
 -- ---- rows that the ledger tells
 
-no_row : (s : List ℕ) (state : SessionState) (o : Option Recording) → session_row s state o ≡ None → o ≡ None
+no_row : (s : List ℕ) (state : SessionState) (o : Option Recording) → session_row s state o ≡ None →
+    o ≡ None
 no_row s state None e = refl
 no_row s state (Some r) e = absurd (no_some _ (sym e))
 
@@ -50,7 +55,8 @@ if_none : {A : Type 0} (t : Bool) (x : A) → t ≡ false → (if t then Some x 
 if_none true x e = absurd (not_both (sym e))
 if_none false x e = refl
 
-inserted_none : (n : ℕ) (b : Row) (xs : List Row) → bucket_in n (inserted b xs) ≡ None → bucket_in n xs ≡ None
+inserted_none : (n : ℕ) (b : Row) (xs : List Row) → bucket_in n (inserted b xs) ≡ None →
+    bucket_in n xs ≡ None
 inserted_none n b [] e = refl
 inserted_none n b (x ∷ xs) e = at (nat_lt b.until x.until) e (inserted_none n b xs)
   where
@@ -58,16 +64,21 @@ inserted_none n b (x ∷ xs) e = at (nat_lt b.until x.until) e (inserted_none n 
     first true o k = absurd (no_some b (sym k))
     first false o k = k
 
-    later : (u : Bool) → cond u (Some x) (bucket_in n (inserted b xs)) ≡ None → (bucket_in n (inserted b xs) ≡ None → bucket_in n xs ≡ None) → cond u (Some x) (bucket_in n xs) ≡ None
+    later : (u : Bool) → cond u (Some x) (bucket_in n (inserted b xs)) ≡ None →
+        (bucket_in n (inserted b xs) ≡ None → bucket_in n xs ≡ None) →
+        cond u (Some x) (bucket_in n xs) ≡ None
     later true k rest = absurd (no_some x (sym k))
     later false k rest = rest k
 
-    at : (t : Bool) → bucket_in n (if t then b ∷ x ∷ xs else x ∷ inserted b xs) ≡ None → (bucket_in n (inserted b xs) ≡ None → bucket_in n xs ≡ None) → bucket_in n (x ∷ xs) ≡ None
+    at : (t : Bool) → bucket_in n (if t then b ∷ x ∷ xs else x ∷ inserted b xs) ≡ None →
+        (bucket_in n (inserted b xs) ≡ None → bucket_in n xs ≡ None) → bucket_in n (x ∷ xs) ≡ None
     at true k rest = first (b.number == n) (bucket_in n (x ∷ xs)) k
     at false k rest = later (x.number == n) k rest
 
-credited_none : (n : ℕ) (f : Fact) (xs : List Row) → bucket_in n (credited_by f xs) ≡ None → bucket_in n xs ≡ None
-credited_none n (Credit number from until scope amount) xs e = inserted_none n (new_row number from until scope amount) xs e
+credited_none : (n : ℕ) (f : Fact) (xs : List Row) → bucket_in n (credited_by f xs) ≡ None →
+    bucket_in n xs ≡ None
+credited_none n (Credit number from until scope amount) xs e =
+    inserted_none n (new_row number from until scope amount) xs e
 credited_none n (Grant session group periods units counter) xs e = e
 credited_none n (Hold session group bucket amount) xs e = e
 credited_none n (End session group) xs e = e
@@ -78,34 +89,55 @@ credited_none n (Close session) xs e = e
 credited_none n (Recorded session number) xs e = e
 credited_none n (Barred barred) xs e = e
 
-credits_front : (n : ℕ) (front old : Ledger) → bucket_in n (credits (front ++ old)) ≡ None → bucket_in n (credits old) ≡ None
+credits_front : (n : ℕ) (front old : Ledger) → bucket_in n (credits (front ++ old)) ≡ None →
+    bucket_in n (credits old) ≡ None
 credits_front n [] old e = e
-credits_front n (d ∷ ds) old e = credits_front n ds old (credited_none n d.fact (credits (ds ++ old)) e)
+credits_front n (d ∷ ds) old e =
+    credits_front n ds old (credited_none n d.fact (credits (ds ++ old)) e)
 
 mapped_none : {A B : Type 0} (f : A → B) (o : Option A) → option_map f o ≡ None → o ≡ None
 mapped_none f None e = refl
 mapped_none f (Some x) e = absurd (no_some (f x) (sym e))
 
-bucket_found : (n v t : ℕ) (ledger : Ledger) → bucket_in n (buckets_at v t ledger) ≡ option_map (bucket_at v t ledger) (bucket_in n (credits ledger))
-bucket_found n v t ledger = find-map (λ b. b.number == n) (bucket_at v t ledger) (credits ledger) (λ b. refl)
+bucket_found : (n v t : ℕ) (ledger : Ledger) →
+    bucket_in n (buckets_at v t ledger) ≡
+    option_map (bucket_at v t ledger) (bucket_in n (credits ledger))
+bucket_found n v t ledger =
+    find-map (λ b. b.number == n) (bucket_at v t ledger) (credits ledger) (λ b. refl)
 
 module _ (old new : Ledger) (more : Extends old new) where
-  pub session_stays : (v t w u : ℕ) (s : List ℕ) → session_at w u new s ≡ None → session_at v t old s ≡ None
+  pub session_stays : (v t w u : ℕ) (s : List ℕ) → session_at w u new s ≡ None →
+      session_at v t old s ≡ None
   session_stays v t w u s e =
-      let none : last_recording s new ≡ None = no_row s (state_at w u new s) (last_recording s new) e in
-      ap (session_row s (state_at v t old s)) (newest_front (recording_in s) more.front old (subst (λ (l : Ledger). last_recording s l ≡ None) more.is none))
+      let none : last_recording s new ≡ None =
+      no_row s (state_at w u new s) (last_recording s new) e in
+      ap (session_row s (state_at v t old s))
+      (newest_front (recording_in s) more.front old
+      (subst (λ (l : Ledger). last_recording s l ≡ None) more.is none))
 
-  pub group_stays : (v t w u : ℕ) (s : List ℕ) (g : ℕ) → group_at w u new s g ≡ None → group_at v t old s g ≡ None
+  pub group_stays : (v t w u : ℕ) (s : List ℕ) (g : ℕ) → group_at w u new s g ≡ None →
+      group_at v t old s g ≡ None
   group_stays v t w u s g e =
       let none : has_group s g new ≡ false = none_of (has_group s g new) _ e in
-      if_none (has_group s g old) _ (any_front (names_group s g) more.front old (subst (λ (l : Ledger). has_group s g l ≡ false) more.is none))
+      if_none (has_group s g old) _
+      (any_front (names_group s g) more.front old
+      (subst (λ (l : Ledger). has_group s g l ≡ false) more.is none))
 
-  pub counter_stays : (cycle_of : ℕ → ℕ) (g c : ℕ) → counter_at cycle_of new g c ≡ None → counter_at cycle_of old g c ≡ None
+  pub counter_stays : (cycle_of : ℕ → ℕ) (g c : ℕ) → counter_at cycle_of new g c ≡ None →
+      counter_at cycle_of old g c ≡ None
   counter_stays cycle_of g c e =
-      let none : has_counter cycle_of g c new ≡ false = none_of (has_counter cycle_of g c new) _ e in
-      if_none (has_counter cycle_of g c old) _ (dated_front (counts_group cycle_of g c) more.front old (subst (λ (l : Ledger). has_counter cycle_of g c l ≡ false) more.is none))
+      let none : has_counter cycle_of g c new ≡ false =
+      none_of (has_counter cycle_of g c new) _ e in
+      if_none (has_counter cycle_of g c old) _
+      (dated_front (counts_group cycle_of g c) more.front old
+      (subst (λ (l : Ledger). has_counter cycle_of g c l ≡ false) more.is none))
 
-  pub bucket_stays : (v t w u n : ℕ) → bucket_in n (buckets_at w u new) ≡ None → bucket_in n (buckets_at v t old) ≡ None
+  pub bucket_stays : (v t w u n : ℕ) → bucket_in n (buckets_at w u new) ≡ None →
+      bucket_in n (buckets_at v t old) ≡ None
   bucket_stays v t w u n e =
-      let none : bucket_in n (credits new) ≡ None = mapped_none (bucket_at w u new) (bucket_in n (credits new)) (sym (bucket_found n w u new) ∙ e) in
-      bucket_found n v t old ∙ ap (option_map (bucket_at v t old)) (credits_front n more.front old (subst (λ (l : Ledger). bucket_in n (credits l) ≡ None) more.is none))
+      let none : bucket_in n (credits new) ≡ None =
+      mapped_none (bucket_at w u new) (bucket_in n (credits new))
+      (sym (bucket_found n w u new) ∙ e) in
+      bucket_found n v t old ∙ ap (option_map (bucket_at v t old))
+      (credits_front n more.front old
+      (subst (λ (l : Ledger). bucket_in n (credits l) ≡ None) more.is none))

@@ -20,27 +20,40 @@ none_behind : {A : Type 0} (l x : Option A) → is_some x ≡ false → is_some 
 none_behind None x e = sym e
 none_behind (Some y) x e = refl
 
-pub known_live : (s : List ℕ) (left live : List Session) → is_some (session_in s live) ≡ true → true ≡ is_some (session_in s (left ++ live))
-known_live s left live e = some_behind (session_in s left) (session_in s live) e ∙ ap is_some (sym (find_both (is_session s) left live))
+pub known_live : (s : List ℕ) (left live : List Session) → is_some (session_in s live) ≡ true →
+    true ≡ is_some (session_in s (left ++ live))
+known_live s left live e = some_behind (session_in s left) (session_in s live) e
+    ∙ ap is_some (sym (find_both (is_session s) left live))
 
-pub known_left : (s : List ℕ) (left live : List Session) → is_some (session_in s live) ≡ false → is_some (session_in s left) ≡ is_some (session_in s (left ++ live))
-known_left s left live e = none_behind (session_in s left) (session_in s live) e ∙ ap is_some (sym (find_both (is_session s) left live))
+pub known_left : (s : List ℕ) (left live : List Session) → is_some (session_in s live) ≡ false →
+    is_some (session_in s left) ≡ is_some (session_in s (left ++ live))
+known_left s left live e = none_behind (session_in s left) (session_in s live) e
+    ∙ ap is_some (sym (find_both (is_session s) left live))
 
 -- a name that isn't kept has no row among those that were left
-unnamed : (names : Names) (s : List ℕ) (left : List Session) → AreLeftSessions names left → is_named names s ≡ false → is_some (session_in s left) ≡ false
+unnamed : (names : Names) (s : List ℕ) (left : List Session) → AreLeftSessions names left →
+    is_named names s ≡ false → is_some (session_in s left) ≡ false
 unnamed names s left h e = at (session_in s left) refl
   where
     at : (o : Option Session) → session_in s left ≡ o → is_some o ≡ false
     at None f = refl
     at (Some r) f =
-        let known = (among (λ r. (is_open r.state ≡ false) × (is_named names r.id ≡ true)) (is_session s) left r h f).1 in
-        absurd (not_both (sym e ∙ ap (is_named names) (sym (same_from r.id s (find-passes (is_session s) left r f))) ∙ known))
+        let known = (among (λ r. (is_open r.state ≡ false) × (is_named names r.id ≡ true))
+        (is_session s) left r h f).1 in
+        absurd
+        (not_both (sym e ∙ ap (is_named names)
+        (sym (same_from r.id s (find-passes (is_session s) left r f))) ∙ known))
 
-pub known_none : (names : Names) (s : List ℕ) (left live : List Session) → AreLeftSessions names left → is_named names s ≡ false → is_some (session_in s live) ≡ false → false ≡ is_some (session_in s (left ++ live))
+pub known_none : (names : Names) (s : List ℕ) (left live : List Session) →
+    AreLeftSessions names left → is_named names s ≡ false → is_some (session_in s live) ≡ false →
+    false ≡ is_some (session_in s (left ++ live))
 known_none names s left live h e f = sym (unnamed names s left h e) ∙ known_left s left live f
 
 -- a name that was kept stays so
-pub named_on : (was is : Names) (name : List ℕ) → ((q : List ℕ) → get same_name is q ≡ cond (same_name name q) (Some true) (get same_name was q)) → (s : List ℕ) → is_named was s ≡ true → is_named is s ≡ true
+pub named_on : (was is : Names) (name : List ℕ) →
+    ((q : List ℕ) → get same_name is q ≡
+    cond (same_name name q) (Some true) (get same_name was q)) → (s : List ℕ) →
+    is_named was s ≡ true → is_named is s ≡ true
 named_on was is name updates s e = ap is_some (updates s) ∙ at (same_name name s)
   where
     at : (t : Bool) → is_some (cond t (Some true) (get same_name was s)) ≡ true

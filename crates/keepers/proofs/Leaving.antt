@@ -1,4 +1,5 @@
--- What a call left beside the rows that weren't loaded: the change may be committed, and the tables after it.
+-- What a call left beside the rows that weren't loaded: the change may be committed, and the tables
+-- after it.
 use Rattle.std.proofs.Common.{◌≡◌, ℕ, Bool, true, false, List, [], ◌++◌, refl, sym, ap, subst, ◌∙◌, Option, Some, None}
 use Rattle.std.specs.Prelude.{if◌then◌else◌, ◌==◌, not, is_some, option_map}
 use Rattle.buckets.specs.Row.{Row}
@@ -39,16 +40,19 @@ only_some p (Some y) x e = at (p y) e
     at true k = k
     at false k = absurd (no_some x k)
 
-if_some : {A : Type 0} (t : Bool) (o : Option A) (x : A) → (if t then o else None) ≡ Some x → o ≡ Some x
+if_some : {A : Type 0} (t : Bool) (o : Option A) (x : A) → (if t then o else None) ≡ Some x →
+    o ≡ Some x
 if_some true o x e = e
 if_some false o x e = absurd (no_some x e)
 
-held_if : (t : Bool) (o : Option GroupRow) (x : GroupRow) (m n : ℕ) → (if t then o else None) ≡ Some x → m ≡ (if t then n else 0) → n ≡ m
+held_if : (t : Bool) (o : Option GroupRow) (x : GroupRow) (m n : ℕ) →
+    (if t then o else None) ≡ Some x → m ≡ (if t then n else 0) → n ≡ m
 held_if true o x m n e k = sym k
 held_if false o x m n e k = absurd (no_some x e)
 
 -- what is told by one of two lists alone
-told_by_one : {A : Type 0} (o l x : Option A) → (x ≡ None → o ≡ l) → ((y : A) → l ≡ Some y → x ≡ None) → first_of x o ≡ first_of l x
+told_by_one : {A : Type 0} (o l x : Option A) → (x ≡ None → o ≡ l) →
+    ((y : A) → l ≡ Some y → x ≡ None) → first_of x o ≡ first_of l x
 told_by_one o None None h k = h refl
 told_by_one o None (Some x) h k = refl
 told_by_one o (Some y) None h k = h refl
@@ -58,12 +62,18 @@ none_both : {A : Type 0} (l x : Option A) → l ≡ None → x ≡ None → firs
 none_both l x e k = ap (λ o. first_of o x) e ∙ k
 
 dead_is : (b : Row) → is_dead b ≡ true → IsDead b
-dead_is b e = record { available = same_number b.available 0 (first_true (b.available == 0) (b.reserved == 0) e); reserved = same_number b.reserved 0 (second_true (b.available == 0) (b.reserved == 0) e) }
+dead_is b e = record {
+  available = same_number b.available 0
+      (first_true (b.available == 0) (b.reserved == 0) e);
+  reserved = same_number b.reserved 0 (second_true (b.available == 0) (b.reserved == 0) e);
+}
 
 not_held : (r : SessionGroup) → is_some r.reservation ≡ false → r.reservation ≡ None
 not_held r e = Rattle.reserving.proofs.KeysFound.is_none_is r.reservation e
 
-module _ (book : Book) (before after : Ledger) (u t : ℕ) (r : Rows) (a x : AccountRows) (h : AreRowsAt book before u r) (own : IsAccount a) (loads : IsLoadedFrom book t r a) (same : x.book ≡ book) (more : Extends before after)
+module _ (book : Book) (before after : Ledger) (u t : ℕ) (r : Rows) (a x : AccountRows)
+    (h : AreRowsAt book before u r) (own : IsAccount a) (loads : IsLoadedFrom book t r a)
+    (same : x.book ≡ book) (more : Extends before after)
     (left_with : IsWith after (left_of t (priced book h.listed)) t x) where
   abbrev w : AccountRows
   w = priced book h.listed
@@ -79,98 +89,153 @@ module _ (book : Book) (before after : Ledger) (u t : ℕ) (r : Rows) (a x : Acc
   bucket_left : (n : ℕ) → bucket_in n left.buckets ≡ only is_dead (bucket_in n w.buckets)
   bucket_left n = bucket_filter n is_dead w.buckets whole.sound.distinct
 
-  bucket_after : (n : ℕ) → bucket_in n (merged left.buckets x.buckets) ≡ first_of (bucket_in n x.buckets) (bucket_in n left.buckets)
+  bucket_after : (n : ℕ) → bucket_in n (merged left.buckets x.buckets) ≡
+      first_of (bucket_in n x.buckets) (bucket_in n left.buckets)
   bucket_after n = bucket_merged n left.buckets x.buckets left_with.apart.whole.sound.distinct
 
-  bucket_gone : (n : ℕ) (y : Row) → bucket_in n w.buckets ≡ Some y → bucket_in n x.buckets ≡ None → is_dead y ≡ true
+  bucket_gone : (n : ℕ) (y : Row) → bucket_in n w.buckets ≡ Some y → bucket_in n x.buckets ≡ None →
+      is_dead y ≡ true
   bucket_gone n y e k = at (is_dead y) refl
     where
       at : (d : Bool) → is_dead y ≡ d → d ≡ true
       at true f = refl
       at false f =
-          let none : bucket_in n left.buckets ≡ None = bucket_left n ∙ ap (only is_dead) e ∙ ap (λ v. if v then Some y else None) f in
-          let gone : bucket_in n (buckets_at x.book.validity x.as_of after) ≡ None = ap (bucket_in n) (sym left_with.rows.buckets) ∙ bucket_after n ∙ none_both (bucket_in n x.buckets) (bucket_in n left.buckets) k none in
-          absurd (no_some y (sym (bucket_stays before after more w.book.validity w.as_of x.book.validity x.as_of n gone) ∙ ap (bucket_in n) (sym h.rows.buckets) ∙ e))
+          let none : bucket_in n left.buckets ≡ None = bucket_left n ∙ ap (only is_dead) e
+          ∙ ap (λ v. if v then Some y else None) f in
+          let gone : bucket_in n (buckets_at x.book.validity x.as_of after) ≡ None =
+          ap (bucket_in n) (sym left_with.rows.buckets) ∙ bucket_after n
+          ∙ none_both (bucket_in n x.buckets) (bucket_in n left.buckets) k none in
+          absurd
+          (no_some y
+          (sym (bucket_stays before after more w.book.validity w.as_of x.book.validity x.as_of n
+          gone) ∙ ap (bucket_in n) (sym h.rows.buckets) ∙ e))
 
-  session_left : (s : List ℕ) → session_in s left.sessions ≡ only (λ y. not (is_open y.state)) (session_in s w.sessions)
-  session_left s = find_filter (λ y z. is_session y.id z) (is_session s) (one_session s) (λ y. not (is_open y.state)) w.sessions whole.sessions
+  session_left : (s : List ℕ) →
+      session_in s left.sessions ≡ only (λ y. not (is_open y.state)) (session_in s w.sessions)
+  session_left s = find_filter (λ y z. is_session y.id z) (is_session s) (one_session s)
+      (λ y. not (is_open y.state)) w.sessions whole.sessions
 
-  session_gone : (s : List ℕ) (y : Session) → session_in s w.sessions ≡ Some y → session_in s x.sessions ≡ None → is_open y.state ≡ false
+  session_gone : (s : List ℕ) (y : Session) → session_in s w.sessions ≡ Some y →
+      session_in s x.sessions ≡ None → is_open y.state ≡ false
   session_gone s y e k = at (is_open y.state) refl
     where
       at : (d : Bool) → is_open y.state ≡ d → d ≡ false
       at false f = refl
       at true f =
-          let none : session_in s left.sessions ≡ None = session_left s ∙ ap (only (λ (z : Session). not (is_open z.state))) e ∙ ap (λ v. if not v then Some y else None) f in
-          let gone = sym (left_with.rows.sessions s) ∙ find_both (is_session s) left.sessions x.sessions ∙ none_both (session_in s left.sessions) (session_in s x.sessions) none k in
-          absurd (no_some y (sym (session_stays before after more w.book.validity w.as_of x.book.validity x.as_of s gone) ∙ sym (h.rows.sessions s) ∙ e))
+          let none : session_in s left.sessions ≡ None = session_left s
+          ∙ ap (only (λ (z : Session). not (is_open z.state))) e
+          ∙ ap (λ v. if not v then Some y else None) f in
+          let gone = sym (left_with.rows.sessions s)
+          ∙ find_both (is_session s) left.sessions x.sessions
+          ∙ none_both (session_in s left.sessions) (session_in s x.sessions) none k in
+          absurd
+          (no_some y
+          (sym (session_stays before after more w.book.validity w.as_of x.book.validity x.as_of
+          s gone) ∙ sym (h.rows.sessions s) ∙ e))
 
   abbrev of_open : SessionGroup → Bool
   of_open y = is_open_row (session_in y.session w.sessions)
 
-  own_session : (s : List ℕ) (g : ℕ) (y : SessionGroup) → group_in s g w.groups ≡ Some y → y.session ≡ s
-  own_session s g y e = same_from y.session s (first_true (is_same y.session s) (y.group == g) (find-passes (is_of s g) w.groups y e))
+  own_session : (s : List ℕ) (g : ℕ) (y : SessionGroup) → group_in s g w.groups ≡ Some y →
+      y.session ≡ s
+  own_session s g y e = same_from y.session s
+      (first_true (is_same y.session s) (y.group == g) (find-passes (is_of s g) w.groups y e))
 
-  group_left : (s : List ℕ) (g : ℕ) → group_in s g left.groups ≡ only (λ y. not (of_open y)) (group_in s g w.groups)
-  group_left s g = find_filter (λ y z. is_of y.session y.group z) (is_of s g) (one_group s g) (λ y. not (of_open y)) w.groups whole.groups
+  group_left : (s : List ℕ) (g : ℕ) →
+      group_in s g left.groups ≡ only (λ y. not (of_open y)) (group_in s g w.groups)
+  group_left s g = find_filter (λ y z. is_of y.session y.group z) (is_of s g) (one_group s g)
+      (λ y. not (of_open y)) w.groups whole.groups
 
-  group_gone : (s : List ℕ) (g : ℕ) (y : SessionGroup) → group_in s g w.groups ≡ Some y → group_in s g x.groups ≡ None → of_open y ≡ false
+  group_gone : (s : List ℕ) (g : ℕ) (y : SessionGroup) → group_in s g w.groups ≡ Some y →
+      group_in s g x.groups ≡ None → of_open y ≡ false
   group_gone s g y e k = at (of_open y) refl
     where
       at : (d : Bool) → of_open y ≡ d → d ≡ false
       at false f = refl
       at true f =
-          let none : group_in s g left.groups ≡ None = group_left s g ∙ ap (only (λ (z : SessionGroup). not (of_open z))) e ∙ ap (λ v. if not v then Some y else None) f in
-          let gone = sym (left_with.rows.groups s g) ∙ find_both (is_of s g) left.groups x.groups ∙ none_both (group_in s g left.groups) (group_in s g x.groups) none k in
-          absurd (no_some y (sym (group_stays before after more w.book.validity w.as_of x.book.validity x.as_of s g gone) ∙ sym (h.rows.groups s g) ∙ e))
+          let none : group_in s g left.groups ≡ None = group_left s g
+          ∙ ap (only (λ (z : SessionGroup). not (of_open z))) e
+          ∙ ap (λ v. if not v then Some y else None) f in
+          let gone = sym (left_with.rows.groups s g) ∙ find_both (is_of s g) left.groups x.groups
+          ∙ none_both (group_in s g left.groups) (group_in s g x.groups) none k in
+          absurd
+          (no_some y
+          (sym (group_stays before after more w.book.validity w.as_of x.book.validity x.as_of s
+          g gone) ∙ sym (h.rows.groups s g) ∙ e))
 
-  group_is_left : (s : List ℕ) (g : ℕ) (y : SessionGroup) → group_in s g w.groups ≡ Some y → of_open y ≡ false → group_in s g left.groups ≡ Some y
-  group_is_left s g y e f = group_left s g ∙ ap (only (λ (z : SessionGroup). not (of_open z))) e ∙ ap (λ v. if not v then Some y else None) f
+  group_is_left : (s : List ℕ) (g : ℕ) (y : SessionGroup) → group_in s g w.groups ≡ Some y →
+      of_open y ≡ false → group_in s g left.groups ≡ Some y
+  group_is_left s g y e f = group_left s g ∙ ap (only (λ (z : SessionGroup). not (of_open z))) e
+      ∙ ap (λ v. if not v then Some y else None) f
 
   abbrev of_cycle : Counter → Bool
   of_cycle y = y.cycle == cycle_at book y.group t
 
-  counter_left : (g c : ℕ) → counter_in g c left.counters ≡ only (λ y. not (of_cycle y)) (counter_in g c w.counters)
-  counter_left g c = find_filter (λ y z. is_counter y.group y.cycle z) (is_counter g c) (one_counter g c) (λ y. not (of_cycle y)) w.counters whole.counters
+  counter_left : (g c : ℕ) →
+      counter_in g c left.counters ≡ only (λ y. not (of_cycle y)) (counter_in g c w.counters)
+  counter_left g c = find_filter (λ y z. is_counter y.group y.cycle z) (is_counter g c)
+      (one_counter g c) (λ y. not (of_cycle y)) w.counters whole.counters
 
-  counter_gone : (g c : ℕ) (y : Counter) → counter_in g c w.counters ≡ Some y → counter_in g c x.counters ≡ None → of_cycle y ≡ false
+  counter_gone : (g c : ℕ) (y : Counter) → counter_in g c w.counters ≡ Some y →
+      counter_in g c x.counters ≡ None → of_cycle y ≡ false
   counter_gone g c y e k = at (of_cycle y) refl
     where
       at : (d : Bool) → of_cycle y ≡ d → d ≡ false
       at false f = refl
       at true f =
-          let none : counter_in g c left.counters ≡ None = counter_left g c ∙ ap (only (λ (z : Counter). not (of_cycle z))) e ∙ ap (λ v. if not v then Some y else None) f in
-          let gone = sym (left_with.rows.counters g c) ∙ find_both (is_counter g c) left.counters x.counters ∙ none_both (counter_in g c left.counters) (counter_in g c x.counters) none k in
-          absurd (no_some y (sym (counter_stays before after more (cycle_at w.book g) g c (subst (λ (b : Book). Rattle.reserving.specs.Sessions.counter_at (cycle_at b g) after g c ≡ None) same gone)) ∙ sym (h.rows.counters g c) ∙ e))
+          let none : counter_in g c left.counters ≡ None = counter_left g c
+          ∙ ap (only (λ (z : Counter). not (of_cycle z))) e
+          ∙ ap (λ v. if not v then Some y else None) f in
+          let gone = sym (left_with.rows.counters g c)
+          ∙ find_both (is_counter g c) left.counters x.counters
+          ∙ none_both (counter_in g c left.counters) (counter_in g c x.counters) none k in
+          absurd
+          (no_some y
+          (sym (counter_stays before after more (cycle_at w.book g) g c
+          (subst (λ (b : Book). Rattle.reserving.specs.Sessions.counter_at
+          (cycle_at b g) after g c ≡ None) same gone)) ∙ sym (h.rows.counters g c) ∙ e))
 
   -- ---- the change may be committed
 
   pub made : IsMadeFrom (stored a) (stored x) r
   made = record {
     buckets = λ n y e. only_some (λ b. not (is_dead b)) (r.buckets n) y (sym (loads.buckets n) ∙ e);
-    counters = λ g c y e. if_some (c == cycle_at book g t) (r.counters g c) y (sym (loads.counters g c) ∙ e);
-    sessions = λ s y e. only_some (λ z. is_open z.state) (r.sessions s) y (sym (loads.sessions s) ∙ e);
-    groups = λ s g y e. if_some (is_loaded r s g) (r.groups s g) (group_row y) (sym (loads.groups s g) ∙ ap (option_map group_row) e);
-    holds = λ s g n y e. held_if (is_loaded r s g) (r.groups s g) (group_row y) (held_of n (Some y)) (r.holds s g n) (sym (loads.groups s g) ∙ ap (option_map group_row) e) (ap (held_of n) (sym e) ∙ loads.holds s g n);
+    counters = λ g c y e. if_some (c == cycle_at book g t) (r.counters g c) y
+        (sym (loads.counters g c) ∙ e);
+    sessions = λ s y e. only_some (λ z. is_open z.state) (r.sessions s) y
+        (sym (loads.sessions s) ∙ e);
+    groups = λ s g y e. if_some (is_loaded r s g) (r.groups s g) (group_row y)
+        (sym (loads.groups s g) ∙ ap (option_map group_row) e);
+    holds = λ s g n y e. held_if (is_loaded r s g) (r.groups s g) (group_row y) (held_of n (Some y))
+        (r.holds s g n) (sym (loads.groups s g) ∙ ap (option_map group_row) e)
+        (ap (held_of n) (sym e) ∙ loads.holds s g n);
     dead = λ n y e k. dead_is y (bucket_gone n y (sym (h.are.buckets n) ∙ e) k);
     ended = λ s y e k. session_gone s y (sym (h.are.sessions s) ∙ e) k;
     free = λ s g y e k. free_row s g y (group_in s g w.groups) refl (sym (h.are.groups s g) ∙ e) k;
   }
     where
-      free_row : (s : List ℕ) (g : ℕ) (row : GroupRow) (o : Option SessionGroup) → group_in s g w.groups ≡ o → option_map group_row o ≡ Some row → group_in s g x.groups ≡ None → (row.periods ≡ None) × (session_in s x.sessions ≡ None)
+      free_row : (s : List ℕ) (g : ℕ) (row : GroupRow) (o : Option SessionGroup) →
+          group_in s g w.groups ≡ o → option_map group_row o ≡ Some row →
+          group_in s g x.groups ≡ None → (row.periods ≡ None) × (session_in s x.sessions ≡ None)
       free_row s g row None there e k = absurd (no_some row e)
       free_row s g row (Some y) there e k =
           let closed : of_open y ≡ false = group_gone s g y there k in
           let of : y.session ≡ s = own_session s g y there in
           let is_left : group_in s g left.groups ≡ Some y = group_is_left s g y there closed in (
-            ap (λ (z : GroupRow). z.periods) (sym (some_of (group_row y) row e)) ∙ ap (λ (o : Option Reservation). option_map (λ (z : Reservation). z.periods) o) (among (λ z. z.reservation ≡ None) (is_of s g) left.groups y left_with.apart.free is_left),
-            ap (λ n. session_in n x.sessions) (sym of) ∙ among (λ z. session_in z.session x.sessions ≡ None) (is_of s g) left.groups y left_with.apart.others is_left,
+            ap (λ (z : GroupRow). z.periods) (sym (some_of (group_row y) row e))
+                ∙ ap (λ (o : Option Reservation). option_map (λ (z : Reservation). z.periods) o)
+                (among (λ z. z.reservation ≡ None) (is_of s g) left.groups y left_with.apart.free
+                is_left),
+            ap (λ n. session_in n x.sessions) (sym of)
+                ∙ among (λ z. session_in z.session x.sessions ≡ None)
+                (is_of s g) left.groups y left_with.apart.others is_left,
           )
 
   -- ---- the tables after it
 
   -- what was there and isn't among the rows after it is left as it was
-  same_left : {A : Type 0} (p : A → Bool) (o l : Option A) → l ≡ only p o → ((y : A) → o ≡ Some y → p y ≡ true) → o ≡ l
+  same_left : {A : Type 0} (p : A → Bool) (o l : Option A) → l ≡ only p o →
+      ((y : A) → o ≡ Some y → p y ≡ true) → o ≡ l
   same_left p None l e k = sym e
   same_left p (Some y) l e k = sym (e ∙ ap (λ v. if v then Some y else None) (k y refl))
 
@@ -183,32 +248,50 @@ module _ (book : Book) (before after : Ledger) (u t : ℕ) (r : Rows) (a x : Acc
           by_bucket n (bucket_in n x.buckets) refl ∙ sym (bucket_after n);
       counters = λ g c.
           told_by_one (r.counters g c) (counter_in g c left.counters) (counter_in g c x.counters)
-          (λ k. h.are.counters g c ∙ same_left (λ y. not (of_cycle y)) (counter_in g c w.counters) (counter_in g c left.counters) (counter_left g c) (λ y e. ap not (counter_gone g c y e k)))
-          (λ y e. apart_none (λ y z. is_counter y.group y.cycle z) (is_counter g c) (one_counter g c) left.counters x.counters y left_with.apart.whole.counters e)
+          (λ k. h.are.counters g c ∙ same_left (λ y. not (of_cycle y)) (counter_in g c w.counters)
+          (counter_in g c left.counters) (counter_left g c)
+          (λ y e. ap not (counter_gone g c y e k)))
+          (λ y e. apart_none (λ y z. is_counter y.group y.cycle z) (is_counter g c)
+          (one_counter g c) left.counters x.counters y left_with.apart.whole.counters e)
           ∙ sym (find_both (is_counter g c) left.counters x.counters);
       sessions = λ s.
           told_by_one (r.sessions s) (session_in s left.sessions) (session_in s x.sessions)
-          (λ k. h.are.sessions s ∙ same_left (λ y. not (is_open y.state)) (session_in s w.sessions) (session_in s left.sessions) (session_left s) (λ y e. ap not (session_gone s y e k)))
-          (λ y e. apart_none (λ y z. is_session y.id z) (is_session s) (one_session s) left.sessions x.sessions y left_with.apart.whole.sessions e)
+          (λ k. h.are.sessions s ∙ same_left (λ y. not (is_open y.state)) (session_in s w.sessions)
+          (session_in s left.sessions) (session_left s) (λ y e. ap not (session_gone s y e k)))
+          (λ y e. apart_none (λ y z. is_session y.id z) (is_session s)
+          (one_session s) left.sessions x.sessions y left_with.apart.whole.sessions e)
           ∙ sym (find_both (is_session s) left.sessions x.sessions);
-      groups = λ s g. ap (first_of (option_map group_row (group_in s g x.groups))) (h.are.groups s g) ∙ row_over (group_in s g x.groups) (group_in s g w.groups) ∙ ap (option_map group_row) (group_after s g);
-      holds = λ s g n. ap (held_over n (group_in s g x.groups)) (h.are.holds s g n) ∙ held_over_is n (group_in s g x.groups) (group_in s g w.groups) ∙ ap (held_of n) (group_after s g);
+      groups = λ s g. ap (first_of (option_map group_row (group_in s g x.groups)))
+          (h.are.groups s g) ∙ row_over (group_in s g x.groups) (group_in s g w.groups)
+          ∙ ap (option_map group_row) (group_after s g);
+      holds = λ s g n. ap (held_over n (group_in s g x.groups)) (h.are.holds s g n)
+          ∙ held_over_is n (group_in s g x.groups) (group_in s g w.groups)
+          ∙ ap (held_of n) (group_after s g);
     };
     kept = IsStored-stored (joined left x) left_with.apart.whole;
     moment = refl;
-    rows = subst (λ (b : Book). IsRowsOf after (priced b (stored (joined left x)))) same left_with.rows;
+    rows = subst (λ (b : Book). IsRowsOf after (priced b (stored (joined left x)))) same
+        left_with.rows;
   }
     where
-      group_after : (s : List ℕ) (g : ℕ) → first_of (group_in s g x.groups) (group_in s g w.groups) ≡ group_in s g (left.groups ++ x.groups)
+      group_after : (s : List ℕ) (g : ℕ) →
+          first_of (group_in s g x.groups) (group_in s g w.groups) ≡
+          group_in s g (left.groups ++ x.groups)
       group_after s g =
           told_by_one (group_in s g w.groups) (group_in s g left.groups) (group_in s g x.groups)
-          (λ k. same_left (λ y. not (of_open y)) (group_in s g w.groups) (group_in s g left.groups) (group_left s g) (λ y e. ap not (group_gone s g y e k)))
-          (λ y e. apart_none (λ y z. is_of y.session y.group z) (is_of s g) (one_group s g) left.groups x.groups y left_with.apart.whole.groups e)
+          (λ k. same_left (λ y. not (of_open y)) (group_in s g w.groups) (group_in s g left.groups)
+          (group_left s g) (λ y e. ap not (group_gone s g y e k)))
+          (λ y e. apart_none (λ y z. is_of y.session y.group z) (is_of s g)
+          (one_group s g) left.groups x.groups y left_with.apart.whole.groups e)
           ∙ sym (find_both (is_of s g) left.groups x.groups)
 
-      by_bucket : (n : ℕ) (o : Option Row) → bucket_in n x.buckets ≡ o → first_of o (r.buckets n) ≡ first_of o (bucket_in n left.buckets)
-      by_bucket n None k = h.are.buckets n ∙ same_left is_dead (bucket_in n w.buckets) (bucket_in n left.buckets) (bucket_left n) (λ y e. bucket_gone n y e k)
+      by_bucket : (n : ℕ) (o : Option Row) → bucket_in n x.buckets ≡ o →
+          first_of o (r.buckets n) ≡ first_of o (bucket_in n left.buckets)
+      by_bucket n None k = h.are.buckets n
+          ∙ same_left is_dead (bucket_in n w.buckets) (bucket_in n left.buckets) (bucket_left n)
+          (λ y e. bucket_gone n y e k)
       by_bucket n (Some y) k = refl
 
-  pub left_behind : IsMadeFrom (stored a) (stored x) r × AreRowsAt book after x.as_of (over (stored x) r)
+  pub left_behind : IsMadeFrom (stored a) (stored x) r
+      × AreRowsAt book after x.as_of (over (stored x) r)
   left_behind = (made, leaves)

@@ -26,9 +26,11 @@ use Rattle.keepers.proofs.Found.{one_bucket, bucket_filter}
 use Rattle.keepers.proofs.GroupRows.{among, reserved_row, row_if, held_if}
 
 -- what was left doesn't pass
-hidden : {A : Type 0} (p : A → Bool) (l x : Option A) → ((y : A) → l ≡ Some y → (x ≡ None) × (p y ≡ false)) → only p x ≡ only p (first_of l x)
+hidden : {A : Type 0} (p : A → Bool) (l x : Option A) →
+    ((y : A) → l ≡ Some y → (x ≡ None) × (p y ≡ false)) → only p x ≡ only p (first_of l x)
 hidden p None x h = refl
-hidden p (Some y) x h = ap (only p) (h y refl).0 ∙ sym (ap (λ t. if t then Some y else None) (h y refl).1)
+hidden p (Some y) x h = ap (only p) (h y refl).0
+    ∙ sym (ap (λ t. if t then Some y else None) (h y refl).1)
 
 nothing : {A : Type 0} (t : Bool) (o : Option A) → o ≡ None → (if t then o else None) ≡ None
 nothing true o e = e
@@ -38,69 +40,116 @@ module _ (book : Book) (t : ℕ) (p : Parts) (h : AreParts p) (live : IsStored p
   abbrev a : AccountRows
   a = live_part book t p.left.counters p.live
 
-  bucket_found : (n : ℕ) → bucket_in n a.buckets ≡ only (λ b. not (is_dead b)) (bucket_in n (p.left.buckets ++ p.live.buckets))
+  bucket_found : (n : ℕ) → bucket_in n a.buckets ≡
+      only (λ b. not (is_dead b)) (bucket_in n (p.left.buckets ++ p.live.buckets))
   bucket_found n =
       bucket_filter n (λ b. not (is_dead b)) p.live.buckets live.sound.distinct
-      ∙ hidden (λ b. not (is_dead b)) (bucket_in n p.left.buckets) (bucket_in n p.live.buckets) (λ y e. (
-        apart_none same_bucket (λ b. b.number == n) (one_bucket n) p.left.buckets p.live.buckets y h.buckets e,
+      ∙ hidden (λ b. not (is_dead b)) (bucket_in n p.left.buckets) (bucket_in n p.live.buckets)
+      (λ y e. (
+        apart_none same_bucket (λ b. b.number == n) (one_bucket n) p.left.buckets p.live.buckets y
+            h.buckets e,
         ap not (among (λ b. is_dead b ≡ true) (λ b. b.number == n) p.left.buckets y h.dead e),
       ))
-      ∙ ap (only (λ b. not (is_dead b))) (sym (find_both (λ b. b.number == n) p.left.buckets p.live.buckets))
+      ∙ ap (only (λ b. not (is_dead b)))
+      (sym (find_both (λ b. b.number == n) p.left.buckets p.live.buckets))
 
-  session_found : (s : List ℕ) → session_in s a.sessions ≡ only (λ r. is_open r.state) (session_in s (p.left.sessions ++ p.live.sessions))
+  session_found : (s : List ℕ) →
+      session_in s a.sessions ≡
+      only (λ r. is_open r.state) (session_in s (p.left.sessions ++ p.live.sessions))
   session_found s =
-      find_filter same_session (is_session s) (one_session s) (λ r. is_open r.state) p.live.sessions live.sessions
-      ∙ hidden (λ r. is_open r.state) (session_in s p.left.sessions) (session_in s p.live.sessions) (λ y e. (
-        apart_none same_session (is_session s) (one_session s) p.left.sessions p.live.sessions y h.sessions e,
+      find_filter same_session (is_session s) (one_session s)
+      (λ r. is_open r.state) p.live.sessions live.sessions
+      ∙ hidden (λ r. is_open r.state) (session_in s p.left.sessions) (session_in s p.live.sessions)
+      (λ y e. (
+        apart_none same_session (is_session s) (one_session s) p.left.sessions p.live.sessions y
+            h.sessions e,
         among (λ r. is_open r.state ≡ false) (is_session s) p.left.sessions y h.over e,
       ))
-      ∙ ap (only (λ (r : Session). is_open r.state)) (sym (find_both (is_session s) p.left.sessions p.live.sessions))
+      ∙ ap (only (λ (r : Session). is_open r.state))
+      (sym (find_both (is_session s) p.left.sessions p.live.sessions))
 
-  by_cycle : (g c : ℕ) (o : Option Counter) → counter_in g c (p.left.counters ++ p.live.counters) ≡ o → only (λ (r : Counter). r.cycle == cycle_at book r.group t) o ≡ (if c == cycle_at book g t then o else None)
+  by_cycle : (g c : ℕ) (o : Option Counter) →
+      counter_in g c (p.left.counters ++ p.live.counters) ≡ o →
+      only (λ (r : Counter). r.cycle == cycle_at book r.group t) o ≡
+      (if c == cycle_at book g t then o else None)
   by_cycle g c None e = sym (nothing (c == cycle_at book g t) None refl)
   by_cycle g c (Some r) e =
-      let k : is_counter g c r ≡ true = find-passes (is_counter g c) (p.left.counters ++ p.live.counters) r e in
-      λ i. if same_number r.cycle c (second_true (r.group == g) (r.cycle == c) k) i == cycle_at book (same_number r.group g (first_true (r.group == g) (r.cycle == c) k) i) t then Some r else None
+      let k : is_counter g c r ≡ true =
+      find-passes (is_counter g c) (p.left.counters ++ p.live.counters) r e in
+      λ i. if same_number r.cycle c (second_true (r.group == g) (r.cycle == c) k) i == cycle_at book
+      (same_number r.group g (first_true (r.group == g) (r.cycle == c) k) i) t then Some r
+      else None
 
-  counter_found : (g c : ℕ) → counter_in g c a.counters ≡ (if c == cycle_at book g t then counter_in g c (p.left.counters ++ p.live.counters) else None)
+  counter_found : (g c : ℕ) → counter_in g c a.counters ≡
+      (if c == cycle_at book g t then counter_in g c (p.left.counters ++ p.live.counters) else None)
   counter_found g c =
-      find_filter same_counter (is_counter g c) (one_counter g c) (λ r. r.cycle == cycle_at book r.group t) (p.left.counters ++ p.live.counters) h.counters
+      find_filter same_counter (is_counter g c) (one_counter g c)
+      (λ r. r.cycle == cycle_at book r.group t) (p.left.counters ++ p.live.counters) h.counters
       ∙ by_cycle g c (counter_in g c (p.left.counters ++ p.live.counters)) refl
 
   -- a session is open by both where it is by what is live
-  open_same : (s : List ℕ) → is_open_row (session_in s (p.left.sessions ++ p.live.sessions)) ≡ is_open_row (session_in s p.live.sessions)
-  open_same s = ap is_open_row (find_both (is_session s) p.left.sessions p.live.sessions) ∙ at (session_in s p.left.sessions) refl
+  open_same : (s : List ℕ) → is_open_row (session_in s (p.left.sessions ++ p.live.sessions)) ≡
+      is_open_row (session_in s p.live.sessions)
+  open_same s = ap is_open_row (find_both (is_session s) p.left.sessions p.live.sessions)
+      ∙ at (session_in s p.left.sessions) refl
     where
-      at : (o : Option Session) → session_in s p.left.sessions ≡ o → is_open_row (first_of o (session_in s p.live.sessions)) ≡ is_open_row (session_in s p.live.sessions)
+      at : (o : Option Session) → session_in s p.left.sessions ≡ o →
+          is_open_row (first_of o (session_in s p.live.sessions)) ≡
+          is_open_row (session_in s p.live.sessions)
       at None e = refl
       at (Some y) e =
           among (λ r. is_open r.state ≡ false) (is_session s) p.left.sessions y h.over e
-          ∙ sym (ap is_open_row (apart_none same_session (is_session s) (one_session s) p.left.sessions p.live.sessions y h.sessions e))
+          ∙ sym
+          (ap is_open_row (apart_none same_session (is_session s)
+          (one_session s) p.left.sessions p.live.sessions y h.sessions e))
 
   empty : (o : Option Session) → is_some o ≡ false → o ≡ None
   empty None e = refl
   empty (Some x) e = absurd (not_both (sym e))
 
   group_found : (s : List ℕ) (g : ℕ) → group_in s g a.groups ≡
-      (if is_open_row (session_in s (p.left.sessions ++ p.live.sessions)) || has_reservation (option_map group_row (group_in s g (p.left.groups ++ p.live.groups))) then group_in s g (p.left.groups ++ p.live.groups) else None)
+      (if is_open_row (session_in s (p.left.sessions ++ p.live.sessions)) || has_reservation
+      (option_map group_row (group_in s g (p.left.groups ++ p.live.groups)))
+      then group_in s g (p.left.groups ++ p.live.groups) else None)
   group_found s g =
-      find_filter same_group (is_of s g) (one_group s g) (is_live_group p.live.sessions) p.live.groups live.groups
+      find_filter same_group (is_of s g) (one_group s g)
+      (is_live_group p.live.sessions) p.live.groups live.groups
       ∙ at (group_in s g p.left.groups) (group_in s g p.live.groups) refl refl
-      ∙ (λ i. if sym (open_same s) i || has_reservation (option_map group_row (sym (find_both (is_of s g) p.left.groups p.live.groups) i)) then sym (find_both (is_of s g) p.left.groups p.live.groups) i else None)
+      ∙ (λ i. if sym (open_same s) i || has_reservation
+      (option_map group_row (sym (find_both (is_of s g) p.left.groups p.live.groups) i))
+      then sym (find_both (is_of s g) p.left.groups p.live.groups) i else None)
     where
-      at : (l x : Option SessionGroup) → group_in s g p.left.groups ≡ l → group_in s g p.live.groups ≡ x →
-          only (is_live_group p.live.sessions) x ≡ (if is_open_row (session_in s p.live.sessions) || has_reservation (option_map group_row (first_of l x)) then first_of l x else None)
-      at None None e k = sym (nothing (is_open_row (session_in s p.live.sessions) || false) None refl)
+      at : (l x : Option SessionGroup) → group_in s g p.left.groups ≡ l →
+          group_in s g p.live.groups ≡ x →
+          only (is_live_group p.live.sessions) x ≡
+          (if is_open_row (session_in s p.live.sessions) || has_reservation
+          (option_map group_row (first_of l x)) then first_of l x else None)
+      at None None e k = sym (nothing (is_open_row (session_in s p.live.sessions) || false) None
+          refl)
       at None (Some r) e k =
-          ap (λ n. if is_open_row (session_in n p.live.sessions) || is_some r.reservation then Some r else None)
-          (same_from r.session s (first_true (is_same r.session s) (r.group == g) (find-passes (is_of s g) p.live.groups r k)))
-          ∙ (λ i. if is_open_row (session_in s p.live.sessions) || sym (reserved_row r.reservation) i then Some r else None)
+          ap (λ n. if is_open_row (session_in n p.live.sessions) || is_some r.reservation
+          then Some r else None)
+          (same_from r.session s (first_true (is_same r.session s) (r.group == g)
+          (find-passes (is_of s g) p.live.groups r k)))
+          ∙ (λ i. if is_open_row (session_in s p.live.sessions) || sym
+          (reserved_row r.reservation) i then Some r else None)
       at (Some y) x e k =
-          let none : x ≡ None = sym k ∙ apart_none same_group (is_of s g) (one_group s g) p.left.groups p.live.groups y h.groups e in
-          let of : y.session ≡ s = same_from y.session s (first_true (is_same y.session s) (y.group == g) (find-passes (is_of s g) p.left.groups y e)) in
-          let away : session_in s p.live.sessions ≡ None = ap (λ n. session_in n p.live.sessions) (sym of) ∙ empty (session_in y.session p.live.sessions) (among (λ r. is_some (session_in r.session p.live.sessions) ≡ false) (is_of s g) p.left.groups y h.others e) in
-          let free : is_some y.reservation ≡ false = among (λ r. is_some r.reservation ≡ false) (is_of s g) p.left.groups y h.free e in
-          ap (only (is_live_group p.live.sessions)) none ∙ sym (λ i. if is_open_row (away i) || (reserved_row y.reservation ∙ free) i then Some y else None)
+          let none : x ≡ None = sym k
+          ∙ apart_none same_group (is_of s g) (one_group s g) p.left.groups p.live.groups y
+          h.groups e in
+          let of : y.session ≡ s = same_from y.session s
+          (first_true (is_same y.session s) (y.group == g)
+          (find-passes (is_of s g) p.left.groups y e)) in
+          let away : session_in s p.live.sessions ≡ None =
+          ap (λ n. session_in n p.live.sessions) (sym of)
+          ∙ empty (session_in y.session p.live.sessions)
+          (among (λ r. is_some (session_in r.session p.live.sessions) ≡ false)
+          (is_of s g) p.left.groups y h.others e) in
+          let free : is_some y.reservation ≡ false =
+          among (λ r. is_some r.reservation ≡ false) (is_of s g) p.left.groups y h.free e in
+          ap (only (is_live_group p.live.sessions)) none
+          ∙ sym (λ i. if is_open_row (away i) || (reserved_row y.reservation ∙ free) i
+          then Some y else None)
 
   pub parts_loaded : IsLoadedFrom book t (rows_of p) a
   parts_loaded = record {
@@ -108,7 +157,9 @@ module _ (book : Book) (t : ℕ) (p : Parts) (h : AreParts p) (live : IsStored p
     head = refl;
     buckets = bucket_found;
     sessions = session_found;
-    groups = λ s g. ap (option_map group_row) (group_found s g) ∙ row_if (is_loaded (rows_of p) s g) (group_in s g (p.left.groups ++ p.live.groups));
-    holds = λ s g n. ap (held_of n) (group_found s g) ∙ held_if n (is_loaded (rows_of p) s g) (group_in s g (p.left.groups ++ p.live.groups));
+    groups = λ s g. ap (option_map group_row) (group_found s g)
+        ∙ row_if (is_loaded (rows_of p) s g) (group_in s g (p.left.groups ++ p.live.groups));
+    holds = λ s g n. ap (held_of n) (group_found s g)
+        ∙ held_if n (is_loaded (rows_of p) s g) (group_in s g (p.left.groups ++ p.live.groups));
     counters = counter_found;
   }

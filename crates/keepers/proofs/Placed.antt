@@ -1,4 +1,5 @@
--- Accounts in a list, found by their numbers and written where they were found, and the places that are kept.
+-- Accounts in a list, found by their numbers and written where they were found, and the places that
+-- are kept.
 use Rattle.std.proofs.Common.{◌≡◌, ℕ, suc, ◌+◌, ◌<◌, Bool, true, false, cond, List, [], ◌∷◌, ◌++◌, length, length-set, get_or, set, refl, sym, ap, ◌∙◌, arith, Option, Some, None, Bor}
 use Rattle.std.specs.Prelude.{if◌then◌else◌, ◌==◌, nat_lt, is_some, position, Result, Ok, Err, OnErr, OnOk}
 use Rattle.std.specs.List.{find, position_or_len, position_from}
@@ -17,7 +18,8 @@ use Rattle.reserving.proofs.LeftParted.{find_both}
 use Rattle.keepers.specs.Tables.{charge_in}
 use Rattle.keepers.specs.Memory.{is_entry, entry_in, rows_of_entry, charges_of_entry}
 
-length-put : {A : Type 0} (p : A → Bool) (x : A) (xs : List A) → length (put p x xs) ≡ (if is_some (find p xs) then length xs else length xs + 1)
+length-put : {A : Type 0} (p : A → Bool) (x : A) (xs : List A) →
+    length (put p x xs) ≡ (if is_some (find p xs) then length xs else length xs + 1)
 length-put p x [] = refl
 length-put p x (y ∷ ys) = at (p y) (length-put p x ys)
   where
@@ -25,8 +27,10 @@ length-put p x (y ∷ ys) = at (p y) (length-put p x ys)
     more true n = refl
     more false n = omega arith
 
-    at : (t : Bool) → length (put p x ys) ≡ (if is_some (find p ys) then length ys else length ys + 1) →
-        length (if t then x ∷ ys else y ∷ put p x ys) ≡ (if is_some (cond t (Some y) (find p ys)) then length (y ∷ ys) else length (y ∷ ys) + 1)
+    at : (t : Bool) → length (put p x ys) ≡
+        (if is_some (find p ys) then length ys else length ys + 1) →
+        length (if t then x ∷ ys else y ∷ put p x ys) ≡
+        (if is_some (cond t (Some y) (find p ys)) then length (y ∷ ys) else length (y ∷ ys) + 1)
     at true r = refl
     at false r = ap suc r ∙ more (is_some (find p ys)) (length ys)
 
@@ -40,12 +44,18 @@ head_there (Some e) = refl
 
 -- a charge by its number, once further ones stand after those of an account
 pub charge_over : (m a : List ℕ) (n : ℕ) (xs ys : List Entry) (more : List ChargeRow) →
-    charges_of_entry (entry_in a ys) ≡ (if same_name m a then charges_of_entry (entry_in a xs) ++ more else charges_of_entry (entry_in a xs)) →
-    charge_in n (charges_of_entry (entry_in a ys)) ≡ (if same_name m a then first_of (charge_in n (charges_of_entry (entry_in a xs))) (charge_in n more) else charge_in n (charges_of_entry (entry_in a xs)))
+    charges_of_entry (entry_in a ys) ≡
+    (if same_name m a then charges_of_entry (entry_in a xs) ++ more
+    else charges_of_entry (entry_in a xs)) →
+    charge_in n (charges_of_entry (entry_in a ys)) ≡
+    (if same_name m a then first_of (charge_in n (charges_of_entry (entry_in a xs)))
+    (charge_in n more) else charge_in n (charges_of_entry (entry_in a xs)))
 charge_over m a n xs ys more is = ap (charge_in n) is ∙ at (same_name m a)
   where
-    at : (t : Bool) → charge_in n (if t then charges_of_entry (entry_in a xs) ++ more else charges_of_entry (entry_in a xs)) ≡
-        (if t then first_of (charge_in n (charges_of_entry (entry_in a xs))) (charge_in n more) else charge_in n (charges_of_entry (entry_in a xs)))
+    at : (t : Bool) → charge_in n
+        (if t then charges_of_entry (entry_in a xs) ++ more else charges_of_entry (entry_in a xs)) ≡
+        (if t then first_of (charge_in n (charges_of_entry (entry_in a xs))) (charge_in n more)
+        else charge_in n (charges_of_entry (entry_in a xs)))
     at true = find_both (λ c. c.number == n) (charges_of_entry (entry_in a xs)) more
     at false = refl
 
@@ -54,33 +64,47 @@ pub record IsFound (n : List ℕ) (e : Entry) (xs : List Entry) : Type 0 where
   pub number : e.number ≡ n
   pub found : entry_in n xs ≡ Some e
 
-pub found_at : (n : List ℕ) (place : ℕ) (xs : List Entry) (e : Entry) → position (is_entry n) xs ≡ Some place → e ≡ get_or xs place e → IsFound n e xs
+pub found_at : (n : List ℕ) (place : ℕ) (xs : List Entry) (e : Entry) →
+    position (is_entry n) xs ≡ Some place → e ≡ get_or xs place e → IsFound n e xs
 found_at n place xs e h is =
-    let found : entry_in n xs ≡ Some e = (placed (is_entry n) e place xs h).found e ∙ ap Some (sym is) in
-    record { number = (bytes_decides e.number n).0 (find-passes (is_entry n) xs e found); found = found }
+    let found : entry_in n xs ≡ Some e = (placed (is_entry n) e place xs h).found e
+    ∙ ap Some (sym is) in
+    record {
+      number = (bytes_decides e.number n).0 (find-passes (is_entry n) xs e found);
+      found = found;
+    }
 
-entry_put : (n a : List ℕ) (e : Entry) (xs : List Entry) → e.number ≡ n → entry_in a (put (is_entry n) e xs) ≡ (if same_name n a then Some e else entry_in a xs)
+entry_put : (n a : List ℕ) (e : Entry) (xs : List Entry) → e.number ≡ n →
+    entry_in a (put (is_entry n) e xs) ≡ (if same_name n a then Some e else entry_in a xs)
 entry_put n a e xs number = at (same_name n a) refl
   where
     other : same_name n a ≡ false → (y : Entry) → is_entry n y ≡ true → is_entry a y ≡ false
     other h y e = ap (λ m. same_name m a) ((bytes_decides y.number n).0 e) ∙ h
 
-    at : (t : Bool) → same_name n a ≡ t → entry_in a (put (is_entry n) e xs) ≡ (if t then Some e else entry_in a xs)
+    at : (t : Bool) → same_name n a ≡ t → entry_in a (put (is_entry n) e xs) ≡
+        (if t then Some e else entry_in a xs)
     at true h =
         ap (λ m. entry_in m (put (is_entry n) e xs)) (sym ((bytes_decides n a).0 h))
         ∙ find-put (is_entry n) e xs ((bytes_decides e.number n).1 number)
-    at false h = find-put_other (is_entry n) (is_entry a) e xs (ap (λ m. same_name m a) number ∙ h) (other h)
+    at false h = find-put_other (is_entry n) (is_entry a) e xs (ap (λ m. same_name m a) number ∙ h)
+        (other h)
 
 -- what is seen of the accounts, once one is put that is seen as a change of the one that was there
-pub seen_put : {V : Type 0} (see : Option Entry → V) (change : V → V) (n a : List ℕ) (e : Entry) (xs : List Entry) → e.number ≡ n → see (Some e) ≡ change (see (entry_in n xs)) →
-    see (entry_in a (put (is_entry n) e xs)) ≡ (if same_name n a then change (see (entry_in a xs)) else see (entry_in a xs))
-seen_put see change n a e xs number is = ap see (entry_put n a e xs number) ∙ at (same_name n a) refl
+pub seen_put : {V : Type 0} (see : Option Entry → V) (change : V → V) (n a : List ℕ) (e : Entry)
+    (xs : List Entry) → e.number ≡ n → see (Some e) ≡ change (see (entry_in n xs)) →
+    see (entry_in a (put (is_entry n) e xs)) ≡
+    (if same_name n a then change (see (entry_in a xs)) else see (entry_in a xs))
+seen_put see change n a e xs number is = ap see (entry_put n a e xs number)
+    ∙ at (same_name n a) refl
   where
-    at : (t : Bool) → same_name n a ≡ t → see (if t then Some e else entry_in a xs) ≡ (if t then change (see (entry_in a xs)) else see (entry_in a xs))
+    at : (t : Bool) → same_name n a ≡ t → see (if t then Some e else entry_in a xs) ≡
+        (if t then change (see (entry_in a xs)) else see (entry_in a xs))
     at true h = is ∙ ap (λ m. change (see (entry_in m xs))) ((bytes_decides n a).0 h)
     at false h = refl
 
-pub same_put : {V : Type 0} (see : Option Entry → V) (n a : List ℕ) (e : Entry) (xs : List Entry) → e.number ≡ n → see (Some e) ≡ see (entry_in n xs) → see (entry_in a (put (is_entry n) e xs)) ≡ see (entry_in a xs)
+pub same_put : {V : Type 0} (see : Option Entry → V) (n a : List ℕ) (e : Entry) (xs : List Entry) →
+    e.number ≡ n → see (Some e) ≡ see (entry_in n xs) →
+    see (entry_in a (put (is_entry n) e xs)) ≡ see (entry_in a xs)
 same_put see n a e xs number is = seen_put see (λ v. v) n a e xs number is ∙ at (same_name n a)
   where
     at : (t : Bool) → (if t then see (entry_in a xs) else see (entry_in a xs)) ≡ see (entry_in a xs)
@@ -89,32 +113,49 @@ same_put see n a e xs number is = seen_put see (λ v. v) n a e xs number is ∙ 
 
 -- ---- at the place where it was found
 
-module _ {V : Type 0} (see : Option Entry → V) (n : List ℕ) (place : ℕ) (xs : List Entry) (old e : Entry) (at : position (is_entry n) xs ≡ Some place) (is : old ≡ get_or xs place old) (number : e.number ≡ old.number) where
+module _ {V : Type 0} (see : Option Entry → V) (n : List ℕ) (place : ℕ) (xs : List Entry)
+    (old e : Entry) (at : position (is_entry n) xs ≡ Some place) (is : old ≡ get_or xs place old)
+    (number : e.number ≡ old.number) where
   there : IsFound n old xs
   there = found_at n place xs old at is
 
   set_put : set xs place e ≡ put (is_entry n) e xs
   set_put = sym (placed (is_entry n) e place xs at).put
 
-  pub seen_written : (change : V → V) (a : List ℕ) → see (Some e) ≡ change (see (Some old)) → see (entry_in a (set xs place e)) ≡ (if same_name n a then change (see (entry_in a xs)) else see (entry_in a xs))
-  seen_written change a same = ap (λ ys. see (entry_in a ys)) set_put ∙ seen_put see change n a e xs (number ∙ there.number) (same ∙ ap (λ o. change (see o)) (sym there.found))
+  pub seen_written : (change : V → V) (a : List ℕ) → see (Some e) ≡ change (see (Some old)) →
+      see (entry_in a (set xs place e)) ≡
+      (if same_name n a then change (see (entry_in a xs)) else see (entry_in a xs))
+  seen_written change a same = ap (λ ys. see (entry_in a ys)) set_put
+      ∙ seen_put see change n a e xs (number ∙ there.number)
+      (same ∙ ap (λ o. change (see o)) (sym there.found))
 
-  pub seen_left : (a : List ℕ) → see (Some e) ≡ see (Some old) → see (entry_in a (set xs place e)) ≡ see (entry_in a xs)
-  seen_left a same = ap (λ ys. see (entry_in a ys)) set_put ∙ same_put see n a e xs (number ∙ there.number) (same ∙ ap see (sym there.found))
+  pub seen_left : (a : List ℕ) → see (Some e) ≡ see (Some old) →
+      see (entry_in a (set xs place e)) ≡ see (entry_in a xs)
+  seen_left a same = ap (λ ys. see (entry_in a ys)) set_put
+      ∙ same_put see n a e xs (number ∙ there.number) (same ∙ ap see (sym there.found))
 
-pub count_written : (n : List ℕ) (place : ℕ) (xs : List Entry) (e : Entry) → position (is_entry n) xs ≡ Some place → length (set xs place e) ≡ (if is_some (entry_in n xs) then length xs else length xs + 1)
-count_written n place xs e at = ap length (sym (placed (is_entry n) e place xs at).put) ∙ length-put (is_entry n) e xs
+pub count_written : (n : List ℕ) (place : ℕ) (xs : List Entry) (e : Entry) →
+    position (is_entry n) xs ≡ Some place →
+    length (set xs place e) ≡ (if is_some (entry_in n xs) then length xs else length xs + 1)
+count_written n place xs e at = ap length (sym (placed (is_entry n) e place xs at).put)
+    ∙ length-put (is_entry n) e xs
 
 -- ---- a new account
 
-module _ (n : List ℕ) (xs : List Entry) (e : Entry) (none : position (is_entry n) xs ≡ None) (number : e.number ≡ n) where
+module _ (n : List ℕ) (xs : List Entry) (e : Entry) (none : position (is_entry n) xs ≡ None)
+    (number : e.number ≡ n) where
   push_put : xs ++ e ∷ [] ≡ put (is_entry n) e xs
   push_put = sym (put-none (is_entry n) e xs (unplaced (is_entry n) xs none))
 
-  pub seen_added : {V : Type 0} (see : Option Entry → V) (change : V → V) (a : List ℕ) → see (Some e) ≡ change (see None) → see (entry_in a (xs ++ e ∷ [])) ≡ (if same_name n a then change (see (entry_in a xs)) else see (entry_in a xs))
-  seen_added see change a same = ap (λ ys. see (entry_in a ys)) push_put ∙ seen_put see change n a e xs number (same ∙ ap (λ o. change (see o)) (sym (unplaced (is_entry n) xs none)))
+  pub seen_added : {V : Type 0} (see : Option Entry → V) (change : V → V) (a : List ℕ) →
+      see (Some e) ≡ change (see None) → see (entry_in a (xs ++ e ∷ [])) ≡
+      (if same_name n a then change (see (entry_in a xs)) else see (entry_in a xs))
+  seen_added see change a same = ap (λ ys. see (entry_in a ys)) push_put
+      ∙ seen_put see change n a e xs number
+      (same ∙ ap (λ o. change (see o)) (sym (unplaced (is_entry n) xs none)))
 
-  pub count_added : length (xs ++ e ∷ []) ≡ (if is_some (entry_in n xs) then length xs else length xs + 1)
+  pub count_added : length (xs ++ e ∷ []) ≡
+      (if is_some (entry_in n xs) then length xs else length xs + 1)
   count_added = ap length push_put ∙ length-put (is_entry n) e xs
 
 -- ---- where each stands
@@ -124,31 +165,43 @@ copied_there None = refl
 copied_there (Some x) = refl
 
 -- what is read at the place that was found
-pub read_at : {A : Type 0} (p : A → Bool) (i : ℕ) (xs : List A) (r : Option (Bor A)) → position p xs ≡ Some i → (i < length xs → IsSome r) → IfSome r (λ x. x.now ≡ get_or xs i x.now) → option_copied r ≡ find p xs
+pub read_at : {A : Type 0} (p : A → Bool) (i : ℕ) (xs : List A) (r : Option (Bor A)) →
+    position p xs ≡ Some i → (i < length xs → IsSome r) →
+    IfSome r (λ x. x.now ≡ get_or xs i x.now) → option_copied r ≡ find p xs
 read_at p i [] None h some same = absurd (no_some i h)
 read_at p i (y ∷ ys) None h some same = absurd (not_both (some (placed p y i (y ∷ ys) h).within))
 read_at p i xs (Some x) h some same = ap Some same ∙ sym ((placed p x.now i xs h).found x.now)
 
-pub place_written : (a : List ℕ) (place : ℕ) (xs : List Entry) (old e : Entry) → old ≡ get_or xs place old → e.number ≡ old.number → position (is_entry a) (set xs place e) ≡ position (is_entry a) xs
+pub place_written : (a : List ℕ) (place : ℕ) (xs : List Entry) (old e : Entry) →
+    old ≡ get_or xs place old → e.number ≡ old.number →
+    position (is_entry a) (set xs place e) ≡ position (is_entry a) xs
 place_written a place xs old e is number =
     let same : position_or_len (is_entry a) (set xs place e) ≡ position_or_len (is_entry a) xs =
-    position_or_len-set (is_entry a) xs place e old (ap (λ n. same_name n a) number ∙ ap (λ (x : Entry). same_name x.number a) is) in
+    position_or_len-set (is_entry a) xs place e old
+    (ap (λ n. same_name n a) number ∙ ap (λ (x : Entry). same_name x.number a) is) in
     let long : length (set xs place e) ≡ length xs = length-set xs place e in
     λ i. cond (nat_lt (same i) (long i)) (Some (same i)) None
 
-from_added : {A : Type 0} (p : A → Bool) (k : ℕ) (xs : List A) (x : A) → position_from p k (xs ++ x ∷ []) ≡ first_of (position_from p k xs) (cond (p x) (Some (k + length xs)) None)
+from_added : {A : Type 0} (p : A → Bool) (k : ℕ) (xs : List A) (x : A) →
+    position_from p k (xs ++ x ∷ []) ≡
+    first_of (position_from p k xs) (cond (p x) (Some (k + length xs)) None)
 from_added p k [] x = let same : k ≡ k + 0 = omega arith in ap (λ n. cond (p x) (Some n) None) same
 from_added p k (y ∷ ys) x = at (p y) (from_added p (k + 1) ys x)
   where
     more : k + 1 + length ys ≡ k + suc (length ys)
     more = omega arith
 
-    at : (t : Bool) → position_from p (k + 1) (ys ++ x ∷ []) ≡ first_of (position_from p (k + 1) ys) (cond (p x) (Some (k + 1 + length ys)) None) →
-        cond t (Some k) (position_from p (k + 1) (ys ++ x ∷ [])) ≡ first_of (cond t (Some k) (position_from p (k + 1) ys)) (cond (p x) (Some (k + suc (length ys))) None)
+    at : (t : Bool) → position_from p (k + 1) (ys ++ x ∷ []) ≡
+        first_of (position_from p (k + 1) ys) (cond (p x) (Some (k + 1 + length ys)) None) →
+        cond t (Some k) (position_from p (k + 1) (ys ++ x ∷ [])) ≡
+        first_of (cond t (Some k) (position_from p (k + 1) ys))
+        (cond (p x) (Some (k + suc (length ys))) None)
     at true rest = refl
-    at false rest = rest ∙ ap (λ n. first_of (position_from p (k + 1) ys) (cond (p x) (Some n) None)) more
+    at false rest = rest ∙ ap
+        (λ n. first_of (position_from p (k + 1) ys) (cond (p x) (Some n) None)) more
 
-added_place : {A : Type 0} (p : A → Bool) (xs : List A) (x : A) → position p (xs ++ x ∷ []) ≡ first_of (position p xs) (cond (p x) (Some (length xs)) None)
+added_place : {A : Type 0} (p : A → Bool) (xs : List A) (x : A) →
+    position p (xs ++ x ∷ []) ≡ first_of (position p xs) (cond (p x) (Some (length xs)) None)
 added_place p xs x =
     let none : 0 + length xs ≡ length xs = omega arith in
     position_from-zero p (xs ++ x ∷ [])
@@ -157,19 +210,26 @@ added_place p xs x =
     ∙ ap (λ o. first_of o (cond (p x) (Some (length xs)) None)) (sym (position_from-zero p xs))
 
 -- the place of each number, once an account stands behind those that there were
-pub place_added : (n a : List ℕ) (xs : List Entry) (e : Entry) → position (is_entry n) xs ≡ None → e.number ≡ n →
-    (if same_name n a then Some (length xs) else position (is_entry a) xs) ≡ position (is_entry a) (xs ++ e ∷ [])
+pub place_added : (n a : List ℕ) (xs : List Entry) (e : Entry) → position (is_entry n) xs ≡ None →
+    e.number ≡ n →
+    (if same_name n a then Some (length xs) else position (is_entry a) xs) ≡
+    position (is_entry a) (xs ++ e ∷ [])
 place_added n a xs e none number =
     at (same_name n a) refl
-    ∙ ap (λ m. first_of (position (is_entry a) xs) (cond (same_name m a) (Some (length xs)) None)) (sym number)
+    ∙ ap (λ m. first_of (position (is_entry a) xs) (cond (same_name m a) (Some (length xs)) None))
+    (sym number)
     ∙ sym (added_place (is_entry a) xs e)
   where
     alone : (o : Option ℕ) → o ≡ first_of o None
     alone None = refl
     alone (Some x) = refl
 
-    at : (t : Bool) → same_name n a ≡ t → (if t then Some (length xs) else position (is_entry a) xs) ≡ first_of (position (is_entry a) xs) (cond (same_name n a) (Some (length xs)) None)
+    at : (t : Bool) → same_name n a ≡ t →
+        (if t then Some (length xs) else position (is_entry a) xs) ≡
+        first_of (position (is_entry a) xs) (cond (same_name n a) (Some (length xs)) None)
     at true h =
-        ap (λ o. first_of o (Some (length xs))) (sym (ap (λ m. position (is_entry m) xs) (sym ((bytes_decides n a).0 h)) ∙ none))
+        ap (λ o. first_of o (Some (length xs)))
+        (sym (ap (λ m. position (is_entry m) xs) (sym ((bytes_decides n a).0 h)) ∙ none))
         ∙ ap (λ t. first_of (position (is_entry a) xs) (cond t (Some (length xs)) None)) (sym h)
-    at false h = alone (position (is_entry a) xs) ∙ ap (λ t. first_of (position (is_entry a) xs) (cond t (Some (length xs)) None)) (sym h)
+    at false h = alone (position (is_entry a) xs)
+        ∙ ap (λ t. first_of (position (is_entry a) xs) (cond t (Some (length xs)) None)) (sym h)

@@ -1,5 +1,5 @@
--- What is left once the rows are others, by what a store in memory does: those that leave stand behind, and what there are
--- rows of again goes.
+-- What is left once the rows are others, by what a store in memory does: those that leave stand
+-- behind, and what there are rows of again goes.
 use Rattle.std.proofs.Common.{◌≡◌, ℕ, zero, suc, ◌+◌, ◌<◌, ◌≤◌, Bool, true, false, List, [], ◌∷◌, ◌++◌, length, take, get_or, refl, sym, ap, subst, ◌∙◌, arith}
 use Rattle.std.specs.Prelude.{not, filter, is_some, ◌&&◌, ◌||◌}
 use Rattle.buckets.specs.Row.{Row}
@@ -17,8 +17,10 @@ use Rattle.keepers.specs.Parts.{leaves_bucket, leaves_session, leaves_group}
 use Rattle.keepers.specs.Named.{Numbers, Names, is_numbered, is_named, AreLeftBuckets, AreLeftSessions, AreLeftGroups}
 use Rattle.keepers.proofs.Unchanged.{filter_both}
 
-pub left_is : {A : Type 0} (p : A → Bool) (old live mid more back new : List A) → mid ≡ old → more ≡ filter p live → back ≡ mid ++ more → new ≡ filter p back → new ≡ filter p (old ++ live)
-left_is p old live mid more back new e f g h = h ∙ ap (filter p) (g ∙ (λ i. e i ++ f i)) ∙ filter_both p old live
+pub left_is : {A : Type 0} (p : A → Bool) (old live mid more back new : List A) → mid ≡ old →
+    more ≡ filter p live → back ≡ mid ++ more → new ≡ filter p back → new ≡ filter p (old ++ live)
+left_is p old live mid more back new e f g h = h ∙ ap (filter p) (g ∙ (λ i. e i ++ f i))
+    ∙ filter_both p old live
 
 pub not_is : (t : Bool) → not t ≡ true → t ≡ false
 not_is true e = absurd (not_both e)
@@ -33,51 +35,73 @@ second_false true b e = absurd (not_both (sym e))
 second_false false b e = e
 
 -- those behind that were left and those that leave
-both_known : {A : Type 0} (P Q R : A → Type 0) (p : A → Bool) (old live mid more back : List A) → ((x : A) → p x ≡ true → Q x → R x) → ((x : A) → P x → R x) → EachIn P old → EachIn Q more →
+both_known : {A : Type 0} (P Q R : A → Type 0) (p : A → Bool) (old live mid more back : List A) →
+    ((x : A) → p x ≡ true → Q x → R x) → ((x : A) → P x → R x) → EachIn P old → EachIn Q more →
     mid ≡ old → more ≡ filter p live → back ≡ mid ++ more → EachIn R back
 both_known P Q R p old live mid more back now then h k e f g =
     subst (EachIn R) (sym (g ∙ (λ i. e i ++ more)))
     (each_append R old more (each_in_map P R old then h)
-    (each_with (λ x. p x ≡ true) Q R more now (subst (EachIn (λ x. p x ≡ true)) (sym f) (each_passes p live)) k))
+    (each_with (λ x. p x ≡ true) Q R more now
+    (subst (EachIn (λ x. p x ≡ true)) (sym f) (each_passes p live)) k))
 
-pub buckets_known : (w : StoredRows) (was is : Numbers) (old live mid more back : List Row) → ((n : ℕ) → is_numbered was n ≡ true → is_numbered is n ≡ true) → AreLeftBuckets was old →
-    EachIn (λ b. is_numbered is b.number ≡ true) more → mid ≡ old → more ≡ filter (leaves_bucket w) live → back ≡ mid ++ more → AreLeftBuckets is back
+pub buckets_known : (w : StoredRows) (was is : Numbers) (old live mid more back : List Row) →
+    ((n : ℕ) → is_numbered was n ≡ true → is_numbered is n ≡ true) → AreLeftBuckets was old →
+    EachIn (λ b. is_numbered is b.number ≡ true) more → mid ≡ old →
+    more ≡ filter (leaves_bucket w) live → back ≡ mid ++ more → AreLeftBuckets is back
 buckets_known w was is old live mid more back stay h k e f g =
-    both_known (λ b. (is_dead b ≡ true) × (is_numbered was b.number ≡ true)) (λ b. is_numbered is b.number ≡ true) (λ b. (is_dead b ≡ true) × (is_numbered is b.number ≡ true)) (leaves_bucket w) old live mid more back
+    both_known (λ b. (is_dead b ≡ true) × (is_numbered was b.number ≡ true))
+    (λ b. is_numbered is b.number ≡ true)
+    (λ b. (is_dead b ≡ true) × (is_numbered is b.number ≡ true))
+    (leaves_bucket w) old live mid more back
     (λ b d n. (first_true (is_dead b) _ d, n)) (λ b r. (r.0, stay b.number r.1)) h k e f g
 
-pub sessions_known : (w : StoredRows) (was is : Names) (old live mid more back : List Session) → ((s : List ℕ) → is_named was s ≡ true → is_named is s ≡ true) → AreLeftSessions was old →
-    EachIn (λ r. is_named is r.id ≡ true) more → mid ≡ old → more ≡ filter (leaves_session w) live → back ≡ mid ++ more → AreLeftSessions is back
+pub sessions_known : (w : StoredRows) (was is : Names) (old live mid more back : List Session) →
+    ((s : List ℕ) → is_named was s ≡ true → is_named is s ≡ true) → AreLeftSessions was old →
+    EachIn (λ r. is_named is r.id ≡ true) more → mid ≡ old → more ≡ filter (leaves_session w) live →
+    back ≡ mid ++ more → AreLeftSessions is back
 sessions_known w was is old live mid more back stay h k e f g =
-    both_known (λ r. (is_open r.state ≡ false) × (is_named was r.id ≡ true)) (λ r. is_named is r.id ≡ true) (λ r. (is_open r.state ≡ false) × (is_named is r.id ≡ true)) (leaves_session w) old live mid more back
-    (λ r d n. (not_is (is_open r.state) (first_true (not (is_open r.state)) _ d), n)) (λ r x. (x.0, stay r.id x.1)) h k e f g
+    both_known (λ r. (is_open r.state ≡ false) × (is_named was r.id ≡ true))
+    (λ r. is_named is r.id ≡ true) (λ r. (is_open r.state ≡ false) × (is_named is r.id ≡ true))
+    (leaves_session w) old live mid more back
+    (λ r d n. (not_is (is_open r.state) (first_true (not (is_open r.state)) _ d), n))
+    (λ r x. (x.0, stay r.id x.1)) h k e f g
 
-pub groups_known : (w : StoredRows) (was is : Names) (old live mid more back : List SessionGroup) → ((s : List ℕ) → is_named was s ≡ true → is_named is s ≡ true) → AreLeftGroups was old →
-    EachIn (λ r. is_named is r.session ≡ true) more → mid ≡ old → more ≡ filter (leaves_group w) live → back ≡ mid ++ more → AreLeftGroups is back
+pub groups_known : (w : StoredRows) (was is : Names) (old live mid more back : List SessionGroup) →
+    ((s : List ℕ) → is_named was s ≡ true → is_named is s ≡ true) → AreLeftGroups was old →
+    EachIn (λ r. is_named is r.session ≡ true) more → mid ≡ old →
+    more ≡ filter (leaves_group w) live → back ≡ mid ++ more → AreLeftGroups is back
 groups_known w was is old live mid more back stay h k e f g =
-    both_known (λ r. (is_some r.reservation ≡ false) × (is_named was r.session ≡ true)) (λ r. is_named is r.session ≡ true) (λ r. (is_some r.reservation ≡ false) × (is_named is r.session ≡ true)) (leaves_group w) old live mid more back
-    (λ r d n. (not_is (is_some r.reservation) (first_true (not (is_some r.reservation)) _ d), n)) (λ r x. (x.0, stay r.session x.1)) h k e f g
+    both_known (λ r. (is_some r.reservation ≡ false) × (is_named was r.session ≡ true))
+    (λ r. is_named is r.session ≡ true)
+    (λ r. (is_some r.reservation ≡ false) × (is_named is r.session ≡ true))
+    (leaves_group w) old live mid more back
+    (λ r d n. (not_is (is_some r.reservation) (first_true (not (is_some r.reservation)) _ d), n))
+    (λ r x. (x.0, stay r.session x.1)) h k e f g
 
 -- ---- a list as far as it was walked
 
 no_less : (n : ℕ) → n < zero → ⊥
 no_less n h = omega (arith, h)
 
-each_on : {A : Type 0} (P : A → Type 0) (xs : List A) (i : ℕ) (d : A) → EachIn P (take i xs) → i < length xs → P (get_or xs i d) → EachIn P (take (suc i) xs)
+each_on : {A : Type 0} (P : A → Type 0) (xs : List A) (i : ℕ) (d : A) → EachIn P (take i xs) →
+    i < length xs → P (get_or xs i d) → EachIn P (take (suc i) xs)
 each_on P [] i d h less k = absurd (no_less i less)
 each_on P (x ∷ xs) zero d h less k = (k, tt)
 each_on P (x ∷ xs) (suc i) d h less k = (h.0, each_on P xs i d h.1 (omega (arith, less)) k)
 
-pub each_next : {A : Type 0} (P : A → Type 0) (xs : List A) (i : ℕ) (d : A) → EachIn P (take i xs) → i < length xs → P (get_or xs i d) → EachIn P (take (i + 1) xs)
+pub each_next : {A : Type 0} (P : A → Type 0) (xs : List A) (i : ℕ) (d : A) → EachIn P (take i xs) →
+    i < length xs → P (get_or xs i d) → EachIn P (take (i + 1) xs)
 each_next P xs i d h less k =
     let one : suc i ≡ i + 1 = omega arith in
     subst (λ (n : ℕ). EachIn P (take n xs)) one (each_on P xs i d h less k)
 
-pub each_whole : {A : Type 0} (P : A → Type 0) (xs : List A) (i : ℕ) → EachIn P (take i xs) → length xs ≤ i → EachIn P xs
+pub each_whole : {A : Type 0} (P : A → Type 0) (xs : List A) (i : ℕ) → EachIn P (take i xs) →
+    length xs ≤ i → EachIn P xs
 each_whole P [] i h le = tt
 each_whole P (x ∷ xs) zero h le = absurd (no_less (length xs) (omega (arith, le)))
 each_whole P (x ∷ xs) (suc i) h le = (h.0, each_whole P xs i h.1 (omega (arith, le)))
 
 -- with more known
-pub each_stays : {A : Type 0} (P Q : A → Type 0) (xs : List A) (i : ℕ) → ((x : A) → P x → Q x) → EachIn P (take i xs) → EachIn Q (take i xs)
+pub each_stays : {A : Type 0} (P Q : A → Type 0) (xs : List A) (i : ℕ) → ((x : A) → P x → Q x) →
+    EachIn P (take i xs) → EachIn Q (take i xs)
 each_stays P Q xs i k h = each_in_map P Q (take i xs) k h

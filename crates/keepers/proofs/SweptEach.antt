@@ -28,33 +28,44 @@ rest_same x y xs ys e = cc
 no_first : {A : Type 0} (x : A) (xs : List A) → x ∷ xs ≡ [] → ⊥
 no_first x xs e = cc
 
-swept_on : (book : Book) (t i : ℕ) (xs ys : List Entry) (d e : Entry) → AreSwept book t (take i xs) (take i ys) → drop i ys ≡ drop i xs → i < length xs → IsSweptEntry book t (get_or ys i d) e →
-    AreSwept book t (take (suc i) xs) (take (suc i) (set ys i e)) × drop (suc i) (set ys i e) ≡ drop (suc i) xs
+swept_on : (book : Book) (t i : ℕ) (xs ys : List Entry) (d e : Entry) →
+    AreSwept book t (take i xs) (take i ys) → drop i ys ≡ drop i xs → i < length xs →
+    IsSweptEntry book t (get_or ys i d) e →
+    AreSwept book t (take (suc i) xs) (take (suc i) (set ys i e)) × drop (suc i) (set ys i e) ≡
+    drop (suc i) xs
 swept_on book t zero [] ys d e h rest less swept = absurd (no_less zero less)
 swept_on book t zero (x ∷ xs) [] d e h rest less swept = absurd (no_first x xs (sym rest))
-swept_on book t zero (x ∷ xs) (y ∷ ys) d e h rest less swept =
-    ((subst (λ (z : Entry). IsSweptEntry book t z e) (first_same y x ys xs rest) swept, tt), rest_same y x ys xs rest)
+swept_on book t zero (x ∷ xs) (y ∷ ys) d e h rest less swept = (
+  (subst (λ (z : Entry). IsSweptEntry book t z e) (first_same y x ys xs rest) swept, tt),
+  rest_same y x ys xs rest,
+)
 swept_on book t (suc i) [] ys d e h rest less swept = absurd (no_less (suc i) less)
 swept_on book t (suc i) (x ∷ xs) [] d e h rest less swept = absurd h
 swept_on book t (suc i) (x ∷ xs) (y ∷ ys) d e h rest less swept =
     let r = swept_on book t i xs ys d e h.1 rest (omega (arith, less)) swept in
     ((h.0, r.0), r.1)
 
-pub swept_next : (book : Book) (t i : ℕ) (xs ys : List Entry) (d e : Entry) → AreSwept book t (take i xs) (take i ys) → drop i ys ≡ drop i xs → i < length xs → IsSweptEntry book t (get_or ys i d) e →
-    AreSwept book t (take (i + 1) xs) (take (i + 1) (set ys i e)) × drop (i + 1) (set ys i e) ≡ drop (i + 1) xs
+pub swept_next : (book : Book) (t i : ℕ) (xs ys : List Entry) (d e : Entry) →
+    AreSwept book t (take i xs) (take i ys) → drop i ys ≡ drop i xs → i < length xs →
+    IsSweptEntry book t (get_or ys i d) e →
+    AreSwept book t (take (i + 1) xs) (take (i + 1) (set ys i e)) × drop (i + 1) (set ys i e) ≡
+    drop (i + 1) xs
 swept_next book t i xs ys d e h rest less swept =
     let one : suc i ≡ i + 1 = omega arith in
-    subst (λ (k : ℕ). AreSwept book t (take k xs) (take k (set ys i e)) × drop k (set ys i e) ≡ drop k xs) one (swept_on book t i xs ys d e h rest less swept)
+    subst (λ (k : ℕ). AreSwept book t (take k xs) (take k (set ys i e))
+    × drop k (set ys i e) ≡ drop k xs) one (swept_on book t i xs ys d e h rest less swept)
 
 -- ---- tables
 
 record AreSeen (book : Book) (t : ℕ) (x y : Option Entry) : Type 0 where
   none : (rows_of_entry x).head ≡ None → rows_of_entry y ≡ rows_of_entry x
-  rows : (ledger : Ledger) (u : ℕ) → u ≤ t → AreRowsAt book ledger u (rows_of_entry x) → AreRowsAt book ledger t (rows_of_entry y)
+  rows : (ledger : Ledger) (u : ℕ) → u ≤ t → AreRowsAt book ledger u (rows_of_entry x) →
+      AreRowsAt book ledger t (rows_of_entry y)
   answers : (k : Key) → answer_of_entry k y ≡ answer_of_entry k x
   charges : charges_of_entry y ≡ charges_of_entry x
 
-seen_one : (book : Book) (t : ℕ) (x y : Entry) → IsSweptEntry book t x y → AreSeen book t (Some x) (Some y)
+seen_one : (book : Book) (t : ℕ) (x y : Entry) → IsSweptEntry book t x y →
+    AreSeen book t (Some x) (Some y)
 seen_one book t x y h = record {
   none = λ e. absurd (no_some _ (sym e));
   rows = h.rows;
@@ -62,24 +73,36 @@ seen_one book t x y h = record {
   charges = ap (λ c. c.items) h.charges;
 }
 
-all_seen : (book : Book) (t : ℕ) (xs ys : List Entry) (a : List ℕ) → AreSwept book t xs ys → AreSeen book t (entry_in a xs) (entry_in a ys)
-all_seen book t [] [] a h = record { none = λ e. refl; rows = λ ledger u le r. absurd (no_some _ r.are.head); answers = λ k. refl; charges = refl }
+all_seen : (book : Book) (t : ℕ) (xs ys : List Entry) (a : List ℕ) → AreSwept book t xs ys →
+    AreSeen book t (entry_in a xs) (entry_in a ys)
+all_seen book t [] [] a h =
+    record {
+      none = λ e. refl;
+      rows = λ ledger u le r. absurd (no_some _ r.are.head);
+      answers = λ k. refl;
+      charges = refl;
+    }
 all_seen book t [] (y ∷ ys) a h = absurd h
 all_seen book t (x ∷ xs) [] a h = absurd h
 all_seen book t (x ∷ xs) (y ∷ ys) a h =
-    subst (λ (e : Bool). AreSeen book t (cond (is_entry a x) (Some x) (entry_in a xs)) (cond e (Some y) (entry_in a ys))) (ap (λ n. same_name n a) (sym h.0.number)) (at (is_entry a x) (all_seen book t xs ys a h.1))
+    subst (λ (e : Bool). AreSeen book t (cond (is_entry a x) (Some x) (entry_in a xs))
+    (cond e (Some y) (entry_in a ys))) (ap (λ n. same_name n a) (sym h.0.number))
+    (at (is_entry a x) (all_seen book t xs ys a h.1))
   where
-    at : (e : Bool) → AreSeen book t (entry_in a xs) (entry_in a ys) → AreSeen book t (cond e (Some x) (entry_in a xs)) (cond e (Some y) (entry_in a ys))
+    at : (e : Bool) → AreSeen book t (entry_in a xs) (entry_in a ys) →
+        AreSeen book t (cond e (Some x) (entry_in a xs)) (cond e (Some y) (entry_in a ys))
     at true rest = seen_one book t x y h.0
     at false rest = rest
 
-pub swept_length : (book : Book) (t : ℕ) (xs ys : List Entry) → AreSwept book t xs ys → length ys ≡ length xs
+pub swept_length : (book : Book) (t : ℕ) (xs ys : List Entry) → AreSwept book t xs ys →
+    length ys ≡ length xs
 swept_length book t [] [] h = refl
 swept_length book t [] (y ∷ ys) h = absurd h
 swept_length book t (x ∷ xs) [] h = absurd h
 swept_length book t (x ∷ xs) (y ∷ ys) h = ap suc (swept_length book t xs ys h.1)
 
-pub swept_tables : (book : Book) (t last : ℕ) (xs ys : List Entry) → AreSwept book t xs ys → IsSwept book t (memory_tables last xs) (memory_tables t ys)
+pub swept_tables : (book : Book) (t last : ℕ) (xs ys : List Entry) → AreSwept book t xs ys →
+    IsSwept book t (memory_tables last xs) (memory_tables t ys)
 swept_tables book t last xs ys h = record {
   last = refl;
   none = λ a. (all_seen book t xs ys a h).none;
@@ -91,12 +114,16 @@ swept_tables book t last xs ys h = record {
 
 -- ---- places
 
-swept_from : (book : Book) (t : ℕ) (a : List ℕ) (k : ℕ) (xs ys : List Entry) → AreSwept book t xs ys → position_from (is_entry a) k ys ≡ position_from (is_entry a) k xs
+swept_from : (book : Book) (t : ℕ) (a : List ℕ) (k : ℕ) (xs ys : List Entry) →
+    AreSwept book t xs ys → position_from (is_entry a) k ys ≡ position_from (is_entry a) k xs
 swept_from book t a k [] [] h = refl
 swept_from book t a k [] (y ∷ ys) h = absurd h
 swept_from book t a k (x ∷ xs) [] h = absurd h
-swept_from book t a k (x ∷ xs) (y ∷ ys) h = λ i. cond (same_name (h.0.number i) a) (Some k) (swept_from book t a (k + 1) xs ys h.1 i)
+swept_from book t a k (x ∷ xs) (y ∷ ys) h = λ i.
+    cond (same_name (h.0.number i) a) (Some k) (swept_from book t a (k + 1) xs ys h.1 i)
 
 -- each account stands where it stood
-pub swept_place : (book : Book) (t : ℕ) (a : List ℕ) (xs ys : List Entry) → AreSwept book t xs ys → position (is_entry a) xs ≡ position (is_entry a) ys
-swept_place book t a xs ys h = position_from-zero (is_entry a) xs ∙ sym (swept_from book t a 0 xs ys h) ∙ sym (position_from-zero (is_entry a) ys)
+pub swept_place : (book : Book) (t : ℕ) (a : List ℕ) (xs ys : List Entry) → AreSwept book t xs ys →
+    position (is_entry a) xs ≡ position (is_entry a) ys
+swept_place book t a xs ys h = position_from-zero (is_entry a) xs
+    ∙ sym (swept_from book t a 0 xs ys h) ∙ sym (position_from-zero (is_entry a) ys)

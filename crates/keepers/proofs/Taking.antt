@@ -26,31 +26,51 @@ use Rattle.keepers.proofs.GroupRows.{no_row, group_same}
 -- ---- a session that isn't open has no reservation
 
 module _ (ledger : Ledger) (w : AccountRows) (rows : IsRowsOf ledger w) where
-  closed_free : (s : List ℕ) (g : ℕ) (o : Option Recording) → last_recording s ledger ≡ o → is_open_row (session_row s (state_at w.book.validity w.as_of ledger s) o) ≡ false → reservation_at w.book.validity w.as_of ledger s g ≡ None
-  closed_free s g None e k = at (is_live w.book.validity w.as_of ledger s) (open_grant s g ledger) ((rows.unknown s e).granted g)
+  closed_free : (s : List ℕ) (g : ℕ) (o : Option Recording) → last_recording s ledger ≡ o →
+      is_open_row (session_row s (state_at w.book.validity w.as_of ledger s) o) ≡ false →
+      reservation_at w.book.validity w.as_of ledger s g ≡ None
+  closed_free s g None e k = at (is_live w.book.validity w.as_of ledger s) (open_grant s g ledger)
+      ((rows.unknown s e).granted g)
     where
-      at : (l : Bool) (p : Option Periods) → p ≡ None → (if l then reservation_of (holds_at w.book.validity w.as_of s g ledger) p else None) ≡ None
+      at : (l : Bool) (p : Option Periods) → p ≡ None →
+          (if l then reservation_of (holds_at w.book.validity w.as_of s g ledger) p else None) ≡
+          None
       at true p n = ap (reservation_of (holds_at w.book.validity w.as_of s g ledger)) n
       at false p n = refl
   closed_free s g (Some x) e k = at (is_live w.book.validity w.as_of ledger s) k
     where
-      at : (l : Bool) → is_open (if l then Open else (if is_some (last_touch s ledger) then Ended else NeverOpened)) ≡ false → (if l then reservation_of (holds_at w.book.validity w.as_of s g ledger) (open_grant s g ledger) else None) ≡ None
+      at : (l : Bool) → is_open
+          (if l then Open else (if is_some (last_touch s ledger) then Ended else NeverOpened)) ≡
+          false → (if l then reservation_of (holds_at w.book.validity w.as_of s g ledger)
+          (open_grant s g ledger) else None) ≡ None
       at true n = absurd (not_both (sym n))
       at false n = refl
 
-  row_free : (s : List ℕ) (g : ℕ) (t : Bool) → reservation_at w.book.validity w.as_of ledger s g ≡ None →
-      has_reservation (option_map group_row (if t then Some (record { session = s; group = g; used = Rattle.reserving.specs.Ledger.used s g ledger; reservation = reservation_at w.book.validity w.as_of ledger s g }) else None)) ≡ false
-  row_free s g true e = ap (λ (o : Option Reservation). is_some (option_map (λ (x : Reservation). x.periods) o)) e
+  row_free : (s : List ℕ) (g : ℕ) (t : Bool) →
+      reservation_at w.book.validity w.as_of ledger s g ≡ None →
+      has_reservation (option_map group_row
+      (if t then Some (record {
+        session = s;
+        group = g;
+        used = Rattle.reserving.specs.Ledger.used s g ledger;
+        reservation = reservation_at w.book.validity w.as_of ledger s g;
+      }) else None)) ≡ false
+  row_free s g true e = ap (λ (o : Option Reservation). is_some
+      (option_map (λ (x : Reservation). x.periods) o)) e
   row_free s g false e = refl
 
-  pub ended_free : (s : List ℕ) (g : ℕ) → is_open_row (session_in s w.sessions) ≡ false → has_reservation (option_map group_row (group_in s g w.groups)) ≡ false
+  pub ended_free : (s : List ℕ) (g : ℕ) → is_open_row (session_in s w.sessions) ≡ false →
+      has_reservation (option_map group_row (group_in s g w.groups)) ≡ false
   ended_free s g e =
       ap (λ o. has_reservation (option_map group_row o)) (rows.groups s g)
-      ∙ row_free s g (has_group s g ledger) (closed_free s g (last_recording s ledger) refl (ap is_open_row (sym (rows.sessions s)) ∙ e))
+      ∙ row_free s g (has_group s g ledger)
+      (closed_free s g (last_recording s ledger) refl
+      (ap is_open_row (sym (rows.sessions s)) ∙ e))
 
 -- ---- what is loaded is a part
 
-module _ (book : Book) (ledger : Ledger) (u t : ℕ) (r : Rows) (a : AccountRows) (h : AreRowsAt book ledger u r) (own : IsAccount a) (loads : IsLoadedFrom book t r a) where
+module _ (book : Book) (ledger : Ledger) (u t : ℕ) (r : Rows) (a : AccountRows)
+    (h : AreRowsAt book ledger u r) (own : IsAccount a) (loads : IsLoadedFrom book t r a) where
   abbrev w : AccountRows
   w = priced book h.listed
 
@@ -58,28 +78,40 @@ module _ (book : Book) (ledger : Ledger) (u t : ℕ) (r : Rows) (a : AccountRows
   head_is = some_of (head_of (stored a)) (head_of h.listed) (sym loads.head ∙ h.are.head)
 
   pub whole : IsAccount w
-  whole = IsAccount-priced book h.listed (subst Rattle.tariffs.specs.Books.IsBook loads.priced_by own.book) h.kept
+  whole = IsAccount-priced book h.listed
+      (subst Rattle.tariffs.specs.Books.IsBook loads.priced_by own.book) h.kept
 
-  either_way : (o p : Bool) (x : Option SessionGroup) → p ≡ false → (if o || p then x else None) ≡ (if o then x else None)
+  either_way : (o p : Bool) (x : Option SessionGroup) → p ≡ false → (if o || p then x else None) ≡
+      (if o then x else None)
   either_way true p x e = refl
   either_way false p x e = ap (λ q. if q then x else None) e
 
   by_open : (s : List ℕ) (g : ℕ) (o : Bool) → is_open_row (session_in s w.sessions) ≡ o →
-      (if o || has_reservation (option_map group_row (group_in s g w.groups)) then group_in s g w.groups else None) ≡ (if o then group_in s g w.groups else None)
+      (if o || has_reservation (option_map group_row (group_in s g w.groups))
+      then group_in s g w.groups else None) ≡ (if o then group_in s g w.groups else None)
   by_open s g true e = refl
-  by_open s g false e = either_way false (has_reservation (option_map group_row (group_in s g w.groups))) (group_in s g w.groups) (ended_free ledger w h.rows s g e)
+  by_open s g false e = either_way false
+      (has_reservation (option_map group_row (group_in s g w.groups))) (group_in s g w.groups)
+      (ended_free ledger w h.rows s g e)
 
   buckets_are : a.buckets ≡ filter (λ b. not (is_dead b)) w.buckets
-  buckets_are = are_told a.buckets (filter (λ b. not (is_dead b)) w.buckets) own.sound (sound_filter (λ b. not (is_dead b)) w.buckets whole.sound)
-      (λ n. loads.buckets n ∙ ap (only (λ b. not (is_dead b))) (h.are.buckets n) ∙ sym (bucket_filter n (λ b. not (is_dead b)) w.buckets whole.sound.distinct))
+  buckets_are = are_told a.buckets (filter (λ b. not (is_dead b)) w.buckets) own.sound
+      (sound_filter (λ b. not (is_dead b)) w.buckets whole.sound)
+      (λ n. loads.buckets n ∙ ap (only (λ b. not (is_dead b))) (h.are.buckets n)
+      ∙ sym (bucket_filter n (λ b. not (is_dead b)) w.buckets whole.sound.distinct))
 
   in_order : AreInOrderOf a.buckets w.groups
-  in_order = subst (λ bs. AreInOrderOf bs w.groups) (sym buckets_are) (order_live w.buckets w.groups whole.held whole.order)
+  in_order = subst (λ bs. AreInOrderOf bs w.groups) (sym buckets_are)
+      (order_live w.buckets w.groups whole.held whole.order)
 
   -- the row and the holds of a group are what the list has of it
-  by_row : (s : List ℕ) (g : ℕ) (t : Bool) → option_map group_row (group_in s g a.groups) ≡ (if t then r.groups s g else None) → ((n : ℕ) → held_of n (group_in s g a.groups) ≡ (if t then r.holds s g n else 0)) →
+  by_row : (s : List ℕ) (g : ℕ) (t : Bool) → option_map group_row (group_in s g a.groups) ≡
+      (if t then r.groups s g else None) →
+      ((n : ℕ) → held_of n (group_in s g a.groups) ≡ (if t then r.holds s g n else 0)) →
       group_in s g a.groups ≡ (if t then group_in s g w.groups else None)
-  by_row s g true row held = group_same s g a.buckets a.groups w.groups own.order in_order (row ∙ h.are.groups s g) (λ n. held n ∙ h.are.holds s g n)
+  by_row s g true row held =
+      group_same s g a.buckets a.groups w.groups own.order in_order (row ∙ h.are.groups s g)
+      (λ n. held n ∙ h.are.holds s g n)
   by_row s g false row held = no_row (group_in s g a.groups) row
 
   pub part : IsPartOf t w a
@@ -90,12 +122,15 @@ module _ (book : Book) (ledger : Ledger) (u t : ℕ) (r : Rows) (a : AccountRows
     next_bucket = λ i. (head_is i).next_bucket;
     next_charge = λ i. (head_is i).next_charge;
     buckets = buckets_are;
-    sessions = λ s. loads.sessions s ∙ ap (only (λ (x : Session). is_open x.state)) (h.are.sessions s);
+    sessions = λ s. loads.sessions s
+        ∙ ap (only (λ (x : Session). is_open x.state)) (h.are.sessions s);
     groups = λ s g.
         by_row s g (is_loaded r s g) (loads.groups s g) (loads.holds s g)
-        ∙ (λ i. if is_open_row (h.are.sessions s i) || has_reservation (h.are.groups s g i) then group_in s g w.groups else None)
+        ∙ (λ i. if is_open_row (h.are.sessions s i) || has_reservation (h.are.groups s g i)
+        then group_in s g w.groups else None)
         ∙ by_open s g (is_open_row (session_in s w.sessions)) refl;
-    counters = λ g c. loads.counters g c ∙ ap (λ o. if c == cycle_at book g t then o else None) (h.are.counters g c);
+    counters = λ g c. loads.counters g c
+        ∙ ap (λ o. if c == cycle_at book g t then o else None) (h.are.counters g c);
   }
 
   pub taken : IsWith ledger (left_of t w) t a

@@ -19,12 +19,16 @@ use Rattle.keepers.proofs.GroupRows.{group_same}
 -- each bucket is what the ledger sums to
 pub buckets_told : IsBucketsTold
 buckets_told book ledger t r h = (
-  λ n. h.are.buckets n ∙ ap (bucket_in n) (h.rows.buckets ∙ (λ i. buckets_at book.validity (h.moment i) ledger)),
-  subst (Each IsBalanced) (h.rows.buckets ∙ (λ i. buckets_at book.validity (h.moment i) ledger)) h.kept.sound.balanced,
+  λ n. h.are.buckets n ∙ ap (bucket_in n)
+      (h.rows.buckets ∙ (λ i. buckets_at book.validity (h.moment i) ledger)),
+  subst (Each IsBalanced) (h.rows.buckets ∙ (λ i. buckets_at book.validity (h.moment i) ledger))
+      h.kept.sound.balanced,
 )
 
 -- any list of the rows is the ledger's
-pub rows_told : (book : Book) (ledger : Ledger) (t : ℕ) (r : Rows) (v : StoredRows) → AreRowsAt book ledger t r → AreListed v r → IsStored v → IsRowsOf ledger (priced book v) × (v.as_of ≡ t)
+pub rows_told : (book : Book) (ledger : Ledger) (t : ℕ) (r : Rows) (v : StoredRows) →
+    AreRowsAt book ledger t r → AreListed v r → IsStored v → IsRowsOf ledger (priced book v)
+    × (v.as_of ≡ t)
 rows_told book ledger t r v h are kept = (rows, as_of ∙ h.moment)
   where
     w : StoredRows
@@ -37,19 +41,25 @@ rows_told book ledger t r v h are kept = (rows, as_of ∙ h.moment)
     as_of = λ i. (head_is i).as_of
 
     buckets_are : v.buckets ≡ w.buckets
-    buckets_are = are_told v.buckets w.buckets kept.sound h.kept.sound (λ n. sym (are.buckets n) ∙ h.are.buckets n)
+    buckets_are = are_told v.buckets w.buckets kept.sound h.kept.sound
+        (λ n. sym (are.buckets n) ∙ h.are.buckets n)
 
     rows : IsRowsOf ledger (priced book v)
     rows = record {
       barred = (λ i. (head_is i).barred) ∙ h.rows.barred;
       buckets = buckets_are ∙ h.rows.buckets ∙ (λ i. buckets_at book.validity (sym as_of i) ledger);
-      sessions = λ s. sym (are.sessions s) ∙ h.are.sessions s ∙ h.rows.sessions s ∙ (λ i. session_at book.validity (sym as_of i) ledger s);
-      groups = λ s g. group_same s g w.buckets v.groups w.groups (subst (λ bs. AreInOrderOf bs v.groups) buckets_are kept.order) h.kept.order (sym (are.groups s g) ∙ h.are.groups s g) (λ n. sym (are.holds s g n) ∙ h.are.holds s g n) ∙ h.rows.groups s g ∙ (λ i. group_at book.validity (sym as_of i) ledger s g);
+      sessions = λ s. sym (are.sessions s) ∙ h.are.sessions s ∙ h.rows.sessions s
+          ∙ (λ i. session_at book.validity (sym as_of i) ledger s);
+      groups = λ s g. group_same s g w.buckets v.groups w.groups
+          (subst (λ bs. AreInOrderOf bs v.groups) buckets_are kept.order) h.kept.order
+          (sym (are.groups s g) ∙ h.are.groups s g) (λ n. sym (are.holds s g n) ∙ h.are.holds s g n)
+          ∙ h.rows.groups s g ∙ (λ i. group_at book.validity (sym as_of i) ledger s g);
       counters = λ g c. sym (are.counters g c) ∙ h.are.counters g c ∙ h.rows.counters g c;
       next_bucket = (λ i. (head_is i).next_bucket) ∙ h.rows.next_bucket;
       next_charge = (λ i. (head_is i).next_charge) ∙ h.rows.next_charge;
       touched = h.rows.touched;
       unknown = h.rows.unknown;
       fresh = λ n k. h.rows.fresh n (subst (λ (m : ℕ). m ≤ n) (λ i. (head_is i).next_bucket) k);
-      free = λ n counts k. h.rows.free n counts (subst (λ (m : ℕ). m ≤ n) (λ i. (head_is i).next_bucket) k);
+      free = λ n counts k. h.rows.free n counts
+          (subst (λ (m : ℕ). m ≤ n) (λ i. (head_is i).next_bucket) k);
     }

@@ -7,7 +7,8 @@ use Rattle.keepers.specs.declared.whole.WholeAccount.{WholeAccount}
 use Rattle.keepers.specs.Tables.{no_rows, group_row, held_of}
 use Rattle.keepers.specs.Whole.{AreWhole}
 
-pub none_whole : (w : WholeAccount) → w.buckets.items ≡ [] → w.counters.items ≡ [] → w.sessions.items ≡ [] → w.groups.items ≡ [] → AreWhole no_rows w
+pub none_whole : (w : WholeAccount) → w.buckets.items ≡ [] → w.counters.items ≡ [] →
+    w.sessions.items ≡ [] → w.groups.items ≡ [] → AreWhole no_rows w
 none_whole w buckets counters sessions groups = record {
   buckets = λ n. sym (ap (bucket_in n) buckets);
   counters = λ g c. sym (ap (counter_in g c) counters);

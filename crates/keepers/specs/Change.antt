@@ -31,20 +31,25 @@ has_reservation (Some r) = is_some r.periods
 abbrev pub is_loaded : Rows → List ℕ → ℕ → Bool
 is_loaded r s g = is_open_row (r.sessions s) || has_reservation (r.groups s g)
 
--- the account is what may still change at the moment: the buckets that aren't dead, the open sessions, what they have of
--- groups and whatever holds a reservation, and the counters of the cycles at the moment
+-- the account is what may still change at the moment: the buckets that aren't dead, the open
+-- sessions, what they have of groups and whatever holds a reservation, and the counters of the
+-- cycles at the moment
 pub record IsLoadedFrom (book : Book) (t : ℕ) (r : Rows) (a : AccountRows) : Type 0 where
   pub priced_by : a.book ≡ book
   pub head : r.head ≡ Some (head_of (stored a))
   pub buckets : (n : ℕ) → bucket_in n a.buckets ≡ only (λ b. not (is_dead b)) (r.buckets n)
   pub sessions : (s : List ℕ) → session_in s a.sessions ≡ only (λ x. is_open x.state) (r.sessions s)
-  pub groups : (s : List ℕ) (g : ℕ) → option_map group_row (group_in s g a.groups) ≡ (if is_loaded r s g then r.groups s g else None)
-  pub holds : (s : List ℕ) (g n : ℕ) → held_of n (group_in s g a.groups) ≡ (if is_loaded r s g then r.holds s g n else 0)
-  pub counters : (g c : ℕ) → counter_in g c a.counters ≡ (if c == cycle_at book g t then r.counters g c else None)
+  pub groups : (s : List ℕ) (g : ℕ) → option_map group_row (group_in s g a.groups) ≡
+      (if is_loaded r s g then r.groups s g else None)
+  pub holds : (s : List ℕ) (g n : ℕ) → held_of n (group_in s g a.groups) ≡
+      (if is_loaded r s g then r.holds s g n else 0)
+  pub counters : (g c : ℕ) → counter_in g c a.counters ≡
+      (if c == cycle_at book g t then r.counters g c else None)
 
 abbrev pub IsLoad : Book → ℕ → List ℕ → Rows → Option Loaded → Type 0
 IsLoad book t n r None = r.head ≡ None
-IsLoad book t n r (Some l) = (l.number ≡ n) × IsLoadedFrom book t r l.account × (l.before ≡ stored l.account)
+IsLoad book t n r (Some l) = (l.number ≡ n) × IsLoadedFrom book t r l.account
+    × (l.before ≡ stored l.account)
 
 -- the same without a copy of what was loaded
 abbrev pub IsView : Book → ℕ → Rows → Option AccountRows → Type 0
@@ -82,22 +87,31 @@ kept_after (Some kept) k before = if same_key (key_of kept.content) k then Some 
 abbrev pub changed : Change → Tables → Tables
 changed change tables = record {
   last = change.moment;
-  rows = λ a. if same_name change.number a then over change.after (tables.rows a) else tables.rows a;
-  answers = λ a k. if same_name change.number a then kept_after change.kept k (tables.answers a k) else tables.answers a k;
-  charges = λ a n. if same_name change.number a then first_of (tables.charges a n) (charge_in n change.charges.items) else tables.charges a n;
+  rows = λ a. if same_name change.number a then over change.after (tables.rows a)
+      else tables.rows a;
+  answers = λ a k. if same_name change.number a then kept_after change.kept k (tables.answers a k)
+      else tables.answers a k;
+  charges = λ a n. if same_name change.number a
+      then first_of (tables.charges a n) (charge_in n change.charges.items) else tables.charges a n;
   count = if is_some (tables.rows change.number).head then tables.count else tables.count + 1;
 }
 
 -- the rows before the change are there, and what isn't among those after it can't change any more
 pub record IsMadeFrom (before after : StoredRows) (r : Rows) : Type 0 where
   pub buckets : (n : ℕ) (x : Row) → bucket_in n before.buckets ≡ Some x → r.buckets n ≡ Some x
-  pub counters : (g c : ℕ) (x : Counter) → counter_in g c before.counters ≡ Some x → r.counters g c ≡ Some x
-  pub sessions : (s : List ℕ) (x : Session) → session_in s before.sessions ≡ Some x → r.sessions s ≡ Some x
-  pub groups : (s : List ℕ) (g : ℕ) (x : SessionGroup) → group_in s g before.groups ≡ Some x → r.groups s g ≡ Some (group_row x)
-  pub holds : (s : List ℕ) (g n : ℕ) (x : SessionGroup) → group_in s g before.groups ≡ Some x → r.holds s g n ≡ held_of n (Some x)
+  pub counters : (g c : ℕ) (x : Counter) → counter_in g c before.counters ≡ Some x →
+      r.counters g c ≡ Some x
+  pub sessions : (s : List ℕ) (x : Session) → session_in s before.sessions ≡ Some x →
+      r.sessions s ≡ Some x
+  pub groups : (s : List ℕ) (g : ℕ) (x : SessionGroup) → group_in s g before.groups ≡ Some x →
+      r.groups s g ≡ Some (group_row x)
+  pub holds : (s : List ℕ) (g n : ℕ) (x : SessionGroup) → group_in s g before.groups ≡ Some x →
+      r.holds s g n ≡ held_of n (Some x)
   pub dead : (n : ℕ) (x : Row) → r.buckets n ≡ Some x → bucket_in n after.buckets ≡ None → IsDead x
-  pub ended : (s : List ℕ) (x : Session) → r.sessions s ≡ Some x → session_in s after.sessions ≡ None → is_open x.state ≡ false
-  pub free : (s : List ℕ) (g : ℕ) (x : GroupRow) → r.groups s g ≡ Some x → group_in s g after.groups ≡ None → (x.periods ≡ None) × (session_in s after.sessions ≡ None)
+  pub ended : (s : List ℕ) (x : Session) → r.sessions s ≡ Some x →
+      session_in s after.sessions ≡ None → is_open x.state ≡ false
+  pub free : (s : List ℕ) (g : ℕ) (x : GroupRow) → r.groups s g ≡ Some x →
+      group_in s g after.groups ≡ None → (x.periods ≡ None) × (session_in s after.sessions ≡ None)
 
 -- ---- a sweep
 
@@ -112,7 +126,8 @@ pub record AreRowsAt (book : Book) (ledger : Ledger) (t : ℕ) (r : Rows) : Type
 pub record IsSwept (book : Book) (t : ℕ) (old new : Tables) : Type 0 where
   pub last : new.last ≡ t
   pub none : (a : List ℕ) → (old.rows a).head ≡ None → new.rows a ≡ old.rows a
-  pub rows : (a : List ℕ) (ledger : Ledger) (u : ℕ) → u ≤ t → AreRowsAt book ledger u (old.rows a) → AreRowsAt book ledger t (new.rows a)
+  pub rows : (a : List ℕ) (ledger : Ledger) (u : ℕ) → u ≤ t → AreRowsAt book ledger u (old.rows a) →
+      AreRowsAt book ledger t (new.rows a)
   pub answers : (a : List ℕ) (k : Key) → new.answers a k ≡ old.answers a k
   pub charges : (a : List ℕ) (n : ℕ) → new.charges a n ≡ old.charges a n
   pub count : new.count ≡ old.count

@@ -28,8 +28,10 @@ same_scope x y = false
 
 abbrev pub equal_bucket : Row → Row → Bool
 equal_bucket x y =
-    x.number == y.number && (x.from == y.from && (x.until == y.until && (same_scope x.scope y.scope && (x.credited == y.credited
-    && (x.available == y.available && (x.reserved == y.reserved && (x.charged == y.charged && x.expired == y.expired)))))))
+    x.number == y.number && (x.from == y.from &&
+    (x.until == y.until && (same_scope x.scope y.scope && (x.credited == y.credited
+    && (x.available == y.available &&
+    (x.reserved == y.reserved && (x.charged == y.charged && x.expired == y.expired)))))))
 
 abbrev pub equal_counter : Counter → Counter → Bool
 equal_counter x y = x.group == y.group && (x.cycle == y.cycle && x.blocks == y.blocks)
@@ -41,7 +43,8 @@ same_state NeverOpened NeverOpened = true
 same_state x y = false
 
 abbrev pub equal_session : Session → Session → Bool
-equal_session x y = is_same x.id y.id && (x.last_number == y.last_number && (x.touched == y.touched && same_state x.state y.state))
+equal_session x y = is_same x.id y.id &&
+    (x.last_number == y.last_number && (x.touched == y.touched && same_state x.state y.state))
 
 abbrev pub equal_periods : Periods → Periods → Bool
 equal_periods x y = x.before.0 == y.before.0 && x.after.0 == y.after.0
@@ -51,40 +54,52 @@ equal_hold x y = x.bucket == y.bucket && x.amount == y.amount
 
 abbrev pub equal_reservation : Option Reservation → Option Reservation → Bool
 equal_reservation None None = true
-equal_reservation (Some x) (Some y) = equal_periods x.periods y.periods && pointwise equal_hold x.holds y.holds
+equal_reservation (Some x) (Some y) =
+    equal_periods x.periods y.periods && pointwise equal_hold x.holds y.holds
 equal_reservation x y = false
 
 abbrev pub equal_group : SessionGroup → SessionGroup → Bool
-equal_group x y = is_same x.session y.session && (x.group == y.group && (x.used == y.used && equal_reservation x.reservation y.reservation))
+equal_group x y = is_same x.session y.session &&
+    (x.group == y.group && (x.used == y.used && equal_reservation x.reservation y.reservation))
 
--- ---- a keeper that writes only the rows that differ leaves what one leaves that writes all: the rows before are there
+-- ---- a keeper that writes only the rows that differ leaves what one leaves that writes all: the
+-- rows before are there
 
 abbrev pub AreBucketsOverlaid : Type 0
 AreBucketsOverlaid =
-    (before after : List Row) (r : Option Row) (n : ℕ) → AreApart same_bucket before → AreApart same_bucket after →
+    (before after : List Row) (r : Option Row) (n : ℕ) → AreApart same_bucket before →
+    AreApart same_bucket after →
     ((y : Row) → bucket_in n before ≡ Some y → r ≡ Some y) →
     first_of (bucket_in n (differing equal_bucket before after)) r ≡ first_of (bucket_in n after) r
 
 abbrev pub AreCountersOverlaid : Type 0
 AreCountersOverlaid =
-    (before after : List Counter) (r : Option Counter) (g c : ℕ) → AreApart same_counter before → AreApart same_counter after →
+    (before after : List Counter) (r : Option Counter) (g c : ℕ) → AreApart same_counter before →
+    AreApart same_counter after →
     ((y : Counter) → counter_in g c before ≡ Some y → r ≡ Some y) →
-    first_of (counter_in g c (differing equal_counter before after)) r ≡ first_of (counter_in g c after) r
+    first_of (counter_in g c (differing equal_counter before after)) r ≡
+    first_of (counter_in g c after) r
 
 abbrev pub AreSessionsOverlaid : Type 0
 AreSessionsOverlaid =
-    (before after : List Session) (r : Option Session) (s : List ℕ) → AreApart same_session before → AreApart same_session after →
+    (before after : List Session) (r : Option Session) (s : List ℕ) → AreApart same_session before →
+    AreApart same_session after →
     ((y : Session) → session_in s before ≡ Some y → r ≡ Some y) →
-    first_of (session_in s (differing equal_session before after)) r ≡ first_of (session_in s after) r
+    first_of (session_in s (differing equal_session before after)) r ≡
+    first_of (session_in s after) r
 
 abbrev pub AreGroupsOverlaid : Type 0
 AreGroupsOverlaid =
-    (before after : List SessionGroup) (r : Option GroupRow) (s : List ℕ) (g : ℕ) → AreApart same_group before → AreApart same_group after →
+    (before after : List SessionGroup) (r : Option GroupRow) (s : List ℕ) (g : ℕ) →
+    AreApart same_group before → AreApart same_group after →
     ((y : SessionGroup) → group_in s g before ≡ Some y → r ≡ Some (group_row y)) →
-    first_of (option_map group_row (group_in s g (differing equal_group before after))) r ≡ first_of (option_map group_row (group_in s g after)) r
+    first_of (option_map group_row (group_in s g (differing equal_group before after))) r ≡
+    first_of (option_map group_row (group_in s g after)) r
 
 abbrev pub AreHoldsOverlaid : Type 0
 AreHoldsOverlaid =
-    (before after : List SessionGroup) (held : ℕ) (s : List ℕ) (g n : ℕ) → AreApart same_group before → AreApart same_group after →
+    (before after : List SessionGroup) (held : ℕ) (s : List ℕ) (g n : ℕ) →
+    AreApart same_group before → AreApart same_group after →
     ((y : SessionGroup) → group_in s g before ≡ Some y → held ≡ held_of n (Some y)) →
-    held_over n (group_in s g (differing equal_group before after)) held ≡ held_over n (group_in s g after) held
+    held_over n (group_in s g (differing equal_group before after)) held ≡
+    held_over n (group_in s g after) held

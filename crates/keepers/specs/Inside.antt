@@ -10,7 +10,12 @@ use Rattle.keepers.specs.declared.store.Store.TheInside.{Inside as Fields}
 abbrev pub parts_by : StoredRows → LeftStore → Parts
 parts_by live left = record {
   live = live;
-  left = record { buckets = left.buckets.items; counters = left.counters.items; sessions = left.sessions.items; groups = left.groups.items };
+  left = record {
+    buckets = left.buckets.items;
+    counters = left.counters.items;
+    sessions = left.sessions.items;
+    groups = left.groups.items;
+  };
 }
 
 abbrev pub parts_of : Fields → Parts

@@ -1,5 +1,6 @@
 -- The keys of kept answers.
--- Source: profile; a request's key is its Session-Id and CC-Request-Number (RFC 8506 sections 8.2 and 8.4).
+-- Source: profile; a request's key is its Session-Id and CC-Request-Number (RFC 8506 sections 8.2
+-- and 8.4).
 use Rattle.std.specs.Prelude.{◌≡◌, ℕ, ◌&&◌, ◌++◌, Bool, true, false, List, nat_eq}
 use Rattle.std.specs.Bool.{Decides}
 use Rattle.std.specs.Cmp.{unsigned_Decides}
@@ -39,7 +40,8 @@ key_sound (Reference r) (Request t m) e = no e
 key_sound (Reference r) (Reference q) e = ap Reference ((bytes_decides r q).0 e)
 
 key_itself : (x : Key) → same_key x x ≡ true
-key_itself (Request s n) = both (same_name s s) (nat_eq n n) ((bytes_decides s s).1 refl) ((unsigned_Decides n n).1 refl)
+key_itself (Request s n) =
+    both (same_name s s) (nat_eq n n) ((bytes_decides s s).1 refl) ((unsigned_Decides n n).1 refl)
 key_itself (Reference r) = (bytes_decides r r).1 refl
 
 -- the test tells equal keys

@@ -8,6 +8,8 @@ pub mod Differing
 pub mod Parts
 pub mod Named
 pub mod Inside
+pub mod Keeping
+pub mod Replacing
 pub mod Memory
 pub mod Failing
 pub mod Steps

@@ -1,6 +1,6 @@
 -- What the keeper in memory holds.
 -- Source: profile.
-use Rattle.std.specs.Prelude.{◌≡◌, ◌≤◌, ℕ, Bool, List, [], ◌∷◌, length, Option, Some, None, option_map, position}
+use Rattle.std.specs.Prelude.{◌≡◌, ◌≤◌, ◌+◌, ◌++◌, ℕ, Bool, List, [], ◌∷◌, length, Option, Some, None, is_some, option_map, position, if◌then◌else◌}
 use Rattle.std.specs.List.{find}
 use Rattle.std.specs.HashMap.{HashMap, get}
 use Rattle.std.specs.declared.hash.FoldHasher.{FoldHasher}
@@ -15,8 +15,9 @@ use Rattle.keepers.specs.Keys.{same_key}
 use Rattle.keepers.specs.declared.entries.Entry.{Entry}
 use Rattle.keepers.specs.Tables.{Rows, Tables, no_rows, charge_in}
 use Rattle.keepers.specs.Parts.{rows_of}
-use Rattle.keepers.specs.Change.{AreRowsAt}
+use Rattle.keepers.specs.Change.{AreRowsAt, IsMadeFrom, kept_after, over}
 use Rattle.reserving.specs.Ledger.{Ledger}
+use Rattle.reserving.specs.Stored.{StoredRows}
 
 -- whether it is the account of this number
 abbrev pub is_entry : List ℕ → Entry → Bool
@@ -49,10 +50,38 @@ Places = HashMap (List ℕ) ℕ (BuildHasherDefault FoldHasher)
 abbrev pub ArePlaced : Places → List Entry → Type 0
 ArePlaced places entries = (a : List ℕ) → get same_name places a ≡ position (is_entry a) entries
 
+-- ---- an account that is written
+
+-- each account, once the rows of one, its further charges and an answer are written
+pub record ArePut (number : List ℕ) (after : StoredRows) (more : List ChargeRow)
+    (kept : Option KeptAnswer) (old new : List Entry) : Type 0 where
+  pub rows : (before : StoredRows) → IsMadeFrom before after (rows_of_entry (entry_in number old)) →
+      (a : List ℕ) → rows_of_entry (entry_in a new) ≡
+      (if same_name number a then over after (rows_of_entry (entry_in a old))
+      else rows_of_entry (entry_in a old))
+  pub answers : (a : List ℕ) (k : Key) → answer_of_entry k (entry_in a new) ≡
+      (if same_name number a then kept_after kept k (answer_of_entry k (entry_in a old))
+      else answer_of_entry k (entry_in a old))
+  pub charges : (a : List ℕ) → charges_of_entry (entry_in a new) ≡
+      (if same_name number a then charges_of_entry (entry_in a old) ++ more
+      else charges_of_entry (entry_in a old))
+  pub count : length new ≡ (if is_some (entry_in number old) then length old else length old + 1)
+
+-- nothing is written
+pub record AreUnchanged (old new : List Entry) : Type 0 where
+  pub rows : (a : List ℕ) → rows_of_entry (entry_in a new) ≡ rows_of_entry (entry_in a old)
+  pub answers : (a : List ℕ) (k : Key) →
+      answer_of_entry k (entry_in a new) ≡ answer_of_entry k (entry_in a old)
+  pub charges : (a : List ℕ) → charges_of_entry (entry_in a new) ≡ charges_of_entry (entry_in a old)
+  pub count : length new ≡ length old
+
+-- ---- a sweep
+
 -- an account as a sweep leaves it
 pub record IsSweptEntry (book : Book) (t : ℕ) (old new : Entry) : Type 0 where
   pub number : new.number ≡ old.number
-  pub rows : (ledger : Ledger) (u : ℕ) → u ≤ t → AreRowsAt book ledger u (rows_of old.rows) → AreRowsAt book ledger t (rows_of new.rows)
+  pub rows : (ledger : Ledger) (u : ℕ) → u ≤ t → AreRowsAt book ledger u (rows_of old.rows) →
+      AreRowsAt book ledger t (rows_of new.rows)
   pub charges : new.charges ≡ old.charges
   pub answers : new.answers ≡ old.answers
 

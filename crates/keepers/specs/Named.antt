@@ -1,4 +1,5 @@
--- What the keeper in memory knows of the rows that were left without a search: the numbers and names that they have.
+-- What the keeper in memory knows of the rows that were left without a search: the numbers and
+-- names that they have.
 use Rattle.std.specs.Prelude.{◌≡◌, ℕ, Bool, true, false, List, nat_eq, is_some}
 use Rattle.std.specs.HashMap.{HashMap, get}
 use Rattle.std.specs.declared.hash.FoldHasher.{FoldHasher}
@@ -26,10 +27,13 @@ is_named names s = is_some (get same_name names s)
 
 -- each that was left can't change, and is known by its number or name
 abbrev pub AreLeftBuckets : Numbers → List Row → Type 0
-AreLeftBuckets numbers rows = EachIn (λ b. (is_dead b ≡ true) × (is_numbered numbers b.number ≡ true)) rows
+AreLeftBuckets numbers rows =
+    EachIn (λ b. (is_dead b ≡ true) × (is_numbered numbers b.number ≡ true)) rows
 
 abbrev pub AreLeftSessions : Names → List Session → Type 0
-AreLeftSessions names rows = EachIn (λ r. (is_open r.state ≡ false) × (is_named names r.id ≡ true)) rows
+AreLeftSessions names rows =
+    EachIn (λ r. (is_open r.state ≡ false) × (is_named names r.id ≡ true)) rows
 
 abbrev pub AreLeftGroups : Names → List SessionGroup → Type 0
-AreLeftGroups names rows = EachIn (λ r. (is_some r.reservation ≡ false) × (is_named names r.session ≡ true)) rows
+AreLeftGroups names rows =
+    EachIn (λ r. (is_some r.reservation ≡ false) × (is_named names r.session ≡ true)) rows

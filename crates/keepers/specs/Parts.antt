@@ -1,4 +1,5 @@
--- An account as the keeper in memory has it: what was live after its last command, and the rows that were left.
+-- An account as the keeper in memory has it: what was live after its last command, and the rows
+-- that were left.
 -- Source: profile.
 use Rattle.std.specs.Prelude.{◌≡◌, ℕ, ◌==◌, ◌&&◌, ◌++◌, ◌≤◌, Bool, true, false, not, List, [], Option, Some, None, is_some, option_map, filter}
 use Rattle.buckets.specs.Row.{Row, IsBalanced}
@@ -55,7 +56,9 @@ abbrev pub leaves_session : StoredRows → Session → Bool
 leaves_session w r = not (is_open r.state) && not (is_some (session_in r.id w.sessions))
 
 abbrev pub leaves_group : StoredRows → SessionGroup → Bool
-leaves_group w r = not (is_some r.reservation) && (not (is_some (session_in r.session w.sessions)) && not (is_some (group_in r.session r.group w.groups)))
+leaves_group w r = not (is_some r.reservation) &&
+    (not (is_some (session_in r.session w.sessions)) && not
+    (is_some (group_in r.session r.group w.groups)))
 
 abbrev pub left_after : StoredRows → Parts → LeftRows
 left_after w p = record {

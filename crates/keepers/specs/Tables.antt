@@ -27,8 +27,9 @@ pub record GroupRow : Type 0 where
   pub used : ℕ
   pub periods : Option Periods
 
--- an account's rows: a bucket by its number, a counter by group and cycle, a session by its name, what it has of a group
--- by name and group, and what its reservation there holds of a bucket by the bucket's number too, 0 where it holds nothing
+-- an account's rows: a bucket by its number, a counter by group and cycle, a session by its name,
+-- what it has of a group by name and group, and what its reservation there holds of a bucket by the
+-- bucket's number too, 0 where it holds nothing
 pub record Rows : Type 0 where
   pub head : Option Head
   pub buckets : ℕ → Option Row
@@ -39,7 +40,15 @@ pub record Rows : Type 0 where
 
 -- no account
 abbrev pub no_rows : Rows
-no_rows = record { head = None; buckets = λ n. None; counters = λ g c. None; sessions = λ s. None; groups = λ s g. None; holds = λ s g n. 0 }
+no_rows = record {
+  head = None;
+  buckets = λ n. None;
+  counters = λ g c. None;
+  sessions = λ s.
+      None;
+  groups = λ s g. None;
+  holds = λ s g n. 0;
+}
 
 -- the tables; accounts are known by the bytes of their numbers
 pub record Tables : Type 0 where
@@ -56,12 +65,24 @@ pub record Tables : Type 0 where
 
 -- before any command
 abbrev pub no_tables : Tables
-no_tables = record { last = 0; rows = λ a. no_rows; answers = λ a k. None; charges = λ a n. None; count = 0 }
+no_tables = record {
+  last = 0;
+  rows = λ a. no_rows;
+  answers = λ a k. None;
+  charges = λ a n.
+      None;
+  count = 0;
+}
 
 -- ---- lists of rows
 
 abbrev pub head_of : StoredRows → Head
-head_of w = record { as_of = w.as_of; barred = w.barred; next_bucket = w.next_bucket; next_charge = w.next_charge }
+head_of w = record {
+  as_of = w.as_of;
+  barred = w.barred;
+  next_bucket = w.next_bucket;
+  next_charge = w.next_charge;
+}
 
 abbrev pub group_row : SessionGroup → GroupRow
 group_row r = record { used = r.used; periods = option_map (λ x. x.periods) r.reservation }

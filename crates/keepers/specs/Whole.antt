@@ -11,5 +11,6 @@ pub record AreWhole (r : Rows) (w : WholeAccount) : Type 0 where
   pub buckets : (n : ℕ) → r.buckets n ≡ bucket_in n w.buckets.items
   pub counters : (g c : ℕ) → r.counters g c ≡ counter_in g c w.counters.items
   pub sessions : (s : List ℕ) → r.sessions s ≡ session_in s w.sessions.items
-  pub groups : (s : List ℕ) (g : ℕ) → r.groups s g ≡ option_map group_row (group_in s g w.groups.items)
+  pub groups : (s : List ℕ) (g : ℕ) →
+      r.groups s g ≡ option_map group_row (group_in s g w.groups.items)
   pub holds : (s : List ℕ) (g n : ℕ) → r.holds s g n ≡ held_of n (group_in s g w.groups.items)

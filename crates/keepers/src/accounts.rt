@@ -1,12 +1,8 @@
 //! The accounts of the keeper in memory, each found by its number without a search.
 
-ghost use Rattle.std.specs.Prelude.{◌≡◌, ◌+◌, ◌++◌, ◌^◌, ℕ, List, [], is_some, length, if◌then◌else◌, OnOk, OnErr};
+ghost use Rattle.std.specs.Prelude.{◌≡◌, [], length, OnOk, OnErr};
 ghost use Rattle.std.specs.Option.{option_copied};
-ghost use Rattle.identifiers.specs.Texts.{same_name};
-ghost use Rattle.keepers.specs.declared.key.Key.{Key};
-ghost use Rattle.keepers.specs.Change.{kept_after, IsMadeFrom, over};
-ghost use Rattle.keepers.specs.Memory.{entry_in, rows_of_entry, answer_of_entry, charges_of_entry, AreSwept, ArePlaced};
-ghost use Rattle.reserving.specs.Stored.{StoredRows};
+ghost use Rattle.keepers.specs.Memory.{entry_in, AreSwept, ArePlaced, ArePut, AreUnchanged};
 
 use crate::entries::{Entry, advance_entries, place_of, put_entry};
 use crate::key::KeptAnswer;
@@ -49,8 +45,8 @@ impl Accounts {
         }
     }
 
-    /// Writes the rows of an account, which is new where there is none of its number, its further charges and an answer.
-    /// At a fault nothing has changed.
+    /// Writes the rows of an account, which is new where there is none of its number, its further
+    /// charges and an answer. At a fault nothing has changed.
     pub(crate) fn put(
         &mut self,
         number: AccountNumber,
@@ -58,17 +54,9 @@ impl Accounts {
         charges: Vec<ChargeRow>,
         kept: Option<KeptAnswer>,
     ) -> Result<(), AllocError>
-        ensures rows { OnOk result ((before : StoredRows) → IsMadeFrom before rows (rows_of_entry (entry_in number self.old.entries.items)) → (a : List ℕ) → rows_of_entry (entry_in a self.new.entries.items) ≡
-            (if same_name number a then over rows (rows_of_entry (entry_in a self.old.entries.items)) else rows_of_entry (entry_in a self.old.entries.items))) }
-        ensures answers { OnOk result ((a : List ℕ) (k : Key) → answer_of_entry k (entry_in a self.new.entries.items) ≡
-            (if same_name number a then kept_after kept k (answer_of_entry k (entry_in a self.old.entries.items)) else answer_of_entry k (entry_in a self.old.entries.items))) }
-        ensures charges { OnOk result ((a : List ℕ) → charges_of_entry (entry_in a self.new.entries.items) ≡
-            (if same_name number a then charges_of_entry (entry_in a self.old.entries.items) ++ charges.items else charges_of_entry (entry_in a self.old.entries.items))) }
-        ensures count { OnOk result (length self.new.entries.items ≡ (if is_some (entry_in number self.old.entries.items) then length self.old.entries.items else length self.old.entries.items + 1)) }
-        ensures err_rows { OnErr result ((a : List ℕ) → rows_of_entry (entry_in a self.new.entries.items) ≡ rows_of_entry (entry_in a self.old.entries.items)) }
-        ensures err_answers { OnErr result ((a : List ℕ) (k : Key) → answer_of_entry k (entry_in a self.new.entries.items) ≡ answer_of_entry k (entry_in a self.old.entries.items)) }
-        ensures err_charges { OnErr result ((a : List ℕ) → charges_of_entry (entry_in a self.new.entries.items) ≡ charges_of_entry (entry_in a self.old.entries.items)) }
-        ensures err_count { OnErr result (length self.new.entries.items ≡ length self.old.entries.items) }
+        ensures done { OnOk result (ArePut number rows charges.items kept self.old.entries.items
+            self.new.entries.items) }
+        ensures err { OnErr result (AreUnchanged self.old.entries.items self.new.entries.items) }
     {
         put_entry(
             self.alloc,

@@ -1,5 +1,5 @@
-//! Rows that differ from those before. A row mostly stands where it stood, so that a cursor finds the one with its key;
-//! a cursor that is elsewhere costs time alone.
+//! Rows that differ from those before. A row mostly stands where it stood, so that a cursor finds
+//! the one with its key; a cursor that is elsewhere costs time alone.
 
 ghost use Rattle.std.specs.Prelude.{◌≡◌, ◌<◌, not, length, get_or};
 ghost use Rattle.std.specs.List.{list_any};

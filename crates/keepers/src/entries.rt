@@ -1,16 +1,16 @@
 //! The accounts of the keeper in memory, each with its charges and its kept answers.
 
-ghost use Rattle.std.specs.Prelude.{◌≡◌, ◌<◌, ◌^◌, ◌+◌, ◌++◌, ℕ, List, Some, None, is_some, IfOk, IsOk, OnOk, OnErr, option_map, map, length, position, if◌then◌else◌};
+ghost use Rattle.std.specs.Prelude.{◌≡◌, ◌<◌, ◌+◌, ◌++◌, ℕ, List, Some, None, is_some, IfOk, IsOk, OnOk, OnErr, option_map, if◌then◌else◌};
 ghost use Rattle.std.specs.HashMap.{get, spare};
 ghost use Rattle.identifiers.specs.Texts.{same_name};
 ghost use Rattle.keepers.specs.declared.key.Key.{Key};
 ghost use Rattle.keepers.specs.Keys.{same_key, key_of};
 ghost use Rattle.keepers.specs.Change.{kept_after, AreDeadOf};
-ghost use Rattle.keepers.specs.Tables.{Rows, no_rows};
+ghost use Rattle.keepers.specs.Tables.{no_rows};
 ghost use Rattle.keepers.specs.Whole.{AreWhole};
 ghost use Rattle.keepers.specs.Change.{IsLoad, IsView, IsMadeFrom, over};
 ghost use Rattle.keepers.specs.Parts.{rows_of};
-ghost use Rattle.keepers.specs.Memory.{entry_in, rows_of_entry, answer_of_entry, charges_of_entry, session_of_entry, IsSweptEntry, AreSwept, ArePlaced};
+ghost use Rattle.keepers.specs.Memory.{entry_in, rows_of_entry, answer_of_entry, charges_of_entry, session_of_entry, IsSweptEntry, AreSwept, ArePlaced, ArePut, AreUnchanged};
 ghost use Rattle.reserving.specs.Stored.{StoredRows};
 
 use crate::accounts::Accounts;
@@ -42,7 +42,9 @@ pub(crate) fn view_entry<'b>(
     number: &AccountNumber,
     moment: Moment,
 ) -> Result<Option<Account<'b>>, AllocError>
-    ensures { IfOk result (λ found. IsView book.now moment (rows_of_entry (entry_in number.now accounts.now.entries.items)) found) }
+    ensures { IfOk result (λ found.
+        IsView book.now moment (rows_of_entry (entry_in number.now accounts.now.entries.items))
+        found) }
 {
     let Some(entry) = accounts.find(number) else {
         return Ok(None);
@@ -58,7 +60,9 @@ pub(crate) fn load_entry<'b>(
     number: &AccountNumber,
     moment: Moment,
 ) -> Result<Option<Loaded<'b>>, AllocError>
-    ensures { IfOk result (λ found. IsLoad book.now moment number.now (rows_of_entry (entry_in number.now accounts.now.entries.items)) found) }
+    ensures { IfOk result (λ found.
+        IsLoad book.now moment number.now
+        (rows_of_entry (entry_in number.now accounts.now.entries.items)) found) }
 {
     let Some(entry) = accounts.find(number) else {
         return Ok(None);
@@ -75,14 +79,16 @@ pub(crate) fn load_entry<'b>(
 
 /// Whether there is an account of this number.
 pub(crate) fn has_entry(accounts: &Accounts, number: &AccountNumber) -> bool
-    ensures { result ≡ is_some (rows_of_entry (entry_in number.now accounts.now.entries.items)).head }
+    ensures { result ≡ is_some
+        (rows_of_entry (entry_in number.now accounts.now.entries.items)).head }
 {
     accounts.find(number).is_some()
 }
 
 /// Whether the account of this number has a row of this session.
 pub(crate) fn has_session(accounts: &Accounts, number: &AccountNumber, session: &SessionId) -> bool
-    ensures { result ≡ is_some (session_of_entry session.now (entry_in number.now accounts.now.entries.items)) }
+    ensures { result ≡ is_some
+        (session_of_entry session.now (entry_in number.now accounts.now.entries.items)) }
 {
     match accounts.find(number) {
         Some(entry) => entry.rows.knows(session),
@@ -96,7 +102,8 @@ pub(crate) fn dead_in(
     accounts: &Accounts,
     number: &AccountNumber,
 ) -> Result<Vec<Bucket>, AllocError>
-    ensures { IfOk result (λ found. AreDeadOf (rows_of_entry (entry_in number.now accounts.now.entries.items)) found.items) }
+    ensures { IfOk result (λ found.
+        AreDeadOf (rows_of_entry (entry_in number.now accounts.now.entries.items)) found.items) }
 {
     let Some(entry) = accounts.find(number) else {
         return Ok(Vec::new(alloc));
@@ -110,7 +117,8 @@ pub(crate) fn whole_in(
     accounts: &Accounts,
     number: &AccountNumber,
 ) -> Result<WholeAccount, AllocError>
-    ensures { IfOk result (AreWhole (rows_of_entry (entry_in number.now accounts.now.entries.items))) }
+    ensures { IfOk result (AreWhole
+        (rows_of_entry (entry_in number.now accounts.now.entries.items))) }
 {
     let Some(entry) = accounts.find(number) else {
         return Ok(WholeAccount::none(alloc));
@@ -124,7 +132,8 @@ pub(crate) fn find_kept(
     number: &AccountNumber,
     key: &Key,
 ) -> Result<Option<KeptAnswer>, AllocError>
-    ensures { IfOk result (λ found. found ≡ answer_of_entry key.now (entry_in number.now accounts.now.entries.items)) }
+    ensures { IfOk result (λ found. found ≡
+        answer_of_entry key.now (entry_in number.now accounts.now.entries.items)) }
 {
     let Some(entry) = accounts.find(number) else {
         return Ok(None);
@@ -161,7 +170,8 @@ fn keep(
     requires room { 0 < spare answers.old }
     requires key { key ≡ option_map (λ x. key_of x.content) kept }
     ensures ok { IsOk result }
-    ensures kept { (k : Key) → get same_key answers.new k ≡ kept_after kept k (get same_key answers.old k) }
+    ensures kept { (k : Key) →
+        get same_key answers.new k ≡ kept_after kept k (get same_key answers.old k) }
 {
     if let (Some(key), Some(kept)) = (key, kept) {
         answers.insert(key, kept)?;
@@ -169,8 +179,8 @@ fn keep(
     Ok(())
 }
 
-/// Writes the rows of an account that is there, its further charges and an answer. The room is taken first: at a fault
-/// nothing has changed.
+/// Writes the rows of an account that is there, its further charges and an answer. The room is
+/// taken first: at a fault nothing has changed.
 fn write_entry(
     entry: &mut Entry,
     rows: StoredAccount,
@@ -178,11 +188,16 @@ fn write_entry(
     kept: Option<KeptAnswer>,
 ) -> Result<(), AllocError>
     ensures number { entry.new.number ≡ entry.old.number }
-    ensures rows { OnOk result ((before : StoredRows) → IsMadeFrom before rows (rows_of entry.old.rows) → rows_of entry.new.rows ≡ over rows (rows_of entry.old.rows)) }
-    ensures answers { OnOk result ((k : Key) → get same_key entry.new.answers k ≡ kept_after kept k (get same_key entry.old.answers k)) }
-    ensures charges { OnOk result (entry.new.charges.items ≡ entry.old.charges.items ++ charges.items) }
+    ensures rows { OnOk result ((before : StoredRows) →
+        IsMadeFrom before rows (rows_of entry.old.rows) →
+        rows_of entry.new.rows ≡ over rows (rows_of entry.old.rows)) }
+    ensures answers { OnOk result ((k : Key) →
+        get same_key entry.new.answers k ≡ kept_after kept k (get same_key entry.old.answers k)) }
+    ensures charges { OnOk result (entry.new.charges.items ≡
+        entry.old.charges.items ++ charges.items) }
     ensures err_rows { OnErr result (entry.new.rows ≡ entry.old.rows) }
-    ensures err_answers { OnErr result ((k : Key) → get same_key entry.new.answers k ≡ get same_key entry.old.answers k) }
+    ensures err_answers { OnErr result ((k : Key) →
+        get same_key entry.new.answers k ≡ get same_key entry.old.answers k) }
     ensures err_charges { OnErr result (entry.new.charges.items ≡ entry.old.charges.items) }
 {
     entry.charges.reserve(charges.len())?;
@@ -203,7 +218,8 @@ fn new_entry(
 ) -> Result<Entry, AllocError>
     ensures number { IfOk result (λ e. e.number ≡ number) }
     ensures rows { IfOk result (λ e. rows_of e.rows ≡ over rows no_rows) }
-    ensures answers { IfOk result (λ e. (k : Key) → get same_key e.answers k ≡ kept_after kept k None) }
+    ensures answers { IfOk result (λ e. (k : Key) →
+        get same_key e.answers k ≡ kept_after kept k None) }
     ensures charges { IfOk result (λ e. e.charges.items ≡ charges.items) }
 {
     let mut answers = HashMap::new(alloc);
@@ -234,15 +250,17 @@ fn put_place(
     number: AccountNumber,
     place: usize,
 ) -> Result<(), AllocError>
-    ensures done { OnOk result ((a : List ℕ) → get same_name places.new a ≡ (if same_name number a then Some place else get same_name places.old a)) }
-    ensures err { OnErr result ((a : List ℕ) → get same_name places.new a ≡ get same_name places.old a) }
+    ensures done { OnOk result ((a : List ℕ) → get same_name places.new a ≡
+        (if same_name number a then Some place else get same_name places.old a)) }
+    ensures err { OnErr result ((a : List ℕ) →
+        get same_name places.new a ≡ get same_name places.old a) }
 {
     places.insert(number, place)?;
     Ok(())
 }
 
-/// Writes the rows of an account, which is new where there is none of its number, its further charges and an answer. At
-/// a fault nothing has changed.
+/// Writes the rows of an account, which is new where there is none of its number, its further
+/// charges and an answer. At a fault nothing has changed.
 pub(crate) fn put_entry(
     alloc: Global,
     entries: &mut Vec<Entry>,
@@ -254,17 +272,9 @@ pub(crate) fn put_entry(
 ) -> Result<(), AllocError>
     requires { ArePlaced places.old entries.old.items }
     ensures places { ArePlaced places.new entries.new.items }
-    ensures rows { OnOk result ((before : StoredRows) → IsMadeFrom before rows (rows_of_entry (entry_in number entries.old.items)) → (a : List ℕ) → rows_of_entry (entry_in a entries.new.items) ≡
-        (if same_name number a then over rows (rows_of_entry (entry_in a entries.old.items)) else rows_of_entry (entry_in a entries.old.items))) }
-    ensures answers { OnOk result ((a : List ℕ) (k : Key) → answer_of_entry k (entry_in a entries.new.items) ≡
-        (if same_name number a then kept_after kept k (answer_of_entry k (entry_in a entries.old.items)) else answer_of_entry k (entry_in a entries.old.items))) }
-    ensures charges { OnOk result ((a : List ℕ) → charges_of_entry (entry_in a entries.new.items) ≡
-        (if same_name number a then charges_of_entry (entry_in a entries.old.items) ++ charges.items else charges_of_entry (entry_in a entries.old.items))) }
-    ensures count { OnOk result (length entries.new.items ≡ (if is_some (entry_in number entries.old.items) then length entries.old.items else length entries.old.items + 1)) }
-    ensures err_rows { OnErr result ((a : List ℕ) → rows_of_entry (entry_in a entries.new.items) ≡ rows_of_entry (entry_in a entries.old.items)) }
-    ensures err_answers { OnErr result ((a : List ℕ) (k : Key) → answer_of_entry k (entry_in a entries.new.items) ≡ answer_of_entry k (entry_in a entries.old.items)) }
-    ensures err_charges { OnErr result ((a : List ℕ) → charges_of_entry (entry_in a entries.new.items) ≡ charges_of_entry (entry_in a entries.old.items)) }
-    ensures err_count { OnErr result (length entries.new.items ≡ length entries.old.items) }
+    ensures done { OnOk result (ArePut number rows charges.items kept entries.old.items
+        entries.new.items) }
+    ensures err { OnErr result (AreUnchanged entries.old.items entries.new.items) }
 {
     if let Some(place) = place_of(places, &number) {
         write_entry(&mut entries[place], rows, charges, kept)?;

@@ -10,8 +10,8 @@ use reserving::Account;
 use tariffs::TariffBook;
 use units::Moment;
 
-/// A keeper whose store fails once, for tests: the call after so many others answers store fault 2 and is counted;
-/// each other call is that of the keeper inside. It meets the laws over any keeper.
+/// A keeper whose store fails once, for tests: the call after so many others answers store fault 2
+/// and is counted; each other call is that of the keeper inside. It meets the laws over any keeper.
 #[derive(Drop)]
 pub struct Failing<K> {
     inner: K,
@@ -20,7 +20,8 @@ pub struct Failing<K> {
 }
 
 impl<K: Keeper> Failing<K> {
-    /// The keeper, with a store that fails at the call after this many. `failures` and `abandon` don't count.
+    /// The keeper, with a store that fails at the call after this many. `failures` and `abandon`
+    /// don't count.
     pub fn new(inner: K, left: u64) -> Failing<K>
         ensures content { ⟦<Failing<K> as Keeper>⟧.content result ≡ K.content inner }
         ensures failures { ⟦<Failing<K> as Keeper>⟧.failed result ≡ K.failed inner }

@@ -1,5 +1,6 @@
-ghost use Rattle.std.specs.Prelude.{◌≡◌, ◌≤◌, ℕ, IfOk, OnOk, OnErr, is_some};
-ghost use Rattle.keepers.specs.Faults.{HasCause, max_failures};
+ghost use Rattle.std.specs.Prelude.{◌≡◌, ◌≤◌, ℕ, IfOk, OnOk, is_some};
+ghost use Rattle.keepers.specs.Faults.{max_failures};
+ghost use Rattle.keepers.specs.Keeping.{Reads, Keeps};
 ghost use Rattle.keepers.specs.Tables.{Tables};
 ghost use Rattle.keepers.specs.Change.{IsLoad, IsView, AreDeadOf, IsMadeFrom, changed, IsSwept};
 
@@ -14,8 +15,9 @@ use units::Moment;
 
 /// What keeps the rows of accounts, their charges and the kept answers.
 ///
-/// Contracts see its content as tables. What a call says of them it says where the store is clean after it, and a
-/// store that is clean was clean before. A store fault comes only where the store failed in the call.
+/// Contracts see its content as tables. What a call says of them it says where the store is clean
+/// after it, and a store that is clean was clean before. A store fault comes only where the store
+/// failed in the call.
 pub trait Keeper {
     /// The tables.
     ghost content: { Self → Tables };
@@ -32,42 +34,36 @@ pub trait Keeper {
 
     /// The moment of the last accepted command.
     fn last(&mut self) -> Result<Moment, StoreFault>
-        ensures found { clean self.new → IfOk result (λ t. t ≡ (content self.old).last) }
-        ensures same { clean self.new → content self.new ≡ content self.old }
-        ensures cleanness { clean self.new → clean self.old }
-        ensures cause { HasCause (failed self.old) (failed self.new) result };
+        ensures { Reads content failed clean self.old self.new
+            (λ t. t ≡ (content self.old).last) result };
 
-    /// What may still change of the account of this number at the moment, priced by the book; None where there is no
-    /// account.
+    /// What may still change of the account of this number at the moment, priced by the book; None
+    /// where there is no account.
     fn load<'b>(
         &mut self,
         book: &'b TariffBook,
         account: &AccountNumber,
         moment: Moment,
     ) -> Result<Option<Loaded<'b>>, StoreFault>
-        ensures found { clean self.new → IfOk result (λ found. IsLoad book.now moment account.now ((content self.old).rows account.now) found) }
-        ensures same { clean self.new → content self.new ≡ content self.old }
-        ensures cleanness { clean self.new → clean self.old }
-        ensures cause { HasCause (failed self.old) (failed self.new) result };
+        ensures { Reads content failed clean self.old self.new
+            (λ found. IsLoad book.now moment account.now
+            ((content self.old).rows account.now) found) result };
 
-    /// What may still change of the account of this number at the moment, to be read; None where there is no account.
+    /// What may still change of the account of this number at the moment, to be read; None where
+    /// there is no account.
     fn view<'b>(
         &mut self,
         book: &'b TariffBook,
         account: &AccountNumber,
         moment: Moment,
     ) -> Result<Option<Account<'b>>, StoreFault>
-        ensures found { clean self.new → IfOk result (λ found. IsView book.now moment ((content self.old).rows account.now) found) }
-        ensures same { clean self.new → content self.new ≡ content self.old }
-        ensures cleanness { clean self.new → clean self.old }
-        ensures cause { HasCause (failed self.old) (failed self.new) result };
+        ensures { Reads content failed clean self.old self.new
+            (λ found. IsView book.now moment ((content self.old).rows account.now) found) result };
 
     /// Whether there is an account of this number.
     fn has_account(&mut self, account: &AccountNumber) -> Result<bool, StoreFault>
-        ensures found { clean self.new → IfOk result (λ there. there ≡ is_some ((content self.old).rows account.now).head) }
-        ensures same { clean self.new → content self.new ≡ content self.old }
-        ensures cleanness { clean self.new → clean self.old }
-        ensures cause { HasCause (failed self.old) (failed self.new) result };
+        ensures { Reads content failed clean self.old self.new
+            (λ there. there ≡ is_some ((content self.old).rows account.now).head) result };
 
     /// Whether an account has a row of this session, which may be over.
     fn knows_session(
@@ -75,18 +71,15 @@ pub trait Keeper {
         account: &AccountNumber,
         session: &SessionId,
     ) -> Result<bool, StoreFault>
-        ensures found { clean self.new → IfOk result (λ known. known ≡ is_some (((content self.old).rows account.now).sessions session.now)) }
-        ensures same { clean self.new → content self.new ≡ content self.old }
-        ensures cleanness { clean self.new → clean self.old }
-        ensures cause { HasCause (failed self.old) (failed self.new) result };
+        ensures { Reads content failed clean self.old self.new
+            (λ known. known ≡ is_some (((content self.old).rows account.now).sessions session.now))
+            result };
 
-    /// The buckets of an account that can't be used any more, which `load` leaves, in any order; none where there is no
-    /// account.
+    /// The buckets of an account that can't be used any more, which `load` leaves, in any order;
+    /// none where there is no account.
     fn dead_buckets(&mut self, account: &AccountNumber) -> Result<Vec<Bucket>, StoreFault>
-        ensures found { clean self.new → IfOk result (λ found. AreDeadOf ((content self.old).rows account.now) found.items) }
-        ensures same { clean self.new → content self.new ≡ content self.old }
-        ensures cleanness { clean self.new → clean self.old }
-        ensures cause { HasCause (failed self.old) (failed self.new) result };
+        ensures { Reads content failed clean self.old self.new
+            (λ found. AreDeadOf ((content self.old).rows account.now) found.items) result };
 
     /// What is kept under a key of an account; None where nothing is.
     fn find_answer(
@@ -94,30 +87,28 @@ pub trait Keeper {
         account: &AccountNumber,
         key: &Key,
     ) -> Result<Option<KeptAnswer>, StoreFault>
-        ensures found { clean self.new → IfOk result (λ found. found ≡ (content self.old).answers account.now key.now) }
-        ensures same { clean self.new → content self.new ≡ content self.old }
-        ensures cleanness { clean self.new → clean self.old }
-        ensures cause { HasCause (failed self.old) (failed self.new) result };
+        ensures { Reads content failed clean self.old self.new
+            (λ found. found ≡ (content self.old).answers account.now key.now) result };
 
     /// Makes the change, in one transaction. At a fault nothing has changed.
     fn commit(&mut self, change: Change) -> Result<(), StoreFault>
-        ensures done { clean self.new → OnOk result (IsMadeFrom change.before change.after ((content self.old).rows change.number) → content self.new ≡ changed change (content self.old)) }
-        ensures err { clean self.new → OnErr result (content self.new ≡ content self.old) }
-        ensures cleanness { clean self.new → clean self.old }
-        ensures cause { HasCause (failed self.old) (failed self.new) result };
+        ensures done { clean self.new →
+            OnOk result (IsMadeFrom change.before change.after
+            ((content self.old).rows change.number) →
+            content self.new ≡ changed change (content self.old)) }
+        ensures kept { Keeps content failed clean self.old self.new result };
 
     /// Gives a loaded account up: nothing changes.
     fn abandon<'b>(&mut self, loaded: Loaded<'b>)
         ensures { self.new ≡ self.old };
 
-    /// Brings each account to the moment, in one transaction, and answers how many there are. At a fault nothing has
-    /// changed.
+    /// Brings each account to the moment, in one transaction, and answers how many there are. At a
+    /// fault nothing has changed.
     fn sweep(&mut self, book: &TariffBook, moment: Moment) -> Result<u64, StoreFault>
         ensures count { clean self.new → IfOk result (λ n. n ≡ (content self.old).count) }
-        ensures done { clean self.new → OnOk result (IsSwept book.now moment (content self.old) (content self.new)) }
-        ensures err { clean self.new → OnErr result (content self.new ≡ content self.old) }
-        ensures cleanness { clean self.new → clean self.old }
-        ensures cause { HasCause (failed self.old) (failed self.new) result };
+        ensures done { clean self.new →
+            OnOk result (IsSwept book.now moment (content self.old) (content self.new)) }
+        ensures kept { Keeps content failed clean self.old self.new result };
 
     /// The count stays at the highest.
     ghost bounded: { (k : Self) → failed k ≤ max_failures };

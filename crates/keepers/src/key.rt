@@ -7,7 +7,8 @@ use identifiers::{Reference, SessionId};
 use std::alloc::AllocError;
 use std::hash::{Hash, Hasher};
 
-/// The key of a kept answer within its account: an accepted command with the same key is its repeat, or at fault.
+/// The key of a kept answer within its account: an accepted command with the same key is its
+/// repeat, or at fault.
 #[derive(Clone, Debug, Drop)]
 pub enum Key {
     /// Of a request: its session and its number in it (RFC 8506 section 8.2).

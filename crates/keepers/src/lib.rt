@@ -1,4 +1,5 @@
-//! Keepers: what stores the rows of accounts, their charges and the answers that are kept, and what it promises.
+//! Keepers: what stores the rows of accounts, their charges and the answers that are kept, and what
+//! it promises.
 #![tactic(auto)]
 
 mod accounts;

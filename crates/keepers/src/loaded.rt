@@ -6,8 +6,8 @@ use identifiers::AccountNumber;
 use reserving::{Account, ChargeRow, StoredAccount};
 use units::Moment;
 
-/// What a keeper loads of an account: the rows that may still change. It is spent by a commit or given up: it can't be
-/// let go.
+/// What a keeper loads of an account: the rows that may still change. It is spent by a commit or
+/// given up: it can't be let go.
 pub struct Loaded<'b> {
     /// Its number (Subscription-Id-Data, RFC 8506 section 8.48).
     pub number: AccountNumber,

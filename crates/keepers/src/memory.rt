@@ -42,7 +42,8 @@ impl MemoryKeeper {
 
     /// The charges of an account, in order; none where there is no such account.
     pub fn charges(&self, account: &AccountNumber) -> &[ChargeRow]
-        ensures { (n : ℕ) → charge_in n result.now ≡ (⟦<MemoryKeeper as Keeper>⟧.content self.now).charges account.now n }
+        ensures { (n : ℕ) → charge_in n result.now ≡
+            (⟦<MemoryKeeper as Keeper>⟧.content self.now).charges account.now n }
     {
         charges_in(&self.accounts, account)
     }
@@ -52,7 +53,8 @@ impl MemoryKeeper {
     /// # Errors
     /// Out of memory.
     pub fn whole(&self, account: &AccountNumber) -> Result<WholeAccount, AllocError>
-        ensures { IfOk result (AreWhole ((⟦<MemoryKeeper as Keeper>⟧.content self.now).rows account.now)) }
+        ensures { IfOk result (AreWhole
+            ((⟦<MemoryKeeper as Keeper>⟧.content self.now).rows account.now)) }
     {
         whole_in(self.alloc, &self.accounts, account)
     }

@@ -1,7 +1,7 @@
 //! The rows of an account in memory.
 
 ghost use Rattle.std.specs.List.{list_any};
-ghost use Rattle.std.specs.Prelude.{◌≡◌, ℕ, List, true, IsOk, ◌≤◌, ◌++◌, ◌&&◌, ◌||◌, ◌==◌, [], not, filter, is_some, IfOk, OnOk, OnErr, position};
+ghost use Rattle.std.specs.Prelude.{◌≡◌, ℕ, List, true, IsOk, ◌≤◌, ◌++◌, ◌&&◌, ◌||◌, ◌==◌, [], filter, is_some, IfOk, OnOk, OnErr, position};
 ghost use Rattle.reserving.specs.Sessions.{session_in, group_in, counter_in, is_session, is_of, is_counter};
 ghost use Rattle.reserving.specs.Left.{bucket_in, is_dead};
 ghost use Rattle.keepers.specs.Change.{IsLoadedFrom, IsMadeFrom, over, AreRowsAt, AreDeadOf};
@@ -13,6 +13,7 @@ ghost use Rattle.reserving.specs.Rows.{EachIn};
 ghost use Rattle.keepers.specs.Parts.{rows_of, with_live, advanced_parts, leaves_bucket, leaves_counter, leaves_session, leaves_group};
 ghost use Rattle.keepers.specs.Named.{is_numbered, is_named, AreLeftBuckets, AreLeftSessions, AreLeftGroups};
 ghost use Rattle.keepers.specs.Inside.{AreSameRows, HasRoom};
+ghost use Rattle.keepers.specs.Replacing.{IsLeaving, KnowsMore, AreNoted, IsAppended, AreKnown, IsFiltered};
 
 use crate::whole::WholeAccount;
 use buckets::Bucket;
@@ -33,16 +34,16 @@ pub(crate) struct LeftStore {
     groups: Vec<SessionGroup>,
 }
 
-/// What the rows that were left name: the numbers of the buckets, and the names of the sessions and of the groups'
-/// sessions.
+/// What the rows that were left name: the numbers of the buckets, and the names of the sessions and
+/// of the groups' sessions.
 #[derive(Drop)]
 pub(crate) struct Known {
     numbers: HashMap<u32, bool>,
     names: HashMap<SessionId, bool>,
 }
 
-/// The rows of an account: those that were live after its last command, and those that were left. What the latter name
-/// is kept beside them, so that a commit doesn't search them.
+/// The rows of an account: those that were live after its last command, and those that were left.
+/// What the latter name is kept beside them, so that a commit doesn't search them.
 #[derive(Drop)]
 pub(crate) struct Store {
     live: StoredAccount,
@@ -65,7 +66,10 @@ impl Model for Store {
 impl Store {
     /// A new account's rows. It takes no memory.
     pub(crate) fn new(alloc: Global, live: StoredAccount) -> Store
-        ensures parts { result ≡ record { live = live; left = record { buckets = []; counters = []; sessions = []; groups = [] } } }
+        ensures parts { result ≡ record {
+          live = live;
+          left = record { buckets = []; counters = []; sessions = []; groups = [] };
+        } }
         ensures over { rows_of result ≡ over live no_rows }
     {
         let _kept = live.as_of();
@@ -120,7 +124,8 @@ impl Store {
 
     /// Whether there is a row of this session.
     pub(crate) fn knows(&self, session: &SessionId) -> bool
-        ensures { result ≡ is_some (session_in session.now (self.now.left.sessions ++ self.now.live.sessions)) }
+        ensures { result ≡ is_some
+            (session_in session.now (self.now.left.sessions ++ self.now.live.sessions)) }
     {
         has_session(self.live.sessions(), session)
             || (self.known.names.contains_key(session) && has_session(&self.left.sessions, session))
@@ -129,7 +134,9 @@ impl Store {
     /// Puts these rows in the place of those that were live. At a fault nothing has changed.
     pub(crate) fn replace(&mut self, after: StoredAccount) -> Result<(), AllocError>
         ensures parts { OnOk result (self.new ≡ with_live after self.old) }
-        ensures over { OnOk result ((before : StoredRows) → IsMadeFrom before after (rows_of self.old) → rows_of self.new ≡ over after (rows_of self.old)) }
+        ensures over { OnOk result ((before : StoredRows) →
+            IsMadeFrom before after (rows_of self.old) →
+            rows_of self.new ≡ over after (rows_of self.old)) }
         ensures err { OnErr result (self.new ≡ self.old) }
     {
         let _kept = after.as_of();
@@ -146,7 +153,9 @@ impl Store {
     /// Brings the rows to a moment.
     pub(crate) fn advance(&mut self, book: &TariffBook, moment: Moment)
         ensures parts { self.new ≡ advanced_parts book.now moment self.old }
-        ensures rows { (ledger : Ledger) (u : ℕ) → u ≤ moment → AreRowsAt book.now ledger u (rows_of self.old) → AreRowsAt book.now ledger moment (rows_of self.new) }
+        ensures rows { (ledger : Ledger) (u : ℕ) → u ≤ moment →
+            AreRowsAt book.now ledger u (rows_of self.old) →
+            AreRowsAt book.now ledger moment (rows_of self.new) }
     {
         let _kept = self.live.as_of();
         let _ranges = book.validity();
@@ -205,7 +214,8 @@ fn counter_place(rows: &[Counter], group: u32, cycle: u32) -> Option<usize>
 }
 
 fn dead_rows(left: &Vec<Bucket>, live: &StoredAccount) -> Result<Vec<Bucket>, AllocError>
-    ensures { IfOk result (λ rows. rows.items ≡ filter is_dead (left.now.items ++ live.now.buckets)) }
+    ensures { IfOk result (λ rows. rows.items ≡
+        filter is_dead (left.now.items ++ live.now.buckets)) }
 {
     let mut rows = copy_of_buckets(left)?;
     rows.append(&mut live.purse().to_vec()?)?;
@@ -220,10 +230,7 @@ fn leaving_rows(
     live: &StoredAccount,
     after: &StoredAccount,
 ) -> Result<LeftStore, AllocError>
-    ensures buckets { IfOk result (λ left. left.buckets.items ≡ filter (leaves_bucket after.now) live.now.buckets) }
-    ensures counters { IfOk result (λ left. left.counters.items ≡ filter (leaves_counter after.now) live.now.counters) }
-    ensures sessions { IfOk result (λ left. left.sessions.items ≡ filter (leaves_session after.now) live.now.sessions) }
-    ensures groups { IfOk result (λ left. left.groups.items ≡ filter (leaves_group after.now) live.now.groups) }
+    ensures { IfOk result (IsLeaving after.now live.now) }
 {
     Ok(LeftStore {
         buckets: leaving_buckets(live, after)?,
@@ -235,11 +242,8 @@ fn leaving_rows(
 
 /// Keeps what these rows name.
 fn note(known: &mut Known, rows: &LeftStore) -> Result<(), AllocError>
-    ensures numbers { (n : ℕ) → is_numbered known.old.numbers n ≡ true → is_numbered known.new.numbers n ≡ true }
-    ensures names { (s : List ℕ) → is_named known.old.names s ≡ true → is_named known.new.names s ≡ true }
-    ensures buckets { OnOk result (EachIn (λ b. is_numbered known.new.numbers b.number ≡ true) rows.now.buckets.items) }
-    ensures sessions { OnOk result (EachIn (λ r. is_named known.new.names r.id ≡ true) rows.now.sessions.items) }
-    ensures groups { OnOk result (EachIn (λ r. is_named known.new.names r.session ≡ true) rows.now.groups.items) }
+    ensures more { KnowsMore known.old known.new }
+    ensures noted { OnOk result (AreNoted rows.now known.new) }
 {
     note_buckets(&mut known.numbers, &rows.buckets)?;
     note_sessions(&mut known.names, &rows.sessions)?;
@@ -263,10 +267,7 @@ fn make_room(left: &mut LeftStore, rows: &LeftStore) -> Result<(), AllocError>
 fn append(left: &mut LeftStore, mut rows: LeftStore) -> Result<(), AllocError>
     requires { HasRoom left.old rows }
     ensures ok { IsOk result }
-    ensures buckets { left.new.buckets.items ≡ left.old.buckets.items ++ rows.buckets.items }
-    ensures counters { left.new.counters.items ≡ left.old.counters.items ++ rows.counters.items }
-    ensures sessions { left.new.sessions.items ≡ left.old.sessions.items ++ rows.sessions.items }
-    ensures groups { left.new.groups.items ≡ left.old.groups.items ++ rows.groups.items }
+    ensures appended { IsAppended left.old rows left.new }
 {
     left.buckets.append(&mut rows.buckets)?;
     left.counters.append(&mut rows.counters)?;
@@ -277,13 +278,8 @@ fn append(left: &mut LeftStore, mut rows: LeftStore) -> Result<(), AllocError>
 
 /// Lets what there are rows of again go.
 fn keep(left: &mut LeftStore, known: &Known, after: &StoredAccount)
-    requires buckets { AreLeftBuckets known.now.numbers left.old.buckets.items }
-    requires sessions { AreLeftSessions known.now.names left.old.sessions.items }
-    requires groups { AreLeftGroups known.now.names left.old.groups.items }
-    ensures buckets { left.new.buckets.items ≡ filter (leaves_bucket after.now) left.old.buckets.items }
-    ensures counters { left.new.counters.items ≡ filter (leaves_counter after.now) left.old.counters.items }
-    ensures sessions { left.new.sessions.items ≡ filter (leaves_session after.now) left.old.sessions.items }
-    ensures groups { left.new.groups.items ≡ filter (leaves_group after.now) left.old.groups.items }
+    requires { AreKnown known.now left.old }
+    ensures { IsFiltered after.now left.old left.new }
 {
     keep_buckets(&mut left.buckets, &known.numbers, after);
     left.counters
@@ -305,7 +301,8 @@ fn leaving_counters(
     live: &StoredAccount,
     after: &StoredAccount,
 ) -> Result<Vec<Counter>, AllocError>
-    ensures { IfOk result (λ rows. rows.items ≡ filter (leaves_counter after.now) live.now.counters) }
+    ensures { IfOk result (λ rows. rows.items ≡
+        filter (leaves_counter after.now) live.now.counters) }
 {
     let mut rows = Vec::from_slice(alloc, live.counters())?;
     rows.retain(|row| !has_counter(after.counters(), row.group, row.cycle));
@@ -317,7 +314,8 @@ fn leaving_sessions(
     live: &StoredAccount,
     after: &StoredAccount,
 ) -> Result<Vec<Session>, AllocError>
-    ensures { IfOk result (λ rows. rows.items ≡ filter (leaves_session after.now) live.now.sessions) }
+    ensures { IfOk result (λ rows. rows.items ≡
+        filter (leaves_session after.now) live.now.sessions) }
 {
     let mut rows = sessions_of(alloc, live.sessions())?;
     rows.retain(|row| row.state != SessionState::Open && !has_session(after.sessions(), &row.id));
@@ -443,7 +441,8 @@ fn any_group_named(names: &HashMap<SessionId, bool>, rows: &[SessionGroup]) -> b
 }
 
 fn any_of_named(names: &HashMap<SessionId, bool>, rows: &StoredAccount) -> bool
-    ensures { result ≡ (list_any (λ r. is_named names.now r.id) rows.now.sessions || list_any (λ r. is_named names.now r.session) rows.now.groups) }
+    ensures { result ≡ (list_any (λ r. is_named names.now r.id) rows.now.sessions || list_any
+        (λ r. is_named names.now r.session) rows.now.groups) }
 {
     any_named(names, rows.sessions()) || any_group_named(names, rows.groups())
 }

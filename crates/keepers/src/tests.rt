@@ -1,5 +1,5 @@
-//! Scenarios of a keeper: what each call gives, a line a call. An account has a credit of 150,000 micro-units until
-//! 1767607800, 10:10 on a day in January 2026.
+//! Scenarios of a keeper: what each call gives, a line a call. An account has a credit of 150,000
+//! micro-units until 1767607800, 10:10 on a day in January 2026.
 
 use crate::{Change, Failing, Keeper, KeptAnswer, Key, MemoryKeeper, StoreFault, copy_credit};
 use buckets::Bucket;
@@ -421,7 +421,8 @@ fn charges_in_their_order(rt: HostRuntime) -> Result<(), Fail> {
     Ok(())
 }
 
-/// The call after so many others fails: nothing has changed by it, and the count rose. Then these are the charges.
+/// The call after so many others fails: nothing has changed by it, and the count rose. Then these
+/// are the charges.
 fn fails_after(
     rt: &impl Abort,
     alloc: Global,

@@ -15,7 +15,10 @@ returns-clause-done g c = λ clean.
       charges = c.args.charges;
       kept = c.args.kept;
     } in
-    let is : c.into_change.result ≡ change = c.into_change.ensures ∙ (λ i. record change { moment = c.as_of-moment.ensures.value i }) in
+    let is : c.into_change.result ≡ change = c.into_change.ensures
+    ∙ (λ i. record change { moment = c.as_of-moment.ensures.value i }) in
     on_ok c.commit.result (c.commit.ensures.done clean) (λ done made.
-    done (subst (λ (x : Change). IsMadeFrom x.before x.after ((g.K.Keeper.content c.args.keeper.now).rows x.number)) (sym is) made)
+    done
+    (subst (λ (x : Change). IsMadeFrom x.before x.after
+    ((g.K.Keeper.content c.args.keeper.now).rows x.number)) (sym is) made)
     ∙ ap (λ (x : Change). changed x (g.K.Keeper.content c.args.keeper.now)) is)

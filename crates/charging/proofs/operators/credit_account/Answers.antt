@@ -5,11 +5,14 @@ use Rattle.reserving.specs.Stored.{stored}
 use Rattle.charging.proofs.Operated.{credit-told, credit-done}
 use Rattle.charging.proofs.operators.credit_account.Goals as goal
 
-pub returns-in_ok-commit-in-Ok-Some-clause-served : goal.returns-in_ok-commit-in-Ok-Some-clause-served
+pub returns-in_ok-commit-in-Ok-Some-clause-served :
+    goal.returns-in_ok-commit-in-Ok-Some-clause-served
 returns-in_ok-commit-in-Ok-Some-clause-served g c = λ clean b load fresh list time is le.
-    credit-done b list c.args.credit c.args.moment (g.K.Keeper.content c.args.keeper.now) (g.K.Keeper.content c.commit.new.keeper) c.args.loaded time le is
+    credit-done b list c.args.credit c.args.moment (g.K.Keeper.content c.args.keeper.now)
+    (g.K.Keeper.content c.commit.new.keeper) c.args.loaded time le is
     (record { load = load; account = c.moment_on-moment.ensures.kept })
-    c.moment_on-moment.result fresh c.moment_on-moment.ensures.value c.in-Ok-Some.field-0 c.add_bucket.new.account c.in-Ok-Some.ensures.credits
+    c.moment_on-moment.result fresh c.moment_on-moment.ensures.value c.in-Ok-Some.field-0
+    c.add_bucket.new.account c.in-Ok-Some.ensures.credits
     c.in-Ok-Some.number
     (record {
       moment = c.add_bucket.new.account.as_of;
@@ -17,15 +20,26 @@ returns-in_ok-commit-in-Ok-Some-clause-served g c = λ clean b load fresh list t
       after = stored c.add_bucket.new.account;
       before = c.args.loaded.before;
       charges = c.new.result;
-      kept = Some (record { content = content.Credit c.args.credit; answer = answer.Bucket c.in-Ok-Some.number });
+      kept = Some (record {
+        content = content.Credit c.args.credit;
+        answer = answer.Bucket c.in-Ok-Some.number;
+      });
     })
     c.in-Ok-Some.field-0-is c.in-Ok-Some.ensures.tariff c.in-Ok-Some.ensures.moment
-    (record { number = refl; moment = refl; after = refl; charges = c.new.ensures.items; kept_is = refl })
+    (record {
+      number = refl;
+      moment = refl;
+      after = refl;
+      charges = c.new.ensures.items;
+      kept_is = refl;
+    })
     (c.in_ok-commit-in-Ok-Some.ensures.done clean)
 
 pub returns-in-Ok-None-clause-served : goal.returns-in-Ok-None-clause-served
 returns-in-Ok-None-clause-served g c = λ clean b load fresh list time is le.
-    credit-told b list c.args.credit c.args.moment (g.K.Keeper.content c.args.keeper.now) (g.K.Keeper.content c.abandon.new.self) c.args.loaded time le is
+    credit-told b list c.args.credit c.args.moment (g.K.Keeper.content c.args.keeper.now)
+    (g.K.Keeper.content c.abandon.new.self) c.args.loaded time le is
     (record { load = load; account = c.moment_on-moment.ensures.kept })
-    c.moment_on-moment.result fresh c.moment_on-moment.ensures.value c.in-Ok-None.field-0 c.add_bucket.new.account c.in-Ok-None.ensures.credits
+    c.moment_on-moment.result fresh c.moment_on-moment.ensures.value c.in-Ok-None.field-0
+    c.add_bucket.new.account c.in-Ok-None.ensures.credits
     c.in-Ok-None.field-0-is (ap g.K.Keeper.content c.abandon.ensures)

@@ -9,13 +9,16 @@ use Rattle.charging.proofs.operators.set_barred.Goals as goal
 
 pub returns-in_default-clause-served : goal.returns-in_default-clause-served
 returns-in_default-clause-served g c = λ clean list time is le.
-    bar-unknown c.args.book.now list c.args.number c.args.barred c.args.moment (g.K.Keeper.content c.args.keeper.now) (g.K.Keeper.content c.load.new.self) time le is
-    (none_loaded c.args.book.now c.args.moment c.args.number (g.K.Keeper.content c.args.keeper.now) (g.K.Keeper.content c.args.keeper.now) c.in_ok-loaded.field-0 refl (c.in_ok-loaded.ensures.found clean) c.in_default.is)
+    bar-unknown c.args.book.now list c.args.number c.args.barred c.args.moment
+    (g.K.Keeper.content c.args.keeper.now) (g.K.Keeper.content c.load.new.self) time le is
+    (none_loaded c.args.book.now c.args.moment c.args.number (g.K.Keeper.content c.args.keeper.now)
+    (g.K.Keeper.content c.args.keeper.now) c.in_ok-loaded.field-0 refl
+    (c.in_ok-loaded.ensures.found clean) c.in_default.is)
     (c.in_ok-loaded.ensures.same clean)
 
 pub returns-clause-served : goal.returns-clause-served
 returns-clause-served g c = λ clean list time is le.
-    let clean_load = c.in_ok-commit.ensures.cleanness clean in
+    let clean_load = c.in_ok-commit.ensures.kept.cleanness clean in
     let same = c.in_ok-loaded.ensures.same clean_load in
     let change : Change = record {
       moment = c.set_barred.new.self.as_of;
@@ -25,13 +28,27 @@ returns-clause-served g c = λ clean list time is le.
       charges = c.new.result;
       kept = None;
     } in
-    bar-done c.args.book.now list c.args.number c.args.barred c.args.moment c.moment_on-moment.result c.in-Some.loaded c.set_barred.new.self change (g.K.Keeper.content c.args.keeper.now) (g.K.Keeper.content c.commit.new.keeper) time le is
+    bar-done c.args.book.now list c.args.number c.args.barred c.args.moment
+    c.moment_on-moment.result c.in-Some.loaded c.set_barred.new.self change
+    (g.K.Keeper.content c.args.keeper.now) (g.K.Keeper.content c.commit.new.keeper) time le is
     (record {
-      load = some_loaded c.args.book.now c.args.moment c.args.number (g.K.Keeper.content c.args.keeper.now) (g.K.Keeper.content c.args.keeper.now) c.in_ok-loaded.field-0 c.in-Some.loaded refl (c.in_ok-loaded.ensures.found clean_load) c.in-Some.is;
+      load = some_loaded c.args.book.now c.args.moment c.args.number
+          (g.K.Keeper.content c.args.keeper.now)
+          (g.K.Keeper.content c.args.keeper.now) c.in_ok-loaded.field-0 c.in-Some.loaded refl
+          (c.in_ok-loaded.ensures.found clean_load) c.in-Some.is;
       account = c.moment_on-moment.ensures.kept;
     })
-    c.moment_on-moment.ensures.value (λ i. (c.set_barred.ensures.rows i).book) (λ i. (c.set_barred.ensures.rows i).as_of) c.set_barred.ensures.left
-    (record { number = refl; moment = refl; after = refl; charges = c.new.ensures.items; kept_is = refl })
+    c.moment_on-moment.ensures.value (λ i. (c.set_barred.ensures.rows i).book)
+    (λ i. (c.set_barred.ensures.rows i).as_of) c.set_barred.ensures.left
+    (record {
+      number = refl;
+      moment = refl;
+      after = refl;
+      charges = c.new.ensures.items;
+      kept_is = refl;
+    })
     (λ made.
-    c.in_ok-commit.ensures.done clean (subst (λ (y : Tables). IsMadeFrom c.in-Some.loaded.before (stored c.set_barred.new.self) (y.rows c.in-Some.loaded.number)) (sym same) made)
+    c.in_ok-commit.ensures.done clean
+    (subst (λ (y : Tables). IsMadeFrom c.in-Some.loaded.before (stored c.set_barred.new.self)
+    (y.rows c.in-Some.loaded.number)) (sym same) made)
     ∙ ap (changed change) same)

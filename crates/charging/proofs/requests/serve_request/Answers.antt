@@ -8,40 +8,59 @@ use Rattle.charging.proofs.requests.serve_request.Goals as goal
 
 pub returns-in-Some-clause-served : goal.returns-in-Some-clause-served
 returns-in-Some-clause-served g c = λ clean list time is le.
-    request-again c.args.book.now list c.args.request c.args.moment (g.K.Keeper.content c.args.keeper.now) (g.K.Keeper.content c.find_kept.new.keeper) c.in-Some.kept c.in_ok-repeat.field-0 time le is
-    (sym (c.in_ok-kept.ensures.found clean) ∙ c.in-Some.is) c.in_ok-repeat.ensures (c.in_ok-kept.ensures.same clean)
+    request-again c.args.book.now list c.args.request c.args.moment
+    (g.K.Keeper.content c.args.keeper.now) (g.K.Keeper.content c.find_kept.new.keeper)
+    c.in-Some.kept c.in_ok-repeat.field-0 time le is
+    (sym (c.in_ok-kept.ensures.found clean) ∙ c.in-Some.is) c.in_ok-repeat.ensures
+    (c.in_ok-kept.ensures.same clean)
 
 pub returns-then-branch-clause-served : goal.returns-then-branch-clause-served
 returns-then-branch-clause-served g c = λ clean list time is le.
     let clean_read = c.in_ok-is_known.ensures.cleanness clean in
-    let clean_find = c.in_ok-read.ensures.cleanness clean_read in
+    let clean_find = c.in_ok-read.ensures.kept.cleanness clean_read in
     let before = c.in_ok-read.ensures.same clean_read ∙ c.in_ok-kept.ensures.same clean_find in
-    request-known c.args.book.now list c.args.request c.args.moment (g.K.Keeper.content c.args.keeper.now) (g.K.Keeper.content c.is_known.new.keeper) c.in_ok-failed.field-0 time le is
+    request-known c.args.book.now list c.args.request c.args.moment
+    (g.K.Keeper.content c.args.keeper.now) (g.K.Keeper.content c.is_known.new.keeper)
+    c.in_ok-failed.field-0 time le is
     (sym (c.in_ok-kept.ensures.found clean_find) ∙ c.in_default.is)
-    (ap (is_known c.args.request) (sym before) ∙ sym (c.in_ok-is_known.ensures.found clean) ∙ c.if-branch.true)
+    (ap (is_known c.args.request) (sym before) ∙ sym (c.in_ok-is_known.ensures.found clean)
+    ∙ c.if-branch.true)
     c.in_ok-failed.ensures (c.in_ok-is_known.ensures.same clean ∙ before)
 
 pub returns-in_default-2-clause-served : goal.returns-in_default-2-clause-served
 returns-in_default-2-clause-served g c = λ clean list time is le.
     let clean_known = c.in_ok-loaded.ensures.cleanness clean in
     let clean_read = c.in_ok-is_known.ensures.cleanness clean_known in
-    let clean_find = c.in_ok-read.ensures.cleanness clean_read in
-    let same = c.in_ok-is_known.ensures.same clean_known ∙ c.in_ok-read.ensures.same clean_read ∙ c.in_ok-kept.ensures.same clean_find in
-    request-unknown c.args.book.now list c.args.request c.args.moment (g.K.Keeper.content c.args.keeper.now) (g.K.Keeper.content c.load.new.self) c.in_ok-failed-2.field-0 time le is
-    (none_loaded c.args.book.now c.args.moment c.args.request.account (g.K.Keeper.content c.is_known.new.keeper) (g.K.Keeper.content c.args.keeper.now) c.in_ok-loaded.field-0 same (c.in_ok-loaded.ensures.found clean) c.in_default-2.is)
+    let clean_find = c.in_ok-read.ensures.kept.cleanness clean_read in
+    let same = c.in_ok-is_known.ensures.same clean_known ∙ c.in_ok-read.ensures.same clean_read
+    ∙ c.in_ok-kept.ensures.same clean_find in
+    request-unknown c.args.book.now list c.args.request c.args.moment
+    (g.K.Keeper.content c.args.keeper.now)
+    (g.K.Keeper.content c.load.new.self) c.in_ok-failed-2.field-0 time le is
+    (none_loaded c.args.book.now c.args.moment c.args.request.account
+    (g.K.Keeper.content c.is_known.new.keeper)
+    (g.K.Keeper.content c.args.keeper.now) c.in_ok-loaded.field-0 same
+    (c.in_ok-loaded.ensures.found clean) c.in_default-2.is)
     c.in_ok-failed-2.ensures (c.in_ok-loaded.ensures.same clean ∙ same)
 
 pub returns-clause-served : goal.returns-clause-served
 returns-clause-served g c = λ clean.
-    let clean_load = c.decide_on.ensures.cleanness clean in
+    let clean_load = c.decide_on.ensures.kept.cleanness clean in
     let clean_known = c.in_ok-loaded.ensures.cleanness clean_load in
     let clean_read = c.in_ok-is_known.ensures.cleanness clean_known in
-    let clean_find = c.in_ok-read.ensures.cleanness clean_read in
+    let clean_find = c.in_ok-read.ensures.kept.cleanness clean_read in
     let same_load = c.in_ok-loaded.ensures.same clean_load in
     let same_known = c.in_ok-is_known.ensures.same clean_known in
-    let all = same_load ∙ same_known ∙ c.in_ok-read.ensures.same clean_read ∙ c.in_ok-kept.ensures.same clean_find in
-    let loads = some_loaded c.args.book.now c.args.moment c.args.request.account (g.K.Keeper.content c.is_known.new.keeper) (g.K.Keeper.content c.load.new.self) c.in_ok-loaded.field-0 c.in-Some-2.loaded (sym same_load) (c.in_ok-loaded.ensures.found clean_load) c.in-Some-2.is in
-    let fresh = ap (kept_of_request c.args.request) all ∙ sym (c.in_ok-kept.ensures.found clean_find) ∙ c.in_default.is in
-    let new = ap (is_known c.args.request) (same_load ∙ same_known) ∙ sym (c.in_ok-is_known.ensures.found clean_known) ∙ c.if-branch.false in
-    subst (λ (x : Tables). ServesAt c.args.book.now (Ccr c.args.request) c.args.moment x (g.K.Keeper.content c.decide_on.new.keeper) c.decide_on.result) all
+    let all = same_load ∙ same_known ∙ c.in_ok-read.ensures.same clean_read
+    ∙ c.in_ok-kept.ensures.same clean_find in
+    let loads = some_loaded c.args.book.now c.args.moment c.args.request.account
+    (g.K.Keeper.content c.is_known.new.keeper)
+    (g.K.Keeper.content c.load.new.self) c.in_ok-loaded.field-0 c.in-Some-2.loaded
+    (sym same_load) (c.in_ok-loaded.ensures.found clean_load) c.in-Some-2.is in
+    let fresh = ap (kept_of_request c.args.request) all
+    ∙ sym (c.in_ok-kept.ensures.found clean_find) ∙ c.in_default.is in
+    let new = ap (is_known c.args.request) (same_load ∙ same_known)
+    ∙ sym (c.in_ok-is_known.ensures.found clean_known) ∙ c.if-branch.false in
+    subst (λ (x : Tables). ServesAt c.args.book.now (Ccr c.args.request) c.args.moment x
+    (g.K.Keeper.content c.decide_on.new.keeper) c.decide_on.result) all
     (c.decide_on.ensures.served clean c.args.book.now loads fresh new)

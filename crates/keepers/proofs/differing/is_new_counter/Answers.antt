@@ -11,8 +11,14 @@ pub returns-then-same_counter : goal.returns-then-same_counter
 returns-then-same_counter c =
     let old : Counter = c.counter_at-old.result.now in
     let xs : List Counter = c.args.before.now.counters in
-    let less = subst (λ (zs : List Counter). c.args.cursor.now < length zs) c.counters-rows.ensures c.if-place-rows.true in
-    let is : old ≡ get_or xs c.args.cursor.now old = c.counter_at-old.ensures ∙ ap (λ (zs : List Counter). get_or zs c.args.cursor.now old) c.counters-rows.ensures in
-    sym (ap not (new_at same_counter equal_counter turn_counter counter_from c.args.row.now xs c.args.cursor.now old less (c.as_of-kept.ensures.kept.counters)
-    (ap (λ (z : Counter). same_counter z c.args.row.now) (sym is) ∙ sym c.same_counter.ensures ∙ c.if-same_counter.true)
-    (ap (equal_counter c.args.row.now) (sym is) ∙ sym c.equal_counter.ensures ∙ c.if-equal_counter.false)))
+    let less = subst (λ (zs : List Counter). c.args.cursor.now < length zs) c.counters-rows.ensures
+    c.if-place-rows.true in
+    let is : old ≡ get_or xs c.args.cursor.now old = c.counter_at-old.ensures
+    ∙ ap (λ (zs : List Counter). get_or zs c.args.cursor.now old) c.counters-rows.ensures in
+    sym
+    (ap not (new_at same_counter equal_counter turn_counter counter_from c.args.row.now xs
+    c.args.cursor.now old less (c.as_of-kept.ensures.kept.counters)
+    (ap (λ (z : Counter). same_counter z c.args.row.now) (sym is) ∙ sym c.same_counter.ensures
+    ∙ c.if-same_counter.true)
+    (ap (equal_counter c.args.row.now) (sym is) ∙ sym c.equal_counter.ensures
+    ∙ c.if-equal_counter.false)))

@@ -11,8 +11,15 @@ pub returns-then-same_group : goal.returns-then-same_group
 returns-then-same_group c =
     let old : SessionGroup = c.index-rows-place.result in
     let xs : List SessionGroup = c.args.before.now.groups in
-    let less = subst (λ (zs : List SessionGroup). c.args.cursor.now < length zs) c.groups-rows.ensures c.if-place-rows.true in
-    let is : old ≡ get_or xs c.args.cursor.now old = c.index-rows-place.is ∙ ap (λ (zs : List SessionGroup). get_or zs c.args.cursor.now old) c.groups-rows.ensures in
-    sym (ap not (new_at same_group equal_group turn_group group_from c.args.row.now xs c.args.cursor.now old less (c.as_of-kept.ensures.kept.groups)
-    (ap (λ (z : SessionGroup). same_group z c.args.row.now) (sym is) ∙ sym c.same_group.ensures ∙ c.if-same_group.true)
-    (ap (equal_group c.args.row.now) (sym is) ∙ sym c.equal_group.ensures ∙ c.if-equal_group.false)))
+    let less = subst (λ (zs : List SessionGroup). c.args.cursor.now < length zs)
+    c.groups-rows.ensures c.if-place-rows.true in
+    let is : old ≡ get_or xs c.args.cursor.now old = c.index-rows-place.is
+    ∙ ap (λ (zs : List SessionGroup). get_or zs c.args.cursor.now old) c.groups-rows.ensures
+    in
+    sym
+    (ap not (new_at same_group equal_group turn_group group_from c.args.row.now xs
+    c.args.cursor.now old less (c.as_of-kept.ensures.kept.groups)
+    (ap (λ (z : SessionGroup). same_group z c.args.row.now) (sym is) ∙ sym c.same_group.ensures
+    ∙ c.if-same_group.true)
+    (ap (equal_group c.args.row.now) (sym is) ∙ sym c.equal_group.ensures
+    ∙ c.if-equal_group.false)))

@@ -11,8 +11,14 @@ pub returns-then-same_session : goal.returns-then-same_session
 returns-then-same_session c =
     let old : Session = c.index-rows-place.result in
     let xs : List Session = c.args.before.now.sessions in
-    let less = subst (λ (zs : List Session). c.args.cursor.now < length zs) c.sessions-rows.ensures c.if-place-rows.true in
-    let is : old ≡ get_or xs c.args.cursor.now old = c.index-rows-place.is ∙ ap (λ (zs : List Session). get_or zs c.args.cursor.now old) c.sessions-rows.ensures in
-    sym (ap not (new_at same_session equal_session turn_session session_from c.args.row.now xs c.args.cursor.now old less (c.as_of-kept.ensures.kept.sessions)
-    (ap (λ (z : Session). same_session z c.args.row.now) (sym is) ∙ sym c.same_session.ensures ∙ c.if-same_session.true)
-    (ap (equal_session c.args.row.now) (sym is) ∙ sym c.equal_session.ensures ∙ c.if-equal_session.false)))
+    let less = subst (λ (zs : List Session). c.args.cursor.now < length zs) c.sessions-rows.ensures
+    c.if-place-rows.true in
+    let is : old ≡ get_or xs c.args.cursor.now old = c.index-rows-place.is
+    ∙ ap (λ (zs : List Session). get_or zs c.args.cursor.now old) c.sessions-rows.ensures in
+    sym
+    (ap not (new_at same_session equal_session turn_session session_from c.args.row.now xs
+    c.args.cursor.now old less (c.as_of-kept.ensures.kept.sessions)
+    (ap (λ (z : Session). same_session z c.args.row.now) (sym is) ∙ sym c.same_session.ensures
+    ∙ c.if-same_session.true)
+    (ap (equal_session c.args.row.now) (sym is) ∙ sym c.equal_session.ensures
+    ∙ c.if-equal_session.false)))

@@ -16,4 +16,6 @@ returns-in_default c =
 pub returns : goal.returns
 returns c =
     let there = sym c.find.ensures ∙ ap option_copied c.in-Some.is in
-    if_ok c.dead_buckets.result c.dead_buckets.ensures (λ found is. subst (λ (o : Option Entry). AreDeadOf (rows_of_entry o) found.items) (sym there) is)
+    if_ok c.dead_buckets.result c.dead_buckets.ensures
+    (λ found is. subst (λ (o : Option Entry). AreDeadOf (rows_of_entry o) found.items)
+    (sym there) is)

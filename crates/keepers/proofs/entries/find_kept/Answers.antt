@@ -13,8 +13,10 @@ returns-in_default c =
 pub returns-in_ok-copy-in-Some-get : goal.returns-in_ok-copy-in-Some-get
 returns-in_ok-copy-in-Some-get c =
     let there = sym c.find.ensures ∙ ap option_copied c.in-Some.is in
-    let value : Some c.in-Some-get.kept.now ≡ get same_key c.in-Some.entry.now.answers c.args.key.now = search rules in
-    ap Some c.in_ok-copy-in-Some-get.ensures ∙ value ∙ ap (answer_of_entry c.args.key.now) (sym there)
+    let value : Some c.in-Some-get.kept.now ≡
+    get same_key c.in-Some.entry.now.answers c.args.key.now = search rules in
+    ap Some c.in_ok-copy-in-Some-get.ensures ∙ value
+    ∙ ap (answer_of_entry c.args.key.now) (sym there)
 
 pub returns-in-None : goal.returns-in-None
 returns-in-None c =

@@ -16,6 +16,7 @@ returns c =
     let there = sym c.find.ensures ∙ ap option_copied c.in-Some.is in
     let same : c.in_ok-number.number ≡ c.args.number.now = search rules in (
       same,
-      subst (λ (o : Option Entry). IsLoadedFrom c.args.book.now c.args.moment (rows_of_entry o) c.in_ok-account.account) (sym there) c.in_ok-account.ensures,
+      subst (λ (o : Option Entry). IsLoadedFrom c.args.book.now c.args.moment
+          (rows_of_entry o) c.in_ok-account.account) (sym there) c.in_ok-account.ensures,
       c.into_stored-before.ensures ∙ ap stored c.in_ok-copy.ensures,
     )

@@ -1,6 +1,7 @@
 use Rattle.std.proofs.Common.{◌≡◌, List, [], ◌∷◌, ◌++◌, length, sym, ap, ◌∙◌, Some, None, refl, rules, subst, Option}
 use Rattle.std.specs.Prelude.{position, if◌then◌else◌}
 use Rattle.std.specs.HashMap.{get}
+use Rattle.std.proofs.lemmas.List.{length-set}
 use Rattle.identifiers.specs.Texts.{same_name}
 use Rattle.keepers.specs.Keys.{same_key}
 use Rattle.keepers.specs.Change.{kept_after}
@@ -11,67 +12,77 @@ use Rattle.keepers.specs.Memory.{is_entry, entry_in, rows_of_entry, answer_of_en
 use Rattle.keepers.proofs.Placed.{place_added, place_written, on_err, found_at, seen_written, seen_left, count_written, seen_added, count_added}
 use Rattle.keepers.proofs.entries.put_entry.Goals as goal
 
-pub returns-in_err-write_entry-clause-err_rows : goal.returns-in_err-write_entry-clause-err_rows
-returns-in_err-write_entry-clause-err_rows c =
-    on_err c.from_residual.result (λ a. seen_left rows_of_entry c.args.number c.in-Some.place c.args.entries.now.items c.index_mut.result.now c.write_entry.new.entry
-    (sym (c.requires c.args.number) ∙ sym c.place_of.ensures ∙ c.in-Some.is) c.index_mut.ensures.value c.write_entry.ensures.number a (ap rows_of c.in_err-write_entry.ensures.err_rows))
+pub returns-in_err-write_entry-clause-err : goal.returns-in_err-write_entry-clause-err
+returns-in_err-write_entry-clause-err c =
+    let at : position (is_entry c.args.number) c.args.entries.now.items ≡ Some c.in-Some.place =
+    sym (c.requires c.args.number) ∙ sym c.place_of.ensures ∙ c.in-Some.is in
+    on_err c.from_residual.result (record {
+      rows = λ a. seen_left rows_of_entry c.args.number c.in-Some.place c.args.entries.now.items
+          c.index_mut.result.now c.write_entry.new.entry at c.index_mut.ensures.value
+          c.write_entry.ensures.number a (ap rows_of c.in_err-write_entry.ensures.err_rows);
+      answers = λ a k. seen_left (answer_of_entry k) c.args.number c.in-Some.place
+          c.args.entries.now.items c.index_mut.result.now c.write_entry.new.entry at
+          c.index_mut.ensures.value c.write_entry.ensures.number a
+          (c.in_err-write_entry.ensures.err_answers k);
+      charges = λ a. seen_left charges_of_entry c.args.number c.in-Some.place
+          c.args.entries.now.items c.index_mut.result.now c.write_entry.new.entry at
+          c.index_mut.ensures.value c.write_entry.ensures.number a
+          c.in_err-write_entry.ensures.err_charges;
+      count = length-set c.args.entries.now.items c.in-Some.place c.write_entry.new.entry;
+    })
 
-pub returns-in_err-write_entry-clause-err_answers : goal.returns-in_err-write_entry-clause-err_answers
-returns-in_err-write_entry-clause-err_answers c =
-    on_err c.from_residual.result (λ a k. seen_left (answer_of_entry k) c.args.number c.in-Some.place c.args.entries.now.items c.index_mut.result.now c.write_entry.new.entry
-    (sym (c.requires c.args.number) ∙ sym c.place_of.ensures ∙ c.in-Some.is) c.index_mut.ensures.value c.write_entry.ensures.number a (c.in_err-write_entry.ensures.err_answers k))
+pub returns-in-Some-clause-done : goal.returns-in-Some-clause-done
+returns-in-Some-clause-done c =
+    let at : position (is_entry c.args.number) c.args.entries.now.items ≡ Some c.in-Some.place =
+    sym (c.requires c.args.number) ∙ sym c.place_of.ensures ∙ c.in-Some.is in
+    let there = found_at c.args.number c.in-Some.place c.args.entries.now.items
+    c.index_mut.result.now at c.index_mut.ensures.value in
+    record {
+      rows = λ before made a. seen_written rows_of_entry c.args.number c.in-Some.place
+          c.args.entries.now.items c.index_mut.result.now c.write_entry.new.entry at
+          c.index_mut.ensures.value c.write_entry.ensures.number (over c.args.rows) a
+          (c.in_ok-write_entry.ensures.rows before
+          (subst (λ (o : Option Entry). IsMadeFrom before c.args.rows (rows_of_entry o))
+          there.found made));
+      answers = λ a k. seen_written (answer_of_entry k) c.args.number c.in-Some.place
+          c.args.entries.now.items c.index_mut.result.now c.write_entry.new.entry at
+          c.index_mut.ensures.value c.write_entry.ensures.number (kept_after c.args.kept k) a
+          (c.in_ok-write_entry.ensures.answers k);
+      charges = λ a. seen_written charges_of_entry c.args.number c.in-Some.place
+          c.args.entries.now.items c.index_mut.result.now c.write_entry.new.entry at
+          c.index_mut.ensures.value c.write_entry.ensures.number
+          (λ rows. rows ++ c.args.charges.items) a c.in_ok-write_entry.ensures.charges;
+      count = count_written c.args.number c.in-Some.place c.args.entries.now.items
+          c.write_entry.new.entry at;
+    }
 
-pub returns-in_err-write_entry-clause-err_charges : goal.returns-in_err-write_entry-clause-err_charges
-returns-in_err-write_entry-clause-err_charges c =
-    on_err c.from_residual.result (λ a. seen_left charges_of_entry c.args.number c.in-Some.place c.args.entries.now.items c.index_mut.result.now c.write_entry.new.entry
-    (sym (c.requires c.args.number) ∙ sym c.place_of.ensures ∙ c.in-Some.is) c.index_mut.ensures.value c.write_entry.ensures.number a c.in_err-write_entry.ensures.err_charges)
-
-pub returns-in-Some-clause-rows : goal.returns-in-Some-clause-rows
-returns-in-Some-clause-rows c = λ before made a.
-    let there = found_at c.args.number c.in-Some.place c.args.entries.now.items c.index_mut.result.now
-    (sym (c.requires c.args.number) ∙ sym c.place_of.ensures ∙ c.in-Some.is) c.index_mut.ensures.value in
-    seen_written rows_of_entry c.args.number c.in-Some.place c.args.entries.now.items c.index_mut.result.now c.write_entry.new.entry
-    (sym (c.requires c.args.number) ∙ sym c.place_of.ensures ∙ c.in-Some.is) c.index_mut.ensures.value c.write_entry.ensures.number (over c.args.rows) a
-    (c.in_ok-write_entry.ensures.rows before (subst (λ (o : Option Entry). IsMadeFrom before c.args.rows (rows_of_entry o)) there.found made))
-
-pub returns-in-Some-clause-answers : goal.returns-in-Some-clause-answers
-returns-in-Some-clause-answers c = λ a k. seen_written (answer_of_entry k) c.args.number c.in-Some.place c.args.entries.now.items c.index_mut.result.now c.write_entry.new.entry
-    (sym (c.requires c.args.number) ∙ sym c.place_of.ensures ∙ c.in-Some.is) c.index_mut.ensures.value c.write_entry.ensures.number (kept_after c.args.kept k) a (c.in_ok-write_entry.ensures.answers k)
-
-pub returns-in-Some-clause-charges : goal.returns-in-Some-clause-charges
-returns-in-Some-clause-charges c = λ a. seen_written charges_of_entry c.args.number c.in-Some.place c.args.entries.now.items c.index_mut.result.now c.write_entry.new.entry
-    (sym (c.requires c.args.number) ∙ sym c.place_of.ensures ∙ c.in-Some.is) c.index_mut.ensures.value c.write_entry.ensures.number (λ rows. rows ++ c.args.charges.items) a c.in_ok-write_entry.ensures.charges
-
-pub returns-in-Some-clause-count : goal.returns-in-Some-clause-count
-returns-in-Some-clause-count c =
-    count_written c.args.number c.in-Some.place c.args.entries.now.items c.write_entry.new.entry
-    (sym (c.requires c.args.number) ∙ sym c.place_of.ensures ∙ c.in-Some.is)
-
-none_there : (c : goal.After-push_reserved) → position (is_entry c.args.number) c.args.entries.now.items ≡ None
+none_there : (c : goal.After-push_reserved) →
+    position (is_entry c.args.number) c.args.entries.now.items ≡ None
 none_there c = sym (c.requires c.args.number) ∙ sym c.place_of.ensures ∙ c.in_default.is
 
-added : (c : goal.After-push_reserved) → c.push_reserved.new.self.items ≡ c.args.entries.now.items ++ c.in_ok-entry.entry ∷ []
-added c = c.push_reserved.ensures.items ∙ ap (λ xs. xs ++ c.in_ok-entry.entry ∷ []) c.in_ok-reserve.ensures.items
+added : (c : goal.After-push_reserved) →
+    c.push_reserved.new.self.items ≡ c.args.entries.now.items ++ c.in_ok-entry.entry ∷ []
+added c = c.push_reserved.ensures.items
+    ∙ ap (λ xs. xs ++ c.in_ok-entry.entry ∷ []) c.in_ok-reserve.ensures.items
 
-pub returns-clause-rows : goal.returns-clause-rows
-returns-clause-rows c = λ before made a.
-    ap (λ xs. rows_of_entry (entry_in a xs)) (added c)
-    ∙ seen_added c.args.number c.args.entries.now.items _ (none_there c) c.in_ok-entry.ensures.number rows_of_entry (over c.args.rows) a c.in_ok-entry.ensures.rows
-
-pub returns-clause-answers : goal.returns-clause-answers
-returns-clause-answers c = λ a k.
-    ap (λ xs. answer_of_entry k (entry_in a xs)) (added c)
-    ∙ seen_added c.args.number c.args.entries.now.items _ (none_there c) c.in_ok-entry.ensures.number (answer_of_entry k) (kept_after c.args.kept k) a (c.in_ok-entry.ensures.answers k)
-
-pub returns-clause-charges : goal.returns-clause-charges
-returns-clause-charges c = λ a.
-    ap (λ xs. charges_of_entry (entry_in a xs)) (added c)
-    ∙ seen_added c.args.number c.args.entries.now.items _ (none_there c) c.in_ok-entry.ensures.number charges_of_entry (λ rows. rows ++ c.args.charges.items) a c.in_ok-entry.ensures.charges
-
-pub returns-clause-count : goal.returns-clause-count
-returns-clause-count c =
-    ap length (added c)
-    ∙ count_added c.args.number c.args.entries.now.items _ (none_there c) c.in_ok-entry.ensures.number
+pub returns-clause-done : goal.returns-clause-done
+returns-clause-done c = record {
+  rows = λ before made a. ap (λ xs. rows_of_entry (entry_in a xs)) (added c)
+      ∙ seen_added c.args.number c.args.entries.now.items _
+      (none_there c) c.in_ok-entry.ensures.number rows_of_entry
+      (over c.args.rows) a c.in_ok-entry.ensures.rows;
+  answers = λ a k. ap (λ xs. answer_of_entry k (entry_in a xs)) (added c)
+      ∙ seen_added c.args.number c.args.entries.now.items _
+      (none_there c) c.in_ok-entry.ensures.number (answer_of_entry k) (kept_after c.args.kept k) a
+      (c.in_ok-entry.ensures.answers k);
+  charges = λ a. ap (λ xs. charges_of_entry (entry_in a xs)) (added c)
+      ∙ seen_added c.args.number c.args.entries.now.items _
+      (none_there c) c.in_ok-entry.ensures.number charges_of_entry
+      (λ rows. rows ++ c.args.charges.items) a c.in_ok-entry.ensures.charges;
+  count = ap length (added c)
+      ∙ count_added c.args.number c.args.entries.now.items _
+      (none_there c) c.in_ok-entry.ensures.number;
+}
 
 pub returns-clause-places : goal.returns-clause-places
 returns-clause-places c = λ a.
@@ -79,5 +90,6 @@ returns-clause-places c = λ a.
     let last : c.len.result ≡ length c.args.entries.now.items = search rules in
     c.in_ok-put_place.ensures.done a
     ∙ (λ i. if same_name (same i) a then Some (last i) else c.requires a i)
-    ∙ place_added c.args.number a c.args.entries.now.items c.in_ok-entry.entry (none_there c) c.in_ok-entry.ensures.number
+    ∙ place_added c.args.number a c.args.entries.now.items c.in_ok-entry.entry
+    (none_there c) c.in_ok-entry.ensures.number
     ∙ ap (position (is_entry a)) (sym (added c))

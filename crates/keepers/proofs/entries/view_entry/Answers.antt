@@ -13,4 +13,5 @@ returns-in_default c =
 pub returns : goal.returns
 returns c =
     let there = sym c.find.ensures ∙ ap option_copied c.in-Some.is in
-    subst (λ (o : Option Entry). IsLoadedFrom c.args.book.now c.args.moment (rows_of_entry o) c.in_ok-account.account) (sym there) c.in_ok-account.ensures
+    subst (λ (o : Option Entry). IsLoadedFrom c.args.book.now c.args.moment
+    (rows_of_entry o) c.in_ok-account.account) (sym there) c.in_ok-account.ensures

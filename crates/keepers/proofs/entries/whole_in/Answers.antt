@@ -11,9 +11,12 @@ pub returns-in_default : goal.returns-in_default
 returns-in_default c =
     subst (λ (o : Option Entry). AreWhole (rows_of_entry o) c.none.result)
     (sym (sym c.find.ensures ∙ ap option_copied c.in_default.is))
-    (none_whole c.none.result c.none.ensures.buckets c.none.ensures.counters c.none.ensures.sessions c.none.ensures.groups)
+    (none_whole c.none.result c.none.ensures.buckets c.none.ensures.counters c.none.ensures.sessions
+    c.none.ensures.groups)
 
 pub returns : goal.returns
 returns c =
     let there = sym c.find.ensures ∙ ap option_copied c.in-Some.is in
-    IfOk-weaker c.whole.result _ _ (λ found is. subst (λ (o : Option Entry). AreWhole (rows_of_entry o) found) (sym there) is) c.whole.ensures
+    IfOk-weaker c.whole.result _ _
+    (λ found is. subst (λ (o : Option Entry). AreWhole (rows_of_entry o) found) (sym there) is)
+    c.whole.ensures

@@ -7,4 +7,5 @@ use Rattle.keepers.proofs.store.dead_rows.Goals as goal
 pub returns : goal.returns
 returns c =
     filter_same _ (is_dead) _ (λ x b f' k. search rules) _ _ c.retain.ensures.filtered
-    ∙ ap (filter (is_dead)) (c.in_ok-append.ensures.items ∙ (λ i. c.in_ok-rows.ensures i ++ (c.in_ok-to_vec.ensures ∙ c.purse.ensures) i))
+    ∙ ap (filter (is_dead)) (c.in_ok-append.ensures.items
+    ∙ (λ i. c.in_ok-rows.ensures i ++ (c.in_ok-to_vec.ensures ∙ c.purse.ensures) i))

@@ -5,4 +5,5 @@ use Rattle.keepers.proofs.PartsKept.{placed_found}
 use Rattle.keepers.proofs.store.has_counter.Goals as goal
 
 pub returns : goal.returns
-returns c = c.is_some.ensures ∙ ap is_some c.counter_place.ensures ∙ placed_found (is_counter c.args.group c.args.cycle) c.args.rows.now
+returns c = c.is_some.ensures ∙ ap is_some c.counter_place.ensures
+    ∙ placed_found (is_counter c.args.group c.args.cycle) c.args.rows.now

@@ -11,7 +11,10 @@ use Rattle.keepers.proofs.store.keep_buckets.Goals as goal
 pub returns-then-not-any_numbered : goal.returns-then-not-any_numbered
 returns-then-not-any_numbered c =
     buckets_stay c.args.after.now c.args.numbers.now c.args.rows.now.items c.requires
-    (sym (c.any_numbered.ensures ∙ ap (list_any (λ (x : Row). is_numbered c.args.numbers.now x.number)) (c.buckets.ensures.value ∙ c.purse.ensures)) ∙ c.if-not-any_numbered.true)
+    (sym (c.any_numbered.ensures
+    ∙ ap (list_any (λ (x : Row). is_numbered c.args.numbers.now x.number))
+    (c.buckets.ensures.value ∙ c.purse.ensures)) ∙ c.if-not-any_numbered.true)
 
 pub returns : goal.returns
-returns c = filter_same _ (leaves_bucket c.args.after.now) _ (λ x b f' k. search rules) _ _ c.retain.ensures.filtered
+returns c = filter_same _ (leaves_bucket c.args.after.now) _
+    (λ x b f' k. search rules) _ _ c.retain.ensures.filtered

@@ -9,7 +9,9 @@ use Rattle.keepers.proofs.store.keep_groups.Goals as goal
 pub returns-then-not-any_of_named : goal.returns-then-not-any_of_named
 returns-then-not-any_of_named c =
     let none = sym c.any_of_named.ensures ∙ c.if-not-any_of_named.true in
-    groups_stay c.args.after.now c.args.names.now c.args.rows.now.items c.requires (first_false _ _ none) (second_false _ _ none)
+    groups_stay c.args.after.now c.args.names.now c.args.rows.now.items c.requires
+    (first_false _ _ none) (second_false _ _ none)
 
 pub returns : goal.returns
-returns c = filter_same _ (leaves_group c.args.after.now) _ (λ x b f' k. search rules) _ _ c.retain.ensures.filtered
+returns c = filter_same _ (leaves_group c.args.after.now) _
+    (λ x b f' k. search rules) _ _ c.retain.ensures.filtered

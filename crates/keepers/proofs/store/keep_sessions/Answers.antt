@@ -11,7 +11,10 @@ use Rattle.keepers.proofs.store.keep_sessions.Goals as goal
 pub returns-then-not-any_named : goal.returns-then-not-any_named
 returns-then-not-any_named c =
     sessions_stay c.args.after.now c.args.names.now c.args.rows.now.items c.requires
-    (sym (c.any_named.ensures ∙ ap (list_any (λ (x : Session). is_named c.args.names.now x.id)) (c.sessions.ensures)) ∙ c.if-not-any_named.true)
+    (sym (c.any_named.ensures
+    ∙ ap (list_any (λ (x : Session). is_named c.args.names.now x.id)) (c.sessions.ensures))
+    ∙ c.if-not-any_named.true)
 
 pub returns : goal.returns
-returns c = filter_same _ (leaves_session c.args.after.now) _ (λ x b f' k. search rules) _ _ c.retain.ensures.filtered
+returns c = filter_same _ (leaves_session c.args.after.now) _
+    (λ x b f' k. search rules) _ _ c.retain.ensures.filtered

@@ -6,5 +6,7 @@ use Rattle.keepers.proofs.store.leaving_counters.Goals as goal
 
 pub returns : goal.returns
 returns c =
-    filter_same _ (leaves_counter c.args.after.now) _ (λ x b f' k. search rules) _ _ c.retain.ensures.filtered
-    ∙ ap (filter (leaves_counter c.args.after.now)) (c.in_ok-rows.ensures.items ∙ c.counters.ensures)
+    filter_same _ (leaves_counter c.args.after.now) _
+    (λ x b f' k. search rules) _ _ c.retain.ensures.filtered
+    ∙ ap (filter (leaves_counter c.args.after.now))
+    (c.in_ok-rows.ensures.items ∙ c.counters.ensures)

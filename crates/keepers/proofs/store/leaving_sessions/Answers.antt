@@ -6,5 +6,6 @@ use Rattle.keepers.proofs.store.leaving_sessions.Goals as goal
 
 pub returns : goal.returns
 returns c =
-    filter_same _ (leaves_session c.args.after.now) _ (λ x b f' k. search rules) _ _ c.retain.ensures.filtered
+    filter_same _ (leaves_session c.args.after.now) _
+    (λ x b f' k. search rules) _ _ c.retain.ensures.filtered
     ∙ ap (filter (leaves_session c.args.after.now)) (c.in_ok-rows.ensures ∙ c.sessions.ensures)

@@ -7,5 +7,6 @@ use Rattle.keepers.proofs.store.note_groups.Given as goal
 abbrev pub invariant-loop-row : goal.invariant-loop-row
 invariant-loop-row l = record {
   stay : (k : List ℕ) → is_named l.fn.names k ≡ true → is_named l.names k ≡ true;
-  noted : EachIn (λ (r : SessionGroup). is_named l.names r.session ≡ true) (take l.row-index l.rows);
+  noted : EachIn (λ (r : SessionGroup). is_named l.names r.session ≡ true)
+      (take l.row-index l.rows);
 }

@@ -10,8 +10,11 @@ returns-clause-done c = λ _ made.
     let change = c.args.change in
     (λ i. record {
       last = change.moment;
-      rows = λ a. c.in_ok-put.ensures.rows change.before made a i;
-      answers = λ a k. c.in_ok-put.ensures.answers a k i;
-      charges = λ a n. charge_over change.number a n items _ change.charges.items (c.in_ok-put.ensures.charges a) i;
-      count = (c.in_ok-put.ensures.count ∙ (λ j. if head_there (entry_in change.number items) j then length items else length items + 1)) i;
+      rows = λ a. c.in_ok-put.ensures.done.rows change.before made a i;
+      answers = λ a k. c.in_ok-put.ensures.done.answers a k i;
+      charges = λ a n. charge_over change.number a n items _ change.charges.items
+          (c.in_ok-put.ensures.done.charges a) i;
+      count = (c.in_ok-put.ensures.done.count
+          ∙ (λ j. if head_there (entry_in change.number items) j then length items
+          else length items + 1)) i;
     })

@@ -4,8 +4,10 @@ use Rattle.keepers.proofs.memory.MemoryKeeperKeeper.sweep.Goals as goal
 
 pub returns-clause-count : goal.returns-clause-count
 returns-clause-count c = λ _.
-    c.count.ensures ∙ swept_length c.args.book.now c.args.moment c.args.self.now.accounts.entries.items c.advance.new.self.entries.items c.advance.ensures
+    c.count.ensures ∙ swept_length c.args.book.now c.args.moment
+    c.args.self.now.accounts.entries.items c.advance.new.self.entries.items c.advance.ensures
 
 pub returns-clause-done : goal.returns-clause-done
 returns-clause-done c = λ _.
-    swept_tables c.args.book.now c.args.moment c.args.self.now.last c.args.self.now.accounts.entries.items c.advance.new.self.entries.items c.advance.ensures
+    swept_tables c.args.book.now c.args.moment c.args.self.now.last
+    c.args.self.now.accounts.entries.items c.advance.new.self.entries.items c.advance.ensures

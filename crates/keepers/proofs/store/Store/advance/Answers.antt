@@ -11,7 +11,8 @@ pub invariant_of-self : goal.invariant_of-self
 invariant_of-self c =
     let p : Parts = parts_of c.self.inside in
     record {
-      parts = subst (λ (w : StoredRows). AreParts (record { live = w; left = p.left })) (sym c.advance.ensures)
+      parts = subst (λ (w : StoredRows). AreParts (record { live = w; left = p.left }))
+          (sym c.advance.ensures)
           (parts_advanced c.args.book.now c.args.moment p c.self.invariant.parts);
       buckets = c.self.invariant.buckets;
       sessions = c.self.invariant.sessions;
@@ -21,6 +22,9 @@ invariant_of-self c =
 pub returns-clause-rows : goal.returns-clause-rows
 returns-clause-rows c = λ ledger u le are.
     let p : Parts = parts_of c.self.inside in
-    subst (λ (w : StoredRows). AreRowsAt c.args.book.now ledger c.args.moment (rows_of (record { live = w; left = p.left }))) (sym c.advance.ensures)
-    (swept_parts c.args.book.now ledger u c.args.moment p c.validity-ranges.ensures.book c.self.invariant.parts c.as_of-kept.ensures.kept le
-    (subst (λ (q : Parts). AreRowsAt c.args.book.now ledger u (rows_of q)) (sym c.self.view_is) are))
+    subst (λ (w : StoredRows). AreRowsAt c.args.book.now ledger c.args.moment
+    (rows_of (record { live = w; left = p.left }))) (sym c.advance.ensures)
+    (swept_parts c.args.book.now ledger u c.args.moment p c.validity-ranges.ensures.book
+    c.self.invariant.parts c.as_of-kept.ensures.kept le
+    (subst (λ (q : Parts). AreRowsAt c.args.book.now ledger u (rows_of q))
+    (sym c.self.view_is) are))

@@ -15,6 +15,9 @@ returns c =
     let p : Parts = parts_of c.self.inside in
     let others : c.deref.result.now ≡ p.left.counters = c.deref.ensures.value in
     if_ok c.load_at.result c.load_at.ensures.rows (λ account is.
-    subst (λ (q : Parts). IsLoadedFrom c.args.book.now c.args.moment (rows_of q) account) c.self.view_is
-    (subst (IsLoadedFrom c.args.book.now c.args.moment (rows_of p)) (sym (is ∙ (λ i. live_part c.args.book.now c.args.moment (others i) p.live)))
-    (parts_loaded c.args.book.now c.args.moment p c.self.invariant.parts c.as_of-kept.ensures.kept)))
+    subst (λ (q : Parts). IsLoadedFrom c.args.book.now c.args.moment (rows_of q) account)
+    c.self.view_is
+    (subst (IsLoadedFrom c.args.book.now c.args.moment (rows_of p))
+    (sym (is ∙ (λ i. live_part c.args.book.now c.args.moment (others i) p.live)))
+    (parts_loaded c.args.book.now c.args.moment p c.self.invariant.parts
+    c.as_of-kept.ensures.kept)))
