@@ -29,51 +29,81 @@ use Rattle.decisions.proofs.Rulings.{uncharged}
 -- ---- reports
 
 -- the row under the account's next number and the session's name
-pub told_with : {m n : ℕ} {s x : List ℕ} (t g : ℕ) (settled : Settled) → m ≡ n → x ≡ s → told_row m t x g settled ≡ told_row n t s g settled
+pub told_with : {m n : ℕ} {s x : List ℕ} (t g : ℕ) (settled : Settled) → m ≡ n → x ≡ s →
+    told_row m t x g settled ≡ told_row n t s g settled
 told_with t g settled number name = λ i. told_row (number i) t (name i) g settled
 
 -- a report that is settled makes its charge
-pub reports_settled : (old new : AccountRows) (t : ℕ) (s : List ℕ) (g : ℕ) (parts : List UsedPart) (settled : Settled) (row : ChargeRow) → length parts ≢ 0 → row ≡ told_row old.next_charge t s g settled →
-    ((ledger : Ledger) (left : LeftRows) → IsWith ledger left t old → passes_limit old.book t s g parts ledger ≡ false) →
-    ((ledger : Ledger) (left : LeftRows) → IsWith ledger left t old → IsWith (settled_by old.book t s g parts ledger) left t new) →
-    ((ledger : Ledger) (left : LeftRows) → IsWith ledger left t old → IsSettlementOf old.book t s g parts ledger settled) → Reports row old new t s g parts
+pub reports_settled : (old new : AccountRows) (t : ℕ) (s : List ℕ) (g : ℕ) (parts : List UsedPart)
+    (settled : Settled) (row : ChargeRow) → length parts ≢ 0 →
+    row ≡ told_row old.next_charge t s g settled →
+    ((ledger : Ledger) (left : LeftRows) → IsWith ledger left t old →
+    passes_limit old.book t s g parts ledger ≡ false) →
+    ((ledger : Ledger) (left : LeftRows) → IsWith ledger left t old →
+    IsWith (settled_by old.book t s g parts ledger) left t new) →
+    ((ledger : Ledger) (left : LeftRows) → IsWith ledger left t old →
+    IsSettlementOf old.book t s g parts ledger settled) → Reports row old new t s g parts
 reports_settled old new t s g [] settled row some is within after told = absurd (some refl)
-reports_settled old new t s g (p ∷ ps) settled row some is within after told = λ ledger left h. record {
-  within = within ledger left h;
-  rows = after ledger left h;
-  written = charge_rows-settlement old.book t old.next_charge s g p ps ledger settled h.rows.next_charge (told ledger left h) ∙ ap (λ r. charge_rows ledger ++ r ∷ []) (sym is);
-}
+reports_settled old new t s g (p ∷ ps) settled row some is within after told = λ ledger left h.
+    record {
+      within = within ledger left h;
+      rows = after ledger left h;
+      written = charge_rows-settlement old.book t old.next_charge s g p ps ledger settled
+          h.rows.next_charge (told ledger left h) ∙ ap (λ r. charge_rows ledger ++ r ∷ []) (sym is);
+    }
 
 -- ---- debits
 
-with_beside : (ledger : Ledger) (left : LeftRows) (t : ℕ) (a : AccountRows) → IsBeside left t a → IsRowsOf ledger (joined left a) → IsWith ledger left t a
-with_beside ledger left t a beside rows = record { apart = beside.apart; cycles = beside.cycles; rows = rows }
+with_beside : (ledger : Ledger) (left : LeftRows) (t : ℕ) (a : AccountRows) → IsBeside left t a →
+    IsRowsOf ledger (joined left a) → IsWith ledger left t a
+with_beside ledger left t a beside rows =
+    record { apart = beside.apart; cycles = beside.cycles; rows = rows }
 
 -- what units that were charged are answered
 abbrev pub debit_outcome : GroupTariff → ℕ → ℕ → Outcome
-debit_outcome tariff g units = Services (record { group = g; outcome = service.Debited (record { kind = tariff.unit; units = units }) } ∷ [])
+debit_outcome tariff g units =
+    Services (record {
+      group = g;
+      outcome = service.Debited (record { kind = tariff.unit; units = units });
+    } ∷ [])
 
 -- an event whose price is covered
-pub follows_charged : (old middle new : AccountRows) (tariff : GroupTariff) (t : ℕ) (s : List ℕ) (n g units : ℕ) (settled : Settled) (row : ChargeRow) → row ≡ told_row old.next_charge t s g settled →
-    ((ledger : Ledger) (left : LeftRows) → NotLeft s left → IsWith ledger left t old → IsBeside left t middle × IsDebitOf old.book t s g units ledger (joined left middle) settled) →
-    ((ledger : Ledger) (left : LeftRows) → NotLeft s left → IsWith ledger left t middle → IsWith (recorded t s n ledger) left t new) →
-    Follows (IsNew s) (charged_if_covered old.book tariff t s n g units) t old new (debit_outcome tariff g units) true (row ∷ [])
-follows_charged old middle new tariff t s n g units settled row is debit records = λ ledger left asked h.
+pub follows_charged : (old middle new : AccountRows) (tariff : GroupTariff) (t : ℕ) (s : List ℕ)
+    (n g units : ℕ) (settled : Settled) (row : ChargeRow) →
+    row ≡ told_row old.next_charge t s g settled →
+    ((ledger : Ledger) (left : LeftRows) → NotLeft s left → IsWith ledger left t old →
+    IsBeside left t middle × IsDebitOf old.book t s g units ledger
+    (joined left middle) settled) →
+    ((ledger : Ledger) (left : LeftRows) → NotLeft s left → IsWith ledger left t middle →
+    IsWith (recorded t s n ledger) left t new) →
+    Follows (IsNew s) (charged_if_covered old.book tariff t s n g units) t old new
+    (debit_outcome tariff g units) true (row ∷ [])
+follows_charged old middle new tariff t s n g units settled row is debit records =
+    λ ledger left asked h.
     let beside : IsBeside left t middle = (debit ledger left asked h).0 in
-    let own : IsDebitOf old.book t s g units ledger (joined left middle) settled = (debit ledger left asked h).1 in
+    let own : IsDebitOf old.book t s g units ledger (joined left middle) settled =
+    (debit ledger left asked h).1 in
     let after : Ledger = debited old.book t s g units ledger in
     let decision : Decision = accepted (debit_outcome tariff g units) (recorded t s n after) in
-    let agrees : Agrees (debit_outcome tariff g units) true (row ∷ []) decision ledger left t new = record {
+    let agrees : Agrees (debit_outcome tariff g units) true (row ∷ []) decision ledger left t new =
+    record {
       same = refl;
       acceptance = refl;
       rows = records after left asked (with_beside after left t middle beside own.rows);
-      written = charge_rows-recorded t s n after ∙ charge_rows-debit old.book t old.next_charge s g units ledger (joined left middle) settled h.rows.next_charge own ∙ ap (λ r. charge_rows ledger ++ r ∷ []) (sym is);
+      written = charge_rows-recorded t s n after
+          ∙ charge_rows-debit old.book t old.next_charge s g units ledger
+          (joined left middle) settled h.rows.next_charge own
+          ∙ ap (λ r. charge_rows ledger ++ r ∷ []) (sym is);
     } in
-    let same : charged_if_covered old.book tariff t s n g units ledger ≡ decision = rw (own.covered, own.within) refl in
-    subst (λ d. Agrees (debit_outcome tariff g units) true (row ∷ []) d ledger left t new) (sym same) agrees
+    let same : charged_if_covered old.book tariff t s n g units ledger ≡ decision =
+    rw (own.covered, own.within) refl in
+    subst (λ d. Agrees (debit_outcome tariff g units) true (row ∷ []) d ledger left t new)
+    (sym same) agrees
 
 -- an event whose price is covered, and whose charge passes a limit
-pub charge_passes : (b : Book) (tariff : GroupTariff) (t : ℕ) (s : List ℕ) (n g units : ℕ) (ledger : Ledger) → (is_covered b t g units ledger ≡ true) × (debit_passes b t s g units ledger ≡ true) →
+pub charge_passes : (b : Book) (tariff : GroupTariff) (t : ℕ) (s : List ℕ) (n g units : ℕ)
+    (ledger : Ledger) → (is_covered b t g units ledger ≡ true)
+    × (debit_passes b t s g units ledger ≡ true) →
     charged_if_covered b tariff t s n g units ledger ≡ told (Failed UnableToComply) ledger
 charge_passes b tariff t s n g units ledger both = rw (both.0, both.1) refl
 
@@ -100,9 +130,13 @@ pub not_fault : {R E : Type 0} {x : R} {e : E} (r : Result R E) → r ≡ Ok x �
 not_fault {R} {E} {x} {e} r is fault = let both : Ok x ≡ Err e = sym is ∙ fault in cc
 
 -- money that is paid back
-pub follows_refunded : (old middle new : AccountRows) (t : ℕ) (s : List ℕ) (n : ℕ) (r : Refund) → old.next_bucket ≤ 4294967295 →
-    ((ledger : Ledger) (left : LeftRows) → IsWith ledger left t old → IsWith (credited t t 4102444800 None r.micros ledger) left t middle) →
-    ((ledger : Ledger) (left : LeftRows) → NotLeft s left → IsWith ledger left t middle → IsWith (recorded t s n ledger) left t new) → Follows (IsNew s) (refunded t s n r) t old new Refunded true []
+pub follows_refunded : (old middle new : AccountRows) (t : ℕ) (s : List ℕ) (n : ℕ) (r : Refund) →
+    old.next_bucket ≤ 4294967295 →
+    ((ledger : Ledger) (left : LeftRows) → IsWith ledger left t old →
+    IsWith (credited t t 4102444800 None r.micros ledger) left t middle) →
+    ((ledger : Ledger) (left : LeftRows) → NotLeft s left → IsWith ledger left t middle →
+    IsWith (recorded t s n ledger) left t new) →
+    Follows (IsNew s) (refunded t s n r) t old new Refunded true []
 follows_refunded old middle new t s n r few credits records = λ ledger left asked h.
     let after : Ledger = credited t t 4102444800 None r.micros ledger in
     let decision : Decision = accepted Refunded (recorded t s n after) in
@@ -110,7 +144,11 @@ follows_refunded old middle new t s n r few credits records = λ ledger left ask
       same = refl;
       acceptance = refl;
       rows = records after left asked (credits ledger left h);
-      written = uncharged (recorded t s n after) ledger (charge_rows-recorded t s n after ∙ charge_rows-credited t t 4102444800 None r.micros ledger);
+      written = uncharged (recorded t s n after) ledger
+          (charge_rows-recorded t s n after
+          ∙ charge_rows-credited t t 4102444800 None r.micros ledger);
     } in
-    let same : refunded t s n r ledger ≡ decision = rw (ap (nat_lt 4294967295) (sym h.rows.next_bucket) ∙ one_more old.next_bucket few) refl in
+    let same : refunded t s n r ledger ≡ decision =
+    rw (ap (nat_lt 4294967295) (sym h.rows.next_bucket) ∙ one_more old.next_bucket few) refl
+    in
     subst (λ d. Agrees Refunded true [] d ledger left t new) (sym same) agrees

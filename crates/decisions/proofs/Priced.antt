@@ -15,33 +15,47 @@ use Rattle.reserving.specs.Debiting.{untagged}
 use Rattle.reserving.specs.Changes.{event_price_in}
 use Rattle.reserving.specs.Rows.{AccountRows}
 
-priced_at : (lists : List (List Tier)) (i : ℕ) → AllByRecursion AreTiers lists → ArePriced (slice_index_or lists i [])
+priced_at : (lists : List (List Tier)) (i : ℕ) → AllByRecursion AreTiers lists →
+    ArePriced (slice_index_or lists i [])
 priced_at [] i h = tt
 priced_at (x ∷ xs) zero h = h.0.priced
 priced_at (x ∷ xs) (suc i) h = priced_at xs i h.1
 
 -- no block costs more than 10^9
-report_bound : (t : GroupTariff) (used place : ℕ) (parts : List Part) → IsTariff t → report_amount t used place parts ≤ report_blocks t.block used parts * 1_000_000_000
+report_bound : (t : GroupTariff) (used place : ℕ) (parts : List Part) → IsTariff t →
+    report_amount t used place parts ≤ report_blocks t.block used parts * 1_000_000_000
 unfolding report_blocks report_amount
 report_bound t used place [] is = omega arith
 report_bound t used place (part ∷ parts) is =
     let n : ℕ = started used part.units.0 t.block in
-    let here : rated_amount (tiers_at t part.period.0) place n ≤ n * 1_000_000_000 = rated_bound (tiers_at t part.period.0) place n (priced_at t.prices part.period.0 is.tiers) in
+    let here : rated_amount (tiers_at t part.period.0) place n ≤ n * 1_000_000_000 =
+    rated_bound (tiers_at t part.period.0) place n
+    (priced_at t.prices part.period.0 is.tiers) in
     omega (arith, here, report_bound t (used + part.units.0) (place + n) parts is)
 
 -- an event's units start the blocks of one part
-event_blocks : (block units : ℕ) (p : Periods) → report_blocks block 0 (rated_parts p (untagged units)) ≡ started 0 units block
+event_blocks : (block units : ℕ) (p : Periods) →
+    report_blocks block 0 (rated_parts p (untagged units)) ≡ started 0 units block
 unfolding report_blocks
-event_blocks block units p = ap (λ n. started 0 n block + 0) (zero-add units) ∙ add-zero (started 0 units block)
+event_blocks block units p = ap (λ n. started 0 n block + 0) (zero-add units)
+    ∙ add-zero (started 0 units block)
 
-rated_fits : (tariff : GroupTariff) (p : Periods) (place units : ℕ) → IsTariff tariff → started 0 units tariff.block ≤ 1_000_000_000 → (rated_with (Some tariff) p 0 place (untagged units)).amount.0 < 2 ^ 64
+rated_fits : (tariff : GroupTariff) (p : Periods) (place units : ℕ) → IsTariff tariff →
+    started 0 units tariff.block ≤ 1_000_000_000 →
+    (rated_with (Some tariff) p 0 place (untagged units)).amount.0 < 2 ^ 64
 rated_fits tariff p place units is few =
-    let bound : report_amount tariff 0 place (rated_parts p (untagged units)) ≤ report_blocks tariff.block 0 (rated_parts p (untagged units)) * 1_000_000_000 = report_bound tariff 0 place (rated_parts p (untagged units)) is in
+    let bound : report_amount tariff 0 place (rated_parts p (untagged units)) ≤
+    report_blocks tariff.block 0 (rated_parts p (untagged units)) * 1_000_000_000 =
+    report_bound tariff 0 place (rated_parts p (untagged units)) is in
     omega (arith, bound, few, event_blocks tariff.block units p)
 
 -- the price of an event of no more than 10^9 blocks
-pub price_fits : (a : AccountRows) (tariff : GroupTariff) (t g units : ℕ) → Some tariff ≡ tariff_of a.book g → IsTariff tariff → started 0 units tariff.block ≤ 1_000_000_000 → (event_price_in g units t a).amount.0 < 2 ^ 64
+pub price_fits : (a : AccountRows) (tariff : GroupTariff) (t g units : ℕ) →
+    Some tariff ≡ tariff_of a.book g → IsTariff tariff →
+    started 0 units tariff.block ≤ 1_000_000_000 → (event_price_in g units t a).amount.0 < 2 ^ 64
 price_fits a tariff t g units known is few = at (tariff_of a.book g) known _ _
   where
-    at : (o : Option GroupTariff) → Some tariff ≡ o → (p : Periods) (place : ℕ) → (rated_with o p 0 place (untagged units)).amount.0 < 2 ^ 64
-    at o e p place = subst (λ x. (rated_with x p 0 place (untagged units)).amount.0 < 2 ^ 64) e (rated_fits tariff p place units is few)
+    at : (o : Option GroupTariff) → Some tariff ≡ o → (p : Periods) (place : ℕ) →
+        (rated_with o p 0 place (untagged units)).amount.0 < 2 ^ 64
+    at o e p place = subst (λ x. (rated_with x p 0 place (untagged units)).amount.0 < 2 ^ 64) e
+        (rated_fits tariff p place units is few)

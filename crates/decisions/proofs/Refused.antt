@@ -16,14 +16,19 @@ pub else_is : {A : Type 0} (x y : A) (k : Bool) → false ≡ k → y ≡ (if k 
 else_is x y k e = ap (λ b. if b then x else y) e
 
 -- what isn't refused by a test's first arm
-pub passed : {A : Type 0} (x : A) (y : Option A) (k : Bool) → (if k then Some x else y) ≡ None → k ≡ false
+pub passed : {A : Type 0} (x : A) (y : Option A) (k : Bool) → (if k then Some x else y) ≡ None →
+    k ≡ false
 passed x y true e = absurd (no_some x (sym e))
 passed x y false e = refl
 
 -- ---- the first fault of the services' units
 
-pub fault_first : (b : Book) (s : List ℕ) (ledger : Ledger) (x : Service) (xs : List Service) (avp : Avp) → Some avp ≡ wrong_units (tariff_of b x.group) (used s x.group ledger) x → Some avp ≡ units_fault b s ledger (x ∷ xs)
+pub fault_first : (b : Book) (s : List ℕ) (ledger : Ledger) (x : Service) (xs : List Service)
+    (avp : Avp) → Some avp ≡ wrong_units (tariff_of b x.group) (used s x.group ledger) x →
+    Some avp ≡ units_fault b s ledger (x ∷ xs)
 fault_first b s ledger x xs avp e = ap (λ o. or_else o (units_fault b s ledger xs)) e
 
-pub fault_later : (b : Book) (s : List ℕ) (ledger : Ledger) (x : Service) (xs : List Service) → None ≡ wrong_units (tariff_of b x.group) (used s x.group ledger) x → units_fault b s ledger (x ∷ xs) ≡ units_fault b s ledger xs
+pub fault_later : (b : Book) (s : List ℕ) (ledger : Ledger) (x : Service) (xs : List Service) →
+    None ≡ wrong_units (tariff_of b x.group) (used s x.group ledger) x →
+    units_fault b s ledger (x ∷ xs) ≡ units_fault b s ledger xs
 fault_later b s ledger x xs e = ap (λ o. or_else o (units_fault b s ledger xs)) (sym e)

@@ -1,4 +1,5 @@
--- What a caller tells of a request's Session-Id (RFC 8506 section 8.8): a loaded account has its live rows alone.
+-- What a caller tells of a request's Session-Id (RFC 8506 section 8.8): a loaded account has its
+-- live rows alone.
 -- Source: RFC 8506 sections 5.1 and 6; what is loaded: profile.
 use Rattle.std.specs.Prelude.{◌≡◌, ℕ, Bool, true, false, not, List, None}
 use Rattle.commands.specs.declared.request.Ask.{Ask}
@@ -19,8 +20,10 @@ begins_session (ask.Termination services) = false
 begins_session (ask.Event event) = not (is_read_action event.action)
 begins_session (ask.Refund refund) = true
 
--- it is known whether some request of the session was accepted; if none was, no row of its groups was left
-pub record KnowsSession (ledger : Ledger) (left : LeftRows) (s : List ℕ) (known : Bool) : Type 0 where
+-- it is known whether some request of the session was accepted; if none was, no row of its groups
+-- was left
+pub record KnowsSession (ledger : Ledger) (left : LeftRows) (s : List ℕ) (known : Bool) :
+    Type 0 where
   pub told : known ≡ has_record s ledger
   pub new : has_record s ledger ≡ false → (g : ℕ) → group_in s g left.groups ≡ None
 
@@ -34,4 +37,5 @@ Knows s known ledger left = KnowsSession ledger left s known
 
 -- an event that isn't a debit is read
 abbrev pub KnowsUnlessRead : Event → List ℕ → Bool → Ledger → LeftRows → Type 0
-KnowsUnlessRead event s known ledger left = not (is_read_action event.action) ≡ true → KnowsSession ledger left s known
+KnowsUnlessRead event s known ledger left = not (is_read_action event.action) ≡ true →
+    KnowsSession ledger left s known

@@ -1,5 +1,5 @@
--- One-time events (RFC 8506 section 6; TS 32.299, immediate event charging): direct debiting, refund of money, check of
--- the balance, and price enquiry.
+-- One-time events (RFC 8506 section 6; TS 32.299, immediate event charging): direct debiting,
+-- refund of money, check of the balance, and price enquiry.
 use Rattle.std.specs.Prelude.{ℕ, Bool, true, false, ◌==◌, ◌||◌, nat_lt, if◌then◌else◌, List, [], ◌∷◌, Option, Some, None, option_map, unwrap_or}
 use Rattle.commands.specs.declared.avp.Avp.{Avp}
 use Rattle.commands.specs.declared.avp.Avp.TheVariants.{SessionId, RequestedUnit, CurrencyCode}
@@ -31,11 +31,13 @@ use Rattle.decisions.specs.Decided.{Decision, accepted, denied, told, invalid, r
 abbrev pub event_units : GroupTariff → Requested → ℕ
 event_units tariff requested = unwrap_or (units_of requested) tariff.slice
 
--- an event that asks for other units than the group's, or for units that start more than 10^9 blocks
+-- an event that asks for other units than the group's, or for units that start more than 10^9
+-- blocks
 abbrev pub wrong_event : Option GroupTariff → Requested → Option Avp
 wrong_event None requested = None
 wrong_event (Some tariff) requested =
-    if asks_other tariff.unit (Some requested) || nat_lt 1000000000 (started 0 (event_units tariff requested) tariff.block) then Some RequestedUnit else None
+    if asks_other tariff.unit (Some requested) || nat_lt 1000000000
+    (started 0 (event_units tariff requested) tariff.block) then Some RequestedUnit else None
 
 abbrev pub event_fault : Book → Event → Option Avp
 event_fault b e = wrong_event (tariff_of b e.group) e.requested
@@ -44,30 +46,40 @@ event_fault b e = wrong_event (tariff_of b e.group) e.requested
 
 -- a Session-Id names one event for good
 abbrev pub debit_refusal : Book → List ℕ → Event → Ledger → Option Failure
-debit_refusal b s e ledger = if has_record s ledger then Some (invalid SessionId) else option_map invalid (event_fault b e)
+debit_refusal b s e ledger = if has_record s ledger then Some (invalid SessionId)
+    else option_map invalid (event_fault b e)
 
 -- its units are charged at once
 abbrev pub charged : Book → GroupTariff → ℕ → List ℕ → ℕ → ℕ → ℕ → Ledger → Decision
 charged b tariff t s n g units ledger =
     if debit_passes b t s g units ledger
     then told (Failed UnableToComply) ledger
-    else accepted (Services (record { group = g; outcome = service.Debited (record { kind = tariff.unit; units = units }) } ∷ [])) (recorded t s n (debited b t s g units ledger))
+    else accepted (Services (record {
+      group = g;
+      outcome = service.Debited (record { kind = tariff.unit; units = units });
+    } ∷ []))
+    (recorded t s n (debited b t s g units ledger))
 
 -- where the eligible buckets have their price
 abbrev pub charged_if_covered : Book → GroupTariff → ℕ → List ℕ → ℕ → ℕ → ℕ → Ledger → Decision
 charged_if_covered b tariff t s n g units ledger =
-    if is_covered b t g units ledger then charged b tariff t s n g units ledger else denied t s n CreditLimitReached ledger
+    if is_covered b t g units ledger then charged b tariff t s n g units ledger
+    else denied t s n CreditLimitReached ledger
 
 abbrev pub charged_by : Option GroupTariff → Book → ℕ → List ℕ → ℕ → Event → Ledger → Decision
 charged_by None b t s n e ledger = denied t s n RatingFailed ledger
-charged_by (Some tariff) b t s n e ledger = charged_if_covered b tariff t s n e.group (event_units tariff e.requested) ledger
+charged_by (Some tariff) b t s n e ledger =
+    charged_if_covered b tariff t s n e.group (event_units tariff e.requested) ledger
 
 -- a barred account is charged nothing
 abbrev pub charged_unless_barred : Book → ℕ → List ℕ → ℕ → Event → Ledger → Decision
-charged_unless_barred b t s n e ledger = if is_barred ledger then denied t s n EndUserServiceDenied ledger else charged_by (tariff_of b e.group) b t s n e ledger
+charged_unless_barred b t s n e ledger =
+    if is_barred ledger then denied t s n EndUserServiceDenied ledger
+    else charged_by (tariff_of b e.group) b t s n e ledger
 
 abbrev pub debit_decision : Book → ℕ → List ℕ → ℕ → Event → Ledger → Decision
-debit_decision b t s n e ledger = refused_or (debit_refusal b s e ledger) ledger (charged_unless_barred b t s n e ledger)
+debit_decision b t s n e ledger =
+    refused_or (debit_refusal b s e ledger) ledger (charged_unless_barred b t s n e ledger)
 
 -- ---- reads
 
@@ -76,20 +88,29 @@ balance_of covered = if covered then EnoughCredit else NoCredit
 
 abbrev pub checked_by : Option GroupTariff → Book → ℕ → Event → Ledger → Outcome
 checked_by None b t e ledger = Failed (Denied RatingFailed)
-checked_by (Some tariff) b t e ledger = Checked (balance_of (is_covered b t e.group (event_units tariff e.requested) ledger))
+checked_by (Some tariff) b t e ledger =
+    Checked (balance_of (is_covered b t e.group (event_units tariff e.requested) ledger))
 
 abbrev pub priced_by : Option GroupTariff → Book → ℕ → Event → Ledger → Outcome
 priced_by None b t e ledger = Failed (Denied RatingFailed)
-priced_by (Some tariff) b t e ledger = Priced (record { micros = (event_price b t e.group (event_units tariff e.requested) ledger).amount.0; currency = b.currency })
+priced_by (Some tariff) b t e ledger =
+    Priced (record {
+      micros = (event_price b t e.group (event_units tariff e.requested) ledger).amount.0;
+      currency = b.currency;
+    })
 
 abbrev pub read_refusal : Book → Event → Option Failure
 read_refusal b e = option_map invalid (event_fault b e)
 
 abbrev pub check_decision : Book → ℕ → Event → Ledger → Decision
-check_decision b t e ledger = refused_or (read_refusal b e) ledger (told (checked_by (tariff_of b e.group) b t e ledger) ledger)
+check_decision b t e ledger =
+    refused_or (read_refusal b e) ledger
+    (told (checked_by (tariff_of b e.group) b t e ledger) ledger)
 
 abbrev pub enquiry_decision : Book → ℕ → Event → Ledger → Decision
-enquiry_decision b t e ledger = refused_or (read_refusal b e) ledger (told (priced_by (tariff_of b e.group) b t e ledger) ledger)
+enquiry_decision b t e ledger =
+    refused_or (read_refusal b e) ledger
+    (told (priced_by (tariff_of b e.group) b t e ledger) ledger)
 
 -- ---- an event
 
@@ -111,7 +132,8 @@ event_decision b t s n e ledger = decided_action e.action b t s n e ledger
 -- it is in the book's currency
 abbrev pub refund_refusal : Book → List ℕ → Refund → Ledger → Option Failure
 refund_refusal b s r ledger =
-    if has_record s ledger then Some (invalid SessionId) else (if r.currency == b.currency then None else Some (invalid CurrencyCode))
+    if has_record s ledger then Some (invalid SessionId)
+    else (if r.currency == b.currency then None else Some (invalid CurrencyCode))
 
 -- the money is a bucket from the moment on, without an end, for all groups
 abbrev pub refunded : ℕ → List ℕ → ℕ → Refund → Ledger → Decision
@@ -121,4 +143,5 @@ refunded t s n r ledger =
     else accepted Refunded (recorded t s n (credited t t 4102444800 None r.micros ledger))
 
 abbrev pub refund_decision : Book → ℕ → List ℕ → ℕ → Refund → Ledger → Decision
-refund_decision b t s n r ledger = refused_or (refund_refusal b s r ledger) ledger (refunded t s n r ledger)
+refund_decision b t s n r ledger =
+    refused_or (refund_refusal b s r ledger) ledger (refunded t s n r ledger)

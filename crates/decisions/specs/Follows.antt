@@ -1,4 +1,5 @@
--- What a call on an account comes to, for each ledger whose rows the account's are together with those left.
+-- What a call on an account comes to, for each ledger whose rows the account's are together with
+-- those left.
 -- Source: profile.
 use Rattle.std.specs.Prelude.{◌≡◌, ℕ, Bool, true, false, if◌then◌else◌, List, [], ◌∷◌, ◌++◌, Option, Some, None}
 use Rattle.commands.specs.declared.service.Service.{Service}
@@ -32,17 +33,21 @@ IsNew s ledger left = NotLeft s left
 
 -- ---- rulings
 
--- a ruling is the decision's: the account is with the ledger after it beside the same rows left, and its charges are the
--- charge rows that this ledger has more
-pub record Agrees (outcome : Outcome) (accepted : Bool) (charges : List ChargeRow) (decision : Decision) (ledger : Ledger) (left : LeftRows) (t : ℕ) (new : AccountRows) : Type 0 where
+-- a ruling is the decision's: the account is with the ledger after it beside the same rows left,
+-- and its charges are the charge rows that this ledger has more
+pub record Agrees (outcome : Outcome) (accepted : Bool) (charges : List ChargeRow)
+    (decision : Decision) (ledger : Ledger) (left : LeftRows) (t : ℕ) (new : AccountRows) :
+    Type 0 where
   pub same : outcome ≡ decision.outcome
   pub acceptance : accepted ≡ decision.accepted
   pub rows : IsWith decision.after left t new
   pub written : charge_rows decision.after ≡ charge_rows ledger ++ charges
 
-abbrev pub Follows : (Ledger → LeftRows → Type 0) → (Ledger → Decision) → ℕ → AccountRows → AccountRows → Outcome → Bool → List ChargeRow → Type 0
+abbrev pub Follows : (Ledger → LeftRows → Type 0) → (Ledger → Decision) → ℕ → AccountRows →
+    AccountRows → Outcome → Bool → List ChargeRow → Type 0
 Follows asked decision t old new outcome accepted charges =
-    (ledger : Ledger) (left : LeftRows) → asked ledger left → IsWith ledger left t old → Agrees outcome accepted charges (decision ledger) ledger left t new
+    (ledger : Ledger) (left : LeftRows) → asked ledger left → IsWith ledger left t old →
+    Agrees outcome accepted charges (decision ledger) ledger left t new
 
 -- what is accepted leaves the account at the moment; what isn't changes nothing and charges nothing
 pub record StandsAt (t : ℕ) (old new : AccountRows) (r : Ruling) : Type 0 where
@@ -51,37 +56,44 @@ pub record StandsAt (t : ℕ) (old new : AccountRows) (r : Ruling) : Type 0 wher
   pub unwritten : r.accepted ≡ false → r.charges.items ≡ []
 
 -- a ruling on an account at a moment
-pub record IsRuledBy (asked : Ledger → LeftRows → Type 0) (decision : Ledger → Decision) (t : ℕ) (old new : AccountRows) (r : Ruling) : Type 0 where
+pub record IsRuledBy (asked : Ledger → LeftRows → Type 0) (decision : Ledger →
+    Decision) (t : ℕ) (old new : AccountRows) (r : Ruling) : Type 0 where
   pub follows : Follows asked decision t old new r.outcome r.accepted r.charges.items
   pub stands : StandsAt t old new r
 
 -- ---- settlements
 
 -- a report passes no limit, and its settlement leaves the ledger with this charge more
-pub record IsReported (row : ChargeRow) (b : Book) (t : ℕ) (s : List ℕ) (g : ℕ) (parts : List UsedPart) (ledger : Ledger) (left : LeftRows) (new : AccountRows) : Type 0 where
+pub record IsReported (row : ChargeRow) (b : Book) (t : ℕ) (s : List ℕ) (g : ℕ)
+    (parts : List UsedPart) (ledger : Ledger) (left : LeftRows) (new : AccountRows) : Type 0 where
   pub within : passes_limit b t s g parts ledger ≡ false
   pub rows : IsWith (settled_by b t s g parts ledger) left t new
   pub written : charge_rows (settled_by b t s g parts ledger) ≡ charge_rows ledger ++ row ∷ []
 
 abbrev pub Reports : ChargeRow → AccountRows → AccountRows → ℕ → List ℕ → ℕ → List UsedPart → Type 0
-Reports row old new t s g parts = (ledger : Ledger) (left : LeftRows) → IsWith ledger left t old → IsReported row old.book t s g parts ledger left new
+Reports row old new t s g parts = (ledger : Ledger) (left : LeftRows) → IsWith ledger left t old →
+    IsReported row old.book t s g parts ledger left new
 
 -- no settlement of the services passes a limit, and they leave the ledger with these charges more
-pub record AreSettled (charges : List ChargeRow) (b : Book) (t : ℕ) (s : List ℕ) (services : List Service) (ledger : Ledger) (left : LeftRows) (new : AccountRows) : Type 0 where
+pub record AreSettled (charges : List ChargeRow) (b : Book) (t : ℕ) (s : List ℕ)
+    (services : List Service) (ledger : Ledger) (left : LeftRows) (new : AccountRows) : Type 0 where
   pub within : any_passes b t s services ledger ≡ false
   pub rows : IsWith (settled_services b t s services ledger) left t new
   pub written : charge_rows (settled_services b t s services ledger) ≡ charge_rows ledger ++ charges
 
 abbrev pub Settles : List ChargeRow → AccountRows → AccountRows → ℕ → List ℕ → List Service → Type 0
-Settles charges old new t s services = (ledger : Ledger) (left : LeftRows) → IsWith ledger left t old → AreSettled charges old.book t s services ledger left new
+Settles charges old new t s services = (ledger : Ledger) (left : LeftRows) →
+    IsWith ledger left t old → AreSettled charges old.book t s services ledger left new
 
 -- some settlement of the services passes a limit
 abbrev pub Passes : AccountRows → ℕ → List ℕ → List Service → Type 0
-Passes old t s services = (ledger : Ledger) (left : LeftRows) → IsWith ledger left t old → any_passes old.book t s services ledger ≡ true
+Passes old t s services = (ledger : Ledger) (left : LeftRows) → IsWith ledger left t old →
+    any_passes old.book t s services ledger ≡ true
 
 -- why a session's request is refused; None: its services can be settled
 abbrev pub IsRefusal : Option Failure → AccountRows → ℕ → List ℕ → ℕ → List Service → Type 0
-IsRefusal refusal old t s n services = (ledger : Ledger) (left : LeftRows) → IsWith ledger left t old → session_refusal old.book t s n services ledger ≡ refusal
+IsRefusal refusal old t s n services = (ledger : Ledger) (left : LeftRows) →
+    IsWith ledger left t old → session_refusal old.book t s n services ledger ≡ refusal
 
 -- the charge of one service, where it reported use
 abbrev pub charges_of : Option ChargeRow → List ChargeRow
@@ -91,11 +103,13 @@ charges_of (Some row) = row ∷ []
 -- ---- grants
 
 -- the same of all grants of a request
-pub record GrantsAll (answers : List ServiceAnswer) (b : Book) (t : ℕ) (s : List ℕ) (services : List Service) (ledger : Ledger) (left : LeftRows) (new : AccountRows) : Type 0 where
+pub record GrantsAll (answers : List ServiceAnswer) (b : Book) (t : ℕ) (s : List ℕ)
+    (services : List Service) (ledger : Ledger) (left : LeftRows) (new : AccountRows) : Type 0 where
   pub same : answers ≡ grant_answers b t s services ledger
   pub rows : IsWith (after_grants b t s services ledger) left t new
 
 -- the same of a service's grant
-pub record Grants (outcome : ServiceOutcome) (answered : Answered) (left : LeftRows) (t : ℕ) (new : AccountRows) : Type 0 where
+pub record Grants (outcome : ServiceOutcome) (answered : Answered) (left : LeftRows) (t : ℕ)
+    (new : AccountRows) : Type 0 where
   pub same : outcome ≡ answered.outcome
   pub rows : IsWith answered.after left t new

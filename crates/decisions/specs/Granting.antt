@@ -1,5 +1,5 @@
--- The grants of a request, service by service (RFC 8506 sections 5.2 and 5.3; TS 32.299, session charging with unit
--- reservation).
+-- The grants of a request, service by service (RFC 8506 sections 5.2 and 5.3; TS 32.299, session
+-- charging with unit reservation).
 use Rattle.std.specs.Prelude.{ℕ, Bool, nat_lt, if◌then◌else◌, List, [], ◌∷◌, Option, Some, None}
 use Rattle.std.specs.List.{list_any}
 use Rattle.commands.specs.declared.service.Service.{Service}
@@ -32,7 +32,8 @@ abbrev pub last_unit : FinalAction → FinalUnit
 last_unit action.Terminate = final.Terminate
 last_unit (action.Redirect address) = final.Redirect address
 
--- Final-Unit-Indication (RFC 8506 section 8.34) stands exactly where fewer units are granted than wanted
+-- Final-Unit-Indication (RFC 8506 section 8.34) stands exactly where fewer units are granted than
+-- wanted
 abbrev pub final_unit : GroupTariff → Bool → Option FinalUnit
 final_unit tariff fewer = if fewer then Some (last_unit tariff.final_action) else None
 
@@ -48,22 +49,31 @@ grant_answer b tariff t units asked = service.Granted (record {
 abbrev pub granted_with : Book → GroupTariff → ℕ → List ℕ → ℕ → Option ℕ → Grant → Ledger → Answered
 granted_with b tariff t s g asked grant ledger =
     if nat_lt 0 grant.units.0
-    then record { outcome = grant_answer b tariff t grant.units.0 asked; after = reserved b t s g grant.units.0 grant.amount.0 ledger }
+    then record {
+      outcome = grant_answer b tariff t grant.units.0 asked;
+      after = reserved b t s g grant.units.0 grant.amount.0 ledger;
+    }
     else record { outcome = service.Failed CreditLimitReached; after = ledger }
 
 -- the same, as far as the funds cover it
 abbrev pub granted_units : Book → GroupTariff → ℕ → List ℕ → ℕ → Option ℕ → Ledger → Answered
-granted_units b tariff t s g asked ledger = granted_with b tariff t s g asked (grant_for b t g (used s g ledger) asked ledger) ledger
+granted_units b tariff t s g asked ledger =
+    granted_with b tariff t s g asked (grant_for b t g (used s g ledger) asked ledger) ledger
 
 -- a barred account is granted nothing: 4010
-abbrev pub granted_unless_barred : Book → GroupTariff → ℕ → List ℕ → ℕ → Option ℕ → Ledger → Answered
+abbrev pub granted_unless_barred : Book → GroupTariff → ℕ → List ℕ → ℕ → Option ℕ → Ledger →
+    Answered
 granted_unless_barred b tariff t s g asked ledger =
-    if is_barred ledger then record { outcome = service.Failed EndUserServiceDenied; after = ledger } else granted_units b tariff t s g asked ledger
+    if is_barred ledger then record {
+      outcome = service.Failed EndUserServiceDenied;
+      after = ledger;
+    } else granted_units b tariff t s g asked ledger
 
 -- a service that asks for nothing is granted nothing, and that is 2001
 abbrev pub granted_if : Book → GroupTariff → ℕ → List ℕ → ℕ → Option Requested → Ledger → Answered
 granted_if b tariff t s g None ledger = record { outcome = service.Settled; after = ledger }
-granted_if b tariff t s g (Some requested) ledger = granted_unless_barred b tariff t s g (units_of requested) ledger
+granted_if b tariff t s g (Some requested) ledger =
+    granted_unless_barred b tariff t s g (units_of requested) ledger
 
 -- a rating group without a tariff is 5031
 abbrev pub granted_by : Option GroupTariff → Book → ℕ → List ℕ → Service → Ledger → Answered
@@ -77,7 +87,9 @@ granted b t s x ledger = granted_by (tariff_of b x.group) b t s x ledger
 -- the grants of all services, one after the other
 abbrev pub grant_answers : Book → ℕ → List ℕ → List Service → Ledger → List ServiceAnswer
 grant_answers b t s [] ledger = []
-grant_answers b t s (x ∷ xs) ledger = record { group = x.group; outcome = (granted b t s x ledger).outcome } ∷ grant_answers b t s xs (granted b t s x ledger).after
+grant_answers b t s (x ∷ xs) ledger =
+    record { group = x.group; outcome = (granted b t s x ledger).outcome }
+    ∷ grant_answers b t s xs (granted b t s x ledger).after
 
 abbrev pub after_grants : Book → ℕ → List ℕ → List Service → Ledger → Ledger
 after_grants b t s [] ledger = ledger
@@ -87,7 +99,8 @@ after_grants b t s (x ∷ xs) ledger = after_grants b t s xs (granted b t s x le
 
 -- the service of a new session, which asks for units, would be granted one
 abbrev pub grants_new : Book → ℕ → Ledger → Service → Bool
-grants_new b t ledger x = nat_lt 0 (grant_for b t x.group 0 (asked_units x.requested) ledger).units.0
+grants_new b t ledger x =
+    nat_lt 0 (grant_for b t x.group 0 (asked_units x.requested) ledger).units.0
 
 -- until one is granted the funds stay the same, so that each can be asked for by itself
 abbrev pub any_grants : Book → ℕ → Ledger → List Service → Bool

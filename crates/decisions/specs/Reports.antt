@@ -19,7 +19,8 @@ use Rattle.reserving.specs.Settlement.{reported}
 abbrev pub is_kind : UnitKind → UnitKind → Bool
 is_kind = kinds.eq
 
--- the units that are asked for; None: an empty Requested-Service-Unit, which asks for the group's slice
+-- the units that are asked for; None: an empty Requested-Service-Unit, which asks for the group's
+-- slice
 abbrev pub units_of : Requested → Option ℕ
 units_of Slice = None
 units_of (Units q) = Some q.units
@@ -43,15 +44,21 @@ asks_other kind (Some (Units q)) = not (is_kind q.kind kind)
 -- a use in other units than the group's, or one that starts more than 10^9 blocks
 abbrev pub reports_other : GroupTariff → ℕ → Option Used → Bool
 reports_other tariff before None = false
-reports_other tariff before (Some u) = not (is_kind u.kind tariff.unit) || nat_lt 1000000000 (started before (reported (u.parts)) tariff.block)
+reports_other tariff before (Some u) =
+    not (is_kind u.kind tariff.unit) || nat_lt 1000000000
+    (started before (reported (u.parts)) tariff.block)
 
--- what is wrong with the units of a service by its group's tariff, what it asks for first; nothing where the group has none
+-- what is wrong with the units of a service by its group's tariff, what it asks for first; nothing
+-- where the group has none
 abbrev pub wrong_units : Option GroupTariff → ℕ → Service → Option Avp
 wrong_units None before x = None
 wrong_units (Some tariff) before x =
-    if asks_other tariff.unit x.requested then Some RequestedUnit else (if reports_other tariff before x.used then Some UsedUnit else None)
+    if asks_other tariff.unit x.requested then Some RequestedUnit
+    else (if reports_other tariff before x.used then Some UsedUnit else None)
 
 -- the first fault of the services' units, in their order
 abbrev pub units_fault : Book → List ℕ → Ledger → List Service → Option Avp
 units_fault b s ledger [] = None
-units_fault b s ledger (x ∷ xs) = or_else (wrong_units (tariff_of b x.group) (used s x.group ledger) x) (units_fault b s ledger xs)
+units_fault b s ledger (x ∷ xs) =
+    or_else (wrong_units (tariff_of b x.group) (used s x.group ledger) x)
+    (units_fault b s ledger xs)

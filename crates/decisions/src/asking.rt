@@ -5,8 +5,8 @@ ghost use Rattle.decisions.specs.Asked.{begins_session};
 
 use commands::{Ask, EventAction};
 
-/// Whether a request begins a session, so that its Session-Id has to be new: an initial request, a debit or a refund
-/// (RFC 8506 sections 5.1 and 6).
+/// Whether a request begins a session, so that its Session-Id has to be new: an initial request, a
+/// debit or a refund (RFC 8506 sections 5.1 and 6).
 pub fn begins_session(ask: &Ask) -> bool
     ensures { result ≡ begins_session ask.now }
 {

@@ -46,7 +46,8 @@ fn initial(
     requires apart { groups_differ services.now ≡ true }
     requires later { account.old.as_of ≤ moment }
     ensures ruled { IfOk result (IsRuledBy (Knows request.now.session known)
-        (initial_decision account.old.book moment request.now.session request.now.number services.now)
+        (initial_decision account.old.book moment request.now.session request.now.number
+        services.now)
         moment account.old account.new) }
     ensures tariff { account.new.book ≡ account.old.book }
 {
@@ -56,7 +57,8 @@ fn initial(
     open_unless_barred(alloc, account, request, services, moment)
 }
 
-/// Settles the services of a session's update or termination, and answers their charges; or why it is refused.
+/// Settles the services of a session's update or termination, and answers their charges; or why it
+/// is refused.
 fn settle_or_refuse(
     alloc: Global,
     account: &mut Account,
@@ -66,12 +68,23 @@ fn settle_or_refuse(
 ) -> Result<Result<Vec<ChargeRow>, Failure>, AllocError>
     requires apart { groups_differ services.now ≡ true }
     requires later { account.old.as_of ≤ moment }
-    ensures unrefused { IfOk result (λ r. IfOk r (λ charges. IsRefusal None account.old moment request.now.session request.now.number services.now)) }
-    ensures settles { IfOk result (λ r. IfOk r (λ charges. Settles charges.items account.old account.new moment request.now.session services.now)) }
-    ensures refused { IfOk result (λ r. IfErr r (λ failure. IsRefusal (Some failure) account.old moment request.now.session request.now.number services.now)) }
+    ensures unrefused { IfOk result
+        (λ r. IfOk r (λ charges. IsRefusal None account.old moment request.now.session
+        request.now.number services.now)) }
+    ensures settles { IfOk result
+        (λ r. IfOk r (λ charges. Settles charges.items account.old account.new moment
+        request.now.session services.now)) }
+    ensures refused { IfOk result
+        (λ r. IfErr r (λ failure.
+        IsRefusal (Some failure) account.old moment request.now.session request.now.number
+        services.now)) }
     ensures same { IfOk result (λ r. IfErr r (λ failure. account.new ≡ account.old)) }
-    ensures live { IfOk result (λ r. OnOk r (is_live_in account.new.book.validity moment account.new.sessions request.now.session ≡ true)) }
-    ensures free { IfOk result (λ r. OnOk r (AreFree account.old.book request.now.session services.now account.new.groups)) }
+    ensures live { IfOk result
+        (λ r. OnOk r (is_live_in account.new.book.validity moment account.new.sessions
+        request.now.session ≡ true)) }
+    ensures free { IfOk result
+        (λ r. OnOk r (AreFree account.old.book request.now.session services.now
+        account.new.groups)) }
     ensures later { account.new.as_of ≤ moment }
     ensures tariff { account.new.book ≡ account.old.book }
 {
@@ -101,7 +114,8 @@ fn update(
     requires apart { groups_differ services.now ≡ true }
     requires later { account.old.as_of ≤ moment }
     ensures ruled { IfOk result (IsRuledBy Always
-        (update_decision account.old.book moment request.now.session request.now.number services.now)
+        (update_decision account.old.book moment request.now.session request.now.number
+        services.now)
         moment account.old account.new) }
     ensures tariff { account.new.book ≡ account.old.book }
 {
@@ -123,7 +137,8 @@ fn terminate(
     requires apart { groups_differ services.now ≡ true }
     requires later { account.old.as_of ≤ moment }
     ensures ruled { IfOk result (IsRuledBy Always
-        (termination_decision account.old.book moment request.now.session request.now.number services.now)
+        (termination_decision account.old.book moment request.now.session request.now.number
+        services.now)
         moment account.old account.new) }
     ensures tariff { account.new.book ≡ account.old.book }
 {
@@ -211,11 +226,13 @@ fn answer_to(request: &Request, session: SessionId, outcome: Outcome) -> Request
     }
 }
 
-/// Decides a request on an account in the order of decisions, and answers it (RFC 8506 sections 5.1, 6 and 9).
+/// Decides a request on an account in the order of decisions, and answers it (RFC 8506 sections
+/// 5.1, 6 and 9).
 ///
-/// The account has its live rows alone: `known` tells whether some request of the Session-Id was accepted before. It
-/// is asked only where the request begins a session, `begins_session`. The request's number has no kept answer in its
-/// session: the caller looks for those before. A refused request changes nothing, nor does a check or an enquiry.
+/// The account has its live rows alone: `known` tells whether some request of the Session-Id was
+/// accepted before. It is asked only where the request begins a session, `begins_session`. The
+/// request's number has no kept answer in its session: the caller looks for those before. A refused
+/// request changes nothing, nor does a check or an enquiry.
 ///
 /// # Errors
 /// Want of memory. Then the account is to be given up: it may be changed in part.
@@ -227,19 +244,27 @@ pub fn decide(
     moment: Moment,
 ) -> Result<Decided, AllocError>
     requires later { account.old.as_of ≤ moment }
-    ensures answer { IfOk result (λ d. (ledger : Ledger) (left : LeftRows) → IsWith ledger left moment account.old →
+    ensures answer { IfOk result (λ d. (ledger : Ledger) (left : LeftRows) →
+        IsWith ledger left moment account.old →
         IsAsked ledger left request.now known →
-        d.answer ≡ answer_of request.now (decision account.old.book moment request.now ledger).outcome) }
-    ensures accepted { IfOk result (λ d. (ledger : Ledger) (left : LeftRows) → IsWith ledger left moment account.old →
+        d.answer ≡ answer_of request.now
+        (decision account.old.book moment request.now ledger).outcome) }
+    ensures accepted { IfOk result (λ d. (ledger : Ledger) (left : LeftRows) →
+        IsWith ledger left moment account.old →
         IsAsked ledger left request.now known →
         d.accepted ≡ (decision account.old.book moment request.now ledger).accepted) }
-    ensures rows { IfOk result (λ d. (ledger : Ledger) (left : LeftRows) → IsWith ledger left moment account.old →
+    ensures rows { IfOk result (λ d. (ledger : Ledger) (left : LeftRows) →
+        IsWith ledger left moment account.old →
         IsAsked ledger left request.now known →
-        IsWith (decision account.old.book moment request.now ledger).after left moment account.new) }
-    ensures charges { IfOk result (λ d. (ledger : Ledger) (left : LeftRows) → IsWith ledger left moment account.old →
+        IsWith (decision account.old.book moment request.now ledger).after left moment
+        account.new) }
+    ensures charges { IfOk result (λ d. (ledger : Ledger) (left : LeftRows) →
+        IsWith ledger left moment account.old →
         IsAsked ledger left request.now known →
-        charge_rows (decision account.old.book moment request.now ledger).after ≡ charge_rows ledger ++ d.charges.items) }
-    ensures moment { IfOk result (λ d. account.new.as_of ≡ if d.accepted then moment else account.old.as_of) }
+        charge_rows (decision account.old.book moment request.now ledger).after ≡
+        charge_rows ledger ++ d.charges.items) }
+    ensures moment { IfOk result (λ d. account.new.as_of ≡
+        if d.accepted then moment else account.old.as_of) }
     ensures tariff { account.new.book ≡ account.old.book }
     ensures same { IfOk result (λ d. d.accepted ≡ false → account.new ≡ account.old) }
     ensures unwritten { IfOk result (λ d. d.accepted ≡ false → d.charges.items ≡ []) }
@@ -253,8 +278,8 @@ pub fn decide(
     })
 }
 
-/// Answers a check of the balance or a price enquiry (RFC 8506 sections 6.1 and 6.2), which changes nothing and is kept
-/// nowhere. None: the request is none of these, and is to be decided.
+/// Answers a check of the balance or a price enquiry (RFC 8506 sections 6.1 and 6.2), which changes
+/// nothing and is kept nowhere. None: the request is none of these, and is to be decided.
 ///
 /// # Errors
 /// Want of memory.
@@ -264,8 +289,10 @@ pub fn read(
     moment: Moment,
 ) -> Result<Option<RequestAnswer>, AllocError>
     requires later { account.now.as_of ≤ moment }
-    ensures answer { IfOk result (λ r. IfSome r (λ answer. (ledger : Ledger) (left : LeftRows) → IsWith ledger left moment account.now →
-        answer ≡ answer_of request.now (decision account.now.book moment request.now ledger).outcome)) }
+    ensures answer { IfOk result (λ r. IfSome r (λ answer. (ledger : Ledger) (left : LeftRows) →
+        IsWith ledger left moment account.now →
+        answer ≡ answer_of request.now
+        (decision account.now.book moment request.now ledger).outcome)) }
     ensures read { IfOk result (λ r. is_some r ≡ is_read request.now.ask) }
 {
     let Ask::Event(event) = &request.ask else {

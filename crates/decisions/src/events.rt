@@ -30,21 +30,20 @@ fn charged(
     quantity: Quantity,
     row: ChargeRow,
 ) -> Result<Ruling, AllocError>
-    ensures outcome { IfOk result (λ r. r.outcome ≡ Outcome.Services (record { group = group; outcome = service.Debited quantity } ∷ [])) }
+    ensures outcome { IfOk result (λ r. r.outcome ≡
+        Outcome.Services (record { group = group; outcome = service.Debited quantity } ∷ [])) }
     ensures accepted { IfOk result (λ r. r.accepted ≡ true) }
     ensures charges { IfOk result (λ r. r.charges.items ≡ row ∷ []) }
 {
     let outcome = ServiceOutcome::Debited(quantity);
-    let mut answers = Vec::new(alloc);
-    answers.push(ServiceAnswer { group, outcome })?;
-    let mut charges = Vec::new(alloc);
-    charges.push(row)?;
+    let answers = vec![in alloc; ServiceAnswer { group, outcome }]?;
+    let charges = vec![in alloc; row]?;
     let services = Outcome::Services(ServiceAnswers::new(answers));
     Ok(Ruling::accepted(services, charges))
 }
 
-/// Charges the units of an event of a group with this tariff, where the account covers their price; else the event is
-/// denied.
+/// Charges the units of an event of a group with this tariff, where the account covers their price;
+/// else the event is denied.
 fn charge(
     alloc: Global,
     account: &mut Account,
@@ -57,7 +56,8 @@ fn charge(
     requires new { session_in request.now.session account.old.sessions ≡ None }
     requires kind { asks_other tariff.now.unit (Some event.now.requested) ≡ false }
     ensures ruled { IfOk result (IsRuledBy (IsNew request.now.session)
-        (charged_if_covered account.old.book tariff.now moment request.now.session request.now.number event.now.group
+        (charged_if_covered account.old.book tariff.now moment request.now.session
+        request.now.number event.now.group
         (event_units tariff.now event.now.requested))
         moment account.old account.new) }
     ensures tariff { account.new.book ≡ account.old.book }
@@ -86,7 +86,8 @@ fn charge(
     charged(alloc, event.group, quantity, row)
 }
 
-/// Charges an event's units unless the account is barred, the rating group unknown, or its money too little.
+/// Charges an event's units unless the account is barred, the rating group unknown, or its money
+/// too little.
 fn charge_unless_denied(
     alloc: Global,
     account: &mut Account,
@@ -98,7 +99,8 @@ fn charge_unless_denied(
     requires new { session_in request.now.session account.old.sessions ≡ None }
     requires units { event_fault account.old.book event.now ≡ None }
     ensures ruled { IfOk result (IsRuledBy (IsNew request.now.session)
-        (charged_unless_barred account.old.book moment request.now.session request.now.number event.now)
+        (charged_unless_barred account.old.book moment request.now.session request.now.number
+        event.now)
         moment account.old account.new) }
     ensures tariff { account.new.book ≡ account.old.book }
 {
@@ -113,7 +115,8 @@ fn charge_unless_denied(
     charge(alloc, account, request, tariff, event, moment)
 }
 
-/// Decides a debit: an event's units are charged at once (RFC 8506 section 6.3; TS 32.299, immediate event charging).
+/// Decides a debit: an event's units are charged at once (RFC 8506 section 6.3; TS 32.299,
+/// immediate event charging).
 pub(crate) fn debit(
     alloc: Global,
     account: &mut Account,

@@ -49,7 +49,8 @@ fn first_denial(book: &TariffBook, services: &[Service]) -> ServiceFailure
 /// Whether the service of a new session would be granted a unit.
 fn grants_new(account: &Account, service: &Service, moment: Moment) -> bool
     requires { account.now.as_of ≤ moment }
-    ensures { (ledger : Ledger) (left : LeftRows) → IsWith ledger left moment account.now → result ≡ grants_new account.now.book moment ledger service.now }
+    ensures { (ledger : Ledger) (left : LeftRows) → IsWith ledger left moment account.now →
+        result ≡ grants_new account.now.book moment ledger service.now }
 {
     let requested = asked_units(&service.requested);
     account.would_grant(service.group, requested, moment)
@@ -58,7 +59,8 @@ fn grants_new(account: &Account, service: &Service, moment: Moment) -> bool
 /// Whether some service of a new session would be granted a unit.
 fn any_grants(account: &Account, services: &[Service], moment: Moment) -> bool
     requires { account.now.as_of ≤ moment }
-    ensures { (ledger : Ledger) (left : LeftRows) → IsWith ledger left moment account.now → result ≡ any_grants account.now.book moment ledger services.now }
+    ensures { (ledger : Ledger) (left : LeftRows) → IsWith ledger left moment account.now →
+        result ≡ any_grants account.now.book moment ledger services.now }
 {
     for service in services {
         if grants_new(account, service, moment) {
@@ -68,7 +70,8 @@ fn any_grants(account: &Account, services: &[Service], moment: Moment) -> bool
     false
 }
 
-/// Grants units of a group with this tariff, as far as the account covers them; the session is live.
+/// Grants units of a group with this tariff, as far as the account covers them; the session is
+/// live.
 fn grant_units(
     account: &mut Account,
     session: &SessionId,
@@ -79,13 +82,18 @@ fn grant_units(
 ) -> Result<ServiceOutcome, AllocError>
     requires known { Some tariff.now ≡ tariff_of account.old.book group }
     requires later { account.old.as_of ≡ moment }
-    requires live { is_live_in account.old.book.validity moment account.old.sessions session.now ≡ true }
+    requires live { is_live_in account.old.book.validity moment account.old.sessions session.now ≡
+        true }
     requires free { reservation_in session.now group account.old.groups ≡ None }
-    ensures grants { IfOk result (λ outcome. (ledger : Ledger) (left : LeftRows) → IsWith ledger left moment account.old →
-        Grants outcome (granted_units account.old.book tariff.now moment session.now group (option_map (λ u. u.0) requested) ledger) left moment account.new) }
+    ensures grants { IfOk result (λ outcome. (ledger : Ledger) (left : LeftRows) →
+        IsWith ledger left moment account.old →
+        Grants outcome (granted_units account.old.book tariff.now moment session.now group
+        (option_map (λ u. u.0) requested) ledger) left moment account.new) }
     ensures moment { OnOk result (account.new.as_of ≡ moment) }
-    ensures live { OnOk result (is_live_in account.new.book.validity moment account.new.sessions session.now ≡ true) }
-    ensures others { OnOk result (OthersKept session.now group account.old.groups account.new.groups) }
+    ensures live { OnOk result
+        (is_live_in account.new.book.validity moment account.new.sessions session.now ≡ true) }
+    ensures others { OnOk result
+        (OthersKept session.now group account.old.groups account.new.groups) }
     ensures tariff { account.new.book ≡ account.old.book }
 {
     match account.reserve(session, group, requested, moment) {
@@ -102,8 +110,8 @@ fn grant_units(
     }
 }
 
-/// Grants a service of a live session what it asks for; a rating group without a tariff is 5031, and a barred account is
-/// granted nothing, 4010.
+/// Grants a service of a live session what it asks for; a rating group without a tariff is 5031,
+/// and a barred account is granted nothing, 4010.
 fn grant(
     account: &mut Account,
     session: &SessionId,
@@ -111,13 +119,19 @@ fn grant(
     moment: Moment,
 ) -> Result<ServiceOutcome, AllocError>
     requires later { account.old.as_of ≡ moment }
-    requires live { is_live_in account.old.book.validity moment account.old.sessions session.now ≡ true }
-    requires free { is_known account.old.book service.now.group ≡ true → reservation_in session.now service.now.group account.old.groups ≡ None }
-    ensures grants { IfOk result (λ outcome. (ledger : Ledger) (left : LeftRows) → IsWith ledger left moment account.old →
-        Grants outcome (granted account.old.book moment session.now service.now ledger) left moment account.new) }
+    requires live { is_live_in account.old.book.validity moment account.old.sessions session.now ≡
+        true }
+    requires free { is_known account.old.book service.now.group ≡ true →
+        reservation_in session.now service.now.group account.old.groups ≡ None }
+    ensures grants { IfOk result (λ outcome. (ledger : Ledger) (left : LeftRows) →
+        IsWith ledger left moment account.old →
+        Grants outcome (granted account.old.book moment session.now service.now ledger) left moment
+        account.new) }
     ensures moment { OnOk result (account.new.as_of ≡ moment) }
-    ensures live { OnOk result (is_live_in account.new.book.validity moment account.new.sessions session.now ≡ true) }
-    ensures others { OnOk result (OthersKept session.now service.now.group account.old.groups account.new.groups) }
+    ensures live { OnOk result
+        (is_live_in account.new.book.validity moment account.new.sessions session.now ≡ true) }
+    ensures others { OnOk result
+        (OthersKept session.now service.now.group account.old.groups account.new.groups) }
     ensures tariff { account.new.book ≡ account.old.book }
 {
     let Some(tariff) = tariff_of(account, service.group) else {
@@ -144,14 +158,17 @@ fn grant_services(
 ) -> Result<ServiceAnswers, AllocError>
     requires apart { groups_differ services.now ≡ true }
     requires later { account.old.as_of ≡ moment }
-    requires live { is_live_in account.old.book.validity moment account.old.sessions session.now ≡ true }
+    requires live { is_live_in account.old.book.validity moment account.old.sessions session.now ≡
+        true }
     requires free { AreFree account.old.book session.now services.now account.old.groups }
-    ensures grants { IfOk result (λ answers. (ledger : Ledger) (left : LeftRows) → IsWith ledger left moment account.old →
-        GrantsAll answers account.old.book moment session.now services.now ledger left account.new) }
+    ensures grants { IfOk result (λ answers. (ledger : Ledger) (left : LeftRows) →
+        IsWith ledger left moment account.old →
+        GrantsAll answers account.old.book moment session.now services.now ledger left
+        account.new) }
     ensures moment { OnOk result (account.new.as_of ≡ moment) }
     ensures tariff { account.new.book ≡ account.old.book }
 {
-    let mut answers = Vec::new(alloc);
+    let mut answers = Vec::with_capacity(alloc, services.len())?;
     for service in services {
         let outcome = grant(account, session, service, moment)?;
         let group = service.group;
@@ -160,8 +177,8 @@ fn grant_services(
     Ok(ServiceAnswers::new(answers))
 }
 
-/// Opens the session of an initial request that grants some service a unit; else the request is denied, as it is whole
-/// where the account is barred.
+/// Opens the session of an initial request that grants some service a unit; else the request is
+/// denied, as it is whole where the account is barred.
 pub(crate) fn open_unless_barred(
     alloc: Global,
     account: &mut Account,
@@ -174,7 +191,8 @@ pub(crate) fn open_unless_barred(
     requires new { session_in request.now.session account.old.sessions ≡ None }
     requires free { AreFree account.old.book request.now.session services.now account.old.groups }
     ensures ruled { IfOk result (IsRuledBy (IsNew request.now.session)
-        (opened_unless_barred account.old.book moment request.now.session request.now.number services.now)
+        (opened_unless_barred account.old.book moment request.now.session request.now.number
+        services.now)
         moment account.old account.new) }
     ensures tariff { account.new.book ≡ account.old.book }
 {
@@ -194,7 +212,8 @@ pub(crate) fn open_unless_barred(
     Ok(Ruling::accepted(Outcome::Services(answers), Vec::new(alloc)))
 }
 
-/// Touches a live session with an update, whose services are settled, and grants them what they ask for.
+/// Touches a live session with an update, whose services are settled, and grants them what they ask
+/// for.
 pub(crate) fn renew(
     alloc: Global,
     account: &mut Account,
@@ -204,9 +223,11 @@ pub(crate) fn renew(
 ) -> Result<ServiceAnswers, AllocError>
     requires apart { groups_differ services.now ≡ true }
     requires later { account.old.as_of ≤ moment }
-    requires live { is_live_in account.old.book.validity moment account.old.sessions request.now.session ≡ true }
+    requires live { is_live_in account.old.book.validity moment account.old.sessions
+        request.now.session ≡ true }
     requires free { AreFree account.old.book request.now.session services.now account.old.groups }
-    ensures grants { IfOk result (λ answers. (ledger : Ledger) (left : LeftRows) → IsWith ledger left moment account.old →
+    ensures grants { IfOk result (λ answers. (ledger : Ledger) (left : LeftRows) →
+        IsWith ledger left moment account.old →
         GrantsAll answers account.old.book moment request.now.session services.now
         (touched moment request.now.session request.now.number ledger) left account.new) }
     ensures moment { OnOk result (account.new.as_of ≡ moment) }

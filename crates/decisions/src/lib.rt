@@ -1,6 +1,7 @@
 //! Decides requests for credit control on an account, in the order of decisions of the profile.
 //!
-//! A check of the balance or a price enquiry changes nothing; `read` answers it on an account that it only borrows.
+//! A check of the balance or a price enquiry changes nothing; `read` answers it on an account that
+//! it only borrows.
 #![tactic(auto)]
 
 mod answering;

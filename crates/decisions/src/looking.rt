@@ -33,7 +33,8 @@ pub(crate) fn is_known(book: &TariffBook, group: u32) -> bool
 
 /// Whether the number isn't greater than that of the session's last accepted request.
 pub(crate) fn is_late(account: &Account, id: &SessionId, number: u32) -> bool
-    ensures { (ledger : Ledger) (left : LeftRows) (t : ℕ) → NotLeft id.now left → IsWith ledger left t account.now →
+    ensures { (ledger : Ledger) (left : LeftRows) (t : ℕ) → NotLeft id.now left →
+        IsWith ledger left t account.now →
         result ≡ is_late number (last_recording id.now ledger) }
 {
     is_late_in(account.sessions(), id, number)
@@ -57,7 +58,8 @@ fn is_late_in(sessions: &[Session], id: &SessionId, number: u32) -> bool
 
 /// The units that a session used of a group so far.
 pub(crate) fn used_of(account: &Account, id: &SessionId, group: u32) -> u64
-    ensures { (ledger : Ledger) (left : LeftRows) (t : ℕ) → NotLeft id.now left → IsWith ledger left t account.now →
+    ensures { (ledger : Ledger) (left : LeftRows) (t : ℕ) → NotLeft id.now left →
+        IsWith ledger left t account.now →
         result ≡ used id.now group ledger }
 {
     used_in(account.groups(), id, group)
@@ -106,16 +108,19 @@ fn has_row(sessions: &[Session], id: &SessionId) -> bool
     session_row(sessions, id).is_some()
 }
 
-/// Whether some request of the session was accepted: `known` tells it, and a live session has a row.
+/// Whether some request of the session was accepted: `known` tells it, and a live session has a
+/// row.
 pub(crate) fn has_record(account: &Account, id: &SessionId, known: bool) -> bool
     ensures new { result ≡ false → session_in id.now account.now.sessions ≡ None }
-    ensures left { (ledger : Ledger) (left : LeftRows) (t : ℕ) → Knows id.now known ledger left → IsWith ledger left t account.now →
+    ensures left { (ledger : Ledger) (left : LeftRows) (t : ℕ) → Knows id.now known ledger left →
+        IsWith ledger left t account.now →
         result ≡ has_record id.now ledger }
 {
     known || has_row(account.sessions(), id)
 }
 
-/// Whether some request of the session was accepted: only then it has reservations of the services' groups.
+/// Whether some request of the session was accepted: only then it has reservations of the services'
+/// groups.
 pub(crate) fn is_recorded(
     account: &Account,
     id: &SessionId,
@@ -123,8 +128,10 @@ pub(crate) fn is_recorded(
     known: bool,
 ) -> bool
     ensures new { result ≡ false → session_in id.now account.now.sessions ≡ None }
-    ensures free { result ≡ false → AreFree account.now.book id.now services.now account.now.groups }
-    ensures left { (ledger : Ledger) (left : LeftRows) (t : ℕ) → Knows id.now known ledger left → IsWith ledger left t account.now →
+    ensures free { result ≡ false →
+        AreFree account.now.book id.now services.now account.now.groups }
+    ensures left { (ledger : Ledger) (left : LeftRows) (t : ℕ) → Knows id.now known ledger left →
+        IsWith ledger left t account.now →
         result ≡ has_record id.now ledger }
 {
     has_record(account, id, known) || any_reserved(account.groups(), id, services)

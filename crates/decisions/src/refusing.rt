@@ -22,8 +22,10 @@ use units::Moment;
 
 /// What is wrong with the units of a service, where its group has a tariff.
 fn service_fault(account: &Account, session: &SessionId, service: &Service) -> Option<Avp>
-    ensures { (ledger : Ledger) (left : LeftRows) (t : ℕ) → NotLeft session.now left → IsWith ledger left t account.now →
-        result ≡ wrong_units (tariff_of account.now.book service.now.group) (used session.now service.now.group ledger) service.now }
+    ensures { (ledger : Ledger) (left : LeftRows) (t : ℕ) → NotLeft session.now left →
+        IsWith ledger left t account.now →
+        result ≡ wrong_units (tariff_of account.now.book service.now.group)
+        (used session.now service.now.group ledger) service.now }
 {
     let tariff = tariff_of(account, service.group)?;
     let used = used_of(account, session, service.group);
@@ -32,7 +34,8 @@ fn service_fault(account: &Account, session: &SessionId, service: &Service) -> O
 
 /// What is wrong with the units of a request's services: the first fault is told.
 fn wrong_report(account: &Account, session: &SessionId, services: &[Service]) -> Option<Avp>
-    ensures { (ledger : Ledger) (left : LeftRows) (t : ℕ) → NotLeft session.now left → IsWith ledger left t account.now →
+    ensures { (ledger : Ledger) (left : LeftRows) (t : ℕ) → NotLeft session.now left →
+        IsWith ledger left t account.now →
         result ≡ units_fault account.now.book session.now ledger services.now }
 {
     for service in services {
@@ -44,7 +47,8 @@ fn wrong_report(account: &Account, session: &SessionId, services: &[Service]) ->
 }
 
 fn invalid_report(account: &Account, session: &SessionId, services: &[Service]) -> Option<Failure>
-    ensures { (ledger : Ledger) (left : LeftRows) (t : ℕ) → NotLeft session.now left → IsWith ledger left t account.now →
+    ensures { (ledger : Ledger) (left : LeftRows) (t : ℕ) → NotLeft session.now left →
+        IsWith ledger left t account.now →
         result ≡ option_map invalid (units_fault account.now.book session.now ledger services.now) }
 {
     match wrong_report(account, session, services) {
@@ -60,10 +64,12 @@ pub(crate) fn initial_refusal(
     services: &[Service],
     known: bool,
 ) -> Option<Failure>
-    ensures left { (ledger : Ledger) (left : LeftRows) (t : ℕ) → Knows session.now known ledger left → IsWith ledger left t account.now →
+    ensures left { (ledger : Ledger) (left : LeftRows) (t : ℕ) →
+        Knows session.now known ledger left → IsWith ledger left t account.now →
         result ≡ initial_refusal account.now.book session.now services.now ledger }
     ensures new { result ≡ None → session_in session.now account.now.sessions ≡ None }
-    ensures free { result ≡ None → AreFree account.now.book session.now services.now account.now.groups }
+    ensures free { result ≡ None →
+        AreFree account.now.book session.now services.now account.now.groups }
 {
     if is_recorded(account, session, services, known) {
         return Some(Failure::InvalidAvpValue(Avp::SessionId));
@@ -82,7 +88,8 @@ pub(crate) fn early_refusal(
     requires later { account.now.as_of ≤ moment }
     ensures left { (ledger : Ledger) (left : LeftRows) → IsWith ledger left moment account.now →
         result ≡ early_refusal account.now.book moment session.now number services.now ledger }
-    ensures live { result ≡ None → is_live_in account.now.book.validity moment account.now.sessions session.now ≡ true }
+    ensures live { result ≡ None →
+        is_live_in account.now.book.validity moment account.now.sessions session.now ≡ true }
 {
     if !account.is_live(session, moment) {
         return Some(Failure::UnknownSessionId);
@@ -118,7 +125,8 @@ pub(crate) fn debit_refusal(
     event: &Event,
     known: bool,
 ) -> Option<Failure>
-    ensures left { (ledger : Ledger) (left : LeftRows) (t : ℕ) → Knows session.now known ledger left → IsWith ledger left t account.now →
+    ensures left { (ledger : Ledger) (left : LeftRows) (t : ℕ) →
+        Knows session.now known ledger left → IsWith ledger left t account.now →
         result ≡ debit_refusal account.now.book session.now event.now ledger }
     ensures new { result ≡ None → session_in session.now account.now.sessions ≡ None }
     ensures units { result ≡ None → event_fault account.now.book event.now ≡ None }
@@ -131,7 +139,8 @@ pub(crate) fn debit_refusal(
 
 /// Why a refund is refused for its currency.
 fn currency_refusal(account: &Account, refund: Refund) -> Option<Failure>
-    ensures { result ≡ (if refund.currency == account.now.book.currency then None else Some (invalid CurrencyCode)) }
+    ensures { result ≡ (if refund.currency == account.now.book.currency then None
+        else Some (invalid CurrencyCode)) }
 {
     if refund.currency() != account.book().currency() {
         return Some(Failure::InvalidAvpValue(Avp::CurrencyCode));
@@ -146,7 +155,8 @@ pub(crate) fn refund_refusal(
     refund: Refund,
     known: bool,
 ) -> Option<Failure>
-    ensures left { (ledger : Ledger) (left : LeftRows) (t : ℕ) → Knows session.now known ledger left → IsWith ledger left t account.now →
+    ensures left { (ledger : Ledger) (left : LeftRows) (t : ℕ) →
+        Knows session.now known ledger left → IsWith ledger left t account.now →
         result ≡ refund_refusal account.now.book session.now refund ledger }
     ensures new { result ≡ None → session_in session.now account.now.sessions ≡ None }
 {

@@ -83,8 +83,8 @@ fn reports_other(tariff: &Tariff, before: u64, used: &UsedParts) -> bool
     used.kind() != tariff.unit() || MOST_BLOCKS < blocks_started(Units(before), units, block).0
 }
 
-/// What is wrong with the units of a service by its group's tariff, what it asks for first; `before` is the session's
-/// use of the group so far.
+/// What is wrong with the units of a service by its group's tariff, what it asks for first;
+/// `before` is the session's use of the group so far.
 pub(crate) fn wrong_units(tariff: &Tariff, before: u64, service: &Service) -> Option<Avp>
     ensures { result ≡ wrong_units (Some tariff.now) before service.now }
 {
@@ -100,7 +100,8 @@ pub(crate) fn wrong_units(tariff: &Tariff, before: u64, service: &Service) -> Op
 /// The units of an event: those that it asks for, or the group's slice.
 pub(crate) fn event_quantity(tariff: &Tariff, requested: &Requested) -> Quantity
     ensures units { result.units ≡ event_units tariff.now requested.now }
-    ensures kind { asks_other tariff.now.unit (Some requested.now) ≡ false → result.kind ≡ tariff.now.unit }
+    ensures kind { asks_other tariff.now.unit (Some requested.now) ≡ false →
+        result.kind ≡ tariff.now.unit }
 {
     match requested {
         Requested::Units(quantity) => *quantity,

@@ -55,7 +55,8 @@ impl Ruling {
     }
 }
 
-/// Denies a request of a session that isn't known: it is recorded, and neither granted nor charged anything.
+/// Denies a request of a session that isn't known: it is recorded, and neither granted nor charged
+/// anything.
 pub(crate) fn deny(
     alloc: Global,
     account: &mut Account,

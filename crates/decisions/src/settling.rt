@@ -21,7 +21,8 @@ use std::alloc::Global;
 use tariffs::TariffBook;
 use units::{Moment, UsedPart};
 
-/// Settles a report of use for a live session, and answers its charge. At a fault nothing has changed.
+/// Settles a report of use for a live session, and answers its charge. At a fault nothing has
+/// changed.
 fn settle_report(
     account: &mut Account,
     session: &SessionId,
@@ -30,9 +31,11 @@ fn settle_report(
     moment: Moment,
 ) -> Result<ChargeRow, AccountFault>
     requires later { account.old.as_of ≤ moment }
-    requires live { is_live_in account.old.book.validity moment account.old.sessions session.now ≡ true }
+    requires live { is_live_in account.old.book.validity moment account.old.sessions session.now ≡
+        true }
     requires reported { length parts.now ≢ 0 }
-    ensures reports { IfOk result (λ row. Reports row account.old account.new moment session.now group parts.now) }
+    ensures reports { IfOk result
+        (λ row. Reports row account.old account.new moment session.now group parts.now) }
     ensures as_of { OnOk result (account.new.as_of ≡ moment) }
     ensures sessions { OnOk result (account.new.sessions ≡ (advanced moment account.old).sessions) }
     ensures free { OnOk result (reservation_in session.now group account.new.groups ≡ None) }
@@ -48,8 +51,8 @@ fn settle_report(
     Ok(charge_row(number, name, group, settled, moment))
 }
 
-/// Settles a service for a live session, where its group has a tariff: its reservation ends, with the reported use or
-/// none; and its charge, where it reported use. At a fault nothing has changed.
+/// Settles a service for a live session, where its group has a tariff: its reservation ends, with
+/// the reported use or none; and its charge, where it reported use. At a fault nothing has changed.
 fn settle(
     alloc: Global,
     account: &mut Account,
@@ -58,11 +61,16 @@ fn settle(
     moment: Moment,
 ) -> Result<Option<ChargeRow>, AccountFault>
     requires later { account.old.as_of ≤ moment }
-    requires live { is_live_in account.old.book.validity moment account.old.sessions session.now ≡ true }
-    ensures settles { IfOk result (λ row. Settles (charges_of row) account.old account.new moment session.now (service.now ∷ [])) }
-    ensures live { is_live_in account.new.book.validity moment account.new.sessions session.now ≡ true }
+    requires live { is_live_in account.old.book.validity moment account.old.sessions session.now ≡
+        true }
+    ensures settles { IfOk result
+        (λ row. Settles (charges_of row) account.old account.new moment session.now
+        (service.now ∷ [])) }
+    ensures live { is_live_in account.new.book.validity moment account.new.sessions session.now ≡
+        true }
     ensures later { account.new.as_of ≤ moment }
-    ensures free { OnOk result (AreFree account.old.book session.now (service.now ∷ []) account.new.groups) }
+    ensures free { OnOk result
+        (AreFree account.old.book session.now (service.now ∷ []) account.new.groups) }
     ensures kept { OnOk result (AreKept session.now account.old.groups account.new.groups) }
     ensures tariff { account.new.book ≡ account.old.book }
     ensures err { OnErr result (account.new ≡ account.old) }
@@ -79,7 +87,8 @@ fn settle(
     Ok(Some(row))
 }
 
-/// Settles services one after another, and answers their charges. At a fault those before it are settled.
+/// Settles services one after another, and answers their charges. At a fault those before it are
+/// settled.
 fn settle_each(
     alloc: Global,
     account: &mut Account,
@@ -88,11 +97,15 @@ fn settle_each(
     moment: Moment,
 ) -> Result<Vec<ChargeRow>, AccountFault>
     requires later { account.old.as_of ≤ moment }
-    requires live { is_live_in account.old.book.validity moment account.old.sessions session.now ≡ true }
-    ensures settles { IfOk result (λ charges. Settles charges.items account.old account.new moment session.now services.now) }
-    ensures live { is_live_in account.new.book.validity moment account.new.sessions session.now ≡ true }
+    requires live { is_live_in account.old.book.validity moment account.old.sessions session.now ≡
+        true }
+    ensures settles { IfOk result (λ charges.
+        Settles charges.items account.old account.new moment session.now services.now) }
+    ensures live { is_live_in account.new.book.validity moment account.new.sessions session.now ≡
+        true }
     ensures later { account.new.as_of ≤ moment }
-    ensures free { OnOk result (AreFree account.old.book session.now services.now account.new.groups) }
+    ensures free { OnOk result
+        (AreFree account.old.book session.now services.now account.new.groups) }
     ensures tariff { account.new.book ≡ account.old.book }
 {
     let mut charges = Vec::new(alloc);
@@ -105,8 +118,8 @@ fn settle_each(
     Ok(charges)
 }
 
-/// Whether a stored number would pass its limit in the settlement of a service, after so many charges of services of
-/// other groups.
+/// Whether a stored number would pass its limit in the settlement of a service, after so many
+/// charges of services of other groups.
 fn would_pass(
     account: &Account,
     session: &SessionId,
@@ -115,9 +128,11 @@ fn would_pass(
     moment: Moment,
 ) -> bool
     requires later { account.now.as_of ≤ moment }
-    requires live { is_live_in account.now.book.validity moment account.now.sessions session.now ≡ true }
+    requires live { is_live_in account.now.book.validity moment account.now.sessions session.now ≡
+        true }
     ensures { (ledger : Ledger) (left : LeftRows) → IsWith ledger left moment account.now →
-        result ≡ service_passes_after charges account.now.book moment session.now service.now ledger }
+        result ≡ service_passes_after charges account.now.book moment session.now service.now
+        ledger }
 {
     let known = is_known(account.book(), service.group);
     match &service.used {
@@ -153,7 +168,8 @@ fn service_charges(book: &TariffBook, service: &Service) -> u64
     }
 }
 
-/// Whether a stored number would pass its limit in the settlements of the services of a session's request.
+/// Whether a stored number would pass its limit in the settlements of the services of a session's
+/// request.
 fn any_would_pass(
     account: &Account,
     session: &SessionId,
@@ -162,7 +178,8 @@ fn any_would_pass(
 ) -> bool
     requires apart { groups_differ services.now ≡ true }
     requires later { account.now.as_of ≤ moment }
-    requires live { is_live_in account.now.book.validity moment account.now.sessions session.now ≡ true }
+    requires live { is_live_in account.now.book.validity moment account.now.sessions session.now ≡
+        true }
     ensures { (ledger : Ledger) (left : LeftRows) → IsWith ledger left moment account.now →
         result ≡ any_passes account.now.book moment session.now services.now ledger }
 {
@@ -176,8 +193,9 @@ fn any_would_pass(
     false
 }
 
-/// Settles the services of a session's request, in its order, and answers their charges. `Limit` where a stored number
-/// would pass its limit, which is asked of all before the first is settled; then nothing has changed.
+/// Settles the services of a session's request, in its order, and answers their charges. `Limit`
+/// where a stored number would pass its limit, which is asked of all before the first is settled;
+/// then nothing has changed.
 pub(crate) fn settle_services(
     alloc: Global,
     account: &mut Account,
@@ -187,15 +205,21 @@ pub(crate) fn settle_services(
 ) -> Result<Vec<ChargeRow>, AccountFault>
     requires apart { groups_differ services.now ≡ true }
     requires later { account.old.as_of ≤ moment }
-    requires live { is_live_in account.old.book.validity moment account.old.sessions session.now ≡ true }
-    ensures settles { IfOk result (λ charges. Settles charges.items account.old account.new moment session.now services.now) }
-    ensures limit { result ≡ Err AccountFault.Limit → Passes account.old moment session.now services.now }
+    requires live { is_live_in account.old.book.validity moment account.old.sessions session.now ≡
+        true }
+    ensures settles { IfOk result (λ charges.
+        Settles charges.items account.old account.new moment session.now services.now) }
+    ensures limit { result ≡ Err AccountFault.Limit →
+        Passes account.old moment session.now services.now }
     ensures same { result ≡ Err AccountFault.Limit → account.new ≡ account.old }
-    ensures within { result ≡ Err AccountFault.Memory → (ledger : Ledger) (left : LeftRows) → IsWith ledger left moment account.old →
+    ensures within { result ≡ Err AccountFault.Memory → (ledger : Ledger) (left : LeftRows) →
+        IsWith ledger left moment account.old →
         any_passes account.old.book moment session.now services.now ledger ≡ false }
-    ensures live { OnOk result (is_live_in account.new.book.validity moment account.new.sessions session.now ≡ true) }
+    ensures live { OnOk result
+        (is_live_in account.new.book.validity moment account.new.sessions session.now ≡ true) }
     ensures later { account.new.as_of ≤ moment }
-    ensures free { OnOk result (AreFree account.old.book session.now services.now account.new.groups) }
+    ensures free { OnOk result
+        (AreFree account.old.book session.now services.now account.new.groups) }
     ensures tariff { account.new.book ≡ account.old.book }
 {
     if any_would_pass(account, session, services, moment) {
@@ -211,9 +235,11 @@ pub(crate) fn settle_services(
 /// Ends a live session with its last request.
 pub(crate) fn end(account: &mut Account, request: &Request, moment: Moment)
     requires later { account.old.as_of ≤ moment }
-    requires live { is_live_in account.old.book.validity moment account.old.sessions request.now.session ≡ true }
+    requires live { is_live_in account.old.book.validity moment account.old.sessions
+        request.now.session ≡ true }
     ensures left { (ledger : Ledger) (left : LeftRows) → IsWith ledger left moment account.old →
-        IsWith (closed moment request.now.session (touched moment request.now.session request.now.number ledger)) left moment account.new }
+        IsWith (closed moment request.now.session
+        (touched moment request.now.session request.now.number ledger)) left moment account.new }
     ensures moment { account.new.as_of ≡ moment }
     ensures tariff { account.new.book ≡ account.old.book }
 {

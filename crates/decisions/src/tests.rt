@@ -1,9 +1,11 @@
-//! Scenarios of requests on an account over a tariff book: what each is answered, its charges, and the account's buckets
-//! after it. They are reckoned by hand from the book's prices: seconds in blocks of 60 at 100000 micro-units on weekdays
-//! from 08:00 to 20:00, else at 50000; events at 90000. 1767607200 is 10:00 of a Monday.
+//! Scenarios of requests on an account over a tariff book: what each is answered, its charges, and
+//! the account's buckets after it. They are reckoned by hand from the book's prices: seconds in
+//! blocks of 60 at 100000 micro-units on weekdays from 08:00 to 20:00, else at 50000; events at
+//! 90000. 1767607200 is 10:00 of a Monday.
 //!
-//! A line is a moment, a call with its words, what it gives, and the buckets, each as its credited amount and what of it
-//! is available, reserved, charged and expired. What is asked for is the slice of a group: 600 seconds or one event.
+//! A line is a moment, a call with its words, what it gives, and the buckets, each as its credited
+//! amount and what of it is available, reserved, charged and expired. What is asked for is the
+//! slice of a group: 600 seconds or one event.
 
 ghost use Rattle.std.specs.Prelude.{◌≡◌, true, Some, None, IsTrue};
 ghost use Rattle.commands.specs.Refunds.{is_refund};
@@ -134,7 +136,8 @@ fn told(alloc: Global, outcome: &Outcome) -> Result<String, Fail> {
     }
 }
 
-/// What a request comes to: whether it is accepted, its answer, and its charges by number and what was collected.
+/// What a request comes to: whether it is accepted, its answer, and its charges by number and what
+/// was collected.
 fn come_to(alloc: Global, decided: &Decided) -> Result<String, Fail> {
     let answer = told(alloc, &decided.answer.outcome)?;
     let mut text = format!(in alloc; "{} {}", decided.accepted, answer.as_str())?;
@@ -260,7 +263,8 @@ fn try_all(rt: &impl Abort, alloc: Global, lines: &str) -> Result<(), Fail> {
     Ok(())
 }
 
-/// An event costs one micro-unit more than there is, and then what there is. Its name is taken then.
+/// An event costs one micro-unit more than there is, and then what there is. Its name is taken
+/// then.
 const DEBITS: &str = "1767571200 credit 89999 -> 1 (89999; 89999, 0, 0, 0)
 1767607200 debit p8 30 -> true 4012 (89999; 89999, 0, 0, 0)
 1767607200 debit p8 30 -> false 5004 (89999; 89999, 0, 0, 0)
@@ -297,7 +301,8 @@ fn events_that_change_nothing(rt: HostRuntime) -> Result<(), Fail> {
     try_all(&rt, rt.alloc(), READS)
 }
 
-/// An unknown group beside a known one, an unknown one alone, a barred account, and one whose money is held.
+/// An unknown group beside a known one, an unknown one alone, a barred account, and one whose money
+/// is held.
 const BARRED: &str = "1767571200 credit 1000000 -> 1 (1000000; 1000000, 0, 0, 0)
 1767607200 initial s19 99 10 -> true 99 5031;10 granted 600; (1000000; 0, 1000000, 0, 0)
 1767607200 initial s19a 99 -> true 5031 (1000000; 0, 1000000, 0, 0)
@@ -312,8 +317,8 @@ fn an_account_that_is_barred(rt: HostRuntime) -> Result<(), Fail> {
     try_all(&rt, rt.alloc(), BARRED)
 }
 
-/// Requests of a session that was left behind: the account has no row of it, and only the caller knows it. Of a check
-/// nothing need be known.
+/// Requests of a session that was left behind: the account has no row of it, and only the caller
+/// knows it. Of a check nothing need be known.
 const LEFT: &str = "1767571200 credit 1000000 -> 1 (1000000; 1000000, 0, 0, 0)
 1767607200 known initial s20 10 -> false 5004 (1000000; 1000000, 0, 0, 0)
 1767607200 known debit s20 30 -> false 5004 (1000000; 1000000, 0, 0, 0)

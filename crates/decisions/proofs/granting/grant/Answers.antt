@@ -12,7 +12,10 @@ pub returns-clause-grants : goal.returns-clause-grants
 returns-clause-grants c =
     let asked : Option ℕ = option_map (λ (u : Units). u.0) c.requested_units-requested.result in
     IfOk-weaker c.grant_units.result _ _ (λ outcome f ledger left h.
-    let barred : is_barred ledger ≡ false = sym (c.is_barred.ensures.left ledger left c.args.moment h) ∙ c.if-is_barred.false in
+    let barred : is_barred ledger ≡ false =
+    sym (c.is_barred.ensures.left ledger left c.args.moment h) ∙ c.if-is_barred.false in
     subst (λ (x : Answered). Grants outcome x left c.args.moment c.grant_units.new.account)
-    (granted_is c.args.account.now.book c.in-Some.tariff.now c.args.moment c.args.session.now c.args.service.now c.in-Some-requested.requested asked ledger c.in-Some.ensures.value c.in-Some-requested.is c.requested_units-requested.ensures barred)
+    (granted_is c.args.account.now.book c.in-Some.tariff.now c.args.moment c.args.session.now
+    c.args.service.now c.in-Some-requested.requested asked ledger c.in-Some.ensures.value
+    c.in-Some-requested.is c.requested_units-requested.ensures barred)
     (f ledger left h)) c.grant_units.ensures.grants

@@ -7,7 +7,8 @@ use Rattle.decisions.proofs.granting.grant_services.Given as goal
 
 abbrev pub invariant-loop-service : goal.invariant-loop-service
 invariant-loop-service l = record {
-  grants : GrantsTo l.fn.account l.account l.moment l.session l.services (drop l.service-index l.services) l.answers.items;
+  grants : GrantsTo l.fn.account l.account l.moment l.session l.services
+      (drop l.service-index l.services) l.answers.items;
   free : AreFree l.fn.account.book l.session (drop l.service-index l.services) l.account.groups;
   apart : groups_differ (drop l.service-index l.services) ≡ true;
   live : is_live_in l.account.book.validity l.moment l.account.sessions l.session ≡ true;
