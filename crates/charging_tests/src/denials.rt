@@ -3,7 +3,8 @@
 use crate::scenarios::try_all;
 use std::test::Fail;
 
-/// A group that the book has not is told beside one that is granted, and alone denies the session; so does a bar.
+/// A group that the book has not is told beside one that is granted, and alone denies the session;
+/// so does a bar.
 const BARRED: &str = r##"1767571200 open 49151
 = {"Result-Code":2001}
 1767571200 credit 49151 {"Amount":1000000,"Reference":"c1"}

@@ -3,7 +3,8 @@
 use crate::scenarios::try_all;
 use std::test::Fail;
 
-/// A grant is held by two buckets. The first ends; what a session holds of it pays, and the rest of it is expired.
+/// A grant is held by two buckets. The first ends; what a session holds of it pays, and the rest of
+/// it is expired.
 const ENDED: &str = r##"1767571200 open 49151
 = {"Result-Code":2001}
 1767571200 credit 49151 {"Amount":150000,"Reference":"c1","Until":1767607800}
@@ -121,7 +122,8 @@ fn the_last_second_of_a_session(rt: HostRuntime) -> Result<(), Fail> {
     try_all(&rt, rt.alloc(), ALMOST)
 }
 
-/// A second later its request is of no open session and changes nothing. A sweep releases what it held.
+/// A second later its request is of no open session and changes nothing. A sweep releases what it
+/// held.
 const LEFT: &str = r##"1767571200 open 49151
 = {"Result-Code":2001}
 1767571200 credit 49151 {"Amount":1000000,"Reference":"c1"}

@@ -10,8 +10,8 @@ use std::alloc::Global;
 use std::test::Fail;
 use tariffs::TariffBook;
 
-/// Eight commands: an account is opened and credited; a session begins, reports, and sends its report again; the account
-/// is barred and gets money back; and a sweep ends the session.
+/// Eight commands: an account is opened and credited; a session begins, reports, and sends its
+/// report again; the account is barred and gets money back; and a sweep ends the session.
 const EIGHT: &str = r##"1767571200 open 49151
 = {"Result-Code":2001}
 1767571200 credit 49151 {"Amount":1000000,"Reference":"c1"}
@@ -58,8 +58,9 @@ fn eight_commands(rt: HostRuntime) -> Result<(), Fail> {
     try_all(&rt, rt.alloc(), EIGHT)
 }
 
-/// What the eight commands come to over a store that fails at the call after so many: how many are answered; and as
-/// text whether the answers are a beginning of those above, the store fault or 0, the count of failures, and the rows.
+/// What the eight commands come to over a store that fails at the call after so many: how many are
+/// answered; and as text whether the answers are a beginning of those above, the store fault or 0,
+/// the count of failures, and the rows.
 fn failing_after(alloc: Global, book: &TariffBook, calls: u64) -> Result<(usize, String), Fail> {
     let mut keeper = Failing::new(MemoryKeeper::new(alloc), calls);
     let eight = whole_lines(alloc, EIGHT)?;
@@ -83,8 +84,8 @@ fn fault_number(fault: Option<StoreFault>) -> u8 {
     }
 }
 
-/// The same of a run that a failure of the store stopped after so many answers, or of the whole run: the rows are those
-/// that these commands leave over a store that doesn't fail.
+/// The same of a run that a failure of the store stopped after so many answers, or of the whole
+/// run: the rows are those that these commands leave over a store that doesn't fail.
 fn stopped_after(alloc: Global, book: &TariffBook, most: usize) -> Result<String, Fail> {
     let mut keeper = MemoryKeeper::new(alloc);
     let eight = whole_lines(alloc, EIGHT)?;

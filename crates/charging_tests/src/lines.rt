@@ -1,6 +1,6 @@
-//! Commands as lines of text: `MOMENT open ACCOUNT`, `MOMENT credit ACCOUNT BODY`,
-//! `MOMENT credit-nothing ACCOUNT REFERENCE`, `MOMENT bar ACCOUNT`, `MOMENT unbar ACCOUNT`, `MOMENT sweep`, and a
-//! request as `MOMENT BODY`.
+//! Commands as lines of text: `MOMENT open ACCOUNT`, `MOMENT credit ACCOUNT BODY`, `MOMENT
+//! credit-nothing ACCOUNT REFERENCE`, `MOMENT bar ACCOUNT`, `MOMENT unbar ACCOUNT`, `MOMENT sweep`,
+//! and a request as `MOMENT BODY`.
 
 use charging::DatedCommand;
 use commands::{Command, Credit};

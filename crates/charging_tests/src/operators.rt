@@ -1,10 +1,11 @@
-//! Operators' commands over two accounts, and a request that would pass the limit of a stored number.
+//! Operators' commands over two accounts, and a request that would pass the limit of a stored
+//! number.
 
 use crate::scenarios::{try_all, try_with};
 use std::test::Fail;
 
-/// Before it is opened an account can only be opened, which is refused the second time. Each account numbers its buckets
-/// and keeps its references for itself.
+/// Before it is opened an account can only be opened, which is refused the second time. Each
+/// account numbers its buckets and keeps its references for itself.
 const OPENED: &str = r##"1767571200 credit 49151 {"Amount":1000000,"Reference":"c1"}
 = {"Refusal":"O2"}
 1767571200 credit-nothing 49151 c1
@@ -48,8 +49,8 @@ fn accounts_are_opened(rt: HostRuntime) -> Result<(), Fail> {
     try_all(&rt, rt.alloc(), OPENED)
 }
 
-/// A reference stands for one credit for good: the same again gets its first answer, another one is refused. So is a
-/// credit of nothing, and one that no moment is left for.
+/// A reference stands for one credit for good: the same again gets its first answer, another one is
+/// refused. So is a credit of nothing, and one that no moment is left for.
 const CREDITED: &str = r##"1767571200 open 49151
 = {"Result-Code":2001}
 1767571200 credit 49151 {"Amount":1000000,"Reference":"c1"}
@@ -96,8 +97,9 @@ fn accounts_are_credited(rt: HostRuntime) -> Result<(), Fail> {
     try_all(&rt, rt.alloc(), CREDITED)
 }
 
-/// A barred account is denied its events, and each bar is accepted; a bucket for one rating group pays no other; and no
-/// command reaches the other account but a sweep, which brings both to its moment.
+/// A barred account is denied its events, and each bar is accepted; a bucket for one rating group
+/// pays no other; and no command reaches the other account but a sweep, which brings both to its
+/// moment.
 const BARRED: &str = r##"1767571200 open 49151
 = {"Result-Code":2001}
 1767571200 open 49152
@@ -204,8 +206,8 @@ final = "terminate"
 price = [{period = "all", tiers = [{price = 1}]}]
 "#;
 
-/// A session's use ends at 10^18 octets. A report of one more is refused as a whole and changes nothing, nor does a
-/// report of another group beside it, whichever stands first.
+/// A session's use ends at 10^18 octets. A report of one more is refused as a whole and changes
+/// nothing, nor does a report of another group beside it, whichever stands first.
 const PASSED: &str = r##"1767571200 open 49151
 = {"Result-Code":2001}
 1767571200 credit 49151 {"Amount":2000,"Reference":"c1"}

@@ -3,7 +3,8 @@
 use crate::scenarios::try_all;
 use std::test::Fail;
 
-/// An update that comes again gets its first answer; with another use it is refused. Neither changes a row.
+/// An update that comes again gets its first answer; with another use it is refused. Neither
+/// changes a row.
 const UPDATE: &str = r##"1767571200 open 49151
 = {"Result-Code":2001}
 1767571200 credit 49151 {"Amount":1000000,"Reference":"c1"}

@@ -9,7 +9,8 @@ use std::alloc::{AllocError, Global};
 use std::test::Fail;
 use tariffs::TariffBook;
 
-/// Each bucket in the order of use: what was credited; what of it is available, reserved, charged and expired.
+/// Each bucket in the order of use: what was credited; what of it is available, reserved, charged
+/// and expired.
 fn buckets(alloc: Global, rows: &[Bucket]) -> Result<String, AllocError> {
     let mut text = String::from_str(alloc, "buckets:")?;
     for bucket in rows {
@@ -33,7 +34,8 @@ fn counters(alloc: Global, rows: &[Counter]) -> Result<String, AllocError> {
     Ok(text)
 }
 
-/// Each session's name, last number, last moment and state. Those that weren't loaded by the last change stand first.
+/// Each session's name, last number, last moment and state. Those that weren't loaded by the last
+/// change stand first.
 fn sessions(alloc: Global, rows: &[Session]) -> Result<String, AllocError> {
     let mut text = String::from_str(alloc, "sessions:")?;
     for row in rows {
@@ -76,7 +78,8 @@ fn groups(alloc: Global, rows: &[SessionGroup]) -> Result<String, AllocError> {
     Ok(text)
 }
 
-/// The rows of an account but its charges; first its moment, whether it is barred, and the number of its next charge.
+/// The rows of an account but its charges; first its moment, whether it is barred, and the number
+/// of its next charge.
 fn account_rows(
     alloc: Global,
     account: &Account,
@@ -116,7 +119,8 @@ fn kept_rows(
     Ok(account_rows(alloc, &account, &whole)?)
 }
 
-/// Each charge's number, moment, session and group, its blocks, and its amounts: rated, collected, uncollected.
+/// Each charge's number, moment, session and group, its blocks, and its amounts: rated, collected,
+/// uncollected.
 fn charges(alloc: Global, rows: &[ChargeRow]) -> Result<String, AllocError> {
     let mut text = String::from_str(alloc, "charges:")?;
     for row in rows {
@@ -154,7 +158,8 @@ fn rows_of(
     Ok(text)
 }
 
-/// The moment of the last accepted command, the rows of account 49151, and those of account 49152 after its number.
+/// The moment of the last accepted command, the rows of account 49151, and those of account 49152
+/// after its number.
 pub(crate) fn rows(
     alloc: Global,
     keeper: &mut MemoryKeeper,

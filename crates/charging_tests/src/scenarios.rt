@@ -1,9 +1,9 @@
 //! Scenarios: what commands are answered, and the rows after them.
 //!
-//! A scenario is a text of parts with an empty line between them. A part is commands, each with its answer in the line
-//! after it, and then lines of the rows as they are after these commands; `unchanged` says that no row is another than
-//! before them. The commands of a part are run as one list. A line that begins with two spaces goes on with the one
-//! before it.
+//! A scenario is a text of parts with an empty line between them. A part is commands, each with its
+//! answer in the line after it, and then lines of the rows as they are after these commands;
+//! `unchanged` says that no row is another than before them. The commands of a part are run as one
+//! list. A line that begins with two spaces goes on with the one before it.
 
 use crate::book::book;
 use crate::lines::{dated_commands, is_command};
@@ -22,7 +22,8 @@ pub(crate) fn whole_lines(alloc: Global, text: &str) -> Result<String, AllocErro
     text.replace(alloc, "\n  ", "")
 }
 
-/// The commands among these lines, each with its answer in the line after it, as far as there are answers.
+/// The commands among these lines, each with its answer in the line after it, as far as there are
+/// answers.
 pub(crate) fn answered(
     alloc: Global,
     lines: &str,

@@ -3,8 +3,8 @@
 use crate::scenarios::try_all;
 use std::test::Fail;
 
-/// A grant at 07:30 is held at the price from 08:00 on. Five minutes are used before the switch, and two begun after
-/// it.
+/// A grant at 07:30 is held at the price from 08:00 on. Five minutes are used before the switch,
+/// and two begun after it.
 const SWITCH: &str = r##"1767571200 open 49151
 = {"Result-Code":2001}
 1767571200 credit 49151 {"Amount":1000000,"Reference":"c1"}
@@ -36,7 +36,8 @@ fn a_switch_within_a_grant(rt: HostRuntime) -> Result<(), Fail> {
     try_all(&rt, rt.alloc(), SWITCH)
 }
 
-/// 250,000 micro-units cover two minutes of ten. Five are used, and half their price isn't collected.
+/// 250,000 micro-units cover two minutes of ten. Five are used, and half their price isn't
+/// collected.
 const SHORT: &str = r##"1767571200 open 49151
 = {"Result-Code":2001}
 1767571200 credit 49151 {"Amount":250000,"Reference":"c1"}
@@ -107,7 +108,8 @@ fn a_started_minute(rt: HostRuntime) -> Result<(), Fail> {
     try_all(&rt, rt.alloc(), STARTED)
 }
 
-/// The first hundred blocks of a month are free: 99 are used, and then one that is free and one that isn't.
+/// The first hundred blocks of a month are free: 99 are used, and then one that is free and one
+/// that isn't.
 const FREE: &str = r##"1767571200 open 49151
 = {"Result-Code":2001}
 1767571200 credit 49151 {"Amount":50000,"Reference":"c1"}
@@ -181,7 +183,8 @@ fn two_groups_of_a_session(rt: HostRuntime) -> Result<(), Fail> {
     try_all(&rt, rt.alloc(), GROUPS)
 }
 
-/// A report of more than 10^9 blocks is refused; one of 10^9 blocks is rated whole, collected as far as there is money.
+/// A report of more than 10^9 blocks is refused; one of 10^9 blocks is rated whole, collected as
+/// far as there is money.
 const LARGE: &str = r##"1767571200 open 49151
 = {"Result-Code":2001}
 1767571200 credit 49151 {"Amount":90000,"Reference":"c1"}
