@@ -13,13 +13,15 @@ use Rattle.operator.specs.Numbers.{number_of}
 use Rattle.vouchers.specs.Rows.{field}
 
 -- the field at a place, as a look-up tells it
-pub field_found : (fields : List (List ℕ)) (i : ℕ) (f : List ℕ) → Some f ≡ field_at fields i → f ≡ field fields i
+pub field_found : (fields : List (List ℕ)) (i : ℕ) (f : List ℕ) → Some f ≡ field_at fields i
+    → f ≡ field fields i
 unfolding field_at
 field_found [] i f e = cc e
 field_found (g ∷ fs) zero f e = cc e
 field_found (g ∷ fs) (suc i) f e = field_found fs i f e
 
-pub field_missing : (fields : List (List ℕ)) (i : ℕ) → None ≡ field_at fields i → [] ≡ field fields i
+pub field_missing : (fields : List (List ℕ)) (i : ℕ) → None ≡ field_at fields i
+    → [] ≡ field fields i
 unfolding field_at
 field_missing [] i e = refl
 field_missing (g ∷ fs) zero e = cc e

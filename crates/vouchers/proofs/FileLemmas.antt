@@ -23,7 +23,8 @@ same_reading : (r : Result (List VoucherRow) VoucherFault) → r ≡ (r >>= λ r
 same_reading (Ok rows) = refl
 same_reading (Err f) = refl
 
-two_readings : (rows : List VoucherRow) (row : VoucherRow) (r : Result (List VoucherRow) VoucherFault)
+two_readings : (rows : List VoucherRow) (row : VoucherRow)
+    (r : Result (List VoucherRow) VoucherFault)
     → ((r >>= λ rest. Ok (row ∷ rest)) >>= λ rest. Ok (rows ++ rest)) ≡ (r >>= λ rest. Ok ((rows ++ row ∷ []) ++ rest))
 two_readings rows row (Ok rest) = ap Ok (sym (append_assoc rows (row ∷ []) rest))
 two_readings rows row (Err f) = refl
@@ -32,11 +33,13 @@ two_readings rows row (Err f) = refl
 abbrev NotBefore : ℕ → Result (List VoucherRow) VoucherFault → Type 0
 NotBefore n r = IfErr r (λ f. n ≤ f.record_number)
 
-not_before_bind : (n : ℕ) (rows : List VoucherRow) (r : Result (List VoucherRow) VoucherFault) → NotBefore n r → NotBefore n (r >>= λ rest. Ok (rows ++ rest))
+not_before_bind : (n : ℕ) (rows : List VoucherRow) (r : Result (List VoucherRow) VoucherFault)
+    → NotBefore n r → NotBefore n (r >>= λ rest. Ok (rows ++ rest))
 not_before_bind n rows (Ok rest) h = tt
 not_before_bind n rows (Err f) h = h
 
-not_before_more : (n : ℕ) (r : Result VoucherRow FaultKind) (more : Result (List VoucherRow) VoucherFault) → NotBefore (n + 1) more
+not_before_more : (n : ℕ) (r : Result VoucherRow FaultKind)
+    (more : Result (List VoucherRow) VoucherFault) → NotBefore (n + 1) more
     → NotBefore n (at_record n r >>= λ row. more >>= λ rest. Ok (row ∷ rest))
 not_before_more n (Ok row) (Ok rest) h = tt
 not_before_more n (Ok row) (Err f) h = omega (arith, h)
@@ -49,7 +52,8 @@ not_before n (fields ∷ more) = not_before_more n (voucher_of fields) (vouchers
 
 -- ---- a file that was read in part
 
--- of a text the header and these records were read, up to the one before this number; they say these vouchers
+-- of a text the header and these records were read, up to the one before this number; they say
+-- these vouchers
 pub record HasRead (text : List ℕ) (source : Option (List ℕ)) (state : State) (rows : List VoucherRow) (number : ℕ) : Type 0 where
   pub header : List (List ℕ)
   pub others : List (List (List ℕ))
@@ -61,17 +65,21 @@ pub record HasRead (text : List ℕ) (source : Option (List ℕ)) (state : State
   pub so_far : (more : List (List (List ℕ))) → vouchers_from 2 (others ++ more) ≡ (vouchers_from number more >>= λ rest. Ok (rows ++ rest))
 
 -- the same of a reader, where the bytes that it began with are known
-abbrev pub Knows : {R : Type 0} → (R → Option (List ℕ)) → Option (List ℕ) → Reader R → List VoucherRow → ℕ → Type 0
+abbrev pub Knows : {R : Type 0} → (R → Option (List ℕ)) → Option (List ℕ) → Reader R
+    → List VoucherRow → ℕ → Type 0
 Knows rem start reader rows number = IfSome start (λ text. HasRead text (source_of rem reader) (reader_state reader) rows number)
 
 -- the whole file, by the records that follow
-whole : (text : List ℕ) (header : List (List ℕ)) (others more : List (List (List ℕ))) → is_header header ≡ true → records_in text ≡ (header ∷ others) ++ more
+whole : (text : List ℕ) (header : List (List ℕ)) (others more : List (List (List ℕ)))
+    → is_header header ≡ true → records_in text ≡ (header ∷ others) ++ more
     → vouchers_in text ≡ vouchers_from 2 (others ++ more)
 whole text header others more first e = rw (e, first) refl
 
 -- the header was read
-header_read : {R : Type 0} (rem : R → Option (List ℕ)) (start : Option (List ℕ)) (a b : Reader R) (fields : List (List ℕ)) → reader_config a ≡ default_config
-    → source_of rem a ≡ option_map strip_bom start → reader_state a ≡ st.StartRecord → ReadRecord rem a b true fields → is_header fields ≡ true → Knows rem start b [] 2
+header_read : {R : Type 0} (rem : R → Option (List ℕ)) (start : Option (List ℕ)) (a b : Reader R)
+    (fields : List (List ℕ)) → reader_config a ≡ default_config
+    → source_of rem a ≡ option_map strip_bom start → reader_state a ≡ st.StartRecord
+    → ReadRecord rem a b true fields → is_header fields ≡ true → Knows rem start b [] 2
 unfolding Reached
 header_read rem None a b fields config source state read first = tt
 header_read rem (Some text) a b fields config source state read first =
@@ -87,24 +95,30 @@ header_read rem (Some text) a b fields config source state read first =
       so_far = λ more. same_reading (vouchers_from 2 more);
     }
 
-pub starts : {R : Type 0} (rem : R → Option (List ℕ)) (start : Option (List ℕ)) (a b : Reader R) → reader_config a ≡ default_config
-    → source_of rem a ≡ option_map strip_bom start → reader_state a ≡ st.StartRecord → ReadsFirst rem a b true → Knows rem start b [] 2
+pub starts : {R : Type 0} (rem : R → Option (List ℕ)) (start : Option (List ℕ)) (a b : Reader R)
+    → reader_config a ≡ default_config
+    → source_of rem a ≡ option_map strip_bom start → reader_state a ≡ st.StartRecord
+    → ReadsFirst rem a b true → Knows rem start b [] 2
 starts rem start a b config source state reads =
     let (found, fields, read, is) = reads in
     let (there, first) = and_parts found (is_header fields) (sym is) in
     header_read rem start a b fields config source state (rw there at read) first
 
 -- how the reader is set up stays
-pub first_keeps : {R : Type 0} (rem : R → Option (List ℕ)) (a b : Reader R) (has : Bool) → ReadsFirst rem a b has
+pub first_keeps : {R : Type 0} (rem : R → Option (List ℕ)) (a b : Reader R) (has : Bool)
+    → ReadsFirst rem a b has
     → (reader_config b ≡ reader_config a) × (reader_trim b ≡ reader_trim a)
 first_keeps rem a b has reads = let (found, fields, read, is) = reads in (read.2, read.3)
 
-header_fault : (records : List (List (List ℕ))) (fields : List (List ℕ)) (more : List (List (List ℕ))) → is_header fields ≡ false → records ≡ fields ∷ more
+header_fault : (records : List (List (List ℕ))) (fields : List (List ℕ))
+    (more : List (List (List ℕ))) → is_header fields ≡ false → records ≡ fields ∷ more
     → vouchers_of records ≡ Err (fault_at 1 Header)
 header_fault records fields more other e = rw (e, other) refl
 
-no_header_read : {R : Type 0} (rem : R → Option (List ℕ)) (start : Option (List ℕ)) (a b : Reader R) (found : Bool) (fields : List (List ℕ)) → reader_config a ≡ default_config
-    → source_of rem a ≡ option_map strip_bom start → reader_state a ≡ st.StartRecord → ReadRecord rem a b found fields → (found && is_header fields) ≡ false
+no_header_read : {R : Type 0} (rem : R → Option (List ℕ)) (start : Option (List ℕ)) (a b : Reader R)
+    (found : Bool) (fields : List (List ℕ)) → reader_config a ≡ default_config
+    → source_of rem a ≡ option_map strip_bom start → reader_state a ≡ st.StartRecord
+    → ReadRecord rem a b found fields → (found && is_header fields) ≡ false
     → IfSome start (λ text. vouchers_in text ≡ Err (fault_at 1 Header))
 unfolding Reached
 no_header_read rem None a b found fields config source state read other = tt
@@ -118,16 +132,21 @@ no_header_read rem (Some text) a b false fields config source state read other =
     ap vouchers_of (records ∙ last over)
 
 -- the first record is none, or no header
-pub no_header : {R : Type 0} (rem : R → Option (List ℕ)) (start : Option (List ℕ)) (a b : Reader R) → reader_config a ≡ default_config
-    → source_of rem a ≡ option_map strip_bom start → reader_state a ≡ st.StartRecord → ReadsFirst rem a b false
+pub no_header : {R : Type 0} (rem : R → Option (List ℕ)) (start : Option (List ℕ)) (a b : Reader R)
+    → reader_config a ≡ default_config
+    → source_of rem a ≡ option_map strip_bom start → reader_state a ≡ st.StartRecord
+    → ReadsFirst rem a b false
     → IfSome start (λ text. vouchers_in text ≡ Err (fault_at 1 Header))
 no_header rem start a b config source state reads =
     let (found, fields, read, is) = reads in
     no_header_read rem start a b found fields config source state read (sym is)
 
 -- one more voucher was read
-pub goes_on : {R : Type 0} (rem : R → Option (List ℕ)) (start : Option (List ℕ)) (a b : Reader R) (fields : List (List ℕ)) (rows : List VoucherRow) (row : VoucherRow) (number : ℕ)
-    → reader_config a ≡ default_config → Knows rem start a rows number → ReadRecord rem a b true fields → voucher_of fields ≡ Ok row → Knows rem start b (rows ++ row ∷ []) (number + 1)
+pub goes_on : {R : Type 0} (rem : R → Option (List ℕ)) (start : Option (List ℕ)) (a b : Reader R)
+    (fields : List (List ℕ)) (rows : List VoucherRow) (row : VoucherRow) (number : ℕ)
+    → reader_config a ≡ default_config → Knows rem start a rows number
+    → ReadRecord rem a b true fields → voucher_of fields ≡ Ok row
+    → Knows rem start b (rows ++ row ∷ []) (number + 1)
 unfolding vouchers_from
 goes_on rem None a b fields rows row number config had read is = tt
 goes_on rem (Some text) a b fields rows row number config had read is =
@@ -153,9 +172,12 @@ not_memory : (kind : FaultKind) → IsTrue (is_in_file kind) → kind ≢ Memory
 not_memory kind h e = absurd (cc (rw e at h))
 
 -- the record has a fault
-pub fails : {R : Type 0} (rem : R → Option (List ℕ)) (start : Option (List ℕ)) (a b : Reader R) (fields : List (List ℕ)) (rows : List VoucherRow) (number : ℕ) (f : VoucherFault)
-    → reader_config a ≡ default_config → Knows rem start a rows number → ReadRecord rem a b true fields → f.record_number ≡ number → IsTrue (is_in_file f.kind)
-    → (f.kind ≢ Memory → voucher_of fields ≡ Err f.kind) → IfSome start (λ text. vouchers_in text ≡ Err f)
+pub fails : {R : Type 0} (rem : R → Option (List ℕ)) (start : Option (List ℕ)) (a b : Reader R)
+    (fields : List (List ℕ)) (rows : List VoucherRow) (number : ℕ) (f : VoucherFault)
+    → reader_config a ≡ default_config → Knows rem start a rows number
+    → ReadRecord rem a b true fields → f.record_number ≡ number → IsTrue (is_in_file f.kind)
+    → (f.kind ≢ Memory → voucher_of fields ≡ Err f.kind)
+    → IfSome start (λ text. vouchers_in text ≡ Err f)
 unfolding vouchers_from
 fails rem None a b fields rows number f config had read at_number in_file is = tt
 fails rem (Some text) a b fields rows number f config had read at_number in_file is =
@@ -167,8 +189,10 @@ fails rem (Some text) a b fields rows number f config had read at_number in_file
     ∙ ap Err (fault_is f number at_number)
 
 -- no record follows
-pub ends : {R : Type 0} (rem : R → Option (List ℕ)) (start : Option (List ℕ)) (a b : Reader R) (fields : List (List ℕ)) (rows : List VoucherRow) (number : ℕ)
-    → reader_config a ≡ default_config → Knows rem start a rows number → ReadRecord rem a b false fields → IfSome start (λ text. vouchers_in text ≡ Ok rows)
+pub ends : {R : Type 0} (rem : R → Option (List ℕ)) (start : Option (List ℕ)) (a b : Reader R)
+    (fields : List (List ℕ)) (rows : List VoucherRow) (number : ℕ)
+    → reader_config a ≡ default_config → Knows rem start a rows number
+    → ReadRecord rem a b false fields → IfSome start (λ text. vouchers_in text ≡ Ok rows)
 unfolding vouchers_from
 ends rem None a b fields rows number config had read = tt
 ends rem (Some text) a b fields rows number config had read =
@@ -178,7 +202,8 @@ ends rem (Some text) a b fields rows number config had read =
     ∙ ap (λ (rs : List (List (List ℕ))). vouchers_from number rs >>= λ rest. Ok (rows ++ rest)) (last over) ∙ ap Ok (append-nil rows)
 
 -- reading stopped at this record
-pub stops : {R : Type 0} (rem : R → Option (List ℕ)) (start : Option (List ℕ)) (a : Reader R) (rows : List VoucherRow) (number : ℕ) → Knows rem start a rows number
+pub stops : {R : Type 0} (rem : R → Option (List ℕ)) (start : Option (List ℕ)) (a : Reader R)
+    (rows : List VoucherRow) (number : ℕ) → Knows rem start a rows number
     → IfSome start (MayStopAt number)
 stops rem None a rows number had = tt
 stops rem (Some text) a rows number had =

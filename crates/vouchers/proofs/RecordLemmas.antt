@@ -49,12 +49,14 @@ step_ends st.AfterQuote c = either EndsBetween (c == 34) _ _ (λ e. absurd (cc e
 step_ends st.InComment c = either EndsBetween (c == 10) _ _ (λ e. absurd (cc e)) (λ e. absurd (cc e))
 step_ends st.AfterCr c = either EndsBetween (c == 10) _ _ (λ e. absurd (cc e)) (start_record_ends c)
 
--- what a record that was read leaves: the reader is between two records, with no more bytes than these
+-- what a record that was read leaves: the reader is between two records, with no more bytes than
+-- these
 abbrev Leaves : ℕ → Option Read → Type 0
 Leaves n None = ⊤
 Leaves n (Some r) = IsBetween r.1 × (length r.2 ≤ n)
 
-ends_here : (b : Bool) (n : ℕ) (f g : List (List ℕ)) (s : State) (rest : List ℕ) (more : Option Read) → (b ≡ true → IsBetween s) → length rest ≤ n → Leaves n more
+ends_here : (b : Bool) (n : ℕ) (f g : List (List ℕ)) (s : State) (rest : List ℕ)
+    (more : Option Read) → (b ≡ true → IsBetween s) → length rest ≤ n → Leaves n more
     → Leaves n (if b then Some (f, s, rest) else more)
 ends_here true n f g s rest more between few later = (between refl, few)
 ends_here false n f g s rest more between few later = later
@@ -64,7 +66,8 @@ leaves_more n m None more h = tt
 leaves_more n m (Some r) more h = (h.0, omega (arith, h.1, more))
 
 -- a record takes no bytes that aren't there
-next_leaves : (s : State) (fields : List (List ℕ)) (f : List ℕ) (xs : List ℕ) → Leaves (length xs) (next_record default_config s fields f xs)
+next_leaves : (s : State) (fields : List (List ℕ)) (f : List ℕ) (xs : List ℕ)
+    → Leaves (length xs) (next_record default_config s fields f xs)
 unfolding next_record
 next_leaves s fields f [] = either (Leaves 0) (ends_at_end s) _ None (tt, omega arith) tt
 next_leaves s fields f (c ∷ xs) =
@@ -83,7 +86,8 @@ starts_between st.InEscape h = absurd h
 starts_between st.InComment h = absurd h
 
 -- one that is taken between two records takes a byte at least
-next_takes : (s : State) (fields : List (List ℕ)) (f : List ℕ) (xs : List ℕ) (r : Read) → IsBetween s → next_record default_config s fields f xs ≡ Some r
+next_takes : (s : State) (fields : List (List ℕ)) (f : List ℕ) (xs : List ℕ) (r : Read)
+    → IsBetween s → next_record default_config s fields f xs ≡ Some r
     → IsBetween r.1 × (length r.2 + 1 ≤ length xs)
 unfolding next_record
 next_takes s fields f [] r h e = absurd (cc (rw (starts_between s h) at e))
@@ -96,7 +100,8 @@ next_takes s fields f (c ∷ xs) r h e =
     (known.0, omega (arith, known.1))
 
 -- so there are no more records than bytes
-reached_few : (s : State) (xs : List ℕ) (rows : List (List (List ℕ))) (s2 : State) (ys : List ℕ) → IsBetween s → Reached default_config s xs rows s2 ys
+reached_few : (s : State) (xs : List ℕ) (rows : List (List (List ℕ))) (s2 : State) (ys : List ℕ)
+    → IsBetween s → Reached default_config s xs rows s2 ys
     → length rows + length ys ≤ length xs
 unfolding Reached
 reached_few s xs [] s2 ys h r = omega (arith, ap length r.1)
@@ -105,8 +110,10 @@ reached_few s xs (row ∷ rows) s2 ys h r =
     let (between, taken) = next_takes s [] [] xs p h here in
     omega (arith, taken, reached_few p.1 p.2 rows s2 ys between more)
 
-reached_records : (m n : ℕ) (s : State) (xs : List ℕ) (rows : List (List (List ℕ))) (s2 : State) (ys : List ℕ) → m ≡ length rows + n
-    → Reached default_config s xs rows s2 ys → records_from default_config m s xs ≡ rows ++ records_from default_config n s2 ys
+reached_records : (m n : ℕ) (s : State) (xs : List ℕ) (rows : List (List (List ℕ))) (s2 : State)
+    (ys : List ℕ) → m ≡ length rows + n
+    → Reached default_config s xs rows s2 ys
+    → records_from default_config m s xs ≡ rows ++ records_from default_config n s2 ys
 unfolding Reached records_from
 reached_records m n s xs [] s2 ys count r = let all : m ≡ n = omega (arith, count) in rw (all, r.0, r.1) refl
 reached_records zero n s xs (row ∷ rows) s2 ys count r = absurd (omega (arith, count))
@@ -114,13 +121,15 @@ reached_records (suc m) n s xs (row ∷ rows) s2 ys count r =
     let (p, here, same, more) = r in
     rw (here, same) (ap (λ (rs : List (List (List ℕ))). p.0 ∷ rs) (reached_records m n p.1 p.2 rows s2 ys (omega (arith, count)) more))
 
-none_left : (n : ℕ) (s : State) (ys : List ℕ) → next_record default_config s [] [] ys ≡ None → records_from default_config n s ys ≡ []
+none_left : (n : ℕ) (s : State) (ys : List ℕ) → next_record default_config s [] [] ys ≡ None
+    → records_from default_config n s ys ≡ []
 unfolding records_from
 none_left zero s ys e = refl
 none_left (suc n) s ys e = rw e refl
 
 -- the records that were reached are the first ones of the text; where none follows they are all
-pub reached_first : (text : List ℕ) (rows : List (List (List ℕ))) (s : State) (ys : List ℕ) → Reached default_config st.StartRecord (strip_bom text) rows s ys
+pub reached_first : (text : List ℕ) (rows : List (List (List ℕ))) (s : State) (ys : List ℕ)
+    → Reached default_config st.StartRecord (strip_bom text) rows s ys
     → (more : List (List (List ℕ))) × (records_in text ≡ rows ++ more) × (next_record default_config s [] [] ys ≡ None → more ≡ [])
 reached_first text rows s ys r =
     let xs = strip_bom text in

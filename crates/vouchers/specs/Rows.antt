@@ -25,7 +25,8 @@ optional_in fault low high (b ∷ bs) = do
   n ← number_in fault low high (b ∷ bs)
   Ok (Some n)
 
--- four fields: a code of 12 digits, 1 to 10^15 micro-units, 1 to 3,650 days or none, a rating group or none
+-- four fields: a code of 12 digits, 1 to 10^15 micro-units, 1 to 3,650 days or none, a rating group
+-- or none
 unfoldable pub voucher_of : List (List ℕ) → Result VoucherRow FaultKind
 voucher_of fields = do
   four ← where_holds (length fields == 4) FieldCount fields

@@ -1,4 +1,5 @@
-//! Files of vouchers: CSV with the header `code,amount,days,scope`, read to rows or to the first fault with its
+//! Files of vouchers: CSV with the header `code,amount,days,scope`, read to rows or to the first
+//! fault with its
 //! record's number.
 #![tactic(auto)]
 

@@ -1,5 +1,7 @@
-//! Files of vouchers: each field at and past its limits, in the first record and in later ones, as CSV writes them; and
-//! readers that fail. What the files say was reckoned by Python's `csv` and the rules of the fields.
+//! Files of vouchers: each field at and past its limits, in the first record and in later ones, as
+//! CSV writes them; and
+//! readers that fail. What the files say was reckoned by Python's `csv` and the rules of the
+//! fields.
 
 use crate::{FaultKind, VoucherFault, VoucherRow, read_vouchers};
 use std::alloc::Global;
@@ -53,7 +55,8 @@ fn outcome<R: Read + Drop>(alloc: Global, reader: R) -> Result<String, Fail> {
     }
 }
 
-/// The file that a case writes: `#` is the header with its line feed, `|` a line feed, `^` a carriage return, `@` a byte
+/// The file that a case writes: `#` is the header with its line feed, `|` a line feed, `^` a
+/// carriage return, `@` a byte
 /// order mark.
 fn file_of(alloc: Global, case: &str) -> Result<String, Fail> {
     let text = case.replace(alloc, "#", "code,amount,days,scope|")?;
@@ -314,7 +317,8 @@ fn outcome_after(alloc: Global, file: &str, calls: u32) -> Result<String, Fail> 
 /// A header of 23 bytes, a voucher of 18, and one of 18 without its line feed.
 const TWO: &str = "code,amount,days,scope\n000000000001,5,1,\n000000000002,70,,3";
 
-/// After which calls the reader fails, and at which record. The end is asked for twice: once for the last voucher, which
+/// After which calls the reader fails, and at which record. The end is asked for twice: once for
+/// the last voucher, which
 /// has no line feed, and once for the record after it.
 const STOPS: [(u32, u32, &str); 5] = [
     (0, 22, "7 at 1"),
