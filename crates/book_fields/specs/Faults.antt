@@ -18,6 +18,7 @@ number_of TiersNotRising = 7
 number_of TooMany = 8
 number_of Memory = 9
 
--- what a call returned, seen by `view`, is what reading gives; want of memory may come in place of it
+-- what a call returned, seen by `view`, is what reading gives; want of memory may come in place of
+-- it
 abbrev pub Gives : {X Y : Type 0} → (X → Y) → Result X BookFault → Result Y BookFault → Type 0
 Gives view returned reading = GivesUnless Memory view returned reading

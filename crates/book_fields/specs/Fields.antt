@@ -1,6 +1,5 @@
--- A value under a key of a table, by its kind and its range. Faults come in the order missing, wrong kind,
--- too many entries, out of range.
--- Source: TOML 1.0; the faults: profile.
+-- A value under a key of a table, by its kind and its range. Faults come in the order missing,
+-- wrong kind, too many entries, out of range. Source: TOML 1.0; the faults: profile.
 use Rattle.std.specs.Prelude.{ℕ, suc, ◌&&◌, List, [], ◌∷◌, Result, nat_le, pos, int_le, unsigned_abs}
 use Rattle.toml.specs.Data.{Data, Items, no_items, item, Members, get_member, as_str, as_integer, as_array, as_table}
 use Rattle.book_fields.specs.declared.fault.BookFault.{BookFault}
@@ -60,5 +59,6 @@ abbrev pub each : {A : Type 0} → (A → Data → Result A BookFault) → A →
 each step so_far ds = steps.each step so_far (item_list ds)
 
 -- the list of what the entries say, each read beside those before it
-abbrev pub collected : {A : Type 0} → (List A → Data → Result A BookFault) → List A → Items → Result (List A) BookFault
+abbrev pub collected : {A : Type 0}
+    → (List A → Data → Result A BookFault) → List A → Items → Result (List A) BookFault
 collected read before ds = steps.collected read before (item_list ds)

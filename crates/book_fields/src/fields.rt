@@ -45,7 +45,8 @@ pub fn number(table: &Table, key: &str, low: u64, high: u64) -> Result<u64, Book
 /// The array under a key, of at most `most` entries.
 #[tactic(auto, using(crate::proofs::Entries::item_count_view), unfolding(crate::specs::Fields::array_of))]
 pub fn array<'a>(table: &'a Table, key: &str, most: usize) -> Result<&'a [Value], BookFault>
-    ensures value { Says (λ v. items_view v.now) result (array_of key.now most (table_view table.now)) }
+    ensures value { Says (λ v. items_view v.now) result
+        (array_of key.now most (table_view table.now)) }
     ensures few { IfOk result (λ v. length v.now ≤ most) }
 {
     let array = member(table, key)?.as_array().ok_or(BookFault::WrongKind)?;
@@ -59,7 +60,8 @@ pub fn array<'a>(table: &'a Table, key: &str, most: usize) -> Result<&'a [Value]
 /// The array under a key, of 1 to `most` entries.
 #[tactic(auto, using(crate::proofs::Entries::item_count_view), unfolding(crate::specs::Fields::filled_array_of))]
 pub fn filled_array<'a>(table: &'a Table, key: &str, most: usize) -> Result<&'a [Value], BookFault>
-    ensures value { Says (λ v. items_view v.now) result (filled_array_of key.now most (table_view table.now)) }
+    ensures value { Says (λ v. items_view v.now) result
+        (filled_array_of key.now most (table_view table.now)) }
     ensures few { IfOk result (λ v. length v.now ≤ most) }
     ensures some { IfOk result (λ v. 1 ≤ length v.now) }
 {

@@ -1,5 +1,5 @@
--- When two requests or two credits are the same, as the program tests it: `same_request` and `same_credit` of the
--- code say that the tests are true exactly of equal values.
+-- When two requests or two credits are the same, as the program tests it: `same_request` and
+-- `same_credit` of the code say that the tests are true exactly of equal values.
 use Rattle.std.specs.Prelude.{Bool}
 use Rattle.commands.specs.declared.request.Request.{Request}
 use Rattle.commands.specs.declared.command.Credit.{Credit}

@@ -96,7 +96,9 @@ refusal_name ScopeUnknown = codes "O7"
 
 -- the one of this name
 abbrev pub all_refusals : List Refusal
-all_refusals = AccountExists ∷ AccountUnknown ∷ VoucherUnknown ∷ VoucherSpent ∷ ContentDiffers ∷ OutOfRange ∷ ScopeUnknown ∷ []
+all_refusals =
+    AccountExists ∷ AccountUnknown ∷ VoucherUnknown ∷ VoucherSpent ∷ ContentDiffers ∷ OutOfRange
+    ∷ ScopeUnknown ∷ []
 
 abbrev pub refusal_named : List ℕ → Option Refusal
 refusal_named name = find (λ r. pointwise nat_eq (refusal_name r) name) all_refusals

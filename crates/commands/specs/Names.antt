@@ -35,7 +35,12 @@ name_of avp.Month = codes "Month"
 
 -- every one of them
 abbrev pub all_avps : List Avp
-all_avps = avp.SessionId ∷ avp.RequestType ∷ avp.RequestNumber ∷ avp.SubscriptionId ∷ avp.SubscriptionIdType ∷ avp.SubscriptionIdData ∷ avp.RequestedAction ∷ avp.Services ∷ avp.RatingGroup ∷ avp.RequestedUnit ∷ avp.UsedUnit ∷ avp.Money ∷ avp.UnitValue ∷ avp.ValueDigits ∷ avp.Exponent ∷ avp.CurrencyCode ∷ avp.Amount ∷ avp.From ∷ avp.Until ∷ avp.Scope ∷ avp.Reference ∷ avp.VoucherCode ∷ avp.Month ∷ []
+all_avps =
+    avp.SessionId ∷ avp.RequestType ∷ avp.RequestNumber ∷ avp.SubscriptionId
+    ∷ avp.SubscriptionIdType ∷ avp.SubscriptionIdData ∷ avp.RequestedAction ∷ avp.Services
+    ∷ avp.RatingGroup ∷ avp.RequestedUnit ∷ avp.UsedUnit ∷ avp.Money ∷ avp.UnitValue
+    ∷ avp.ValueDigits ∷ avp.Exponent ∷ avp.CurrencyCode ∷ avp.Amount ∷ avp.From ∷ avp.Until
+    ∷ avp.Scope ∷ avp.Reference ∷ avp.VoucherCode ∷ avp.Month ∷ []
 
 -- the one of this name
 abbrev pub avp_named : List ℕ → Option Avp

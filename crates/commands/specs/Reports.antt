@@ -33,4 +33,6 @@ tags_differ = all_differ (λ (p q : UsedPart). option_eq same_usage p.change q.c
 
 -- 1 to 4 parts, whose tags differ, each with at most so many units
 abbrev pub is_report : UnitKind → List UsedPart → Bool
-is_report kind parts = nat_le 1 (length parts) && nat_le (length parts) 4 && list_all (λ (p : UsedPart). nat_le p.units.0 (most_units kind)) parts && tags_differ parts
+is_report kind parts =
+    nat_le 1 (length parts) && nat_le (length parts) 4
+    && list_all (λ (p : UsedPart). nat_le p.units.0 (most_units kind)) parts && tags_differ parts

@@ -10,7 +10,9 @@ groups_differ = all_differ (λ (s t : Service). s.group == t.group)
 
 -- an initial request asks for units and reports none, for 1 to 16 services
 abbrev pub are_initial : List Service → Bool
-are_initial ss = nat_le 1 (length ss) && nat_le (length ss) 16 && groups_differ ss && list_all (λ (s : Service). is_some s.requested && is_none s.used) ss
+are_initial ss =
+    nat_le 1 (length ss) && nat_le (length ss) 16 && groups_differ ss
+    && list_all (λ (s : Service). is_some s.requested && is_none s.used) ss
 
 -- an update may ask and may report, for 1 to 16 services
 abbrev pub are_update : List Service → Bool
@@ -18,4 +20,5 @@ are_update ss = nat_le 1 (length ss) && nat_le (length ss) 16 && groups_differ s
 
 -- a termination may report, for at most 16 services
 abbrev pub are_termination : List Service → Bool
-are_termination ss = nat_le (length ss) 16 && groups_differ ss && list_all (λ (s : Service). is_none s.requested) ss
+are_termination ss =
+    nat_le (length ss) 16 && groups_differ ss && list_all (λ (s : Service). is_none s.requested) ss

@@ -3,8 +3,8 @@ ghost use Rattle.std.specs.List.{find};
 ghost use Rattle.std.specs.Cmp.Lexicographic.{pointwise};
 ghost use Rattle.commands.specs.Names.{name_of, avp_named};
 
-/// A member of a request or an operator's body, or a part of a path, that can be at fault: an AVP of RFC 8506 by its
-/// name, or a member of the profile.
+/// A member of a request or an operator's body, or a part of a path, that can be at fault: an AVP
+/// of RFC 8506 by its name, or a member of the profile.
 #[derive(Clone, Copy, Debug, PartialEq, Eq)]
 pub enum Avp {
     SessionId,

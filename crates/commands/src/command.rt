@@ -45,7 +45,8 @@ pub enum Content {
     Credit(Credit),
 }
 
-/// Whether two credits are the same: a credit that comes again with the same content is a repeat (profile).
+/// Whether two credits are the same: a credit that comes again with the same content is a repeat
+/// (profile).
 pub fn same_credit(a: &Credit, b: &Credit) -> bool
     ensures { IsTrue result ↔ (a.now ≡ b.now) }
 {

@@ -1,6 +1,7 @@
 //! The commands of the charging system and their answers, as plain data.
 //!
-//! Each type holds only what a text of the interface can say, so that a text is one value and a value one text.
+//! Each type holds only what a text of the interface can say, so that a text is one value and a
+//! value one text.
 #![tactic(auto)]
 
 mod answer;

@@ -35,7 +35,8 @@ pub const ACCOUNTS: &str = "Accounts";
 
 pub const REFUSAL: &str = "Refusal";
 
-/// Each name and each number is that of one value: what is written is found again, and what is found is written so.
+/// Each name and each number is that of one value: what is written is found again, and what is
+/// found is written so.
 pub fn tables_are_inverse()
     ensures { AreTables }
 {}

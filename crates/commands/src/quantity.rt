@@ -4,8 +4,9 @@ ghost use Rattle.commands.specs.Quantities.{is_quantity};
 use std::marker::Model;
 use units::UnitKind;
 
-/// A number of units of a kind, at least one: up to 4,294,967,295 seconds (CC-Time, RFC 8506 section 8.21), up
-/// to 10^18 octets (CC-Total-Octets, section 8.23) or events (CC-Service-Specific-Units, section 8.26).
+/// A number of units of a kind, at least one: up to 4,294,967,295 seconds (CC-Time, RFC 8506
+/// section 8.21), up to 10^18 octets (CC-Total-Octets, section 8.23) or events
+/// (CC-Service-Specific-Units, section 8.26).
 ///
 /// Contracts see a record of its kind and its units.
 #[derive(Clone, Copy, Debug, PartialEq, Eq)]

@@ -107,8 +107,8 @@ pub struct Event {
     pub requested: Requested,
 }
 
-/// Money that is paid back: 1 to 10^15 micro-units of a currency, by its number from 0 to 999 (CC-Money, RFC 8506
-/// section 8.22; ISO 4217).
+/// Money that is paid back: 1 to 10^15 micro-units of a currency, by its number from 0 to 999
+/// (CC-Money, RFC 8506 section 8.22; ISO 4217).
 ///
 /// Contracts see a record of the micro-units and the currency.
 #[derive(Clone, Copy, Debug, PartialEq, Eq)]
@@ -196,7 +196,8 @@ impl Request {
     }
 }
 
-/// Whether two requests are the same: a request that comes again with the same content is a repeat (profile).
+/// Whether two requests are the same: a request that comes again with the same content is a repeat
+/// (profile).
 #[tactic(auto, using(crate::proofs::Exact::request_exact))]
 pub fn same_request(a: &Request, b: &Request) -> bool
     ensures { IsTrue result ↔ (a.now ≡ b.now) }

@@ -14,7 +14,8 @@ pub enum Requested {
     Units(Quantity),
 }
 
-/// A service of a request, by its rating group (Multiple-Services-Credit-Control, RFC 8506 section 8.16).
+/// A service of a request, by its rating group (Multiple-Services-Credit-Control, RFC 8506 section
+/// 8.16).
 #[derive(Clone, Debug, Drop, PartialEq, Eq)]
 pub struct Service {
     /// Rating-Group (RFC 8506 section 8.29).
@@ -25,7 +26,8 @@ pub struct Service {
     pub used: Option<UsedParts>,
 }
 
-/// The services of an initial request, in its order: 1 to 16, each asks for units and none reports any. No rating group stands twice.
+/// The services of an initial request, in its order: 1 to 16, each asks for units and none reports
+/// any. No rating group stands twice.
 ///
 /// Contracts see the list of services.
 #[derive(Clone, Debug, Drop)]
@@ -63,7 +65,8 @@ impl InitialServices {
     }
 }
 
-/// The services of an update, in its order: 1 to 16, each may ask for units and may report some. No rating group stands twice.
+/// The services of an update, in its order: 1 to 16, each may ask for units and may report some. No
+/// rating group stands twice.
 ///
 /// Contracts see the list of services.
 #[derive(Clone, Debug, Drop)]
@@ -101,7 +104,8 @@ impl UpdateServices {
     }
 }
 
-/// The services of a termination, in its order: at most 16, none asks for units and each may report some. No rating group stands twice.
+/// The services of a termination, in its order: at most 16, none asks for units and each may report
+/// some. No rating group stands twice.
 ///
 /// Contracts see the list of services.
 #[derive(Clone, Debug, Drop)]

@@ -37,8 +37,8 @@ pub fn usage_numbered(number: u64) -> Option<TariffChangeUsage>
     usage_of(&USAGES, number)
 }
 
-/// What a service reports as used (Used-Service-Unit, RFC 8506 section 8.19), in the order of the report: 1 to 4
-/// parts, all in units of one kind, no tag twice and at most one part without a tag.
+/// What a service reports as used (Used-Service-Unit, RFC 8506 section 8.19), in the order of the
+/// report: 1 to 4 parts, all in units of one kind, no tag twice and at most one part without a tag.
 ///
 /// Contracts see a record of the kind and the list of parts.
 #[derive(Clone, Debug, Drop)]
@@ -92,9 +92,11 @@ impl PartialEq for UsedParts {
     ghost use Rattle.units.specs.contracts.blocks.UnitKindEq.TheImpl.Laws.{laws-law as kinds};
     ghost use Rattle.units.specs.contracts.blocks.UsedPartEq.TheImpl.Laws.{laws-law as parts};
 
-    ghost eq = { eq_of_both (on (λ u. u.kind) ⟦<UnitKind as PartialEq>⟧.eq) (on (λ u. u.parts) (pointwise ⟦<UsedPart as PartialEq>⟧.eq)) };
+    ghost eq = { eq_of_both (on (λ u. u.kind) ⟦<UnitKind as PartialEq>⟧.eq)
+        (on (λ u. u.parts) (pointwise ⟦<UsedPart as PartialEq>⟧.eq)) };
 
-    ghost laws = { partial_equiv_from_equiv (and_equiv (on_equiv (λ u. u.kind) kinds) (on_equiv (λ u. u.parts) (lists_equiv parts))) };
+    ghost laws = { partial_equiv_from_equiv
+        (and_equiv (on_equiv (λ u. u.kind) kinds) (on_equiv (λ u. u.parts) (lists_equiv parts))) };
 
     fn eq(&self, other: &UsedParts) -> bool {
         self.kind == other.kind && self.list.as_slice() == other.list.as_slice()
@@ -107,5 +109,6 @@ impl Eq for UsedParts {
     ghost use Rattle.units.specs.contracts.blocks.UnitKindEq.TheImpl.Laws.{laws-law as kinds};
     ghost use Rattle.units.specs.contracts.blocks.UsedPartEq.TheImpl.Laws.{laws-law as parts};
 
-    ghost laws = { and_equiv (on_equiv (λ u. u.kind) kinds) (on_equiv (λ u. u.parts) (lists_equiv parts)) };
+    ghost laws = { and_equiv
+        (on_equiv (λ u. u.kind) kinds) (on_equiv (λ u. u.parts) (lists_equiv parts)) };
 }

@@ -22,7 +22,8 @@ each step so_far [] = Ok so_far
 each step so_far (d ∷ ds) = step so_far d >>= λ more. each step more ds
 
 -- the list of what the entries say, each read beside those before it
-abbrev pub collected : {F A D : Type 0} → (List A → D → Result A F) → List A → List D → Result (List A) F
+abbrev pub collected : {F A D : Type 0}
+    → (List A → D → Result A F) → List A → List D → Result (List A) F
 collected read before ds = each (λ so_far d. read so_far d >>= λ x. Ok (so_far ++ x ∷ [])) before ds
 
 -- what a call returned, seen by `view`, is what reading says
