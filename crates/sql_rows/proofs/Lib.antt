@@ -1,3 +1,4 @@
+pub mod Each
 pub mod Periods
 pub mod PutAccount
 pub mod PutAnswer
@@ -23,3 +24,4 @@ pub mod RemoveHolds
 pub mod Rising
 pub mod Stays
 pub mod Tests
+pub mod Writes

@@ -23,7 +23,7 @@ use Rattle.sqlite.specs.State.{State, ExecutesInside}
 use Rattle.sqlite.proofs.Callers.{IsPlain, command_of}
 use Rattle.sql_tables.specs.Keyed.{key_of, look, same_name}
 use Rattle.sql_tables.specs.Schema.{accounts, book_schema, key_index}
-use Rattle.sql_tables.specs.Statements.{IsBook, Puts, Changes}
+use Rattle.sql_tables.specs.Statements.{Attempts, Changes, HasBook, IsBook, Puts}
 use Rattle.sql_tables.proofs.Casts.{cast_int, cast_null, cast_or_null, cast_or_text}
 use Rattle.sql_tables.proofs.Counted.{counted}
 use Rattle.sql_tables.proofs.Found.{put_tells, is_some_map, apart_if, same_if}
@@ -36,8 +36,8 @@ use Rattle.sql_rows.specs.declared.head.Head.{Head}
 use Rattle.sql_rows.specs.Values.{nat, head_cells, head_values, head_key, head_in, flag_number}
 use Rattle.sql_rows.specs.Content.{Rows, Content, with_account, with_head, rows_in, content_of}
 use Rattle.sql_rows.specs.Makes.{Makes}
-use Rattle.sql_rows.proofs.Stays.{rows_same, meta_kept, head_kept, buckets_kept, counters_kept, sessions_kept}
-use Rattle.sql_rows.proofs.Stays.{groups_kept, holds_kept, answers_kept, charges_kept, vouchers_kept}
+use Rattle.sql_rows.proofs.Stays.{only_changed, rows_turn}
+use Rattle.sql_rows.proofs.Writes.{writes}
 
 abbrev pub put_account_text : List ℕ
 put_account_text =
@@ -100,38 +100,25 @@ module _ (a : List ℕ) (h : Head) where
 
   turns : (old new : Trees) → Changes accounts values old new → length (new 2) ≡ grown old
       → content_of new ≡ with_account a h (content_of old)
-  turns old new c more = λ i. record {
-    meta = meta_kept old new (c.others.0 (omega arith)) i;
-    rows = λ x. account x i;
-    vouchers = λ code. vouchers_kept old new (c.others.1.1.1.1.1.1.1.1.0 (omega arith)) code i;
-    count = (more ∙ ap (λ b. if b then length (old 2) else length (old 2) + 1)
-        (sym (is_some_map head_in (look accounts old (head_key a))))) i;
-  }
-    where
-      account : (x : List ℕ) → rows_in new x ≡ (if same_name a x then with_head h (rows_in old x) else rows_in old x)
-      account x = rows_same (same_name a x) (rows_in new x) (rows_in old x) (with_head h)
-          (put_tells head_in accounts values old new c h (head_told (Text a) h) (head_key x) (same_name a x)
-          (text_last a x))
-          (λ k1. same_if (same_name a x) _ _ (buckets_kept old new (c.others.1.1.0 (omega arith)) x k1))
-          (λ k1 k2. same_if (same_name a x) _ _ (counters_kept old new (c.others.1.1.1.0 (omega arith)) x k1 k2))
-          (λ k1. same_if (same_name a x) _ _ (sessions_kept old new (c.others.1.1.1.1.0 (omega arith)) x k1))
-          (λ k1 k2. same_if (same_name a x) _ _ (groups_kept old new (c.others.1.1.1.1.1.0 (omega arith)) x k1 k2))
-          (λ k1 k2 k3. same_if (same_name a x) _ _ (holds_kept old new (c.others.1.1.1.1.1.1.0 (omega arith)) x k1
-          k2 k3))
-          (λ k1 k2 k3. same_if (same_name a x) _ _ (answers_kept old new (c.others.1.1.1.1.1.1.1.0 (omega arith)) x k1
-          k2 k3))
-          (λ k1. same_if (same_name a x) _ _ (charges_kept old new (c.others.1.1.1.1.1.1.1.1.1.0 (omega arith)) x k1))
+  turns old new c more =
+      only_changed 2 old new c.others
+      ∙ (λ i. record (rows_turn a (content_of old) (with_head h) (λ r. r.head) (λ r f. record r { head = f })
+      (λ r. refl) (λ r. refl) (rows_in new)
+      (λ x. put_tells head_in accounts values old new c h (head_told (Text a) h) (head_key x) (same_name a x)
+      (text_last a x)) i) {
+        count = (more ∙ ap (λ b. if b then length (old 2) else length (old 2) + 1)
+            (sym (is_some_map head_in (look accounts old (head_key a))))) i;
+      })
 
-  pub makes_account : (old new : State) (r : Result ℕ Error) → (IsTrue old.is_open → IsBook old)
-      → OnOk r (ExecutesInside 0 put_account_text values old new r) → OnOk r (Makes (with_account a h) old new)
-  makes_account old new (Err e) book x = tt
-  makes_account old new (Ok count) book x =
-      let p = puts old new (Ok count) book x in
-      record {
+  pub makes_account : (params : Row) → params ≡ values → (old new : State) (r : Result ℕ Error) → HasBook old
+      → Attempts (λ old new. ExecutesInside 0 put_account_text params old new r) old new r
+      → Attempts (Makes (with_account a h)) old new r
+  makes_account = writes put_account_text values (Puts accounts values) (with_account a h) puts
+      (λ old new p. record {
         turns = record { content = turns old.now.trees new.now.trees p.changes p.counts; catalog = p.changes.catalog };
         book = p.book;
         shows = p.shows;
-      }
+      })
 
   -- the parameters, as they are bound
   pub bound_account : (v1 v2 v3 v4 v5 : Value)

@@ -23,7 +23,7 @@ use Rattle.sqlite.specs.State.{State, ExecutesInside}
 use Rattle.sqlite.proofs.Callers.{IsPlain, command_of}
 use Rattle.sql_tables.specs.Keyed.{key_of, look, same_name}
 use Rattle.sql_tables.specs.Schema.{answers, accounts, book_schema, key_index}
-use Rattle.sql_tables.specs.Statements.{IsBook, Puts, Changes}
+use Rattle.sql_tables.specs.Statements.{Attempts, Changes, HasBook, IsBook, Puts}
 use Rattle.sql_tables.proofs.Casts.{cast_int, cast_null, cast_or_null, cast_or_text}
 use Rattle.sql_tables.proofs.Counted.{counted}
 use Rattle.sql_tables.proofs.Found.{put_tells, is_some_map, apart_if, same_if}
@@ -35,8 +35,8 @@ use Rattle.sql_tables.proofs.Upserts.{pick}
 use Rattle.sql_rows.specs.Values.{nat, Kept, answer_values, answer_key, answer_in}
 use Rattle.sql_rows.specs.Content.{Rows, Content, with_rows, with_answer, rows_in, content_of}
 use Rattle.sql_rows.specs.Makes.{Makes}
-use Rattle.sql_rows.proofs.Stays.{rows_same, meta_kept, head_kept, buckets_kept, counters_kept, sessions_kept}
-use Rattle.sql_rows.proofs.Stays.{groups_kept, holds_kept, answers_kept, charges_kept, vouchers_kept}
+use Rattle.sql_rows.proofs.Stays.{only_changed, rows_turn, at_each}
+use Rattle.sql_rows.proofs.Writes.{writes, puts_make}
 
 abbrev pub put_answer_text : List ℕ
 put_answer_text =
@@ -88,45 +88,20 @@ module _ (a : List ℕ) (kind : ℕ) (name : List ℕ) (number : ℕ) (k : Kept)
       put_answer_text terms project 7 6 put_is put_plain values (λ olds new. refl) again unset
       (λ id met r. refl) (λ id met. refl) refl (λ v. refl) (λ id. (refl, (refl, (refl, (refl, tt))))) meets
 
-  tie : (x : List ℕ) (l : ℕ) (t : List ℕ) (m : ℕ) → eq_by_cmp row_cmp (answer_key x l t m)
-      (key_of places (Null ∷ values)) ≡ (same_name a x && (nat_eq kind l && (same_name name t && nat_eq number m)))
-  tie x l t m = text_number_text_number a x kind l name t number m
+  turns : (old new : Trees) → Changes answers values old new
+      → content_of new ≡ with_rows a (with_answer kind name number k) (content_of old)
+  turns old new c =
+      only_changed 14 old new c.others
+      ∙ rows_turn a (content_of old) (with_answer kind name number k) (λ r. r.answers) (λ r f. record r { answers = f }) (λ r. refl)
+      (λ r. refl) (rows_in new) (λ x. at_each (same_name a x) _ _ _ (λ l. at_each (same_name a x) _ _ _ (λ t. at_each (same_name a x) _ _ _ (λ m.
+      put_tells answer_in answers values old new c k refl (answer_key x l t m) (same_name a x && (nat_eq kind l && (same_name name t && nat_eq number m)))
+      (text_number_text_number a x kind l name t number m) ∙ apart_if (same_name a x) (nat_eq kind l && (same_name name t && nat_eq number m)) _ _))))
 
-  turns : (old new : Trees) → Changes answers values old new → content_of new ≡ with_rows a
-      (with_answer kind name number k) (content_of old)
-  turns old new c = λ i. record {
-    meta = meta_kept old new (c.others.0 (omega arith)) i;
-    rows = λ x. account x i;
-    vouchers = λ code. vouchers_kept old new (c.others.1.1.1.1.1.1.1.1.0 (omega arith)) code i;
-    count = length (c.others.1.0 (omega arith) i);
-  }
-    where
-      account : (x : List ℕ) → rows_in new x ≡ (if same_name a x then with_answer kind name number k (rows_in old x)
-          else rows_in old x)
-      account x = rows_same (same_name a x) (rows_in new x) (rows_in old x) (with_answer kind name number k)
-          (same_if (same_name a x) _ _ (head_kept old new (c.others.1.0 (omega arith)) x))
-          (λ k1. same_if (same_name a x) _ _ (buckets_kept old new (c.others.1.1.0 (omega arith)) x k1))
-          (λ k1 k2. same_if (same_name a x) _ _ (counters_kept old new (c.others.1.1.1.0 (omega arith)) x k1 k2))
-          (λ k1. same_if (same_name a x) _ _ (sessions_kept old new (c.others.1.1.1.1.0 (omega arith)) x k1))
-          (λ k1 k2. same_if (same_name a x) _ _ (groups_kept old new (c.others.1.1.1.1.1.0 (omega arith)) x k1 k2))
-          (λ k1 k2 k3. same_if (same_name a x) _ _ (holds_kept old new (c.others.1.1.1.1.1.1.0 (omega arith)) x k1
-          k2 k3))
-          (λ l t m. put_tells answer_in answers values old new c k refl (answer_key x l t m)
-          (same_name a x && (nat_eq kind l && (same_name name t && nat_eq number m))) (tie x l t m)
-          ∙ apart_if (same_name a x) (nat_eq kind l && (same_name name t && nat_eq number m)) _ _)
-          (λ k1. same_if (same_name a x) _ _ (charges_kept old new (c.others.1.1.1.1.1.1.1.1.1.0 (omega arith)) x k1))
-
-  pub makes_answer : (old new : State) (r : Result ℕ Error) → (IsTrue old.is_open → IsBook old)
-      → OnOk r (ExecutesInside 0 put_answer_text values old new r) → OnOk r
-      (Makes (with_rows a (with_answer kind name number k)) old new)
-  makes_answer old new (Err e) book x = tt
-  makes_answer old new (Ok count) book x =
-      let p = puts old new (Ok count) book x in
-      record {
-        turns = record { content = turns old.now.trees new.now.trees p.changes; catalog = p.changes.catalog };
-        book = p.book;
-        shows = p.shows;
-      }
+  pub makes_answer : (params : Row) → params ≡ values → (old new : State) (r : Result ℕ Error) → HasBook old
+      → Attempts (λ old new. ExecutesInside 0 put_answer_text params old new r) old new r
+      → Attempts (Makes (with_rows a (with_answer kind name number k))) old new r
+  makes_answer = writes put_answer_text values (Puts answers values) (with_rows a (with_answer kind name number k)) puts
+      (puts_make answers values (with_rows a (with_answer kind name number k)) turns)
 
   -- the parameters, as they are bound
   pub bound_answer : (v1 v2 v3 v4 v5 v6 : Value)

@@ -24,7 +24,7 @@ use Rattle.sqlite.proofs.Callers.{IsPlain, command_of}
 use Rattle.buckets.specs.Row.{Row as Bucket}
 use Rattle.sql_tables.specs.Keyed.{key_of, look, same_name}
 use Rattle.sql_tables.specs.Schema.{buckets, accounts, book_schema, key_index}
-use Rattle.sql_tables.specs.Statements.{IsBook, Puts, Changes}
+use Rattle.sql_tables.specs.Statements.{Attempts, Changes, HasBook, IsBook, Puts}
 use Rattle.sql_tables.proofs.Casts.{cast_int, cast_null, cast_or_null, cast_or_text}
 use Rattle.sql_tables.proofs.Counted.{counted}
 use Rattle.sql_tables.proofs.Found.{put_tells, is_some_map, apart_if, same_if}
@@ -36,8 +36,8 @@ use Rattle.sql_tables.proofs.Upserts.{pick}
 use Rattle.sql_rows.specs.Values.{nat, bucket_cells, bucket_values, bucket_key, bucket_in}
 use Rattle.sql_rows.specs.Content.{Rows, Content, with_rows, with_bucket, rows_in, content_of}
 use Rattle.sql_rows.specs.Makes.{Makes}
-use Rattle.sql_rows.proofs.Stays.{rows_same, meta_kept, head_kept, buckets_kept, counters_kept, sessions_kept}
-use Rattle.sql_rows.proofs.Stays.{groups_kept, holds_kept, answers_kept, charges_kept, vouchers_kept}
+use Rattle.sql_rows.proofs.Stays.{only_changed, rows_turn, at_each}
+use Rattle.sql_rows.proofs.Writes.{writes, puts_make}
 
 abbrev pub put_bucket_text : List ℕ
 put_bucket_text =
@@ -99,45 +99,20 @@ module _ (a : List ℕ) (b : Bucket) where
       put_bucket_text terms project 11 10 put_is put_plain values (λ olds new. refl) again unset
       (λ id met r. refl) (λ id met. refl) refl (λ v. refl) (λ id. (refl, (refl, tt))) meets
 
-  tie : (x : List ℕ) (n : ℕ) → eq_by_cmp row_cmp (bucket_key x n) (key_of places (Null ∷ values)) ≡
-      (same_name a x && (nat_eq b.number n))
-  tie x n = text_number a x b.number n
+  turns : (old new : Trees) → Changes buckets values old new
+      → content_of new ≡ with_rows a (with_bucket b) (content_of old)
+  turns old new c =
+      only_changed 4 old new c.others
+      ∙ rows_turn a (content_of old) (with_bucket b) (λ r. r.buckets) (λ r f. record r { buckets = f }) (λ r. refl)
+      (λ r. refl) (rows_in new) (λ x. at_each (same_name a x) _ _ _ (λ n.
+      put_tells bucket_in buckets values old new c b (bucket_told (Text a) b) (bucket_key x n) (same_name a x && (nat_eq b.number n))
+      (text_number a x b.number n) ∙ apart_if (same_name a x) (nat_eq b.number n) _ _))
 
-  turns : (old new : Trees) → Changes buckets values old new → content_of new ≡ with_rows a (with_bucket b)
-      (content_of old)
-  turns old new c = λ i. record {
-    meta = meta_kept old new (c.others.0 (omega arith)) i;
-    rows = λ x. account x i;
-    vouchers = λ code. vouchers_kept old new (c.others.1.1.1.1.1.1.1.1.0 (omega arith)) code i;
-    count = length (c.others.1.0 (omega arith) i);
-  }
-    where
-      account : (x : List ℕ) → rows_in new x ≡ (if same_name a x then with_bucket b (rows_in old x) else rows_in old x)
-      account x = rows_same (same_name a x) (rows_in new x) (rows_in old x) (with_bucket b)
-          (same_if (same_name a x) _ _ (head_kept old new (c.others.1.0 (omega arith)) x))
-          (λ n. put_tells bucket_in buckets values old new c b (bucket_told (Text a) b) (bucket_key x n)
-          (same_name a x && (nat_eq b.number n)) (tie x n)
-          ∙ apart_if (same_name a x) (nat_eq b.number n) _ _)
-          (λ k1 k2. same_if (same_name a x) _ _ (counters_kept old new (c.others.1.1.1.0 (omega arith)) x k1 k2))
-          (λ k1. same_if (same_name a x) _ _ (sessions_kept old new (c.others.1.1.1.1.0 (omega arith)) x k1))
-          (λ k1 k2. same_if (same_name a x) _ _ (groups_kept old new (c.others.1.1.1.1.1.0 (omega arith)) x k1 k2))
-          (λ k1 k2 k3. same_if (same_name a x) _ _ (holds_kept old new (c.others.1.1.1.1.1.1.0 (omega arith)) x k1
-          k2 k3))
-          (λ k1 k2 k3. same_if (same_name a x) _ _ (answers_kept old new (c.others.1.1.1.1.1.1.1.0 (omega arith)) x k1
-          k2 k3))
-          (λ k1. same_if (same_name a x) _ _ (charges_kept old new (c.others.1.1.1.1.1.1.1.1.1.0 (omega arith)) x k1))
-
-  pub makes_bucket : (old new : State) (r : Result ℕ Error) → (IsTrue old.is_open → IsBook old)
-      → OnOk r (ExecutesInside 0 put_bucket_text values old new r) → OnOk r
-      (Makes (with_rows a (with_bucket b)) old new)
-  makes_bucket old new (Err e) book x = tt
-  makes_bucket old new (Ok count) book x =
-      let p = puts old new (Ok count) book x in
-      record {
-        turns = record { content = turns old.now.trees new.now.trees p.changes; catalog = p.changes.catalog };
-        book = p.book;
-        shows = p.shows;
-      }
+  pub makes_bucket : (params : Row) → params ≡ values → (old new : State) (r : Result ℕ Error) → HasBook old
+      → Attempts (λ old new. ExecutesInside 0 put_bucket_text params old new r) old new r
+      → Attempts (Makes (with_rows a (with_bucket b))) old new r
+  makes_bucket = writes put_bucket_text values (Puts buckets values) (with_rows a (with_bucket b)) puts
+      (puts_make buckets values (with_rows a (with_bucket b)) turns)
 
   -- the parameters, as they are bound
   pub bound_bucket : (v1 v2 v3 v4 v5 v6 v7 v8 v9 v10 : Value)

@@ -24,7 +24,7 @@ use Rattle.sqlite.proofs.Callers.{IsPlain, command_of}
 use Rattle.reserving.specs.declared.charge.ChargeRow.{ChargeRow}
 use Rattle.sql_tables.specs.Keyed.{key_of, look, same_name}
 use Rattle.sql_tables.specs.Schema.{charges, accounts, book_schema, key_index}
-use Rattle.sql_tables.specs.Statements.{IsBook, Puts, Changes}
+use Rattle.sql_tables.specs.Statements.{Attempts, Changes, HasBook, IsBook, Puts}
 use Rattle.sql_tables.proofs.Casts.{cast_int, cast_null, cast_or_null, cast_or_text}
 use Rattle.sql_tables.proofs.Counted.{counted}
 use Rattle.sql_tables.proofs.Found.{put_tells, is_some_map, apart_if, same_if}
@@ -36,8 +36,8 @@ use Rattle.sql_tables.proofs.Upserts.{pick}
 use Rattle.sql_rows.specs.Values.{nat, charge_values, charge_key, charge_in}
 use Rattle.sql_rows.specs.Content.{Rows, Content, with_rows, with_charge, rows_in, content_of}
 use Rattle.sql_rows.specs.Makes.{Makes}
-use Rattle.sql_rows.proofs.Stays.{rows_same, meta_kept, head_kept, buckets_kept, counters_kept, sessions_kept}
-use Rattle.sql_rows.proofs.Stays.{groups_kept, holds_kept, answers_kept, charges_kept, vouchers_kept}
+use Rattle.sql_rows.proofs.Stays.{only_changed, rows_turn, at_each}
+use Rattle.sql_rows.proofs.Writes.{writes, puts_make}
 
 abbrev pub put_charge_text : List ℕ
 put_charge_text =
@@ -92,46 +92,20 @@ module _ (a : List ℕ) (row : ChargeRow) where
       put_charge_text terms project 10 9 put_is put_plain values (λ olds new. refl) again unset
       (λ id met r. refl) (λ id met. refl) refl (λ v. refl) (λ id. (refl, (refl, tt))) meets
 
-  tie : (x : List ℕ) (n : ℕ) → eq_by_cmp row_cmp (charge_key x n) (key_of places (Null ∷ values)) ≡
-      (same_name a x && (nat_eq row.number n))
-  tie x n = text_number a x row.number n
+  turns : (old new : Trees) → Changes charges values old new
+      → content_of new ≡ with_rows a (with_charge row) (content_of old)
+  turns old new c =
+      only_changed 18 old new c.others
+      ∙ rows_turn a (content_of old) (with_charge row) (λ r. r.charges) (λ r f. record r { charges = f }) (λ r. refl)
+      (λ r. refl) (rows_in new) (λ x. at_each (same_name a x) _ _ _ (λ n.
+      put_tells charge_in charges values old new c row refl (charge_key x n) (same_name a x && (nat_eq row.number n))
+      (text_number a x row.number n) ∙ apart_if (same_name a x) (nat_eq row.number n) _ _))
 
-  turns : (old new : Trees) → Changes charges values old new → content_of new ≡ with_rows a (with_charge row)
-      (content_of old)
-  turns old new c = λ i. record {
-    meta = meta_kept old new (c.others.0 (omega arith)) i;
-    rows = λ x. account x i;
-    vouchers = λ code. vouchers_kept old new (c.others.1.1.1.1.1.1.1.1.0 (omega arith)) code i;
-    count = length (c.others.1.0 (omega arith) i);
-  }
-    where
-      account : (x : List ℕ) → rows_in new x ≡ (if same_name a x then with_charge row (rows_in old x) else rows_in
-          old x)
-      account x = rows_same (same_name a x) (rows_in new x) (rows_in old x) (with_charge row)
-          (same_if (same_name a x) _ _ (head_kept old new (c.others.1.0 (omega arith)) x))
-          (λ k1. same_if (same_name a x) _ _ (buckets_kept old new (c.others.1.1.0 (omega arith)) x k1))
-          (λ k1 k2. same_if (same_name a x) _ _ (counters_kept old new (c.others.1.1.1.0 (omega arith)) x k1 k2))
-          (λ k1. same_if (same_name a x) _ _ (sessions_kept old new (c.others.1.1.1.1.0 (omega arith)) x k1))
-          (λ k1 k2. same_if (same_name a x) _ _ (groups_kept old new (c.others.1.1.1.1.1.0 (omega arith)) x k1 k2))
-          (λ k1 k2 k3. same_if (same_name a x) _ _ (holds_kept old new (c.others.1.1.1.1.1.1.0 (omega arith)) x k1
-          k2 k3))
-          (λ k1 k2 k3. same_if (same_name a x) _ _ (answers_kept old new (c.others.1.1.1.1.1.1.1.0 (omega arith)) x k1
-          k2 k3))
-          (λ n. put_tells charge_in charges values old new c row refl (charge_key x n)
-          (same_name a x && (nat_eq row.number n)) (tie x n)
-          ∙ apart_if (same_name a x) (nat_eq row.number n) _ _)
-
-  pub makes_charge : (old new : State) (r : Result ℕ Error) → (IsTrue old.is_open → IsBook old)
-      → OnOk r (ExecutesInside 0 put_charge_text values old new r) → OnOk r
-      (Makes (with_rows a (with_charge row)) old new)
-  makes_charge old new (Err e) book x = tt
-  makes_charge old new (Ok count) book x =
-      let p = puts old new (Ok count) book x in
-      record {
-        turns = record { content = turns old.now.trees new.now.trees p.changes; catalog = p.changes.catalog };
-        book = p.book;
-        shows = p.shows;
-      }
+  pub makes_charge : (params : Row) → params ≡ values → (old new : State) (r : Result ℕ Error) → HasBook old
+      → Attempts (λ old new. ExecutesInside 0 put_charge_text params old new r) old new r
+      → Attempts (Makes (with_rows a (with_charge row))) old new r
+  makes_charge = writes put_charge_text values (Puts charges values) (with_rows a (with_charge row)) puts
+      (puts_make charges values (with_rows a (with_charge row)) turns)
 
   -- the parameters, as they are bound
   pub bound_charge : (v1 v2 v3 v4 v5 v6 v7 v8 v9 : Value)

@@ -24,7 +24,7 @@ use Rattle.sqlite.proofs.Callers.{IsPlain, command_of}
 use Rattle.reserving.specs.declared.session.Counter.{Counter}
 use Rattle.sql_tables.specs.Keyed.{key_of, look, same_name}
 use Rattle.sql_tables.specs.Schema.{counters, accounts, book_schema, key_index}
-use Rattle.sql_tables.specs.Statements.{IsBook, Puts, Changes}
+use Rattle.sql_tables.specs.Statements.{Attempts, Changes, HasBook, IsBook, Puts}
 use Rattle.sql_tables.proofs.Casts.{cast_int, cast_null, cast_or_null, cast_or_text}
 use Rattle.sql_tables.proofs.Counted.{counted}
 use Rattle.sql_tables.proofs.Found.{put_tells, is_some_map, apart_if, same_if}
@@ -36,8 +36,8 @@ use Rattle.sql_tables.proofs.Upserts.{pick}
 use Rattle.sql_rows.specs.Values.{nat, counter_values, counter_key, counter_in}
 use Rattle.sql_rows.specs.Content.{Rows, Content, with_rows, with_counter, rows_in, content_of}
 use Rattle.sql_rows.specs.Makes.{Makes}
-use Rattle.sql_rows.proofs.Stays.{rows_same, meta_kept, head_kept, buckets_kept, counters_kept, sessions_kept}
-use Rattle.sql_rows.proofs.Stays.{groups_kept, holds_kept, answers_kept, charges_kept, vouchers_kept}
+use Rattle.sql_rows.proofs.Stays.{only_changed, rows_turn, at_each}
+use Rattle.sql_rows.proofs.Writes.{writes, puts_make}
 
 abbrev pub put_counter_text : List ℕ
 put_counter_text =
@@ -88,45 +88,20 @@ module _ (a : List ℕ) (k : Counter) where
       put_counter_text terms project 5 4 put_is put_plain values (λ olds new. refl) again unset
       (λ id met r. refl) (λ id met. refl) refl (λ v. refl) (λ id. (refl, (refl, (refl, tt)))) meets
 
-  tie : (x : List ℕ) (g y : ℕ) → eq_by_cmp row_cmp (counter_key x g y) (key_of places (Null ∷ values)) ≡
-      (same_name a x && (nat_eq k.group g && nat_eq k.cycle y))
-  tie x g y = text_number_number a x k.group g k.cycle y
+  turns : (old new : Trees) → Changes counters values old new
+      → content_of new ≡ with_rows a (with_counter k) (content_of old)
+  turns old new c =
+      only_changed 6 old new c.others
+      ∙ rows_turn a (content_of old) (with_counter k) (λ r. r.counters) (λ r f. record r { counters = f }) (λ r. refl)
+      (λ r. refl) (rows_in new) (λ x. at_each (same_name a x) _ _ _ (λ g. at_each (same_name a x) _ _ _ (λ y.
+      put_tells counter_in counters values old new c k refl (counter_key x g y) (same_name a x && (nat_eq k.group g && nat_eq k.cycle y))
+      (text_number_number a x k.group g k.cycle y) ∙ apart_if (same_name a x) (nat_eq k.group g && nat_eq k.cycle y) _ _)))
 
-  turns : (old new : Trees) → Changes counters values old new → content_of new ≡ with_rows a (with_counter k)
-      (content_of old)
-  turns old new c = λ i. record {
-    meta = meta_kept old new (c.others.0 (omega arith)) i;
-    rows = λ x. account x i;
-    vouchers = λ code. vouchers_kept old new (c.others.1.1.1.1.1.1.1.1.0 (omega arith)) code i;
-    count = length (c.others.1.0 (omega arith) i);
-  }
-    where
-      account : (x : List ℕ) → rows_in new x ≡ (if same_name a x then with_counter k (rows_in old x) else rows_in old x)
-      account x = rows_same (same_name a x) (rows_in new x) (rows_in old x) (with_counter k)
-          (same_if (same_name a x) _ _ (head_kept old new (c.others.1.0 (omega arith)) x))
-          (λ k1. same_if (same_name a x) _ _ (buckets_kept old new (c.others.1.1.0 (omega arith)) x k1))
-          (λ g y. put_tells counter_in counters values old new c k refl (counter_key x g y)
-          (same_name a x && (nat_eq k.group g && nat_eq k.cycle y)) (tie x g y)
-          ∙ apart_if (same_name a x) (nat_eq k.group g && nat_eq k.cycle y) _ _)
-          (λ k1. same_if (same_name a x) _ _ (sessions_kept old new (c.others.1.1.1.1.0 (omega arith)) x k1))
-          (λ k1 k2. same_if (same_name a x) _ _ (groups_kept old new (c.others.1.1.1.1.1.0 (omega arith)) x k1 k2))
-          (λ k1 k2 k3. same_if (same_name a x) _ _ (holds_kept old new (c.others.1.1.1.1.1.1.0 (omega arith)) x k1
-          k2 k3))
-          (λ k1 k2 k3. same_if (same_name a x) _ _ (answers_kept old new (c.others.1.1.1.1.1.1.1.0 (omega arith)) x k1
-          k2 k3))
-          (λ k1. same_if (same_name a x) _ _ (charges_kept old new (c.others.1.1.1.1.1.1.1.1.1.0 (omega arith)) x k1))
-
-  pub makes_counter : (old new : State) (r : Result ℕ Error) → (IsTrue old.is_open → IsBook old)
-      → OnOk r (ExecutesInside 0 put_counter_text values old new r) → OnOk r
-      (Makes (with_rows a (with_counter k)) old new)
-  makes_counter old new (Err e) book x = tt
-  makes_counter old new (Ok count) book x =
-      let p = puts old new (Ok count) book x in
-      record {
-        turns = record { content = turns old.now.trees new.now.trees p.changes; catalog = p.changes.catalog };
-        book = p.book;
-        shows = p.shows;
-      }
+  pub makes_counter : (params : Row) → params ≡ values → (old new : State) (r : Result ℕ Error) → HasBook old
+      → Attempts (λ old new. ExecutesInside 0 put_counter_text params old new r) old new r
+      → Attempts (Makes (with_rows a (with_counter k))) old new r
+  makes_counter = writes put_counter_text values (Puts counters values) (with_rows a (with_counter k)) puts
+      (puts_make counters values (with_rows a (with_counter k)) turns)
 
   -- the parameters, as they are bound
   pub bound_counter : (v1 v2 v3 v4 : Value)

@@ -23,7 +23,7 @@ use Rattle.sqlite.specs.State.{State, ExecutesInside}
 use Rattle.sqlite.proofs.Callers.{IsPlain, command_of}
 use Rattle.sql_tables.specs.Keyed.{key_of, look, same_name}
 use Rattle.sql_tables.specs.Schema.{meta, accounts, book_schema, key_index}
-use Rattle.sql_tables.specs.Statements.{IsBook, Puts, Changes}
+use Rattle.sql_tables.specs.Statements.{Attempts, Changes, HasBook, IsBook, Puts}
 use Rattle.sql_tables.proofs.Casts.{cast_int, cast_null, cast_or_null, cast_or_text}
 use Rattle.sql_tables.proofs.Counted.{counted}
 use Rattle.sql_tables.proofs.Found.{put_tells, is_some_map, apart_if, same_if}
@@ -35,8 +35,8 @@ use Rattle.sql_tables.proofs.Upserts.{pick}
 use Rattle.sql_rows.specs.Values.{nat, Meta, meta_values, meta_key, meta_in}
 use Rattle.sql_rows.specs.Content.{Rows, Content, with_meta, rows_in, content_of}
 use Rattle.sql_rows.specs.Makes.{Makes}
-use Rattle.sql_rows.proofs.Stays.{rows_same, meta_kept, head_kept, buckets_kept, counters_kept, sessions_kept}
-use Rattle.sql_rows.proofs.Stays.{groups_kept, holds_kept, answers_kept, charges_kept, vouchers_kept}
+use Rattle.sql_rows.proofs.Stays.{only_changed}
+use Rattle.sql_rows.proofs.Writes.{writes, puts_make}
 
 abbrev pub put_meta_text : List ℕ
 put_meta_text =
@@ -88,32 +88,15 @@ module _ (m : Meta) where
       (λ id met r. refl) (λ id met. refl) refl (λ v. refl) (λ id. (refl, tt)) meets
 
   turns : (old new : Trees) → Changes meta values old new → content_of new ≡ with_meta m (content_of old)
-  turns old new c = λ i. record {
+  turns old new c = only_changed 0 old new c.others ∙ (λ i. record (content_of old) {
     meta = put_tells meta_in meta values old new c m refl meta_key true (number_last 1 1) i;
-    rows = λ x. record {
-      head = head_kept old new (c.others.1.0 (omega arith)) x i;
-      buckets = λ k1. buckets_kept old new (c.others.1.1.0 (omega arith)) x k1 i;
-      counters = λ k1 k2. counters_kept old new (c.others.1.1.1.0 (omega arith)) x k1 k2 i;
-      sessions = λ k1. sessions_kept old new (c.others.1.1.1.1.0 (omega arith)) x k1 i;
-      groups = λ k1 k2. groups_kept old new (c.others.1.1.1.1.1.0 (omega arith)) x k1 k2 i;
-      holds = λ k1 k2 k3. holds_kept old new (c.others.1.1.1.1.1.1.0 (omega arith)) x k1 k2 k3 i;
-      answers = λ k1 k2 k3. answers_kept old new (c.others.1.1.1.1.1.1.1.0 (omega arith)) x k1 k2 k3 i;
-      charges = λ k1. charges_kept old new (c.others.1.1.1.1.1.1.1.1.1.0 (omega arith)) x k1 i;
-    };
-    vouchers = λ code. vouchers_kept old new (c.others.1.1.1.1.1.1.1.1.0 (omega arith)) code i;
-    count = length (c.others.1.0 (omega arith) i);
-  }
+  })
 
-  pub makes_meta : (old new : State) (r : Result ℕ Error) → (IsTrue old.is_open → IsBook old)
-      → OnOk r (ExecutesInside 0 put_meta_text values old new r) → OnOk r (Makes (with_meta m) old new)
-  makes_meta old new (Err e) book x = tt
-  makes_meta old new (Ok count) book x =
-      let p = puts old new (Ok count) book x in
-      record {
-        turns = record { content = turns old.now.trees new.now.trees p.changes; catalog = p.changes.catalog };
-        book = p.book;
-        shows = p.shows;
-      }
+  pub makes_meta : (params : Row) → params ≡ values → (old new : State) (r : Result ℕ Error) → HasBook old
+      → Attempts (λ old new. ExecutesInside 0 put_meta_text params old new r) old new r
+      → Attempts (Makes (with_meta m)) old new r
+  makes_meta = writes put_meta_text values (Puts meta values) (with_meta m) puts
+      (puts_make meta values (with_meta m) turns)
 
   -- the parameters, as they are bound
   pub bound_meta : (v1 v2 v3 v4 : Value)

@@ -26,7 +26,7 @@ use Rattle.reserving.specs.declared.session.SessionState.{SessionState}
 use Rattle.reserving.specs.declared.session.SessionState.TheVariants.{Open, Ended, NeverOpened}
 use Rattle.sql_tables.specs.Keyed.{key_of, look, same_name}
 use Rattle.sql_tables.specs.Schema.{sessions, accounts, book_schema, key_index}
-use Rattle.sql_tables.specs.Statements.{IsBook, Puts, Changes}
+use Rattle.sql_tables.specs.Statements.{Attempts, Changes, HasBook, IsBook, Puts}
 use Rattle.sql_tables.proofs.Casts.{cast_int, cast_null, cast_or_null, cast_or_text}
 use Rattle.sql_tables.proofs.Counted.{counted}
 use Rattle.sql_tables.proofs.Found.{put_tells, is_some_map, apart_if, same_if}
@@ -38,8 +38,8 @@ use Rattle.sql_tables.proofs.Upserts.{pick}
 use Rattle.sql_rows.specs.Values.{nat, session_cells, session_values, session_key, session_in, state_number}
 use Rattle.sql_rows.specs.Content.{Rows, Content, with_rows, with_session, rows_in, content_of}
 use Rattle.sql_rows.specs.Makes.{Makes}
-use Rattle.sql_rows.proofs.Stays.{rows_same, meta_kept, head_kept, buckets_kept, counters_kept, sessions_kept}
-use Rattle.sql_rows.proofs.Stays.{groups_kept, holds_kept, answers_kept, charges_kept, vouchers_kept}
+use Rattle.sql_rows.proofs.Stays.{only_changed, rows_turn, at_each}
+use Rattle.sql_rows.proofs.Writes.{writes, puts_make}
 
 abbrev pub put_session_text : List ℕ
 put_session_text =
@@ -99,46 +99,20 @@ module _ (a : List ℕ) (row : Session) where
       put_session_text terms project 6 5 put_is put_plain values (λ olds new. refl) again unset
       (λ id met r. refl) (λ id met. refl) refl (λ v. refl) (λ id. (refl, (refl, tt))) meets
 
-  tie : (x : List ℕ) (s : List ℕ) → eq_by_cmp row_cmp (session_key x s) (key_of places (Null ∷ values)) ≡
-      (same_name a x && (same_name row.id s))
-  tie x s = text_text a x row.id s
+  turns : (old new : Trees) → Changes sessions values old new
+      → content_of new ≡ with_rows a (with_session row) (content_of old)
+  turns old new c =
+      only_changed 8 old new c.others
+      ∙ rows_turn a (content_of old) (with_session row) (λ r. r.sessions) (λ r f. record r { sessions = f }) (λ r. refl)
+      (λ r. refl) (rows_in new) (λ x. at_each (same_name a x) _ _ _ (λ s.
+      put_tells session_in sessions values old new c row (session_told (Text a) row) (session_key x s) (same_name a x && (same_name row.id s))
+      (text_text a x row.id s) ∙ apart_if (same_name a x) (same_name row.id s) _ _))
 
-  turns : (old new : Trees) → Changes sessions values old new → content_of new ≡ with_rows a (with_session row)
-      (content_of old)
-  turns old new c = λ i. record {
-    meta = meta_kept old new (c.others.0 (omega arith)) i;
-    rows = λ x. account x i;
-    vouchers = λ code. vouchers_kept old new (c.others.1.1.1.1.1.1.1.1.0 (omega arith)) code i;
-    count = length (c.others.1.0 (omega arith) i);
-  }
-    where
-      account : (x : List ℕ) → rows_in new x ≡ (if same_name a x then with_session row (rows_in old x) else rows_in
-          old x)
-      account x = rows_same (same_name a x) (rows_in new x) (rows_in old x) (with_session row)
-          (same_if (same_name a x) _ _ (head_kept old new (c.others.1.0 (omega arith)) x))
-          (λ k1. same_if (same_name a x) _ _ (buckets_kept old new (c.others.1.1.0 (omega arith)) x k1))
-          (λ k1 k2. same_if (same_name a x) _ _ (counters_kept old new (c.others.1.1.1.0 (omega arith)) x k1 k2))
-          (λ s. put_tells session_in sessions values old new c row (session_told (Text a) row) (session_key x s)
-          (same_name a x && (same_name row.id s)) (tie x s)
-          ∙ apart_if (same_name a x) (same_name row.id s) _ _)
-          (λ k1 k2. same_if (same_name a x) _ _ (groups_kept old new (c.others.1.1.1.1.1.0 (omega arith)) x k1 k2))
-          (λ k1 k2 k3. same_if (same_name a x) _ _ (holds_kept old new (c.others.1.1.1.1.1.1.0 (omega arith)) x k1
-          k2 k3))
-          (λ k1 k2 k3. same_if (same_name a x) _ _ (answers_kept old new (c.others.1.1.1.1.1.1.1.0 (omega arith)) x k1
-          k2 k3))
-          (λ k1. same_if (same_name a x) _ _ (charges_kept old new (c.others.1.1.1.1.1.1.1.1.1.0 (omega arith)) x k1))
-
-  pub makes_session : (old new : State) (r : Result ℕ Error) → (IsTrue old.is_open → IsBook old)
-      → OnOk r (ExecutesInside 0 put_session_text values old new r) → OnOk r
-      (Makes (with_rows a (with_session row)) old new)
-  makes_session old new (Err e) book x = tt
-  makes_session old new (Ok count) book x =
-      let p = puts old new (Ok count) book x in
-      record {
-        turns = record { content = turns old.now.trees new.now.trees p.changes; catalog = p.changes.catalog };
-        book = p.book;
-        shows = p.shows;
-      }
+  pub makes_session : (params : Row) → params ≡ values → (old new : State) (r : Result ℕ Error) → HasBook old
+      → Attempts (λ old new. ExecutesInside 0 put_session_text params old new r) old new r
+      → Attempts (Makes (with_rows a (with_session row))) old new r
+  makes_session = writes put_session_text values (Puts sessions values) (with_rows a (with_session row)) puts
+      (puts_make sessions values (with_rows a (with_session row)) turns)
 
   -- the parameters, as they are bound
   pub bound_session : (v1 v2 v3 v4 v5 : Value)

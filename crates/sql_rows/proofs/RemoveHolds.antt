@@ -24,7 +24,7 @@ use Rattle.sqlite.specs.State.{State, ExecutesInside}
 use Rattle.sqlite.proofs.Callers.{IsPlain, command_of, statement_of, runs_as}
 use Rattle.sql_tables.specs.Keyed.{key_of, look, same_name}
 use Rattle.sql_tables.specs.Schema.{holds, book_schema}
-use Rattle.sql_tables.specs.Statements.{IsBook, Removes, Ends}
+use Rattle.sql_tables.specs.Statements.{Attempts, Ends, HasBook, IsBook, Removes}
 use Rattle.sql_tables.proofs.Books.{others, stays_stored, catalog_stays}
 use Rattle.sql_tables.proofs.Found.{end_tells, apart_if, same_if}
 use Rattle.sql_tables.proofs.Keys.{text_text_number}
@@ -33,8 +33,8 @@ use Rattle.sql_tables.proofs.Ties.{agree_ties_at}
 use Rattle.sql_rows.specs.Values.{nat, group_key, hold_key, hold_in}
 use Rattle.sql_rows.specs.Content.{Rows, Content, with_rows, without_holds, rows_in, content_of}
 use Rattle.sql_rows.specs.Makes.{Makes}
-use Rattle.sql_rows.proofs.Stays.{rows_same, meta_kept, head_kept, buckets_kept, counters_kept, sessions_kept}
-use Rattle.sql_rows.proofs.Stays.{groups_kept, holds_kept, answers_kept, charges_kept, vouchers_kept}
+use Rattle.sql_rows.proofs.Stays.{only_changed, rows_turn, at_each}
+use Rattle.sql_rows.proofs.Writes.{writes}
 
 abbrev pub remove_holds_text : List ℕ
 remove_holds_text = codes "DELETE FROM holds WHERE account = ?1 AND session = ?2 AND rating_group = ?3"
@@ -96,41 +96,25 @@ module _ (a s : List ℕ) (g : ℕ) where
         shows = h.1;
       }
 
-  turns : (old new : Trees) → Ends holds wanted old new → content_of new ≡ with_rows a (without_holds s g)
-      (content_of old)
-  turns old new c = λ i. record {
-    meta = meta_kept old new (c.others.0 (omega arith)) i;
-    rows = λ x. account x i;
-    vouchers = λ code. vouchers_kept old new (c.others.1.1.1.1.1.1.1.1.0 (omega arith)) code i;
-    count = length (c.others.1.0 (omega arith) i);
-  }
-    where
-      account : (x : List ℕ) → rows_in new x ≡ (if same_name a x then without_holds s g (rows_in old x) else rows_in
-          old x)
-      account x = rows_same (same_name a x) (rows_in new x) (rows_in old x) (without_holds s g)
-          (same_if (same_name a x) _ _ (head_kept old new (c.others.1.0 (omega arith)) x))
-          (λ k1. same_if (same_name a x) _ _ (buckets_kept old new (c.others.1.1.0 (omega arith)) x k1))
-          (λ k1 k2. same_if (same_name a x) _ _ (counters_kept old new (c.others.1.1.1.0 (omega arith)) x k1 k2))
-          (λ k1. same_if (same_name a x) _ _ (sessions_kept old new (c.others.1.1.1.1.0 (omega arith)) x k1))
-          (λ k1 k2. same_if (same_name a x) _ _ (groups_kept old new (c.others.1.1.1.1.1.0 (omega arith)) x k1 k2))
-          (λ t h m. end_tells hold_in holds wanted old new c (hold_key x t h m)
-          (same_name a x && (same_name s t && nat_eq g h)) (text_text_number a x s t g h)
-          ∙ apart_if (same_name a x) (same_name s t && nat_eq g h) _ _)
-          (λ k1 k2 k3. same_if (same_name a x) _ _ (answers_kept old new (c.others.1.1.1.1.1.1.1.0 (omega arith)) x k1
-          k2 k3))
-          (λ k1. same_if (same_name a x) _ _ (charges_kept old new (c.others.1.1.1.1.1.1.1.1.1.0 (omega arith)) x k1))
+  turns : (old new : Trees) → Ends holds wanted old new
+      → content_of new ≡ with_rows a (without_holds s g) (content_of old)
+  turns old new c =
+      only_changed 12 old new c.others
+      ∙ rows_turn a (content_of old) (without_holds s g) (λ r. r.holds) (λ r f. record r { holds = f }) (λ r. refl)
+      (λ r. refl) (rows_in new) (λ x. at_each (same_name a x) _ _ _ (λ t. at_each (same_name a x) _ _ _ (λ h. at_each
+      (same_name a x) _ _ _ (λ m.
+      end_tells hold_in holds wanted old new c (hold_key x t h m) (same_name a x && (same_name s t && nat_eq g h))
+      (text_text_number a x s t g h) ∙ apart_if (same_name a x) (same_name s t && nat_eq g h) _ _))))
 
-  pub makes_none : (old new : State) (r : Result ℕ Error) → (IsTrue old.is_open → IsBook old)
-      → OnOk r (ExecutesInside 0 remove_holds_text wanted old new r) → OnOk r
-      (Makes (with_rows a (without_holds s g)) old new)
-  makes_none old new (Err e) book x = tt
-  makes_none old new (Ok count) book x =
-      let p = removes old new (Ok count) book x in
-      record {
+  pub makes_none : (params : Row) → params ≡ wanted → (old new : State) (r : Result ℕ Error) → HasBook old
+      → Attempts (λ old new. ExecutesInside 0 remove_holds_text params old new r) old new r
+      → Attempts (Makes (with_rows a (without_holds s g))) old new r
+  makes_none = writes remove_holds_text wanted (Removes holds wanted) (with_rows a (without_holds s g)) removes
+      (λ old new p. record {
         turns = record { content = turns old.now.trees new.now.trees p.changes; catalog = p.changes.catalog };
         book = p.book;
         shows = p.shows;
-      }
+      })
 
   -- the parameters, as they are bound
   pub bound_group : (v1 v2 v3 : Value) → v1 ≡ Text a → v2 ≡ Text s → v3 ≡ nat g

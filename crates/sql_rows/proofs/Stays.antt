@@ -1,14 +1,18 @@
 -- What of the content stays where a table stays.
-use Rattle.std.proofs.Common.{◌≡◌, ℕ, List, [], ◌∷◌, Bool, true, false, Some, None, Option, refl, ap}
-use Rattle.std.specs.Prelude.{if◌then◌else◌}
+use Rattle.std.proofs.Common.{◌≡◌, ◌≢◌, ℕ, List, [], ◌∷◌, Bool, true, false, Some, None, Option, length, refl, sym, ap}
+use Rattle.std.proofs.Common.{◌∙◌, eq-eqb}
+use Rattle.std.specs.List.{AllByRecursion}
+use Rattle.std.specs.Prelude.{if◌then◌else◌, ◌==◌}
+use Rattle.sqlite_schema.specs.declared.schema.Table.{Table}
+use Rattle.sql_tables.specs.Keyed.{same_name}
 use Rattle.sqlite_trees.specs.Tree.{Trees}
 use Rattle.sql_tables.specs.Schema.{meta, accounts, buckets, counters, sessions, session_groups, holds, answers}
-use Rattle.sql_tables.specs.Schema.{vouchers, charges}
+use Rattle.sql_tables.specs.Schema.{vouchers, charges, book_schema}
 use Rattle.sql_tables.proofs.Found.{kept_tells}
 use Rattle.sql_rows.specs.Values.{meta_key, head_key, bucket_key, counter_key, session_key, group_key, hold_key}
 use Rattle.sql_rows.specs.Values.{answer_key, voucher_key, charge_key, meta_in, head_in, bucket_in, counter_in}
 use Rattle.sql_rows.specs.Values.{session_in, group_in, hold_in, answer_in, voucher_in, charge_in}
-use Rattle.sql_rows.specs.Content.{Rows, Content, rows_in, content_of}
+use Rattle.sql_rows.specs.Content.{Rows, Content, rows_in, content_of, with_rows}
 
 pub meta_kept : (old new : Trees) → new meta.tree ≡ old meta.tree → (content_of new).meta ≡ (content_of old).meta
 meta_kept old new e = kept_tells meta_in meta old new e meta_key
@@ -49,37 +53,59 @@ pub charges_kept : (old new : Trees) → new charges.tree ≡ old charges.tree �
     (rows_in new x).charges n ≡ (rows_in old x).charges n
 charges_kept old new e x n = kept_tells charge_in charges old new e (charge_key x n)
 
--- an account's rows, field by field
-pub rows_same : (p : Bool) (new old : Rows) (change : Rows → Rows)
-    → (new.head ≡ (if p then (change old).head else old.head))
-    → ((n : ℕ) → new.buckets n ≡ (if p then (change old).buckets n else old.buckets n))
-    → ((g c : ℕ) → new.counters g c ≡ (if p then (change old).counters g c else old.counters g c))
-    → ((s : List ℕ) → new.sessions s ≡ (if p then (change old).sessions s else old.sessions s))
-    → ((s : List ℕ) (g : ℕ) → new.groups s g ≡ (if p then (change old).groups s g else old.groups s g))
-    → ((s : List ℕ) (g n : ℕ) → new.holds s g n ≡ (if p then (change old).holds s g n else old.holds s g n))
-    → ((kind : ℕ) (name : List ℕ) (number : ℕ) → new.answers kind name number ≡
-    (if p then (change old).answers kind name number else old.answers kind name number))
-    → ((n : ℕ) → new.charges n ≡ (if p then (change old).charges n else old.charges n))
-    → new ≡ (if p then change old else old)
-rows_same true new old change h b c s g o a k = λ i. record {
-  head = h i;
-  buckets = λ n. b n i;
-  counters = λ g1 c1.
-      c g1 c1 i;
-  sessions = λ s1. s s1 i;
-  groups = λ s1 g1. g s1 g1 i;
-  holds = λ s1 g1 n. o s1 g1 n i;
-  answers = λ l t m. a l t m i;
-  charges = λ n. k n i;
+-- the trees, but one of them new
+abbrev pub swapped : ℕ → Trees → Trees → Trees
+swapped at old new t = if t == at then new t else old t
+
+is_swapped : (at t : ℕ) (old new : Trees) → (t ≢ at → new t ≡ old t) → new t ≡ swapped at old new t
+is_swapped at t old new same = go (t == at) refl
+  where
+    go : (b : Bool) → (t == at) ≡ b → new t ≡ (if b then new t else old t)
+    go true e = refl
+    go false e = same (λ is. let yes' : (t == at) ≡ true = eq-eqb t at is in let f : true ≡ false = sym yes' ∙ e in cc)
+
+-- where the other tables stay, the content is that of the one that is new
+pub only_changed : (at : ℕ) (old new : Trees)
+    → AllByRecursion (λ (t : Table). t.tree ≢ at → new t.tree ≡ old t.tree) book_schema.tables
+    → content_of new ≡ content_of (swapped at old new)
+only_changed at old new same = λ i. record {
+  meta = meta_kept mix new (is meta same.0) i;
+  rows = λ x. record {
+    head = head_kept mix new (is accounts same.1.0) x i;
+    buckets = λ n. buckets_kept mix new (is buckets same.1.1.0) x n i;
+    counters = λ g c. counters_kept mix new (is counters same.1.1.1.0) x g c i;
+    sessions = λ s. sessions_kept mix new (is sessions same.1.1.1.1.0) x s i;
+    groups = λ s g. groups_kept mix new (is session_groups same.1.1.1.1.1.0) x s g i;
+    holds = λ s g n. holds_kept mix new (is holds same.1.1.1.1.1.1.0) x s g n i;
+    answers = λ l t m. answers_kept mix new (is answers same.1.1.1.1.1.1.1.0) x l t m i;
+    charges = λ n. charges_kept mix new (is charges same.1.1.1.1.1.1.1.1.1.0) x n i;
+  };
+  vouchers = λ code. vouchers_kept mix new (is vouchers same.1.1.1.1.1.1.1.1.0) code i;
+  count = length (is accounts same.1.0 i);
 }
-rows_same false new old change h b c s g o a k = λ i. record {
-  head = h i;
-  buckets = λ n. b n i;
-  counters = λ g1 c1.
-      c g1 c1 i;
-  sessions = λ s1. s s1 i;
-  groups = λ s1 g1. g s1 g1 i;
-  holds = λ s1 g1 n. o s1 g1 n i;
-  answers = λ l t m. a l t m i;
-  charges = λ n. k n i;
+  where
+    mix : Trees
+    mix = swapped at old new
+
+    is : (t : Table) → (t.tree ≢ at → new t.tree ≡ old t.tree) → new t.tree ≡ swapped at old new t.tree
+    is t = is_swapped at t.tree old new
+
+pub at_each : {A B : Type 0} (p : Bool) (f g h : A → B) → ((x : A) → h x ≡ (if p then f x else g x))
+    → h ≡ (if p then f else g)
+at_each true f g h e = λ i x. e x i
+at_each false f g h e = λ i x. e x i
+
+-- a field of one account's rows changes, and no other account's
+pub rows_turn : {F : Type 0} (a : List ℕ) (c : Content) (change : Rows → Rows) (field : Rows → F)
+    (set : Rows → F → Rows) → ((r : Rows) → set r (field r) ≡ r) → ((r : Rows) → set r (field (change r)) ≡ change r)
+    → (rows : List ℕ → Rows)
+    → ((x : List ℕ) → field (rows x) ≡ (if same_name a x then field (change (c.rows x)) else field (c.rows x)))
+    → record c { rows = λ x. set (c.rows x) (field (rows x)) } ≡ with_rows a change c
+rows_turn a c change field set stays changes rows told = λ i. record c {
+  rows = λ x. (ap (set (c.rows x)) (told x) ∙ choose (same_name a x) (c.rows x)) i;
 }
+  where
+    choose : (p : Bool) (r : Rows)
+        → set r (if p then field (change r) else field r) ≡ (if p then change r else r)
+    choose true r = changes r
+    choose false r = stays r

@@ -6,14 +6,15 @@ use Rattle.reserving.specs.declared.session.Session.{Session}
 use Rattle.reserving.specs.declared.charge.ChargeRow.{ChargeRow}
 use Rattle.sql_rows.specs.Content.{Content, with_rows, with_bucket, with_session, with_charge}
 
+abbrev pub with_each : {X : Type 0} → (X → Content → Content) → List X → Content → Content
+with_each change [] c = c
+with_each change (x ∷ xs) c = with_each change xs (change x c)
+
 abbrev pub with_buckets : List ℕ → List Bucket → Content → Content
-with_buckets a [] c = c
-with_buckets a (x ∷ xs) c = with_buckets a xs (with_rows a (with_bucket x) c)
+with_buckets a = with_each (λ x. with_rows a (with_bucket x))
 
 abbrev pub with_sessions : List ℕ → List Session → Content → Content
-with_sessions a [] c = c
-with_sessions a (x ∷ xs) c = with_sessions a xs (with_rows a (with_session x) c)
+with_sessions a = with_each (λ x. with_rows a (with_session x))
 
 abbrev pub with_charges : List ℕ → List ChargeRow → Content → Content
-with_charges a [] c = c
-with_charges a (x ∷ xs) c = with_charges a xs (with_rows a (with_charge x) c)
+with_charges a = with_each (λ x. with_rows a (with_charge x))

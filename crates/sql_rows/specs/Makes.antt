@@ -1,6 +1,6 @@
 -- What a statement does to a connection, told by the content of the tables.
 -- Source: profile.
-use Rattle.std.specs.Prelude.{◌≡◌, true}
+use Rattle.std.specs.Prelude.{◌≡◌, true, IsTrue}
 use Rattle.sqlite_trees.specs.Objects.{catalog_tree}
 use Rattle.sqlite_trees.specs.Tree.{Trees}
 use Rattle.sqlite.specs.State.{State, Shows}
@@ -17,6 +17,10 @@ pub record Makes (change : Content → Content) (old new : State) : Type 0 where
   pub turns : Turns change old.now.trees new.now.trees
   pub book : IsBook new
   pub shows : Shows old new new.now old.committed true
+
+-- where the connection was open: a list of no rows asks nothing of it
+abbrev pub MakesIfOpen : (Content → Content) → State → State → Type 0
+MakesIfOpen change old new = IsTrue old.is_open → Makes change old new
 
 -- the change is committed
 pub record Commits (change : Content → Content) (old new : State) : Type 0 where

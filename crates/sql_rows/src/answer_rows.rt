@@ -1,12 +1,11 @@
-ghost use Rattle.std.specs.Prelude.{◌≡◌, map, option_map, false, IsTrue, IfOk, OnOk, OnErr};
+ghost use Rattle.std.specs.Prelude.{◌≡◌, map, option_map, IfOk};
 ghost use Rattle.sql_rows.specs.Content.{rows_in, with_answer, with_rows};
 ghost use Rattle.sql_rows.specs.Values.{answer_cells, reference_kind, request_kind};
 ghost use Rattle.sql_rows.specs.Texts.{kept_of};
 ghost use Rattle.sql_rows.specs.Makes.{Makes};
-ghost use Rattle.sql_tables.specs.Statements.{HasBook, HasIdleBook, IsStill};
+ghost use Rattle.sql_tables.specs.Statements.{Attempts, HasBook, HasIdleBook, Reads};
 ghost use Rattle.sql_tables.specs.Selects.{one_or_none};
 ghost use Rattle.sqlite.specs.Held.{state};
-ghost use Rattle.sqlite.specs.State.{HasCleanDisk, KeepsCommit, Survives};
 
 use identifiers::{AccountNumber, Reference, SessionId};
 use sql_tables::{ReadFault, has_columns, one_of, read, text, text_at, whole, write};
@@ -21,6 +20,16 @@ pub struct Kept {
     pub answer: String,
 }
 
+/// Puts a row of `answers` in the place of one with its key.
+const PUT_ANSWER: &str = "INSERT INTO answers VALUES (?1, ?2, ?3, ?4, ?5, ?6) \
+    ON CONFLICT (account, kind, name, number) DO UPDATE SET \
+    account = excluded.account, kind = excluded.kind, name = excluded.name, \
+    number = excluded.number, content = excluded.content, answer = excluded.answer";
+
+/// Reads the row of `answers` under a key.
+const READ_ANSWER: &str = "SELECT content, answer FROM answers \
+    WHERE account = ?1 AND kind = ?2 AND name = ?3 AND number = ?4";
+
 /// Puts the texts that are kept of a request under its session and its number.
 pub fn put_answer_request<S: Alter>(
     tx: &mut Transaction<'_, S>,
@@ -32,12 +41,8 @@ pub fn put_answer_request<S: Alter>(
 ) -> Result<usize, Error>
     requires book { HasBook (state S.Store tx.old.conn.now) }
     ensures same_reference { tx.new.conn.ghost_name ≡ tx.old.conn.ghost_name }
-    ensures makes { HasCleanDisk (state S.Store tx.new.conn.now) → OnOk result (
-        Makes (with_rows account.now (with_answer request_kind session.now number (record { content = content.now; answer = answer.now })))
-        (state S.Store tx.old.conn.now) (state S.Store tx.new.conn.now)) }
-    ensures kept { HasCleanDisk (state S.Store tx.new.conn.now) → OnErr result (
-        KeepsCommit (state S.Store tx.old.conn.now) (state S.Store tx.new.conn.now)) }
-    ensures survives { Survives (state S.Store tx.old.conn.now) (state S.Store tx.new.conn.now) (λ _. ⊥) }
+    ensures makes { Attempts (Makes (with_rows account.now (with_answer request_kind session.now number (record { content = content.now; answer = answer.now }))))
+        (state S.Store tx.old.conn.now) (state S.Store tx.new.conn.now) result }
 {
     let of_account = text(account.as_str());
     let kind = whole(1);
@@ -47,10 +52,7 @@ pub fn put_answer_request<S: Alter>(
     let of_answer = text(answer);
     write(
         tx,
-        "INSERT INTO answers VALUES (?1, ?2, ?3, ?4, ?5, ?6) \
-         ON CONFLICT (account, kind, name, number) DO UPDATE SET \
-         account = excluded.account, kind = excluded.kind, name = excluded.name, \
-         number = excluded.number, content = excluded.content, answer = excluded.answer",
+        PUT_ANSWER,
         &[of_account, kind, name, of_number, of_content, of_answer],
     )
 }
@@ -65,12 +67,8 @@ pub fn put_answer_reference<S: Alter>(
 ) -> Result<usize, Error>
     requires book { HasBook (state S.Store tx.old.conn.now) }
     ensures same_reference { tx.new.conn.ghost_name ≡ tx.old.conn.ghost_name }
-    ensures makes { HasCleanDisk (state S.Store tx.new.conn.now) → OnOk result (
-        Makes (with_rows account.now (with_answer reference_kind reference.now 0 (record { content = content.now; answer = answer.now })))
-        (state S.Store tx.old.conn.now) (state S.Store tx.new.conn.now)) }
-    ensures kept { HasCleanDisk (state S.Store tx.new.conn.now) → OnErr result (
-        KeepsCommit (state S.Store tx.old.conn.now) (state S.Store tx.new.conn.now)) }
-    ensures survives { Survives (state S.Store tx.old.conn.now) (state S.Store tx.new.conn.now) (λ _. ⊥) }
+    ensures makes { Attempts (Makes (with_rows account.now (with_answer reference_kind reference.now 0 (record { content = content.now; answer = answer.now }))))
+        (state S.Store tx.old.conn.now) (state S.Store tx.new.conn.now) result }
 {
     let of_account = text(account.as_str());
     let kind = whole(2);
@@ -80,10 +78,7 @@ pub fn put_answer_reference<S: Alter>(
     let of_answer = text(answer);
     write(
         tx,
-        "INSERT INTO answers VALUES (?1, ?2, ?3, ?4, ?5, ?6) \
-         ON CONFLICT (account, kind, name, number) DO UPDATE SET \
-         account = excluded.account, kind = excluded.kind, name = excluded.name, \
-         number = excluded.number, content = excluded.content, answer = excluded.answer",
+        PUT_ANSWER,
         &[of_account, kind, name, number, of_content, of_answer],
     )
 }
@@ -96,24 +91,14 @@ pub fn read_answer_request<S: Alter>(
     number: u32,
 ) -> Result<Option<Kept>, ReadFault>
     requires idle { HasIdleBook (state S.Store conn.old) }
-    ensures found { HasCleanDisk (state S.Store conn.new) → IfOk result (λ o.
-        option_map kept_of o ≡ (rows_in (state S.Store conn.old).now.trees account.now).answers request_kind session.now number) }
-    ensures still { HasCleanDisk (state S.Store conn.new) → IsTrue (state S.Store conn.new).is_open →
-        IsStill (state S.Store conn.old) (state S.Store conn.new) }
-    ensures idle { HasIdleBook (state S.Store conn.new) }
-    ensures cleanness { HasCleanDisk (state S.Store conn.new) → HasCleanDisk (state S.Store conn.old) }
-    ensures mode { conn.old.in_transaction ≡ false → conn.new.in_transaction ≡ false }
+    ensures reads { Reads (λ trees o. option_map kept_of o ≡ (rows_in trees account.now).answers request_kind session.now number)
+        (state S.Store conn.old) (state S.Store conn.new) result }
 {
     let of_account = text(account.as_str());
     let kind = whole(1);
     let name = text(session.as_str());
     let of_number = whole(number);
-    let rows = read(
-        conn,
-        "SELECT content, answer FROM answers \
-         WHERE account = ?1 AND kind = ?2 AND name = ?3 AND number = ?4",
-        &[of_account, kind, name, of_number],
-    )?;
+    let rows = read(conn, READ_ANSWER, &[of_account, kind, name, of_number])?;
     kept_among(&rows)
 }
 
@@ -124,24 +109,14 @@ pub fn read_answer_reference<S: Alter>(
     reference: &Reference,
 ) -> Result<Option<Kept>, ReadFault>
     requires idle { HasIdleBook (state S.Store conn.old) }
-    ensures found { HasCleanDisk (state S.Store conn.new) → IfOk result (λ o.
-        option_map kept_of o ≡ (rows_in (state S.Store conn.old).now.trees account.now).answers reference_kind reference.now 0) }
-    ensures still { HasCleanDisk (state S.Store conn.new) → IsTrue (state S.Store conn.new).is_open →
-        IsStill (state S.Store conn.old) (state S.Store conn.new) }
-    ensures idle { HasIdleBook (state S.Store conn.new) }
-    ensures cleanness { HasCleanDisk (state S.Store conn.new) → HasCleanDisk (state S.Store conn.old) }
-    ensures mode { conn.old.in_transaction ≡ false → conn.new.in_transaction ≡ false }
+    ensures reads { Reads (λ trees o. option_map kept_of o ≡ (rows_in trees account.now).answers reference_kind reference.now 0)
+        (state S.Store conn.old) (state S.Store conn.new) result }
 {
     let of_account = text(account.as_str());
     let kind = whole(2);
     let name = text(reference.as_str());
     let number = whole(0);
-    let rows = read(
-        conn,
-        "SELECT content, answer FROM answers \
-         WHERE account = ?1 AND kind = ?2 AND name = ?3 AND number = ?4",
-        &[of_account, kind, name, number],
-    )?;
+    let rows = read(conn, READ_ANSWER, &[of_account, kind, name, number])?;
     kept_among(&rows)
 }
 

@@ -1,13 +1,13 @@
-ghost use Rattle.std.specs.Prelude.{◌≡◌, map, true, false, IsTrue, IfOk, OnOk, OnErr};
+ghost use Rattle.std.specs.Prelude.{◌≡◌, map, true, IsTrue, IfOk};
 ghost use Rattle.sql_rows.specs.Content.{rows_in, with_bucket, with_rows};
 ghost use Rattle.sql_rows.specs.Values.{bucket_cells};
 ghost use Rattle.sql_rows.specs.Lists.{AreBuckets, is_live};
 ghost use Rattle.sql_rows.specs.Texts.{bucket_row};
 ghost use Rattle.sql_rows.specs.Each.{with_buckets};
-ghost use Rattle.sql_rows.specs.Makes.{Makes};
-ghost use Rattle.sql_tables.specs.Statements.{HasBook, HasIdleBook, IsStill};
+ghost use Rattle.sql_rows.specs.Makes.{Makes, MakesIfOpen};
+ghost use Rattle.sql_tables.specs.Statements.{Attempts, HasBook, HasIdleBook, Reads};
 ghost use Rattle.sqlite.specs.Held.{state};
-ghost use Rattle.sqlite.specs.State.{HasCleanDisk, KeepsCommit, Survives};
+ghost use Rattle.sqlite.specs.State.{HasCleanDisk};
 
 use crate::decoding::moment_at;
 use buckets::Bucket;
@@ -51,12 +51,8 @@ pub fn put_bucket<S: Alter>(
 ) -> Result<usize, Error>
     requires book { HasBook (state S.Store tx.old.conn.now) }
     ensures same_reference { tx.new.conn.ghost_name ≡ tx.old.conn.ghost_name }
-    ensures makes { HasCleanDisk (state S.Store tx.new.conn.now) → OnOk result (
-        Makes (with_rows account.now (with_bucket bucket.now))
-        (state S.Store tx.old.conn.now) (state S.Store tx.new.conn.now)) }
-    ensures kept { HasCleanDisk (state S.Store tx.new.conn.now) → OnErr result (
-        KeepsCommit (state S.Store tx.old.conn.now) (state S.Store tx.new.conn.now)) }
-    ensures survives { Survives (state S.Store tx.old.conn.now) (state S.Store tx.new.conn.now) (λ _. ⊥) }
+    ensures makes { Attempts (Makes (with_rows account.now (with_bucket bucket.now)))
+        (state S.Store tx.old.conn.now) (state S.Store tx.new.conn.now) result }
 {
     let of_account = text(account.as_str());
     let number = whole(bucket.number());
@@ -90,13 +86,8 @@ pub fn read_buckets_live<S: Alter>(
     account: &AccountNumber,
 ) -> Result<Vec<BucketColumns>, ReadFault>
     requires idle { HasIdleBook (state S.Store conn.old) }
-    ensures found { HasCleanDisk (state S.Store conn.new) → IfOk result (λ bs.
-        AreBuckets is_live (rows_in (state S.Store conn.old).now.trees account.now) (map bucket_row bs.items)) }
-    ensures still { HasCleanDisk (state S.Store conn.new) → IsTrue (state S.Store conn.new).is_open →
-        IsStill (state S.Store conn.old) (state S.Store conn.new) }
-    ensures idle { HasIdleBook (state S.Store conn.new) }
-    ensures cleanness { HasCleanDisk (state S.Store conn.new) → HasCleanDisk (state S.Store conn.old) }
-    ensures mode { conn.old.in_transaction ≡ false → conn.new.in_transaction ≡ false }
+    ensures reads { Reads (λ trees bs. AreBuckets is_live (rows_in trees account.now) (map bucket_row bs.items))
+        (state S.Store conn.old) (state S.Store conn.new) result }
 {
     let of_account = text(account.as_str());
     let rows = read(
@@ -115,13 +106,8 @@ pub fn read_buckets_all<S: Alter>(
     account: &AccountNumber,
 ) -> Result<Vec<BucketColumns>, ReadFault>
     requires idle { HasIdleBook (state S.Store conn.old) }
-    ensures found { HasCleanDisk (state S.Store conn.new) → IfOk result (λ bs.
-        AreBuckets (λ b. true) (rows_in (state S.Store conn.old).now.trees account.now) (map bucket_row bs.items)) }
-    ensures still { HasCleanDisk (state S.Store conn.new) → IsTrue (state S.Store conn.new).is_open →
-        IsStill (state S.Store conn.old) (state S.Store conn.new) }
-    ensures idle { HasIdleBook (state S.Store conn.new) }
-    ensures cleanness { HasCleanDisk (state S.Store conn.new) → HasCleanDisk (state S.Store conn.old) }
-    ensures mode { conn.old.in_transaction ≡ false → conn.new.in_transaction ≡ false }
+    ensures reads { Reads (λ trees bs. AreBuckets (λ b. true) (rows_in trees account.now) (map bucket_row bs.items))
+        (state S.Store conn.old) (state S.Store conn.new) result }
 {
     let of_account = text(account.as_str());
     let rows = read(
@@ -182,12 +168,8 @@ pub fn put_buckets<S: Alter>(
         IsTrue (state S.Store tx.old.conn.now).in_transaction }
     requires book { HasBook (state S.Store tx.old.conn.now) }
     ensures same_reference { tx.new.conn.ghost_name ≡ tx.old.conn.ghost_name }
-    ensures makes { HasCleanDisk (state S.Store tx.new.conn.now) → IsTrue (state S.Store tx.old.conn.now).is_open →
-        OnOk result (Makes (with_buckets account.now rows.now)
-        (state S.Store tx.old.conn.now) (state S.Store tx.new.conn.now)) }
-    ensures kept { HasCleanDisk (state S.Store tx.new.conn.now) → OnErr result (
-        KeepsCommit (state S.Store tx.old.conn.now) (state S.Store tx.new.conn.now)) }
-    ensures survives { Survives (state S.Store tx.old.conn.now) (state S.Store tx.new.conn.now) (λ _. ⊥) }
+    ensures makes { Attempts (MakesIfOpen (with_buckets account.now rows.now))
+        (state S.Store tx.old.conn.now) (state S.Store tx.new.conn.now) result }
 {
     'rows: for row in rows {
         put_bucket(tx, account, row)?;

@@ -1,12 +1,12 @@
-ghost use Rattle.std.specs.Prelude.{◌≡◌, map, false, IsTrue, IfOk, OnOk, OnErr};
+ghost use Rattle.std.specs.Prelude.{◌≡◌, map, false, IsTrue, IfOk};
 ghost use Rattle.sql_rows.specs.Content.{rows_in, with_charge, with_rows};
 ghost use Rattle.sql_rows.specs.Values.{charge_cells};
 ghost use Rattle.sql_rows.specs.Lists.{AreCharges, NumbersRise};
 ghost use Rattle.sql_rows.specs.Each.{with_charges};
-ghost use Rattle.sql_rows.specs.Makes.{Makes};
-ghost use Rattle.sql_tables.specs.Statements.{HasBook, HasIdleBook, IsStill};
+ghost use Rattle.sql_rows.specs.Makes.{Makes, MakesIfOpen};
+ghost use Rattle.sql_tables.specs.Statements.{Attempts, HasBook, HasIdleBook, Reads};
 ghost use Rattle.sqlite.specs.Held.{state};
-ghost use Rattle.sqlite.specs.State.{HasCleanDisk, KeepsCommit, Survives};
+ghost use Rattle.sqlite.specs.State.{HasCleanDisk};
 
 use crate::decoding::{moment_at, session_at};
 use identifiers::AccountNumber;
@@ -26,12 +26,8 @@ pub fn put_charge<S: Alter>(
 ) -> Result<usize, Error>
     requires book { HasBook (state S.Store tx.old.conn.now) }
     ensures same_reference { tx.new.conn.ghost_name ≡ tx.old.conn.ghost_name }
-    ensures makes { HasCleanDisk (state S.Store tx.new.conn.now) → OnOk result (
-        Makes (with_rows account.now (with_charge charge.now))
-        (state S.Store tx.old.conn.now) (state S.Store tx.new.conn.now)) }
-    ensures kept { HasCleanDisk (state S.Store tx.new.conn.now) → OnErr result (
-        KeepsCommit (state S.Store tx.old.conn.now) (state S.Store tx.new.conn.now)) }
-    ensures survives { Survives (state S.Store tx.old.conn.now) (state S.Store tx.new.conn.now) (λ _. ⊥) }
+    ensures makes { Attempts (Makes (with_rows account.now (with_charge charge.now)))
+        (state S.Store tx.old.conn.now) (state S.Store tx.new.conn.now) result }
 {
     let of_account = text(account.as_str());
     let number = whole(charge.number);
@@ -71,14 +67,9 @@ pub fn read_charges<S: Alter>(
     account: &AccountNumber,
 ) -> Result<Vec<ChargeRow>, ReadFault>
     requires idle { HasIdleBook (state S.Store conn.old) }
-    ensures found { HasCleanDisk (state S.Store conn.new) → IfOk result (λ xs.
-        AreCharges (rows_in (state S.Store conn.old).now.trees account.now) xs.items) }
+    ensures reads { Reads (λ trees xs. AreCharges (rows_in trees account.now) xs.items)
+        (state S.Store conn.old) (state S.Store conn.new) result }
     ensures order { IfOk result (λ xs. NumbersRise xs.items) }
-    ensures still { HasCleanDisk (state S.Store conn.new) → IsTrue (state S.Store conn.new).is_open →
-        IsStill (state S.Store conn.old) (state S.Store conn.new) }
-    ensures idle { HasIdleBook (state S.Store conn.new) }
-    ensures cleanness { HasCleanDisk (state S.Store conn.new) → HasCleanDisk (state S.Store conn.old) }
-    ensures mode { conn.old.in_transaction ≡ false → conn.new.in_transaction ≡ false }
 {
     let of_account = text(account.as_str());
     let rows = read(
@@ -160,12 +151,8 @@ pub fn put_charges<S: Alter>(
         IsTrue (state S.Store tx.old.conn.now).in_transaction }
     requires book { HasBook (state S.Store tx.old.conn.now) }
     ensures same_reference { tx.new.conn.ghost_name ≡ tx.old.conn.ghost_name }
-    ensures makes { HasCleanDisk (state S.Store tx.new.conn.now) → IsTrue (state S.Store tx.old.conn.now).is_open →
-        OnOk result (Makes (with_charges account.now rows.now)
-        (state S.Store tx.old.conn.now) (state S.Store tx.new.conn.now)) }
-    ensures kept { HasCleanDisk (state S.Store tx.new.conn.now) → OnErr result (
-        KeepsCommit (state S.Store tx.old.conn.now) (state S.Store tx.new.conn.now)) }
-    ensures survives { Survives (state S.Store tx.old.conn.now) (state S.Store tx.new.conn.now) (λ _. ⊥) }
+    ensures makes { Attempts (MakesIfOpen (with_charges account.now rows.now))
+        (state S.Store tx.old.conn.now) (state S.Store tx.new.conn.now) result }
 {
     'rows: for row in rows {
         put_charge(tx, account, row)?;

@@ -1,11 +1,10 @@
-ghost use Rattle.std.specs.Prelude.{◌≡◌, map, false, IsTrue, IfOk, OnOk, OnErr, Some, None};
+ghost use Rattle.std.specs.Prelude.{◌≡◌, map, false, IfOk, Some, None};
 ghost use Rattle.sql_rows.specs.Content.{rows_in, with_group, with_rows};
 ghost use Rattle.sql_rows.specs.Lists.{AreGroups, group_at_cells};
 ghost use Rattle.sql_rows.specs.Texts.{ArePeriods, group_at};
 ghost use Rattle.sql_rows.specs.Makes.{Makes};
-ghost use Rattle.sql_tables.specs.Statements.{HasBook, HasIdleBook, IsStill};
+ghost use Rattle.sql_tables.specs.Statements.{Attempts, HasBook, HasIdleBook, Reads};
 ghost use Rattle.sqlite.specs.Held.{state};
-ghost use Rattle.sqlite.specs.State.{HasCleanDisk, KeepsCommit, Survives};
 
 use crate::decoding::flag_at;
 use identifiers::{AccountNumber, SessionId};
@@ -34,6 +33,14 @@ pub struct GroupColumns {
     pub periods: Option<PeriodNames>,
 }
 
+/// Puts a row of `session_groups` in the place of one with its key.
+const PUT_GROUP: &str = "INSERT INTO session_groups VALUES (?1, ?2, ?3, ?4, ?5, ?6, ?7) \
+    ON CONFLICT (account, session, rating_group) DO UPDATE SET \
+    account = excluded.account, session = excluded.session, \
+    rating_group = excluded.rating_group, used = excluded.used, \
+    reserved = excluded.reserved, period_before = excluded.period_before, \
+    period_after = excluded.period_after";
+
 /// Puts what a session has of a rating group, with a reservation: the units used, and the names of the tariff periods at
 /// the grant and at the switch. What the reservation holds is put by `put_hold`.
 pub fn put_group_reserved<S: Alter>(
@@ -47,15 +54,11 @@ pub fn put_group_reserved<S: Alter>(
 ) -> Result<usize, Error>
     requires book { HasBook (state S.Store tx.old.conn.now) }
     ensures same_reference { tx.new.conn.ghost_name ≡ tx.old.conn.ghost_name }
-    ensures makes { HasCleanDisk (state S.Store tx.new.conn.now) → OnOk result (
-        Makes (with_rows account.now (with_group session.now group (record {
-          used = used;
-          periods = Some (record { before = before.now; after = after.now });
-        })))
-        (state S.Store tx.old.conn.now) (state S.Store tx.new.conn.now)) }
-    ensures kept { HasCleanDisk (state S.Store tx.new.conn.now) → OnErr result (
-        KeepsCommit (state S.Store tx.old.conn.now) (state S.Store tx.new.conn.now)) }
-    ensures survives { Survives (state S.Store tx.old.conn.now) (state S.Store tx.new.conn.now) (λ _. ⊥) }
+    ensures makes { Attempts (Makes (with_rows account.now (with_group session.now group (record {
+      used = used;
+      periods = Some (record { before = before.now; after = after.now });
+    }))))
+        (state S.Store tx.old.conn.now) (state S.Store tx.new.conn.now) result }
 {
     let of_account = text(account.as_str());
     let of_session = text(session.as_str());
@@ -66,12 +69,7 @@ pub fn put_group_reserved<S: Alter>(
     let at_switch = text(after);
     write(
         tx,
-        "INSERT INTO session_groups VALUES (?1, ?2, ?3, ?4, ?5, ?6, ?7) \
-         ON CONFLICT (account, session, rating_group) DO UPDATE SET \
-         account = excluded.account, session = excluded.session, \
-         rating_group = excluded.rating_group, used = excluded.used, \
-         reserved = excluded.reserved, period_before = excluded.period_before, \
-         period_after = excluded.period_after",
+        PUT_GROUP,
         &[
             of_account, of_session, of_group, units, reserved, at_grant, at_switch,
         ],
@@ -88,12 +86,8 @@ pub fn put_group_free<S: Alter>(
 ) -> Result<usize, Error>
     requires book { HasBook (state S.Store tx.old.conn.now) }
     ensures same_reference { tx.new.conn.ghost_name ≡ tx.old.conn.ghost_name }
-    ensures makes { HasCleanDisk (state S.Store tx.new.conn.now) → OnOk result (
-        Makes (with_rows account.now (with_group session.now group (record { used = used; periods = None })))
-        (state S.Store tx.old.conn.now) (state S.Store tx.new.conn.now)) }
-    ensures kept { HasCleanDisk (state S.Store tx.new.conn.now) → OnErr result (
-        KeepsCommit (state S.Store tx.old.conn.now) (state S.Store tx.new.conn.now)) }
-    ensures survives { Survives (state S.Store tx.old.conn.now) (state S.Store tx.new.conn.now) (λ _. ⊥) }
+    ensures makes { Attempts (Makes (with_rows account.now (with_group session.now group (record { used = used; periods = None }))))
+        (state S.Store tx.old.conn.now) (state S.Store tx.new.conn.now) result }
 {
     let of_account = text(account.as_str());
     let of_session = text(session.as_str());
@@ -104,12 +98,7 @@ pub fn put_group_free<S: Alter>(
     let at_switch = null();
     write(
         tx,
-        "INSERT INTO session_groups VALUES (?1, ?2, ?3, ?4, ?5, ?6, ?7) \
-         ON CONFLICT (account, session, rating_group) DO UPDATE SET \
-         account = excluded.account, session = excluded.session, \
-         rating_group = excluded.rating_group, used = excluded.used, \
-         reserved = excluded.reserved, period_before = excluded.period_before, \
-         period_after = excluded.period_after",
+        PUT_GROUP,
         &[
             of_account, of_session, of_group, units, reserved, at_grant, at_switch,
         ],
@@ -124,13 +113,8 @@ pub fn read_groups<S: Alter>(
     session: &SessionId,
 ) -> Result<Vec<GroupColumns>, ReadFault>
     requires idle { HasIdleBook (state S.Store conn.old) }
-    ensures found { HasCleanDisk (state S.Store conn.new) → IfOk result (λ xs.
-        AreGroups (rows_in (state S.Store conn.old).now.trees account.now) session.now (map group_at xs.items)) }
-    ensures still { HasCleanDisk (state S.Store conn.new) → IsTrue (state S.Store conn.new).is_open →
-        IsStill (state S.Store conn.old) (state S.Store conn.new) }
-    ensures idle { HasIdleBook (state S.Store conn.new) }
-    ensures cleanness { HasCleanDisk (state S.Store conn.new) → HasCleanDisk (state S.Store conn.old) }
-    ensures mode { conn.old.in_transaction ≡ false → conn.new.in_transaction ≡ false }
+    ensures reads { Reads (λ trees xs. AreGroups (rows_in trees account.now) session.now (map group_at xs.items))
+        (state S.Store conn.old) (state S.Store conn.new) result }
 {
     let of_account = text(account.as_str());
     let of_session = text(session.as_str());

@@ -1,11 +1,10 @@
-ghost use Rattle.std.specs.Prelude.{◌≡◌, map, false, IsTrue, IfOk, OnOk, OnErr};
+ghost use Rattle.std.specs.Prelude.{◌≡◌, map, IfOk};
 ghost use Rattle.sql_rows.specs.Content.{rows_in, with_hold, with_rows, without_holds};
 ghost use Rattle.sql_rows.specs.Lists.{AreHolds, hold_cells};
 ghost use Rattle.sql_rows.specs.Texts.{hold_at};
 ghost use Rattle.sql_rows.specs.Makes.{Makes};
-ghost use Rattle.sql_tables.specs.Statements.{HasBook, HasIdleBook, IsStill};
+ghost use Rattle.sql_tables.specs.Statements.{Attempts, HasBook, HasIdleBook, Reads};
 ghost use Rattle.sqlite.specs.Held.{state};
-ghost use Rattle.sqlite.specs.State.{HasCleanDisk, KeepsCommit, Survives};
 
 use buckets::Hold;
 use identifiers::{AccountNumber, SessionId};
@@ -34,12 +33,8 @@ pub fn put_hold<S: Alter>(
 ) -> Result<usize, Error>
     requires book { HasBook (state S.Store tx.old.conn.now) }
     ensures same_reference { tx.new.conn.ghost_name ≡ tx.old.conn.ghost_name }
-    ensures makes { HasCleanDisk (state S.Store tx.new.conn.now) → OnOk result (
-        Makes (with_rows account.now (with_hold session.now group hold.now.bucket hold.now.amount))
-        (state S.Store tx.old.conn.now) (state S.Store tx.new.conn.now)) }
-    ensures kept { HasCleanDisk (state S.Store tx.new.conn.now) → OnErr result (
-        KeepsCommit (state S.Store tx.old.conn.now) (state S.Store tx.new.conn.now)) }
-    ensures survives { Survives (state S.Store tx.old.conn.now) (state S.Store tx.new.conn.now) (λ _. ⊥) }
+    ensures makes { Attempts (Makes (with_rows account.now (with_hold session.now group hold.now.bucket hold.now.amount)))
+        (state S.Store tx.old.conn.now) (state S.Store tx.new.conn.now) result }
 {
     let of_account = text(account.as_str());
     let of_session = text(session.as_str());
@@ -65,12 +60,8 @@ pub fn remove_holds<S: Alter>(
 ) -> Result<usize, Error>
     requires book { HasBook (state S.Store tx.old.conn.now) }
     ensures same_reference { tx.new.conn.ghost_name ≡ tx.old.conn.ghost_name }
-    ensures makes { HasCleanDisk (state S.Store tx.new.conn.now) → OnOk result (
-        Makes (with_rows account.now (without_holds session.now group))
-        (state S.Store tx.old.conn.now) (state S.Store tx.new.conn.now)) }
-    ensures kept { HasCleanDisk (state S.Store tx.new.conn.now) → OnErr result (
-        KeepsCommit (state S.Store tx.old.conn.now) (state S.Store tx.new.conn.now)) }
-    ensures survives { Survives (state S.Store tx.old.conn.now) (state S.Store tx.new.conn.now) (λ _. ⊥) }
+    ensures makes { Attempts (Makes (with_rows account.now (without_holds session.now group)))
+        (state S.Store tx.old.conn.now) (state S.Store tx.new.conn.now) result }
 {
     let of_account = text(account.as_str());
     let of_session = text(session.as_str());
@@ -90,13 +81,8 @@ pub fn read_holds<S: Alter>(
     session: &SessionId,
 ) -> Result<Vec<HeldColumns>, ReadFault>
     requires idle { HasIdleBook (state S.Store conn.old) }
-    ensures found { HasCleanDisk (state S.Store conn.new) → IfOk result (λ xs.
-        AreHolds (rows_in (state S.Store conn.old).now.trees account.now) session.now (map hold_at xs.items)) }
-    ensures still { HasCleanDisk (state S.Store conn.new) → IsTrue (state S.Store conn.new).is_open →
-        IsStill (state S.Store conn.old) (state S.Store conn.new) }
-    ensures idle { HasIdleBook (state S.Store conn.new) }
-    ensures cleanness { HasCleanDisk (state S.Store conn.new) → HasCleanDisk (state S.Store conn.old) }
-    ensures mode { conn.old.in_transaction ≡ false → conn.new.in_transaction ≡ false }
+    ensures reads { Reads (λ trees xs. AreHolds (rows_in trees account.now) session.now (map hold_at xs.items))
+        (state S.Store conn.old) (state S.Store conn.new) result }
 {
     let of_account = text(account.as_str());
     let of_session = text(session.as_str());

@@ -1,12 +1,11 @@
-ghost use Rattle.std.specs.Prelude.{◌≡◌, map, option_map, false, IsTrue, IfOk, OnOk, OnErr};
+ghost use Rattle.std.specs.Prelude.{◌≡◌, map, option_map, IfOk};
 ghost use Rattle.sql_rows.specs.Content.{content_of, with_meta};
 ghost use Rattle.sql_rows.specs.Values.{meta_cells};
 ghost use Rattle.sql_rows.specs.Texts.{meta_of};
 ghost use Rattle.sql_rows.specs.Makes.{Makes};
-ghost use Rattle.sql_tables.specs.Statements.{HasBook, HasIdleBook, IsStill};
+ghost use Rattle.sql_tables.specs.Statements.{Attempts, HasBook, HasIdleBook, Reads};
 ghost use Rattle.sql_tables.specs.Selects.{one_or_none};
 ghost use Rattle.sqlite.specs.Held.{state};
-ghost use Rattle.sqlite.specs.State.{HasCleanDisk, KeepsCommit, Survives};
 
 use crate::decoding::moment_at;
 use sql_tables::{
@@ -36,12 +35,8 @@ pub fn put_meta<S: Alter>(
 ) -> Result<usize, Error>
     requires book { HasBook (state S.Store tx.old.conn.now) }
     ensures same_reference { tx.new.conn.ghost_name ≡ tx.old.conn.ghost_name }
-    ensures makes { HasCleanDisk (state S.Store tx.new.conn.now) → OnOk result (
-        Makes (with_meta (record { version = version; book = book.now; last = last }))
-        (state S.Store tx.old.conn.now) (state S.Store tx.new.conn.now)) }
-    ensures kept { HasCleanDisk (state S.Store tx.new.conn.now) → OnErr result (
-        KeepsCommit (state S.Store tx.old.conn.now) (state S.Store tx.new.conn.now)) }
-    ensures survives { Survives (state S.Store tx.old.conn.now) (state S.Store tx.new.conn.now) (λ _. ⊥) }
+    ensures makes { Attempts (Makes (with_meta (record { version = version; book = book.now; last = last })))
+        (state S.Store tx.old.conn.now) (state S.Store tx.new.conn.now) result }
 {
     let id = whole(1);
     let of_version = whole(version);
@@ -60,12 +55,8 @@ pub fn put_meta<S: Alter>(
 /// What is kept once: none where the tables are new.
 pub fn read_meta<S: Alter>(conn: &mut Connection<S>) -> Result<Option<Meta>, ReadFault>
     requires idle { HasIdleBook (state S.Store conn.old) }
-    ensures found { HasCleanDisk (state S.Store conn.new) → IfOk result (λ o. option_map meta_of o ≡ (content_of (state S.Store conn.old).now.trees).meta) }
-    ensures still { HasCleanDisk (state S.Store conn.new) → IsTrue (state S.Store conn.new).is_open →
-        IsStill (state S.Store conn.old) (state S.Store conn.new) }
-    ensures idle { HasIdleBook (state S.Store conn.new) }
-    ensures cleanness { HasCleanDisk (state S.Store conn.new) → HasCleanDisk (state S.Store conn.old) }
-    ensures mode { conn.old.in_transaction ≡ false → conn.new.in_transaction ≡ false }
+    ensures reads { Reads (λ trees o. option_map meta_of o ≡ (content_of trees).meta)
+        (state S.Store conn.old) (state S.Store conn.new) result }
 {
     let rows = read(
         conn,

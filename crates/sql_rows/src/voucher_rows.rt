@@ -1,14 +1,19 @@
-ghost use Rattle.std.specs.Prelude.{◌≡◌, OnOk, OnErr, Some, None};
+ghost use Rattle.std.specs.Prelude.{◌≡◌, Some, None};
 ghost use Rattle.sql_rows.specs.Content.{with_voucher};
 ghost use Rattle.sql_rows.specs.Makes.{Makes};
-ghost use Rattle.sql_tables.specs.Statements.{HasBook};
+ghost use Rattle.sql_tables.specs.Statements.{Attempts, HasBook};
 ghost use Rattle.sqlite.specs.Held.{state};
-ghost use Rattle.sqlite.specs.State.{HasCleanDisk, KeepsCommit, Survives};
 
 use identifiers::AccountNumber;
 use sql_tables::{large, null, optional, text, write};
 use sqlite::{Alter, Error, Transaction};
 use units::Money;
+
+/// Puts a row of `vouchers` in the place of one with its key.
+const PUT_VOUCHER: &str = "INSERT INTO vouchers VALUES (?1, ?2, ?3, ?4, ?5) \
+    ON CONFLICT (code) DO UPDATE SET \
+    code = excluded.code, amount = excluded.amount, days = excluded.days, \
+    scope = excluded.scope, account = excluded.account";
 
 /// Puts a voucher that no account has redeemed: its amount in micro-units, the days that what it gives lasts (none: without
 /// end) and the one rating group that it pays for (none: all).
@@ -21,12 +26,8 @@ pub fn put_voucher_unspent<S: Alter>(
 ) -> Result<usize, Error>
     requires book { HasBook (state S.Store tx.old.conn.now) }
     ensures same_reference { tx.new.conn.ghost_name ≡ tx.old.conn.ghost_name }
-    ensures makes { HasCleanDisk (state S.Store tx.new.conn.now) → OnOk result (
-        Makes (with_voucher code.now (record { amount = amount; days = days; scope = scope; account = None }))
-        (state S.Store tx.old.conn.now) (state S.Store tx.new.conn.now)) }
-    ensures kept { HasCleanDisk (state S.Store tx.new.conn.now) → OnErr result (
-        KeepsCommit (state S.Store tx.old.conn.now) (state S.Store tx.new.conn.now)) }
-    ensures survives { Survives (state S.Store tx.old.conn.now) (state S.Store tx.new.conn.now) (λ _. ⊥) }
+    ensures makes { Attempts (Makes (with_voucher code.now (record { amount = amount; days = days; scope = scope; account = None })))
+        (state S.Store tx.old.conn.now) (state S.Store tx.new.conn.now) result }
 {
     let of_code = text(code);
     let micros = large(amount.micros());
@@ -35,10 +36,7 @@ pub fn put_voucher_unspent<S: Alter>(
     let redeemer = null();
     write(
         tx,
-        "INSERT INTO vouchers VALUES (?1, ?2, ?3, ?4, ?5) \
-         ON CONFLICT (code) DO UPDATE SET \
-         code = excluded.code, amount = excluded.amount, days = excluded.days, \
-         scope = excluded.scope, account = excluded.account",
+        PUT_VOUCHER,
         &[of_code, micros, of_days, of_scope, redeemer],
     )
 }
@@ -54,12 +52,8 @@ pub fn put_voucher_spent<S: Alter>(
 ) -> Result<usize, Error>
     requires book { HasBook (state S.Store tx.old.conn.now) }
     ensures same_reference { tx.new.conn.ghost_name ≡ tx.old.conn.ghost_name }
-    ensures makes { HasCleanDisk (state S.Store tx.new.conn.now) → OnOk result (
-        Makes (with_voucher code.now (record { amount = amount; days = days; scope = scope; account = Some account.now }))
-        (state S.Store tx.old.conn.now) (state S.Store tx.new.conn.now)) }
-    ensures kept { HasCleanDisk (state S.Store tx.new.conn.now) → OnErr result (
-        KeepsCommit (state S.Store tx.old.conn.now) (state S.Store tx.new.conn.now)) }
-    ensures survives { Survives (state S.Store tx.old.conn.now) (state S.Store tx.new.conn.now) (λ _. ⊥) }
+    ensures makes { Attempts (Makes (with_voucher code.now (record { amount = amount; days = days; scope = scope; account = Some account.now })))
+        (state S.Store tx.old.conn.now) (state S.Store tx.new.conn.now) result }
 {
     let of_code = text(code);
     let micros = large(amount.micros());
@@ -68,10 +62,7 @@ pub fn put_voucher_spent<S: Alter>(
     let redeemer = text(account.as_str());
     write(
         tx,
-        "INSERT INTO vouchers VALUES (?1, ?2, ?3, ?4, ?5) \
-         ON CONFLICT (code) DO UPDATE SET \
-         code = excluded.code, amount = excluded.amount, days = excluded.days, \
-         scope = excluded.scope, account = excluded.account",
+        PUT_VOUCHER,
         &[of_code, micros, of_days, of_scope, redeemer],
     )
 }

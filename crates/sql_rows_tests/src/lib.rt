@@ -3,16 +3,4 @@
 #![tactic(auto)]
 
 #[cfg(test)]
-mod answers;
-#[cfg(test)]
-mod bucket_rows;
-#[cfg(test)]
-mod charges;
-#[cfg(test)]
-mod fixtures;
-#[cfg(test)]
-mod groups;
-#[cfg(test)]
-mod money;
-#[cfg(test)]
-mod sessions;
+mod tests;

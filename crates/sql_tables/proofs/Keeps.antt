@@ -1,6 +1,6 @@
 -- What a refusal keeps.
 use Rattle.std.proofs.Common.{◌≡◌, inl, inr, ℕ, List, Option, Some, None, Ok, Err, Result, IfOk, OnOk, OnErr, IsTrue}
-use Rattle.std.proofs.Common.{refl, true, sym, subst, ap, ◌∙◌}
+use Rattle.std.proofs.Common.{refl, true, false, sym, subst, ap, ◌∙◌, arith, ◌≤◌}
 use Rattle.std.specs.Result.{IfErr}
 use Rattle.sqlite_value.specs.Order.{Row}
 use Rattle.sqlite_schema.specs.declared.command.Returning.{Returning}
@@ -11,11 +11,12 @@ use Rattle.sqlite.specs.Listing.{understood}
 use Rattle.sqlite_catalog.specs.Listing.{IsSound}
 use Rattle.sqlite_schema.specs.Rules.{Fits}
 use Rattle.sqlite.specs.State.{State, IsLive, ExecutesInside, KeepsCommit, Shows, IsUnchanged, Shown, ShowsRows}
-use Rattle.sqlite.specs.State.{FailsToQuery, FailsToShow, IsNotRun}
+use Rattle.sqlite.specs.State.{FailsToQuery, FailsToShow, IsNotRun, HasCleanDisk}
+use Rattle.sqlite_trees.specs.View.{doubt}
 use Rattle.sqlite.proofs.Callers.{IsPlain}
 use Rattle.sql_tables.specs.Schema.{book_schema}
 use Rattle.sql_tables.specs.Statements.{Answers, IsBook, Spares, IsIdle, AreStored}
-use Rattle.sql_tables.specs.Statements.{IsStill}
+use Rattle.sql_tables.specs.Statements.{IsStill, HasIdleBook, OnlyReads, Attempts}
 
 keeps : (old new : State) → Spares old new → KeepsCommit old new
 keeps old new (inl u) = record { was_open = λ on. u.0.was_open; committed = λ on. u.0.committed_is }
@@ -39,6 +40,16 @@ spares sql params old new (Err e) (inr h) = inl h.2
 pub on_ok : {A : Type 0} {B : Type 0} (r : Result A Error) → B → OnOk r B
 on_ok (Ok x) h = h
 on_ok (Err e) h = tt
+
+-- what is done, told another way
+pub done_as : {A E : Type 0} (does tells : State → State → Type 0) (old new : State) (r : Result A E)
+    → (HasCleanDisk old → OnOk r (does old new) → OnOk r (tells old new)) → Attempts does old new r
+    → Attempts tells old new r
+done_as does tells old new r how a = record {
+  done = λ clean. how (omega (arith, a.survives.clean, clean)) (a.done clean);
+  kept = a.kept;
+  survives = a.survives;
+}
 
 -- ---- what reading keeps
 
@@ -92,7 +103,7 @@ reads_still items sql params old new (Err e) plain idle ok err on = go (fails_sp
       committed_is = (b.undone on).1;
     }
 
-pub idle_still : (old new : State) → IsIdle old → IsStill old new → IsIdle new
+idle_still : (old new : State) → IsIdle old → IsStill old new → IsIdle new
 idle_still old new idle still = record {
   book = record {
     schema = ap (λ d. d.schema) still.now_is ∙ idle.book.schema;
@@ -101,6 +112,24 @@ idle_still old new idle still = record {
   };
   settled = still.now_is ∙ idle.settled ∙ sym still.committed_is;
 }
+
+pub reads_only : {V : Type 0} (items : V → List Row) (sql : List ℕ) (params : Row) (old new : State)
+    (r : Result V Error) → IsPlain (understood book_schema sql) → HasIdleBook old
+    → doubt old.is_clean ≤ doubt new.is_clean → (old.in_transaction ≡ false → new.in_transaction ≡ false)
+    → (HasCleanDisk new → IfOk r (λ v. Shown sql params old new (items v)))
+    → (HasCleanDisk new → IfErr r (FailsToQuery sql params old new)) → OnlyReads old new
+reads_only items sql params old new r plain idle less mode ok err = record {
+  still = still;
+  idle = λ clean on. let s = still clean on in idle_still old new (idle (cleanness clean) s.was_open) s;
+  cleanness = cleanness;
+  mode = mode;
+}
+  where
+    cleanness : HasCleanDisk new → HasCleanDisk old
+    cleanness clean = omega (arith, less, clean)
+
+    still : HasCleanDisk new → IsTrue new.is_open → IsStill old new
+    still clean on = reads_still items sql params old new r plain (idle (cleanness clean)) (ok clean) (err clean) on
 
 -- ---- the rules of the tables
 

@@ -10,12 +10,13 @@ use Rattle.sqlite.specs.declared.error.Error.{Error}
 use Rattle.sqlite.specs.State.{State, ExecutesInside}
 use Rattle.sql_tables.specs.Keyed.{IsStored}
 use Rattle.sql_tables.specs.Schema.{book_schema}
-use Rattle.sql_tables.specs.Statements.{AreStored, IsBook}
-use Rattle.sql_tables.specs.Stages.{AreEmpty, IsBlank, IsStage, Builds, BuildsAll}
+use Rattle.sql_tables.specs.Statements.{AreStored, IsBook, Attempts}
+use Rattle.sql_tables.specs.Stages.{AreEmpty, HasStage, IsBlank, IsStage, Builds, BuildsAll}
 use Rattle.sqlite.specs.Steps.{IsEmpty}
 use Rattle.sql_tables.specs.Texts.{stage, sessions_state_text}
 use Rattle.sql_tables.proofs.Creates.{IsText, makes}
 use Rattle.sql_tables.proofs.Indexed.{makes_index}
+use Rattle.sql_tables.proofs.Keeps.{done_as}
 
 same_some : {A : Type 0} {x y : A} → ◌≡◌ {A = Option A} (Some x) (Some y) → x ≡ y
 same_some e = cc
@@ -30,13 +31,13 @@ still_empty : (ts : List Table) (old new : Trees) → KeepsRows ts old new → A
 still_empty [] old new kept h = tt
 still_empty (t ∷ ts) old new kept h = (kept.0 ∙ h.0, still_empty ts old new kept.1 h.1)
 
-pub makes_stage : (k : ℕ) (t : Table) (text : List ℕ) → IsText (stage k) (record t { tree = 0 }) text
+builds_stage : (k : ℕ) (t : Table) (text : List ℕ) → IsText (stage k) (record t { tree = 0 }) text
     → created (stage k) (record t { tree = 0 }) ≡ stage (suc k) → next_tree (stage k) ≡ t.tree → slice_get
     book_schema.tables k ≡ Some t
     → (old new : State) (r : Result ℕ Error) → (IsTrue old.is_open → IsStage k old)
     → OnOk r (ExecutesInside 0 text [] old new r) → OnOk r (Builds (suc k) old new)
-makes_stage k t text is next tree at old new (Err e) has x = tt
-makes_stage k t text is next tree at old new (Ok count) has x =
+builds_stage k t text is next tree at old new (Err e) has x = tt
+builds_stage k t text is next tree at old new (Ok count) has x =
     let before = has x.1.was_open in
     let m = makes (stage k) (record t { tree = 0 }) text is old new count before.schema x.0 in
     record {
@@ -49,15 +50,23 @@ makes_stage k t text is next tree at old new (Ok count) has x =
       shows = x.1;
     }
 
+pub makes_stage : (k : ℕ) (t : Table) (text : List ℕ) → IsText (stage k) (record t { tree = 0 }) text
+    → created (stage k) (record t { tree = 0 }) ≡ stage (suc k) → next_tree (stage k) ≡ t.tree → slice_get
+    book_schema.tables k ≡ Some t
+    → (old new : State) (r : Result ℕ Error) → HasStage k old
+    → Attempts (λ old new. ExecutesInside 0 text [] old new r) old new r → Attempts (Builds (suc k)) old new r
+makes_stage k t text is next tree at old new r has = done_as _ (Builds (suc k)) old new r
+    (λ clean. builds_stage k t text is next tree at old new r (has clean))
+
 none_stored : (ts : List Table) (trees : Trees) → AreEmpty ts trees → AllByRecursion
     (λ (t : Table). IsStored (trees t.tree)) ts
 none_stored [] trees h = tt
 none_stored (t ∷ ts) trees h = (subst IsStored (sym h.0) (tt, tt), none_stored ts trees h.1)
 
-pub makes_all : (old new : State) (r : Result ℕ Error) → (IsTrue old.is_open → IsStage 10 old)
+builds_all : (old new : State) (r : Result ℕ Error) → (IsTrue old.is_open → IsStage 10 old)
     → OnOk r (ExecutesInside 0 sessions_state_text [] old new r) → OnOk r (BuildsAll old new)
-makes_all old new (Err e) has x = tt
-makes_all old new (Ok count) has x =
+builds_all old new (Err e) has x = tt
+builds_all old new (Ok count) has x =
     let before = has x.1.was_open in
     let m = makes_index old new count before.schema x.0 in
     let empty = still_empty (stage 10).tables old.now.trees new.now.trees m.rows before.empty in
@@ -66,6 +75,10 @@ makes_all old new (Ok count) has x =
       empty = empty;
       shows = x.1;
     }
+
+pub makes_all : (old new : State) (r : Result ℕ Error) → HasStage 10 old
+    → Attempts (λ old new. ExecutesInside 0 sessions_state_text [] old new r) old new r → Attempts BuildsAll old new r
+makes_all old new r has = done_as _ BuildsAll old new r (λ clean. builds_all old new r (has clean))
 
 pub blank_from : (s : State) → IsEmpty s → IsBlank s
 blank_from s h = record { none = record { schema = h.2; empty = tt }; settled = h.0.clean }

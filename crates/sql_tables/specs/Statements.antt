@@ -1,6 +1,6 @@
 -- What statements do to a connection.
 use Rattle.std.specs.Prelude.{◌≡◌, ◌≢◌, ◌⊎◌, ℕ, true, List, [], ◌∷◌, Option, None, cond, take, length, is_some, ◌+◌}
-use Rattle.std.specs.Prelude.{if◌then◌else◌, IsTrue}
+use Rattle.std.specs.Prelude.{if◌then◌else◌, IsTrue, false, Result, IfOk, OnOk, OnErr}
 use Rattle.std.specs.List.{AllByRecursion}
 use Rattle.std.specs.FinMap.{get, insert}
 use Rattle.std.specs.Ordering.{eq_by_cmp}
@@ -9,7 +9,7 @@ use Rattle.sqlite_value.specs.Order.{Row, row_cmp}
 use Rattle.sqlite_trees.specs.Objects.{catalog_tree}
 use Rattle.sqlite_trees.specs.Tree.{Trees}
 use Rattle.sqlite_schema.specs.declared.schema.Table.{Table}
-use Rattle.sqlite.specs.State.{State, HasCleanDisk, Shows, Shown, IsUnchanged, IsRolledBack}
+use Rattle.sqlite.specs.State.{State, HasCleanDisk, Shows, Shown, IsUnchanged, IsRolledBack, KeepsCommit, Survives}
 use Rattle.sqlite_schema.specs.Rules.{Fits}
 use Rattle.sql_tables.specs.Keyed.{key_of, table_of, Alike, IsStored, look}
 use Rattle.sql_tables.specs.Schema.{book_schema}
@@ -76,6 +76,26 @@ pub record IsStill (old new : State) : Type 0 where
   pub was_open : IsTrue old.is_open
   pub now_is : new.now ≡ old.now
   pub committed_is : new.committed ≡ old.committed
+
+-- within a transaction: the call does this, or it answers an error and keeps what was committed; a stop in it leaves
+-- what was committed
+pub record Attempts {A E : Type 0} (does : State → State → Type 0) (old new : State) (result : Result A E) : Type 0
+  where
+    pub done : HasCleanDisk new → OnOk result (does old new)
+    pub kept : HasCleanDisk new → OnErr result (KeepsCommit old new)
+    pub survives : Survives old new (λ _. ⊥)
+
+-- outside a transaction: whether the call answers or not, it changes nothing
+pub record OnlyReads (old new : State) : Type 0 where
+  pub still : HasCleanDisk new → IsTrue new.is_open → IsStill old new
+  pub idle : HasIdleBook new
+  pub cleanness : HasCleanDisk new → HasCleanDisk old
+  pub mode : old.in_transaction ≡ false → new.in_transaction ≡ false
+
+-- outside a transaction: what the call answers is told by the tables, and it changes nothing
+pub record Reads {A E : Type 0} (told : Trees → A → Type 0) (old new : State) (result : Result A E) : Type 0 where
+  pub found : HasCleanDisk new → IfOk result (told old.now.trees)
+  pub only : OnlyReads old new
 
 -- a selection answers these rows, and the tables obey their rules
 pub record Answers (sql : List ℕ) (params : Row) (old new : State) (rows : List Row) : Type 0 where

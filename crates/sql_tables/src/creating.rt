@@ -1,9 +1,10 @@
 ghost use Rattle.std.specs.Prelude.{◌≡◌, ◌⊎◌, false, IsTrue, IfOk, OnOk, OnErr};
 ghost use Rattle.sql_tables.specs.Stages.{AreEmpty, Builds, BuildsAll, CommitsAll, HasStage, IsBlank};
 ghost use Rattle.sql_tables.specs.Schema.{book_schema};
+ghost use Rattle.sql_tables.specs.Statements.{Attempts};
 ghost use Rattle.sqlite.specs.Held.{state};
 ghost use Rattle.sqlite.specs.Steps.{over_memory};
-ghost use Rattle.sqlite.specs.State.{HasCleanDisk, KeepsCommit, Survives};
+ghost use Rattle.sqlite.specs.State.{HasCleanDisk, Survives};
 
 use crate::writing::write;
 use sqlite::{Alter, Connection, Error, MemStore, Transaction};
@@ -13,11 +14,7 @@ use std::alloc::Global;
 fn create_meta<S: Alter>(tx: &mut Transaction<'_, S>) -> Result<usize, Error>
     requires stage { HasStage 0 (state S.Store tx.old.conn.now) }
     ensures same_reference { tx.new.conn.ghost_name ≡ tx.old.conn.ghost_name }
-    ensures makes { HasCleanDisk (state S.Store tx.new.conn.now) → OnOk result (
-        Builds 1 (state S.Store tx.old.conn.now) (state S.Store tx.new.conn.now)) }
-    ensures kept { HasCleanDisk (state S.Store tx.new.conn.now) → OnErr result (
-        KeepsCommit (state S.Store tx.old.conn.now) (state S.Store tx.new.conn.now)) }
-    ensures survives { Survives (state S.Store tx.old.conn.now) (state S.Store tx.new.conn.now) (λ _. ⊥) }
+    ensures makes { Attempts (Builds 1) (state S.Store tx.old.conn.now) (state S.Store tx.new.conn.now) result }
 {
     write(
         tx,
@@ -35,11 +32,7 @@ fn create_meta<S: Alter>(tx: &mut Transaction<'_, S>) -> Result<usize, Error>
 fn create_accounts<S: Alter>(tx: &mut Transaction<'_, S>) -> Result<usize, Error>
     requires stage { HasStage 1 (state S.Store tx.old.conn.now) }
     ensures same_reference { tx.new.conn.ghost_name ≡ tx.old.conn.ghost_name }
-    ensures makes { HasCleanDisk (state S.Store tx.new.conn.now) → OnOk result (
-        Builds 2 (state S.Store tx.old.conn.now) (state S.Store tx.new.conn.now)) }
-    ensures kept { HasCleanDisk (state S.Store tx.new.conn.now) → OnErr result (
-        KeepsCommit (state S.Store tx.old.conn.now) (state S.Store tx.new.conn.now)) }
-    ensures survives { Survives (state S.Store tx.old.conn.now) (state S.Store tx.new.conn.now) (λ _. ⊥) }
+    ensures makes { Attempts (Builds 2) (state S.Store tx.old.conn.now) (state S.Store tx.new.conn.now) result }
 {
     write(
         tx,
@@ -59,11 +52,7 @@ fn create_accounts<S: Alter>(tx: &mut Transaction<'_, S>) -> Result<usize, Error
 fn create_buckets<S: Alter>(tx: &mut Transaction<'_, S>) -> Result<usize, Error>
     requires stage { HasStage 2 (state S.Store tx.old.conn.now) }
     ensures same_reference { tx.new.conn.ghost_name ≡ tx.old.conn.ghost_name }
-    ensures makes { HasCleanDisk (state S.Store tx.new.conn.now) → OnOk result (
-        Builds 3 (state S.Store tx.old.conn.now) (state S.Store tx.new.conn.now)) }
-    ensures kept { HasCleanDisk (state S.Store tx.new.conn.now) → OnErr result (
-        KeepsCommit (state S.Store tx.old.conn.now) (state S.Store tx.new.conn.now)) }
-    ensures survives { Survives (state S.Store tx.old.conn.now) (state S.Store tx.new.conn.now) (λ _. ⊥) }
+    ensures makes { Attempts (Builds 3) (state S.Store tx.old.conn.now) (state S.Store tx.new.conn.now) result }
 {
     write(
         tx,
@@ -90,11 +79,7 @@ fn create_buckets<S: Alter>(tx: &mut Transaction<'_, S>) -> Result<usize, Error>
 fn create_counters<S: Alter>(tx: &mut Transaction<'_, S>) -> Result<usize, Error>
     requires stage { HasStage 3 (state S.Store tx.old.conn.now) }
     ensures same_reference { tx.new.conn.ghost_name ≡ tx.old.conn.ghost_name }
-    ensures makes { HasCleanDisk (state S.Store tx.new.conn.now) → OnOk result (
-        Builds 4 (state S.Store tx.old.conn.now) (state S.Store tx.new.conn.now)) }
-    ensures kept { HasCleanDisk (state S.Store tx.new.conn.now) → OnErr result (
-        KeepsCommit (state S.Store tx.old.conn.now) (state S.Store tx.new.conn.now)) }
-    ensures survives { Survives (state S.Store tx.old.conn.now) (state S.Store tx.new.conn.now) (λ _. ⊥) }
+    ensures makes { Attempts (Builds 4) (state S.Store tx.old.conn.now) (state S.Store tx.new.conn.now) result }
 {
     write(
         tx,
@@ -114,11 +99,7 @@ fn create_counters<S: Alter>(tx: &mut Transaction<'_, S>) -> Result<usize, Error
 fn create_sessions<S: Alter>(tx: &mut Transaction<'_, S>) -> Result<usize, Error>
     requires stage { HasStage 4 (state S.Store tx.old.conn.now) }
     ensures same_reference { tx.new.conn.ghost_name ≡ tx.old.conn.ghost_name }
-    ensures makes { HasCleanDisk (state S.Store tx.new.conn.now) → OnOk result (
-        Builds 5 (state S.Store tx.old.conn.now) (state S.Store tx.new.conn.now)) }
-    ensures kept { HasCleanDisk (state S.Store tx.new.conn.now) → OnErr result (
-        KeepsCommit (state S.Store tx.old.conn.now) (state S.Store tx.new.conn.now)) }
-    ensures survives { Survives (state S.Store tx.old.conn.now) (state S.Store tx.new.conn.now) (λ _. ⊥) }
+    ensures makes { Attempts (Builds 5) (state S.Store tx.old.conn.now) (state S.Store tx.new.conn.now) result }
 {
     write(
         tx,
@@ -139,11 +120,7 @@ fn create_sessions<S: Alter>(tx: &mut Transaction<'_, S>) -> Result<usize, Error
 fn create_session_groups<S: Alter>(tx: &mut Transaction<'_, S>) -> Result<usize, Error>
     requires stage { HasStage 5 (state S.Store tx.old.conn.now) }
     ensures same_reference { tx.new.conn.ghost_name ≡ tx.old.conn.ghost_name }
-    ensures makes { HasCleanDisk (state S.Store tx.new.conn.now) → OnOk result (
-        Builds 6 (state S.Store tx.old.conn.now) (state S.Store tx.new.conn.now)) }
-    ensures kept { HasCleanDisk (state S.Store tx.new.conn.now) → OnErr result (
-        KeepsCommit (state S.Store tx.old.conn.now) (state S.Store tx.new.conn.now)) }
-    ensures survives { Survives (state S.Store tx.old.conn.now) (state S.Store tx.new.conn.now) (λ _. ⊥) }
+    ensures makes { Attempts (Builds 6) (state S.Store tx.old.conn.now) (state S.Store tx.new.conn.now) result }
 {
     write(
         tx,
@@ -166,11 +143,7 @@ fn create_session_groups<S: Alter>(tx: &mut Transaction<'_, S>) -> Result<usize,
 fn create_holds<S: Alter>(tx: &mut Transaction<'_, S>) -> Result<usize, Error>
     requires stage { HasStage 6 (state S.Store tx.old.conn.now) }
     ensures same_reference { tx.new.conn.ghost_name ≡ tx.old.conn.ghost_name }
-    ensures makes { HasCleanDisk (state S.Store tx.new.conn.now) → OnOk result (
-        Builds 7 (state S.Store tx.old.conn.now) (state S.Store tx.new.conn.now)) }
-    ensures kept { HasCleanDisk (state S.Store tx.new.conn.now) → OnErr result (
-        KeepsCommit (state S.Store tx.old.conn.now) (state S.Store tx.new.conn.now)) }
-    ensures survives { Survives (state S.Store tx.old.conn.now) (state S.Store tx.new.conn.now) (λ _. ⊥) }
+    ensures makes { Attempts (Builds 7) (state S.Store tx.old.conn.now) (state S.Store tx.new.conn.now) result }
 {
     write(
         tx,
@@ -192,11 +165,7 @@ fn create_holds<S: Alter>(tx: &mut Transaction<'_, S>) -> Result<usize, Error>
 fn create_answers<S: Alter>(tx: &mut Transaction<'_, S>) -> Result<usize, Error>
     requires stage { HasStage 7 (state S.Store tx.old.conn.now) }
     ensures same_reference { tx.new.conn.ghost_name ≡ tx.old.conn.ghost_name }
-    ensures makes { HasCleanDisk (state S.Store tx.new.conn.now) → OnOk result (
-        Builds 8 (state S.Store tx.old.conn.now) (state S.Store tx.new.conn.now)) }
-    ensures kept { HasCleanDisk (state S.Store tx.new.conn.now) → OnErr result (
-        KeepsCommit (state S.Store tx.old.conn.now) (state S.Store tx.new.conn.now)) }
-    ensures survives { Survives (state S.Store tx.old.conn.now) (state S.Store tx.new.conn.now) (λ _. ⊥) }
+    ensures makes { Attempts (Builds 8) (state S.Store tx.old.conn.now) (state S.Store tx.new.conn.now) result }
 {
     write(
         tx,
@@ -218,11 +187,7 @@ fn create_answers<S: Alter>(tx: &mut Transaction<'_, S>) -> Result<usize, Error>
 fn create_vouchers<S: Alter>(tx: &mut Transaction<'_, S>) -> Result<usize, Error>
     requires stage { HasStage 8 (state S.Store tx.old.conn.now) }
     ensures same_reference { tx.new.conn.ghost_name ≡ tx.old.conn.ghost_name }
-    ensures makes { HasCleanDisk (state S.Store tx.new.conn.now) → OnOk result (
-        Builds 9 (state S.Store tx.old.conn.now) (state S.Store tx.new.conn.now)) }
-    ensures kept { HasCleanDisk (state S.Store tx.new.conn.now) → OnErr result (
-        KeepsCommit (state S.Store tx.old.conn.now) (state S.Store tx.new.conn.now)) }
-    ensures survives { Survives (state S.Store tx.old.conn.now) (state S.Store tx.new.conn.now) (λ _. ⊥) }
+    ensures makes { Attempts (Builds 9) (state S.Store tx.old.conn.now) (state S.Store tx.new.conn.now) result }
 {
     write(
         tx,
@@ -243,11 +208,7 @@ fn create_vouchers<S: Alter>(tx: &mut Transaction<'_, S>) -> Result<usize, Error
 fn create_charges<S: Alter>(tx: &mut Transaction<'_, S>) -> Result<usize, Error>
     requires stage { HasStage 9 (state S.Store tx.old.conn.now) }
     ensures same_reference { tx.new.conn.ghost_name ≡ tx.old.conn.ghost_name }
-    ensures makes { HasCleanDisk (state S.Store tx.new.conn.now) → OnOk result (
-        Builds 10 (state S.Store tx.old.conn.now) (state S.Store tx.new.conn.now)) }
-    ensures kept { HasCleanDisk (state S.Store tx.new.conn.now) → OnErr result (
-        KeepsCommit (state S.Store tx.old.conn.now) (state S.Store tx.new.conn.now)) }
-    ensures survives { Survives (state S.Store tx.old.conn.now) (state S.Store tx.new.conn.now) (λ _. ⊥) }
+    ensures makes { Attempts (Builds 10) (state S.Store tx.old.conn.now) (state S.Store tx.new.conn.now) result }
 {
     write(
         tx,
@@ -273,11 +234,7 @@ fn create_charges<S: Alter>(tx: &mut Transaction<'_, S>) -> Result<usize, Error>
 fn create_sessions_state<S: Alter>(tx: &mut Transaction<'_, S>) -> Result<usize, Error>
     requires stage { HasStage 10 (state S.Store tx.old.conn.now) }
     ensures same_reference { tx.new.conn.ghost_name ≡ tx.old.conn.ghost_name }
-    ensures makes { HasCleanDisk (state S.Store tx.new.conn.now) → OnOk result (
-        BuildsAll (state S.Store tx.old.conn.now) (state S.Store tx.new.conn.now)) }
-    ensures kept { HasCleanDisk (state S.Store tx.new.conn.now) → OnErr result (
-        KeepsCommit (state S.Store tx.old.conn.now) (state S.Store tx.new.conn.now)) }
-    ensures survives { Survives (state S.Store tx.old.conn.now) (state S.Store tx.new.conn.now) (λ _. ⊥) }
+    ensures makes { Attempts BuildsAll (state S.Store tx.old.conn.now) (state S.Store tx.new.conn.now) result }
 {
     write(
         tx,
@@ -290,11 +247,7 @@ fn create_sessions_state<S: Alter>(tx: &mut Transaction<'_, S>) -> Result<usize,
 fn create_money<S: Alter>(tx: &mut Transaction<'_, S>) -> Result<(), Error>
     requires stage { HasStage 0 (state S.Store tx.old.conn.now) }
     ensures same_reference { tx.new.conn.ghost_name ≡ tx.old.conn.ghost_name }
-    ensures makes { HasCleanDisk (state S.Store tx.new.conn.now) → OnOk result (
-        Builds 4 (state S.Store tx.old.conn.now) (state S.Store tx.new.conn.now)) }
-    ensures kept { HasCleanDisk (state S.Store tx.new.conn.now) → OnErr result (
-        KeepsCommit (state S.Store tx.old.conn.now) (state S.Store tx.new.conn.now)) }
-    ensures survives { Survives (state S.Store tx.old.conn.now) (state S.Store tx.new.conn.now) (λ _. ⊥) }
+    ensures makes { Attempts (Builds 4) (state S.Store tx.old.conn.now) (state S.Store tx.new.conn.now) result }
 {
     create_meta(tx)?;
     create_accounts(tx)?;
@@ -307,11 +260,7 @@ fn create_money<S: Alter>(tx: &mut Transaction<'_, S>) -> Result<(), Error>
 fn create_sessions_tables<S: Alter>(tx: &mut Transaction<'_, S>) -> Result<(), Error>
     requires stage { HasStage 4 (state S.Store tx.old.conn.now) }
     ensures same_reference { tx.new.conn.ghost_name ≡ tx.old.conn.ghost_name }
-    ensures makes { HasCleanDisk (state S.Store tx.new.conn.now) → OnOk result (
-        Builds 8 (state S.Store tx.old.conn.now) (state S.Store tx.new.conn.now)) }
-    ensures kept { HasCleanDisk (state S.Store tx.new.conn.now) → OnErr result (
-        KeepsCommit (state S.Store tx.old.conn.now) (state S.Store tx.new.conn.now)) }
-    ensures survives { Survives (state S.Store tx.old.conn.now) (state S.Store tx.new.conn.now) (λ _. ⊥) }
+    ensures makes { Attempts (Builds 8) (state S.Store tx.old.conn.now) (state S.Store tx.new.conn.now) result }
 {
     create_sessions(tx)?;
     create_session_groups(tx)?;
@@ -324,11 +273,7 @@ fn create_sessions_tables<S: Alter>(tx: &mut Transaction<'_, S>) -> Result<(), E
 fn create_rest<S: Alter>(tx: &mut Transaction<'_, S>) -> Result<(), Error>
     requires stage { HasStage 8 (state S.Store tx.old.conn.now) }
     ensures same_reference { tx.new.conn.ghost_name ≡ tx.old.conn.ghost_name }
-    ensures makes { HasCleanDisk (state S.Store tx.new.conn.now) → OnOk result (
-        BuildsAll (state S.Store tx.old.conn.now) (state S.Store tx.new.conn.now)) }
-    ensures kept { HasCleanDisk (state S.Store tx.new.conn.now) → OnErr result (
-        KeepsCommit (state S.Store tx.old.conn.now) (state S.Store tx.new.conn.now)) }
-    ensures survives { Survives (state S.Store tx.old.conn.now) (state S.Store tx.new.conn.now) (λ _. ⊥) }
+    ensures makes { Attempts BuildsAll (state S.Store tx.old.conn.now) (state S.Store tx.new.conn.now) result }
 {
     create_vouchers(tx)?;
     create_charges(tx)?;
@@ -340,11 +285,7 @@ fn create_rest<S: Alter>(tx: &mut Transaction<'_, S>) -> Result<(), Error>
 fn create_each<S: Alter>(tx: &mut Transaction<'_, S>) -> Result<(), Error>
     requires stage { HasStage 0 (state S.Store tx.old.conn.now) }
     ensures same_reference { tx.new.conn.ghost_name ≡ tx.old.conn.ghost_name }
-    ensures makes { HasCleanDisk (state S.Store tx.new.conn.now) → OnOk result (
-        BuildsAll (state S.Store tx.old.conn.now) (state S.Store tx.new.conn.now)) }
-    ensures kept { HasCleanDisk (state S.Store tx.new.conn.now) → OnErr result (
-        KeepsCommit (state S.Store tx.old.conn.now) (state S.Store tx.new.conn.now)) }
-    ensures survives { Survives (state S.Store tx.old.conn.now) (state S.Store tx.new.conn.now) (λ _. ⊥) }
+    ensures makes { Attempts BuildsAll (state S.Store tx.old.conn.now) (state S.Store tx.new.conn.now) result }
 {
     create_money(tx)?;
     create_sessions_tables(tx)?;

@@ -1,7 +1,7 @@
-ghost use Rattle.std.specs.Prelude.{◌≡◌, IsTrue, IfOk, OnOk, pos, false, length, option_map};
+ghost use Rattle.std.specs.Prelude.{◌≡◌, IfOk, OnOk, pos, length, option_map};
 ghost use Rattle.sql_tables.specs.Schema.{book_schema};
 ghost use Rattle.sql_tables.specs.Selects.{one_or_none};
-ghost use Rattle.sql_tables.specs.Statements.{Answers, HasIdleBook, IsStill};
+ghost use Rattle.sql_tables.specs.Statements.{Answers, HasIdleBook, OnlyReads};
 ghost use Rattle.sqlite.specs.Given.{IsPlain};
 ghost use Rattle.sqlite.specs.Held.{state};
 ghost use Rattle.sqlite.specs.Listing.{understood};
@@ -48,11 +48,7 @@ pub fn read<S: Alter>(
     requires idle { HasIdleBook (state S.Store conn.old) }
     ensures answers { HasCleanDisk (state S.Store conn.new) → IfOk result (λ rows.
         Answers sql.now (bound params.now) (state S.Store conn.old) (state S.Store conn.new) rows.items) }
-    ensures still { HasCleanDisk (state S.Store conn.new) → IsTrue (state S.Store conn.new).is_open →
-        IsStill (state S.Store conn.old) (state S.Store conn.new) }
-    ensures idle { HasIdleBook (state S.Store conn.new) }
-    ensures cleanness { HasCleanDisk (state S.Store conn.new) → HasCleanDisk (state S.Store conn.old) }
-    ensures mode { conn.old.in_transaction ≡ false → conn.new.in_transaction ≡ false }
+    ensures reads { OnlyReads (state S.Store conn.old) (state S.Store conn.new) }
 {
     let _ours = conn.schema();
     match conn.query_all(sql, params) {

@@ -1,6 +1,7 @@
-ghost use Rattle.std.specs.Prelude.{◌≡◌, OnOk, OnErr};
+ghost use Rattle.std.specs.Prelude.{◌≡◌};
+ghost use Rattle.sql_tables.specs.Statements.{Attempts};
 ghost use Rattle.sqlite.specs.Held.{state};
-ghost use Rattle.sqlite.specs.State.{HasCleanDisk, ExecutesInside, KeepsCommit, Survives};
+ghost use Rattle.sqlite.specs.State.{ExecutesInside};
 ghost use Rattle.sqlite.specs.Values.{bound};
 
 use sqlite::types::ValueRef;
@@ -14,12 +15,8 @@ pub fn write<S: Alter>(
     params: &[ValueRef<'_>],
 ) -> Result<usize, Error>
     ensures same_reference { tx.new.conn.ghost_name ≡ tx.old.conn.ghost_name }
-    ensures runs { HasCleanDisk (state S.Store tx.new.conn.now) → OnOk result (
-        ExecutesInside 0 sql.now (bound params.now)
-        (state S.Store tx.old.conn.now) (state S.Store tx.new.conn.now) result) }
-    ensures kept { HasCleanDisk (state S.Store tx.new.conn.now) → OnErr result (
-        KeepsCommit (state S.Store tx.old.conn.now) (state S.Store tx.new.conn.now)) }
-    ensures survives { Survives (state S.Store tx.old.conn.now) (state S.Store tx.new.conn.now) (λ _. ⊥) }
+    ensures runs { Attempts (λ old new. ExecutesInside 0 sql.now (bound params.now) old new result)
+        (state S.Store tx.old.conn.now) (state S.Store tx.new.conn.now) result }
 {
     tx.execute(sql, params)
 }

@@ -8,16 +8,12 @@ use Rattle.sql_rows.proofs.PutAccount.{put_account_text, makes_account, bound_ac
 use Rattle.sql_rows.proofs.account_rows.put_account.Goals as goal
 
 pub returns-clause-makes : goal.returns-clause-makes
-returns-clause-makes g c clean =
-    let old = state g.S.Store c.args.tx.now.conn.now in
-    let new = state g.S.Store c.write.new.tx.conn.now in
-    makes_account c.args.account.now c.args.head.now old new c.write.result
-    (c.requires.book (omega (arith, c.write.ensures.survives.clean)))
-    (subst (λ p. OnOk c.write.result (ExecutesInside 0 put_account_text p old new c.write.result))
+returns-clause-makes g c =
+    makes_account c.args.account.now c.args.head.now _
     (bound_account c.args.account.now c.args.head.now _ _ _ _ _
     (c.text-number.ensures ∙ ap Text c.as_str.ensures.value)
     c.flag-barred.ensures
     (c.large-as_of.ensures ∙ ap nat c.seconds.ensures.value)
     c.in_ok-next_bucket.ensures
     c.in_ok-next_charge.ensures)
-    (c.write.ensures.runs clean))
+    _ _ c.write.result c.requires.book c.write.ensures.runs

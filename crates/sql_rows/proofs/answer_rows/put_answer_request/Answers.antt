@@ -8,13 +8,8 @@ use Rattle.sql_rows.proofs.PutAnswer.{put_answer_text, makes_answer, bound_answe
 use Rattle.sql_rows.proofs.answer_rows.put_answer_request.Goals as goal
 
 pub returns-clause-makes : goal.returns-clause-makes
-returns-clause-makes g c clean =
-    let old = state g.S.Store c.args.tx.now.conn.now in
-    let new = state g.S.Store c.write.new.tx.conn.now in
-    makes_answer c.args.account.now 1 c.args.session.now c.args.number
-    (record { content = c.args.content.now; answer = c.args.answer.now }) old new c.write.result
-    (c.requires.book (omega (arith, c.write.ensures.survives.clean)))
-    (subst (λ p. OnOk c.write.result (ExecutesInside 0 put_answer_text p old new c.write.result))
+returns-clause-makes g c =
+    makes_answer c.args.account.now 1 c.args.session.now c.args.number (record { content = c.args.content.now; answer = c.args.answer.now }) _
     (bound_answer c.args.account.now 1 c.args.session.now c.args.number
     (record { content = c.args.content.now; answer = c.args.answer.now }) _ _ _ _ _ _
     (c.text-of_account.ensures ∙ ap Text c.as_str.ensures.value)
@@ -23,4 +18,4 @@ returns-clause-makes g c clean =
     c.whole-of_number.ensures
     c.text-of_content.ensures
     c.text-of_answer.ensures)
-    (c.write.ensures.runs clean))
+    _ _ c.write.result c.requires.book c.write.ensures.runs

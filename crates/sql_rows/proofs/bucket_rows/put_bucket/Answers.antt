@@ -8,12 +8,8 @@ use Rattle.sql_rows.proofs.PutBucket.{put_bucket_text, makes_bucket, bound_bucke
 use Rattle.sql_rows.proofs.bucket_rows.put_bucket.Goals as goal
 
 pub returns-clause-makes : goal.returns-clause-makes
-returns-clause-makes g c clean =
-    let old = state g.S.Store c.args.tx.now.conn.now in
-    let new = state g.S.Store c.write.new.tx.conn.now in
-    makes_bucket c.args.account.now c.args.bucket.now old new c.write.result
-    (c.requires.book (omega (arith, c.write.ensures.survives.clean)))
-    (subst (λ p. OnOk c.write.result (ExecutesInside 0 put_bucket_text p old new c.write.result))
+returns-clause-makes g c =
+    makes_bucket c.args.account.now c.args.bucket.now _
     (bound_bucket c.args.account.now c.args.bucket.now _ _ _ _ _ _ _ _ _ _
     (c.text-of_account.ensures ∙ ap Text c.as_str.ensures.value)
     (c.whole-number.ensures ∙ ap nat c.number.ensures)
@@ -25,4 +21,4 @@ returns-clause-makes g c clean =
     (c.large-reserved.ensures ∙ ap nat c.reserved.ensures.amount)
     (c.large-charged.ensures ∙ ap nat c.charged.ensures.amount)
     (c.large-expired.ensures ∙ ap nat c.expired.ensures.amount))
-    (c.write.ensures.runs clean))
+    _ _ c.write.result c.requires.book c.write.ensures.runs

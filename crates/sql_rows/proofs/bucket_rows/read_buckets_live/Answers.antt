@@ -11,14 +11,19 @@ use Rattle.sql_rows.proofs.bucket_rows.read_buckets_live.Goals as goal
 pub read-requires-clause-plain : goal.read-requires-clause-plain
 read-requires-clause-plain g c = read_buckets_live_plain
 
-pub returns-clause-found : goal.returns-clause-found
-returns-clause-found g c clean =
+pub returns : goal.returns
+returns g c =
     let old = state g.S.Store c.args.conn.now in
     let new = state g.S.Store c.read.new.conn in
-    told_if_ok c.buckets_from.result
-    (λ o is. live_read c.args.account.now old new c.in_ok-rows.rows.items _
-    (subst (λ p. Answers read_buckets_live_text p old new c.in_ok-rows.rows.items)
-    (λ i. map bound_value ((c.text-of_account.ensures ∙ ap Text c.as_str.ensures.value) i ∷ []))
-    (c.in_ok-rows.ensures.answers clean))
-    (is ∙ c.deref.ensures.value))
-    c.buckets_from.ensures
+    record {
+      reads = record {
+        found = λ clean. told_if_ok c.buckets_from.result
+            (λ o is. live_read c.args.account.now old new c.in_ok-rows.rows.items _
+            (subst (λ p. Answers read_buckets_live_text p old new c.in_ok-rows.rows.items)
+            (λ i. map bound_value ((c.text-of_account.ensures ∙ ap Text c.as_str.ensures.value) i ∷ []))
+            (c.in_ok-rows.ensures.answers clean))
+            (is ∙ c.deref.ensures.value))
+            c.buckets_from.ensures;
+        only = c.read.ensures.reads;
+      };
+    }

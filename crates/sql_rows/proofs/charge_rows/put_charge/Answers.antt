@@ -9,12 +9,8 @@ use Rattle.sql_rows.proofs.PutCharge.{put_charge_text, makes_charge, bound_charg
 use Rattle.sql_rows.proofs.charge_rows.put_charge.Goals as goal
 
 pub returns-clause-makes : goal.returns-clause-makes
-returns-clause-makes g c clean =
-    let old = state g.S.Store c.args.tx.now.conn.now in
-    let new = state g.S.Store c.write.new.tx.conn.now in
-    makes_charge c.args.account.now c.args.charge.now old new c.write.result
-    (c.requires.book (omega (arith, c.write.ensures.survives.clean)))
-    (subst (λ p. OnOk c.write.result (ExecutesInside 0 put_charge_text p old new c.write.result))
+returns-clause-makes g c =
+    makes_charge c.args.account.now c.args.charge.now _
     (bound_charge c.args.account.now c.args.charge.now _ _ _ _ _ _ _ _ _
     (c.text-of_account.ensures ∙ ap Text c.as_str.ensures.value)
     (c.whole-number.ensures ∙ ap (λ (x : ChargeRow). nat x.number) c.charge.view_is)
@@ -27,4 +23,4 @@ returns-clause-makes g c clean =
     (c.in_ok-rated.ensures ∙ ap (λ (x : ChargeRow). nat x.rated.0) c.charge.view_is)
     (c.in_ok-collected.ensures ∙ ap (λ (x : ChargeRow). nat x.collected.0) c.charge.view_is)
     (c.in_ok-uncollected.ensures ∙ ap (λ (x : ChargeRow). nat x.uncollected.0) c.charge.view_is))
-    (c.write.ensures.runs clean))
+    _ _ c.write.result c.requires.book c.write.ensures.runs

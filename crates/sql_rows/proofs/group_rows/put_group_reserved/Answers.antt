@@ -8,19 +8,8 @@ use Rattle.sql_rows.proofs.PutGroup.{put_group_text, makes_group, bound_group}
 use Rattle.sql_rows.proofs.group_rows.put_group_reserved.Goals as goal
 
 pub returns-clause-makes : goal.returns-clause-makes
-returns-clause-makes g c clean =
-    let old = state g.S.Store c.args.tx.now.conn.now in
-    let new = state g.S.Store c.write.new.tx.conn.now in
-    makes_group c.args.account.now c.args.session.now c.args.group
-    (record {
-      used = c.args.used;
-      periods = Some (record {
-        before = c.args.before.now;
-        after = c.args.after.now;
-      });
-    }) old new c.write.result
-    (c.requires.book (omega (arith, c.write.ensures.survives.clean)))
-    (subst (λ p. OnOk c.write.result (ExecutesInside 0 put_group_text p old new c.write.result))
+returns-clause-makes g c =
+    makes_group c.args.account.now c.args.session.now c.args.group (record { used = c.args.used; periods = Some (record { before = c.args.before.now; after = c.args.after.now }) }) _
     (bound_group c.args.account.now c.args.session.now c.args.group
     (record {
       used = c.args.used;
@@ -34,4 +23,4 @@ returns-clause-makes g c clean =
     c.flag-reserved.ensures
     (ap bound_value c.text-at_grant.ensures)
     (ap bound_value c.text-at_switch.ensures))
-    (c.write.ensures.runs clean))
+    _ _ c.write.result c.requires.book c.write.ensures.runs

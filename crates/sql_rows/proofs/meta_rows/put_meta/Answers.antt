@@ -8,15 +8,11 @@ use Rattle.sql_rows.proofs.PutMeta.{put_meta_text, makes_meta, bound_meta}
 use Rattle.sql_rows.proofs.meta_rows.put_meta.Goals as goal
 
 pub returns-clause-makes : goal.returns-clause-makes
-returns-clause-makes g c clean =
-    let old = state g.S.Store c.args.tx.now.conn.now in
-    let new = state g.S.Store c.write.new.tx.conn.now in
-    makes_meta (record { version = c.args.version; book = c.args.book.now; last = c.args.last }) old new c.write.result
-    (c.requires.book (omega (arith, c.write.ensures.survives.clean)))
-    (subst (λ p. OnOk c.write.result (ExecutesInside 0 put_meta_text p old new c.write.result))
+returns-clause-makes g c =
+    makes_meta (record { version = c.args.version; book = c.args.book.now; last = c.args.last }) _
     (bound_meta (record { version = c.args.version; book = c.args.book.now; last = c.args.last }) _ _ _ _
     c.whole-id.ensures
     c.whole-of_version.ensures
     c.text-of_book.ensures
     (c.large-moment.ensures ∙ ap nat c.seconds.ensures.value))
-    (c.write.ensures.runs clean))
+    _ _ c.write.result c.requires.book c.write.ensures.runs

@@ -11,13 +11,18 @@ use Rattle.sql_rows.proofs.meta_rows.read_meta.Goals as goal
 pub read-requires-clause-plain : goal.read-requires-clause-plain
 read-requires-clause-plain g c = read_meta_plain
 
-pub returns-clause-found : goal.returns-clause-found
-returns-clause-found g c clean =
+pub returns : goal.returns
+returns g c =
     let old = state g.S.Store c.args.conn.now in
     let new = state g.S.Store c.read.new.conn in
-    told_if_ok c.meta_among.result
-    (λ o is. meta_read old new c.in_ok-rows.rows.items _
-    (subst (λ p. Answers read_meta_text p old new c.in_ok-rows.rows.items) (λ i. map bound_value ([]))
-    (c.in_ok-rows.ensures.answers clean))
-    (sym c.deref.ensures.value ∙ is))
-    c.meta_among.ensures
+    record {
+      reads = record {
+        found = λ clean. told_if_ok c.meta_among.result
+            (λ o is. meta_read old new c.in_ok-rows.rows.items _
+            (subst (λ p. Answers read_meta_text p old new c.in_ok-rows.rows.items) (λ i. map bound_value ([]))
+            (c.in_ok-rows.ensures.answers clean))
+            (sym c.deref.ensures.value ∙ is))
+            c.meta_among.ensures;
+        only = c.read.ensures.reads;
+      };
+    }

@@ -8,16 +8,12 @@ use Rattle.sql_rows.proofs.PutSession.{put_session_text, makes_session, bound_se
 use Rattle.sql_rows.proofs.session_rows.put_session.Goals as goal
 
 pub returns-clause-makes : goal.returns-clause-makes
-returns-clause-makes g c clean =
-    let old = state g.S.Store c.args.tx.now.conn.now in
-    let new = state g.S.Store c.write.new.tx.conn.now in
-    makes_session c.args.account.now c.args.session.now old new c.write.result
-    (c.requires.book (omega (arith, c.write.ensures.survives.clean)))
-    (subst (λ p. OnOk c.write.result (ExecutesInside 0 put_session_text p old new c.write.result))
+returns-clause-makes g c =
+    makes_session c.args.account.now c.args.session.now _
     (bound_session c.args.account.now c.args.session.now _ _ _ _ _
     (c.text-of_account.ensures ∙ ap Text c.as_str.ensures.value)
     (c.text-name.ensures ∙ ap Text c.as_str-2.ensures.value)
     c.whole-last_number.ensures
     (c.large-touched.ensures ∙ ap nat c.seconds.ensures.value)
     (c.whole-state.ensures ∙ ap nat c.state_number.ensures))
-    (c.write.ensures.runs clean))
+    _ _ c.write.result c.requires.book c.write.ensures.runs

@@ -11,15 +11,20 @@ use Rattle.sql_rows.proofs.session_rows.read_session.Goals as goal
 pub read-requires-clause-plain : goal.read-requires-clause-plain
 read-requires-clause-plain g c = read_session_plain
 
-pub returns-clause-found : goal.returns-clause-found
-returns-clause-found g c clean =
+pub returns : goal.returns
+returns g c =
     let old = state g.S.Store c.args.conn.now in
     let new = state g.S.Store c.read.new.conn in
-    told_if_ok c.session_among.result
-    (λ o is. session_read c.args.account.now c.args.session.now old new c.in_ok-rows.rows.items _
-    (subst (λ p. Answers read_session_text p old new c.in_ok-rows.rows.items)
-    (λ i. map bound_value ((c.text-of_account.ensures ∙ ap Text c.as_str.ensures.value) i ∷
-    (c.text-of_session.ensures ∙ ap Text c.as_str-2.ensures.value) i ∷ []))
-    (c.in_ok-rows.ensures.answers clean))
-    (sym c.deref.ensures.value ∙ is))
-    c.session_among.ensures
+    record {
+      reads = record {
+        found = λ clean. told_if_ok c.session_among.result
+            (λ o is. session_read c.args.account.now c.args.session.now old new c.in_ok-rows.rows.items _
+            (subst (λ p. Answers read_session_text p old new c.in_ok-rows.rows.items)
+            (λ i. map bound_value ((c.text-of_account.ensures ∙ ap Text c.as_str.ensures.value) i ∷
+            (c.text-of_session.ensures ∙ ap Text c.as_str-2.ensures.value) i ∷ []))
+            (c.in_ok-rows.ensures.answers clean))
+            (sym c.deref.ensures.value ∙ is))
+            c.session_among.ensures;
+        only = c.read.ensures.reads;
+      };
+    }

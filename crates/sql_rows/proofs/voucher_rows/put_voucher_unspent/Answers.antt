@@ -8,17 +8,8 @@ use Rattle.sql_rows.proofs.PutVoucher.{put_voucher_text, makes_voucher, bound_vo
 use Rattle.sql_rows.proofs.voucher_rows.put_voucher_unspent.Goals as goal
 
 pub returns-clause-makes : goal.returns-clause-makes
-returns-clause-makes g c clean =
-    let old = state g.S.Store c.args.tx.now.conn.now in
-    let new = state g.S.Store c.write.new.tx.conn.now in
-    makes_voucher c.args.code.now (record {
-      amount = c.args.amount;
-      days = c.args.days;
-      scope = c.args.scope;
-      account = None;
-    }) old new c.write.result
-    (c.requires.book (omega (arith, c.write.ensures.survives.clean)))
-    (subst (λ p. OnOk c.write.result (ExecutesInside 0 put_voucher_text p old new c.write.result))
+returns-clause-makes g c =
+    makes_voucher c.args.code.now (record { amount = c.args.amount; days = c.args.days; scope = c.args.scope; account = None }) _
     (bound_voucher c.args.code.now (record {
       amount = c.args.amount;
       days = c.args.days;
@@ -30,4 +21,4 @@ returns-clause-makes g c clean =
     c.optional-of_days.ensures
     c.optional-of_scope.ensures
     (ap bound_value c.null-redeemer.ensures))
-    (c.write.ensures.runs clean))
+    _ _ c.write.result c.requires.book c.write.ensures.runs
