@@ -54,3 +54,11 @@ module _ {X : Type 0} (change : X → Content → Content) (all : List X) where
   put_next i x old mid now count less is h a =
       put_more x (drop (i + 1) all) old mid now count (subst (λ xs. HasPut xs old mid)
       (drop_more all i x less ∙ ap (λ y. y ∷ drop (i + 1) all) (sym is)) h) a
+
+  -- the same of a row that is copied
+  pub put_at : {E : Type 0} (i : ℕ) (x : X) (old mid now : State) (count : ℕ) → i < length all
+      → HasPut (drop i all) old mid → Attempts {A = ℕ} {E = E} (Makes (change (get_or all i x))) mid now (Ok count)
+      → HasPut (drop (i + 1) all) old now
+  put_at i x old mid now count less h a =
+      put_more (get_or all i x) (drop (i + 1) all) old mid now count
+      (subst (λ xs. HasPut xs old mid) (drop_more all i x less) h) a

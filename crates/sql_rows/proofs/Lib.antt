@@ -1,3 +1,4 @@
+pub mod Dead
 pub mod Each
 pub mod Periods
 pub mod PutAccount
@@ -11,6 +12,7 @@ pub mod PutMeta
 pub mod PutSession
 pub mod PutVoucher
 pub mod ReadAccount
+pub mod ReadAccounts
 pub mod ReadAnswer
 pub mod ReadBuckets
 pub mod ReadCharges
@@ -20,6 +22,7 @@ pub mod ReadHolds
 pub mod ReadMeta
 pub mod ReadOpen
 pub mod ReadSession
+pub mod ReadVoucher
 pub mod RemoveHolds
 pub mod Rising
 pub mod Stays

@@ -32,7 +32,7 @@ use Rattle.sql_tables.proofs.Steps.{or_false}
 use Rattle.sql_tables.proofs.Tabled.{puts_table}
 use Rattle.sql_tables.proofs.Ties.{agree_ties}
 use Rattle.sql_tables.proofs.Upserts.{pick}
-use Rattle.sql_rows.specs.Values.{nat, Voucher, voucher_values, voucher_key, voucher_in, optional_in, optional_text_in}
+use Rattle.sql_rows.specs.Values.{nat, Voucher, voucher_cells, voucher_values, voucher_key, voucher_in, optional_in, optional_text_in}
 use Rattle.sql_rows.specs.Content.{Rows, Content, with_voucher, rows_in, content_of}
 use Rattle.sql_rows.specs.Makes.{Makes}
 use Rattle.sql_rows.proofs.Stays.{only_changed}
@@ -64,8 +64,8 @@ put_plain : IsPlain (understood book_schema put_voucher_text)
 unfolding understood everything
 put_plain = (refl, refl)
 
-pub voucher_told : (code : List ℕ) (row : Voucher) → voucher_in (voucher_values code row) ≡ row
-voucher_told code row = λ i. record {
+pub voucher_told : (v : Value) (row : Voucher) → voucher_in (v ∷ voucher_cells row) ≡ row
+voucher_told v row = λ i. record {
   amount = row.amount;
   days = number_told row.days i;
   scope = number_told row.scope i;
@@ -106,7 +106,7 @@ module _ (code : List ℕ) (row : Voucher) where
 
   turns : (old new : Trees) → Changes vouchers values old new → content_of new ≡ with_voucher code row (content_of old)
   turns old new c = only_changed 16 old new c.others ∙ (λ i. record (content_of old) {
-    vouchers = λ k. put_tells voucher_in vouchers values old new c row (voucher_told code row) (voucher_key k)
+    vouchers = λ k. put_tells voucher_in vouchers values old new c row (voucher_told (Text code) row) (voucher_key k)
         (same_name code k) (text_last code k) i;
   })
 

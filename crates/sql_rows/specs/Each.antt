@@ -2,9 +2,11 @@
 -- Source: profile.
 use Rattle.std.specs.Prelude.{ℕ, List, [], ◌∷◌}
 use Rattle.buckets.specs.Row.{Row as Bucket}
+use Rattle.buckets.specs.declared.holds.Hold.{Hold}
 use Rattle.reserving.specs.declared.session.Session.{Session}
+use Rattle.reserving.specs.declared.session.Counter.{Counter}
 use Rattle.reserving.specs.declared.charge.ChargeRow.{ChargeRow}
-use Rattle.sql_rows.specs.Content.{Content, with_rows, with_bucket, with_session, with_charge}
+use Rattle.sql_rows.specs.Content.{Content, with_rows, with_bucket, with_session, with_charge, with_counter, with_hold}
 
 abbrev pub with_each : {X : Type 0} → (X → Content → Content) → List X → Content → Content
 with_each change [] c = c
@@ -18,3 +20,10 @@ with_sessions a = with_each (λ x. with_rows a (with_session x))
 
 abbrev pub with_charges : List ℕ → List ChargeRow → Content → Content
 with_charges a = with_each (λ x. with_rows a (with_charge x))
+
+abbrev pub with_counters : List ℕ → List Counter → Content → Content
+with_counters a = with_each (λ x. with_rows a (with_counter x))
+
+-- what a session's reservation in a rating group holds
+abbrev pub with_holds : List ℕ → List ℕ → ℕ → List Hold → Content → Content
+with_holds a s g = with_each (λ x. with_rows a (with_hold s g x.bucket x.amount))

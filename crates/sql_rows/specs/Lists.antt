@@ -1,6 +1,6 @@
 -- What lists that are read tell of an account's rows: the row under each key, or that there is none.
 -- Source: profile.
-use Rattle.std.specs.Prelude.{◌≡◌, ℕ, ◌&&◌, ◌||◌, nat_eq, nat_lt, ◌<◌, Bool, List, [], ◌∷◌, Option, option_map}
+use Rattle.std.specs.Prelude.{◌≡◌, ℕ, ◌&&◌, ◌||◌, nat_eq, nat_lt, ◌<◌, Bool, not, List, [], ◌∷◌, length, Option, option_map, is_some}
 use Rattle.std.specs.List.{find}
 use Rattle.sqlite_value.specs.Order.{Row as Values}
 use Rattle.buckets.specs.Row.{Row as Bucket}
@@ -9,10 +9,24 @@ use Rattle.reserving.specs.declared.charge.ChargeRow.{ChargeRow}
 use Rattle.sql_tables.specs.Keyed.{same_name}
 use Rattle.sql_tables.specs.Selects.{only}
 use Rattle.sql_rows.specs.Values.{Group, group_cells, nat}
-use Rattle.sql_rows.specs.Content.{Rows}
+use Rattle.sql_rows.specs.Content.{Content, Rows}
 
 abbrev pub is_live : Bucket → Bool
 is_live b = nat_lt 0 b.available || nat_lt 0 b.reserved
+
+abbrev pub is_dead : Bucket → Bool
+is_dead b = not (is_live b)
+
+-- each number is above the one before it
+abbrev pub Rises : {X : Type 0} → (X → ℕ) → List X → Type 0
+Rises number [] = Unit {0}
+Rises number (x ∷ []) = Unit {0}
+Rises number (x ∷ y ∷ zs) = (number x < number y) × Rises number (y ∷ zs)
+
+-- all accounts, each once
+pub record AreAccounts (content : Content) (xs : List (List ℕ)) : Type 0 where
+  pub found : (a : List ℕ) → is_some (find (λ x. same_name x a) xs) ≡ is_some (content.rows a).head
+  pub count : length xs ≡ content.count
 
 -- the buckets that pass the test: each by its number, and no other
 abbrev pub AreBuckets : (Bucket → Bool) → Rows → List Bucket → Type 0
@@ -53,8 +67,8 @@ AreHolds rows s xs = (g n : ℕ) →
 abbrev pub AreCharges : Rows → List ChargeRow → Type 0
 AreCharges rows xs = (n : ℕ) → find (λ x. nat_eq x.number n) xs ≡ rows.charges n
 
--- each number is above the one before it
 abbrev pub NumbersRise : List ChargeRow → Type 0
-NumbersRise [] = Unit {0}
-NumbersRise (x ∷ []) = Unit {0}
-NumbersRise (x ∷ y ∷ zs) = (x.number < y.number) × NumbersRise (y ∷ zs)
+NumbersRise xs = Rises (λ x. x.number) xs
+
+abbrev pub BucketsRise : List Bucket → Type 0
+BucketsRise bs = Rises (λ b. b.number) bs

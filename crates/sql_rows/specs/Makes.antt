@@ -18,9 +18,10 @@ pub record Makes (change : Content → Content) (old new : State) : Type 0 where
   pub book : IsBook new
   pub shows : Shows old new new.now old.committed true
 
--- where the connection was open: a list of no rows asks nothing of it
-abbrev pub MakesIfOpen : (Content → Content) → State → State → Type 0
-MakesIfOpen change old new = IsTrue old.is_open → Makes change old new
+-- the connection was open if it is, and if it was, the change is made: a list of no rows asks nothing of it
+pub record MakesIfOpen (change : Content → Content) (old new : State) : Type 0 where
+  pub was_open : IsTrue new.is_open → IsTrue old.is_open
+  pub made : IsTrue old.is_open → Makes change old new
 
 -- the change is committed
 pub record Commits (change : Content → Content) (old new : State) : Type 0 where

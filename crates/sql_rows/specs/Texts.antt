@@ -12,8 +12,9 @@ use Rattle.sql_rows.specs.declared.group_rows.GroupColumns.{GroupColumns}
 use Rattle.sql_rows.specs.declared.group_rows.PeriodNames.{PeriodNames as ReadNames}
 use Rattle.sql_rows.specs.declared.hold_rows.HeldColumns.{HeldColumns}
 use Rattle.sql_rows.specs.declared.meta_rows.Meta.{Meta as MetaRow}
+use Rattle.sql_rows.specs.declared.voucher_rows.VoucherColumns.{VoucherColumns}
 use Rattle.sql_rows.specs.Lists.{GroupAt, HoldAt}
-use Rattle.sql_rows.specs.Values.{Kept, Meta, PeriodNames}
+use Rattle.sql_rows.specs.Values.{Kept, Meta, PeriodNames, Voucher}
 
 abbrev pub kept_of : KeptTexts → Kept
 kept_of k = record { content = string_bytes k.content; answer = string_bytes k.answer }
@@ -33,6 +34,9 @@ bucket_row b = record {
   charged = b.charged;
   expired = b.expired;
 }
+
+abbrev pub voucher_of : VoucherColumns → Voucher
+voucher_of v = record { amount = v.amount; days = v.days; scope = v.scope; account = v.account }
 
 abbrev pub names_of : ReadNames → PeriodNames
 names_of p = record { before = string_bytes p.before; after = string_bytes p.after }

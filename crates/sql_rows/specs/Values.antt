@@ -247,9 +247,12 @@ pub record Voucher : Type 0 where
 abbrev pub voucher_key : List ℕ → Values
 voucher_key code = Text code ∷ []
 
+-- the columns after the key
+abbrev pub voucher_cells : Voucher → Values
+voucher_cells r = nat r.amount ∷ or_null nat r.days ∷ or_null nat r.scope ∷ or_null Text r.account ∷ []
+
 abbrev pub voucher_values : List ℕ → Voucher → Values
-voucher_values code r = Text code ∷ nat r.amount ∷ or_null nat r.days ∷ or_null nat r.scope ∷ or_null Text r.account
-    ∷ []
+voucher_values code r = Text code ∷ voucher_cells r
 
 abbrev pub voucher_in : Values → Voucher
 voucher_in v = record {

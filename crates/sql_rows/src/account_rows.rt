@@ -1,18 +1,20 @@
 ghost use Rattle.std.specs.Prelude.{◌≡◌, map, IfOk};
-ghost use Rattle.sql_rows.specs.Content.{rows_in, with_account};
-ghost use Rattle.sql_rows.specs.Values.{head_cells};
+ghost use Rattle.sql_rows.specs.Content.{content_of, rows_in, with_account};
+ghost use Rattle.sql_rows.specs.Values.{head_cells, head_key};
+ghost use Rattle.sql_rows.specs.Lists.{AreAccounts};
 ghost use Rattle.sql_rows.specs.Makes.{Makes};
 ghost use Rattle.sql_tables.specs.Statements.{Attempts, HasBook, HasIdleBook, Reads};
 ghost use Rattle.sql_tables.specs.Selects.{one_or_none};
 ghost use Rattle.sqlite.specs.Held.{state};
 
-use crate::decoding::{flag_at, moment_at};
+use crate::decoding::{account_at, flag_at, moment_at};
 use crate::head::Head;
 use identifiers::AccountNumber;
 use sql_tables::{
     ReadFault, checked, flag, has_columns, large, number_at, one_of, read, text, write,
 };
 use sqlite::{Alter, Connection, Error, Row, Transaction};
+use std::alloc::Global;
 
 /// Puts what is kept of an account once.
 pub fn put_account<S: Alter>(
@@ -83,4 +85,37 @@ fn head_from(row: &Row) -> Result<Head, ReadFault>
         next_bucket,
         next_charge,
     })
+}
+
+/// The numbers of all accounts, each once.
+pub fn read_accounts<S: Alter>(
+    conn: &mut Connection<S>,
+    alloc: Global,
+) -> Result<Vec<AccountNumber>, ReadFault>
+    requires idle { HasIdleBook (state S.Store conn.old) }
+    ensures reads { Reads (λ trees xs. AreAccounts (content_of trees) xs.items)
+        (state S.Store conn.old) (state S.Store conn.new) result }
+{
+    let rows = read(conn, "SELECT account FROM accounts ORDER BY account", &[])?;
+    accounts_from(alloc, &rows)
+}
+
+fn accounts_from(alloc: Global, rows: &[Row]) -> Result<Vec<AccountNumber>, ReadFault>
+    ensures { IfOk result (λ xs. map head_key xs.items ≡ rows.now) }
+{
+    let mut accounts = Vec::new(alloc);
+    'rows: for row in rows {
+        let account = account_from(alloc, row)?;
+        let Ok(()) = accounts.push(account) else {
+            return Err(ReadFault::Memory);
+        };
+    }
+    Ok(accounts)
+}
+
+fn account_from(alloc: Global, row: &Row) -> Result<AccountNumber, ReadFault>
+    ensures { IfOk result (λ a. row.now ≡ head_key a) }
+{
+    has_columns(row, 1)?;
+    account_at(alloc, row, 0)
 }

@@ -1,7 +1,7 @@
-ghost use Rattle.std.specs.Prelude.{◌≡◌, map, true, IsTrue, IfOk};
+ghost use Rattle.std.specs.Prelude.{◌≡◌, map, filter, true, IsTrue, IfOk, OnOk};
 ghost use Rattle.sql_rows.specs.Content.{rows_in, with_bucket, with_rows};
 ghost use Rattle.sql_rows.specs.Values.{bucket_cells};
-ghost use Rattle.sql_rows.specs.Lists.{AreBuckets, is_live};
+ghost use Rattle.sql_rows.specs.Lists.{AreBuckets, BucketsRise, Rises, is_dead, is_live};
 ghost use Rattle.sql_rows.specs.Texts.{bucket_row};
 ghost use Rattle.sql_rows.specs.Each.{with_buckets};
 ghost use Rattle.sql_rows.specs.Makes.{Makes, MakesIfOpen};
@@ -41,6 +41,15 @@ pub struct BucketColumns {
     pub charged: u64,
     /// What was left at its end.
     pub expired: u64,
+}
+
+impl BucketColumns {
+    /// Whether nothing is available and nothing reserved.
+    fn is_dead(&self) -> bool
+        ensures { result ≡ is_dead (bucket_row self.now) }
+    {
+        !(self.available > 0 || self.reserved > 0)
+    }
 }
 
 /// Puts a bucket of an account.
@@ -117,6 +126,51 @@ pub fn read_buckets_all<S: Alter>(
         &[of_account],
     )?;
     buckets_from(alloc, &rows)
+}
+
+/// The buckets that have no money available and none reserved, in the order of their numbers, as they stand: no other
+/// rule of theirs is tested yet.
+pub fn read_buckets_dead<S: Alter>(
+    conn: &mut Connection<S>,
+    alloc: Global,
+    account: &AccountNumber,
+) -> Result<Vec<BucketColumns>, ReadFault>
+    requires idle { HasIdleBook (state S.Store conn.old) }
+    ensures reads { Reads (λ trees bs. AreBuckets is_dead (rows_in trees account.now) (map bucket_row bs.items))
+        (state S.Store conn.old) (state S.Store conn.new) result }
+    ensures order { IfOk result (λ bs. BucketsRise (map bucket_row bs.items)) }
+{
+    let buckets = read_buckets_all(conn, alloc, account)?;
+    dead_among(buckets)
+}
+
+/// Those that are dead, if each number is above the one before it.
+fn dead_among(buckets: Vec<BucketColumns>) -> Result<Vec<BucketColumns>, ReadFault>
+    ensures dead { IfOk result (λ bs. map bucket_row bs.items ≡ filter is_dead (map bucket_row buckets.items)) }
+    ensures order { OnOk result (BucketsRise (map bucket_row buckets.items)) }
+{
+    if !do_buckets_rise(&buckets) {
+        return Err(ReadFault::Rules);
+    }
+    let mut dead = buckets;
+    dead.retain(|bucket| bucket.is_dead());
+    Ok(dead)
+}
+
+/// Whether each number is above the one before it.
+fn do_buckets_rise(buckets: &[BucketColumns]) -> bool
+    ensures { IsTrue result → Rises (λ b. b.number) buckets.now }
+{
+    let mut last: Option<&BucketColumns> = None;
+    'rows: for bucket in buckets {
+        if let Some(before) = last {
+            if bucket.number <= before.number {
+                return false;
+            }
+        }
+        last = Some(bucket);
+    }
+    true
 }
 
 fn buckets_from(alloc: Global, rows: &[Row]) -> Result<Vec<BucketColumns>, ReadFault>

@@ -1,11 +1,12 @@
 ghost use Rattle.std.specs.Prelude.{◌≡◌, IfOk, pos, if◌then◌else◌};
+ghost use Rattle.sqlite.specs.Values.{or_null};
 ghost use Rattle.sqlite_value.specs.Order.{column};
 ghost use Rattle.sqlite_value.specs.declared.value.Value.TheVariants.{Int, Text};
 ghost use Rattle.sql_rows.specs.Values.{flag_number, nat, state_number};
 
-use identifiers::SessionId;
+use identifiers::{AccountNumber, SessionId};
 use reserving::SessionState;
-use sql_tables::{ReadFault, number_at, small_at, text_at};
+use sql_tables::{ReadFault, null_at, number_at, small_at, text_at};
 use sqlite::Row;
 use std::alloc::Global;
 use units::Moment;
@@ -40,6 +41,31 @@ pub(crate) fn session_at(alloc: Global, row: &Row, at: usize) -> Result<SessionI
     let name = text_at(row, at)?;
     match SessionId::new(alloc, &name)? {
         Some(session) => Ok(session),
+        None => Err(ReadFault::Rules),
+    }
+}
+
+/// The account's number in a column, none where it is NULL.
+pub(crate) fn redeemer_at(
+    alloc: Global,
+    row: &Row,
+    at: usize,
+) -> Result<Option<AccountNumber>, ReadFault>
+    ensures { IfOk result (λ o. column row.now at ≡ or_null Text o) }
+{
+    match null_at(row, at) {
+        Ok(()) => Ok(None),
+        Err(_) => Ok(Some(account_at(alloc, row, at)?)),
+    }
+}
+
+/// The account's number in a column.
+pub(crate) fn account_at(alloc: Global, row: &Row, at: usize) -> Result<AccountNumber, ReadFault>
+    ensures { IfOk result (λ a. column row.now at ≡ Text a) }
+{
+    let number = text_at(row, at)?;
+    match AccountNumber::new(alloc, &number)? {
+        Some(account) => Ok(account),
         None => Err(ReadFault::Rules),
     }
 }

@@ -14,20 +14,22 @@ mod meta_rows;
 mod session_rows;
 mod voucher_rows;
 
-pub use crate::account_rows::{put_account, read_account};
+pub use crate::account_rows::{put_account, read_account, read_accounts};
 pub use crate::answer_rows::{
     Kept, put_answer_reference, put_answer_request, read_answer_reference, read_answer_request,
 };
 pub use crate::bucket_rows::{
-    BucketColumns, put_bucket, put_buckets, read_buckets_all, read_buckets_live,
+    BucketColumns, put_bucket, put_buckets, read_buckets_all, read_buckets_dead, read_buckets_live,
 };
 pub use crate::charge_rows::{put_charge, put_charges, read_charges};
-pub use crate::counter_rows::{put_counter, read_counter};
+pub use crate::counter_rows::{put_counter, put_counters, read_counter};
 pub use crate::group_rows::{
     GroupColumns, PeriodNames, put_group_free, put_group_reserved, read_groups,
 };
 pub use crate::head::Head;
-pub use crate::hold_rows::{HeldColumns, put_hold, read_holds, remove_holds};
+pub use crate::hold_rows::{HeldColumns, put_hold, put_holds, read_holds, remove_holds};
 pub use crate::meta_rows::{Meta, put_meta, read_meta};
 pub use crate::session_rows::{put_session, put_sessions, read_session, read_sessions_open};
-pub use crate::voucher_rows::{put_voucher_spent, put_voucher_unspent};
+pub use crate::voucher_rows::{
+    VoucherColumns, put_voucher_spent, put_voucher_unspent, read_voucher,
+};

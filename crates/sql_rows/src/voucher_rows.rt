@@ -1,13 +1,34 @@
-ghost use Rattle.std.specs.Prelude.{◌≡◌, Some, None};
-ghost use Rattle.sql_rows.specs.Content.{with_voucher};
+ghost use Rattle.std.specs.Prelude.{◌≡◌, map, option_map, IfOk, Some, None};
+ghost use Rattle.sql_rows.specs.Content.{content_of, with_voucher};
+ghost use Rattle.sql_rows.specs.Texts.{voucher_of};
+ghost use Rattle.sql_rows.specs.Values.{voucher_cells};
 ghost use Rattle.sql_rows.specs.Makes.{Makes};
-ghost use Rattle.sql_tables.specs.Statements.{Attempts, HasBook};
+ghost use Rattle.sql_tables.specs.Statements.{Attempts, HasBook, HasIdleBook, Reads};
+ghost use Rattle.sql_tables.specs.Selects.{one_or_none};
 ghost use Rattle.sqlite.specs.Held.{state};
 
+use crate::decoding::redeemer_at;
 use identifiers::AccountNumber;
-use sql_tables::{large, null, optional, text, write};
-use sqlite::{Alter, Error, Transaction};
+use sql_tables::{
+    ReadFault, has_columns, large, null, number_at, one_of, optional, optional_at, read, text,
+    write,
+};
+use sqlite::{Alter, Connection, Error, Row, Transaction};
+use std::alloc::Global;
 use units::Money;
+
+/// A voucher, as it stands.
+#[derive(Debug, Drop)]
+pub struct VoucherColumns {
+    /// Micro-units.
+    pub amount: u64,
+    /// The days that what it gives lasts; none: without end.
+    pub days: Option<u32>,
+    /// The one rating group that it pays for, or none where it pays for all.
+    pub scope: Option<u32>,
+    /// The account that redeemed it; none where no account has.
+    pub account: Option<AccountNumber>,
+}
 
 /// Puts a row of `vouchers` in the place of one with its key.
 const PUT_VOUCHER: &str = "INSERT INTO vouchers VALUES (?1, ?2, ?3, ?4, ?5) \
@@ -65,4 +86,49 @@ pub fn put_voucher_spent<S: Alter>(
         PUT_VOUCHER,
         &[of_code, micros, of_days, of_scope, redeemer],
     )
+}
+
+/// The voucher with the code.
+pub fn read_voucher<S: Alter>(
+    conn: &mut Connection<S>,
+    alloc: Global,
+    code: &str,
+) -> Result<Option<VoucherColumns>, ReadFault>
+    requires idle { HasIdleBook (state S.Store conn.old) }
+    ensures reads { Reads (λ trees o. option_map voucher_of o ≡ (content_of trees).vouchers code.now)
+        (state S.Store conn.old) (state S.Store conn.new) result }
+{
+    let of_code = text(code);
+    let rows = read(
+        conn,
+        "SELECT amount, days, scope, account FROM vouchers WHERE code = ?1",
+        &[of_code],
+    )?;
+    voucher_among(alloc, &rows)
+}
+
+fn voucher_among(alloc: Global, rows: &[Row]) -> Result<Option<VoucherColumns>, ReadFault>
+    ensures { IfOk result (λ o. rows.now ≡ map voucher_cells (one_or_none (option_map voucher_of o))) }
+{
+    let row = one_of(rows)?;
+    match row {
+        None => Ok(None),
+        Some(row) => Ok(Some(voucher_from(alloc, row)?)),
+    }
+}
+
+fn voucher_from(alloc: Global, row: &Row) -> Result<VoucherColumns, ReadFault>
+    ensures { IfOk result (λ v. row.now ≡ voucher_cells (voucher_of v)) }
+{
+    has_columns(row, 4)?;
+    let amount = number_at(row, 0)?;
+    let days = optional_at(row, 1)?;
+    let scope = optional_at(row, 2)?;
+    let account = redeemer_at(alloc, row, 3)?;
+    Ok(VoucherColumns {
+        amount,
+        days,
+        scope,
+        account,
+    })
 }

@@ -8,10 +8,10 @@ use crate::tests::fixtures::{account, head, money, name, reference};
 use crate::tests::page::{Page, new_page};
 use identifiers::{AccountNumber, Reference, SessionId};
 use sql_rows::{
-    Head, Kept, put_answer_reference, put_answer_request, put_voucher_spent, put_voucher_unspent,
-    read_answer_reference, read_answer_request,
+    Head, Kept, VoucherColumns, put_answer_reference, put_answer_request, put_voucher_spent,
+    put_voucher_unspent, read_answer_reference, read_answer_request, read_voucher,
 };
-use sqlite::{Alter, Error, Row};
+use sqlite::{Alter, Error};
 use std::alloc::{AllocError, Global};
 use std::test::Fail;
 use units::Money;
@@ -27,23 +27,22 @@ fn push_kept(alloc: Global, kept: &Option<Kept>, text: &mut String) -> Result<()
     }
 }
 
-/// A voucher's code, amount, days, rating group, and the account that redeemed it.
-fn push_voucher(alloc: Global, row: &Row, text: &mut String) -> Result<(), Fail> {
-    let code = row.get::<String>(0)?;
-    text.push_str(code.as_str())?;
-    let (amount, days, scope) = (
-        row.get::<u64>(1)?,
-        row.get::<Option<u32>>(2)?,
-        row.get::<Option<u32>>(3)?,
-    );
-    let piece = format!(in alloc; " {} {:?} {:?} ", amount, days, scope)?;
+/// A voucher's amount, days, rating group, and the account that redeemed it.
+fn push_voucher(
+    alloc: Global,
+    row: &Option<VoucherColumns>,
+    text: &mut String,
+) -> Result<(), AllocError> {
+    let Some(row) = row else {
+        return text.push_str("none; ");
+    };
+    let piece = format!(in alloc; "{} {:?} {:?} ", row.amount, row.days, row.scope)?;
     text.push_str(piece.as_str())?;
-    match row.get::<Option<String>>(4)? {
+    match &row.account {
         Some(owner) => text.push_str(owner.as_str())?,
         None => text.push_str("unspent")?,
     }
-    text.push_str("; ")?;
-    Ok(())
+    text.push_str("; ")
 }
 
 impl<S: Alter> Page<S> {
@@ -93,6 +92,14 @@ impl<S: Alter> Page<S> {
         put_voucher_spent(&mut tx, "000000000002", amount, None, Some(10), account)?;
         tx.commit()
     }
+
+    fn note_voucher(&mut self, code: &str) -> Result<(), Fail>
+        requires ready { IsReady (state S.Store self.old.conn) }
+        ensures ready { IsReady (state S.Store self.new.conn) }
+    {
+        let voucher = read_voucher(&mut self.conn, self.alloc, code)?;
+        Ok(push_voucher(self.alloc, &voucher, &mut self.text)?)
+    }
 }
 
 fn try_answers<S: Alter>(
@@ -138,16 +145,11 @@ fn try_vouchers<S: Alter>(
 {
     page.keep_account(account, head)?;
     page.keep_vouchers(account, money(500)?)?;
-    let rows = page
-        .conn
-        .query_all("SELECT * FROM vouchers ORDER BY code", &[])?;
-    for row in &rows {
-        push_voucher(page.alloc, row, &mut page.text)?;
-    }
-    Ok(())
+    page.note_voucher("000000000001")?;
+    page.note_voucher("000000000002")?;
+    page.note_voucher("000000000003")
 }
 
-/// The rows of the table itself are looked at.
 #[test]
 fn vouchers(rt: HostRuntime) -> Result<(), Fail> {
     let alloc = rt.alloc();
@@ -156,7 +158,7 @@ fn vouchers(rt: HostRuntime) -> Result<(), Fail> {
     try_vouchers(&mut page, &ours, &head)?;
     assert_eq!(rt;
         page.text.as_str(),
-        "000000000001 500 Some(30) None unspent; 000000000002 500 None Some(10) 49151; "
+        "500 Some(30) None unspent; 500 None Some(10) 49151; none; "
     );
     Ok(())
 }

@@ -8,7 +8,10 @@ use crate::tests::fixtures::{account, head, two_buckets};
 use crate::tests::page::{Page, new_page};
 use buckets::Bucket;
 use identifiers::AccountNumber;
-use sql_rows::{BucketColumns, Head, put_bucket, put_buckets, read_buckets_all, read_buckets_live};
+use sql_rows::{
+    BucketColumns, Head, put_bucket, put_buckets, read_buckets_all, read_buckets_dead,
+    read_buckets_live,
+};
 use sqlite::{Alter, Error};
 use std::alloc::{AllocError, Global};
 use std::test::Fail;
@@ -67,6 +70,14 @@ impl<S: Alter> Page<S> {
         let rows = read_buckets_all(&mut self.conn, self.alloc, account)?;
         Ok(push_buckets(self.alloc, &rows, &mut self.text)?)
     }
+
+    fn note_dead(&mut self, account: &AccountNumber) -> Result<(), Fail>
+        requires ready { IsReady (state S.Store self.old.conn) }
+        ensures ready { IsReady (state S.Store self.new.conn) }
+    {
+        let rows = read_buckets_dead(&mut self.conn, self.alloc, account)?;
+        Ok(push_buckets(self.alloc, &rows, &mut self.text)?)
+    }
 }
 
 fn try_buckets<S: Alter>(
@@ -81,18 +92,22 @@ fn try_buckets<S: Alter>(
     page.keep_account(account, head)?;
     page.keep_buckets(account, rows.0)?;
     page.note_live(account)?;
+    page.note_dead(account)?;
     if let [first, second] = rows.1 {
         page.keep_bucket(account, first)?;
         page.keep_bucket(account, second)?;
     }
     page.note_live(account)?;
+    page.note_dead(account)?;
     page.note_all(account)
 }
 
 /// The second bucket ends first. A debit of 40 takes all of it and 10 of the first; a grant holds 5 of the first.
 const WANTED: &str = "
 2 10..500 Some(10): 30 30 0 0 0; 1 0..4102444800 None: 100 100 0 0 0; 
+
 1 0..4102444800 None: 100 85 5 10 0; 
+2 10..500 Some(10): 30 0 0 30 0; 
 1 0..4102444800 None: 100 85 5 10 0; 2 10..500 Some(10): 30 0 0 30 0; 
 ";
 

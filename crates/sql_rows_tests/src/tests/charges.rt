@@ -8,7 +8,9 @@ use crate::tests::fixtures::{account, charge, head};
 use crate::tests::page::{Page, new_page};
 use identifiers::AccountNumber;
 use reserving::{ChargeRow, Counter};
-use sql_rows::{Head, put_charge, put_charges, put_counter, read_charges, read_counter};
+use sql_rows::{
+    Head, put_charge, put_charges, put_counter, put_counters, read_charges, read_counter,
+};
 use sqlite::{Alter, Error};
 use std::alloc::{AllocError, Global};
 use std::test::Fail;
@@ -35,6 +37,15 @@ impl<S: Alter> Page<S> {
     {
         let mut tx = self.conn.transaction();
         put_counter(&mut tx, account, row)?;
+        tx.commit()
+    }
+
+    fn keep_counters(&mut self, account: &AccountNumber, rows: &[Counter]) -> Result<(), Error>
+        requires ready { IsReady (state S.Store self.old.conn) }
+        ensures ready { OnOk result (IsReady (state S.Store self.new.conn)) }
+    {
+        let mut tx = self.conn.transaction();
+        put_counters(&mut tx, account, rows)?;
         tx.commit()
     }
 
@@ -92,8 +103,7 @@ fn try_counters<S: Alter>(
     requires ready { IsReady (state S.Store page.old.conn) }
 {
     page.keep_account(account, head)?;
-    page.keep_counter(account, &counter(3, 7))?;
-    page.keep_counter(account, &counter(4, 8))?;
+    page.keep_counters(account, &[counter(3, 7), counter(4, 8)])?;
     page.keep_counter(account, &counter(3, 4_000_000_000_000_000_000))?;
     page.note_counter(account, 2)?;
     page.note_counter(account, 3)?;

@@ -11,7 +11,7 @@ use identifiers::{AccountNumber, SessionId};
 use reserving::{Session, SessionState};
 use sql_rows::{
     GroupColumns, Head, HeldColumns, put_account, put_buckets, put_group_free, put_group_reserved,
-    put_hold, put_session, read_groups, read_holds, remove_holds,
+    put_hold, put_holds, put_session, read_groups, read_holds, remove_holds,
 };
 use sqlite::{Alter, Error};
 use std::alloc::{AllocError, Global};
@@ -75,8 +75,7 @@ impl<S: Alter> Page<S> {
     {
         let mut tx = self.conn.transaction();
         put_group_reserved(&mut tx, account, session, group, 60, "day", "night")?;
-        put_hold(&mut tx, account, session, group, &hold(1, 5))?;
-        put_hold(&mut tx, account, session, group, &hold(2, 7))?;
+        put_holds(&mut tx, account, session, group, &[hold(1, 5), hold(2, 7)])?;
         put_hold(&mut tx, account, session, group, &hold(2, 9))?;
         tx.commit()
     }

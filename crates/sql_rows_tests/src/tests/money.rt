@@ -7,8 +7,9 @@ ghost use Rattle.sqlite.specs.Held.{state};
 use crate::tests::fixtures::{account, head};
 use crate::tests::page::{Page, new_page};
 use identifiers::AccountNumber;
-use sql_rows::{Head, put_meta, read_account, read_meta};
+use sql_rows::{Head, put_meta, read_account, read_accounts, read_meta};
 use sqlite::{Alter, Error};
+use std::alloc::AllocError;
 use std::test::Fail;
 use units::Moment;
 
@@ -45,6 +46,22 @@ impl<S: Alter> Page<S> {
         let piece = format!(in self.alloc; "{} {} {} {}; ", head.barred, at, bucket, charge)?;
         Ok(self.push(piece.as_str())?)
     }
+
+    fn note_accounts(&mut self) -> Result<(), Fail>
+        requires ready { IsReady (state S.Store self.old.conn) }
+        ensures ready { IsReady (state S.Store self.new.conn) }
+    {
+        let accounts = read_accounts(&mut self.conn, self.alloc)?;
+        Ok(push_accounts(&accounts, &mut self.text)?)
+    }
+}
+
+fn push_accounts(accounts: &[AccountNumber], text: &mut String) -> Result<(), AllocError> {
+    for account in accounts {
+        text.push_str(account.as_str())?;
+        text.push_str(" ")?;
+    }
+    text.push_str("; ")
 }
 
 fn try_meta<S: Alter>(page: &mut Page<S>) -> Result<(), Fail>
@@ -81,7 +98,9 @@ fn try_accounts<S: Alter>(
     page.note_account(ours)?;
     page.keep_account(ours, &heads[1])?;
     page.note_account(ours)?;
-    page.note_account(other)
+    page.note_account(other)?;
+    page.keep_account(other, &heads[0])?;
+    page.note_accounts()
 }
 
 #[test]
@@ -93,7 +112,7 @@ fn accounts(rt: HostRuntime) -> Result<(), Fail> {
     try_accounts(&mut page, &ours, &other, &heads)?;
     assert_eq!(rt;
         page.text.as_str(),
-        "none; false 100 3 1; true 200 4 7; none; "
+        "none; false 100 3 1; true 200 4 7; none; 49151 49152 ; "
     );
     Ok(())
 }

@@ -6,6 +6,6 @@ use Rattle.sql_rows.proofs.charge_rows.do_numbers_rise.Goals as goal
 
 pub returns : goal.returns
 returns c told =
-    c.rows.invariant (subst (RiseAfter (option_map (λ b. b.now) c.rows.last))
+    c.rows.invariant (subst (RiseAfter (λ x. x.number) (option_map (λ b. b.now) c.rows.last))
     (sym (drop_all c.rows.charge-index c.args.charges.now (omega arith)))
-    (nothing_after (option_map (λ b. b.now) c.rows.last)))
+    (nothing_after (λ x. x.number) (option_map (λ b. b.now) c.rows.last)))
