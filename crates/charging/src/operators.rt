@@ -1,6 +1,8 @@
 //! Operators' commands: accounts are opened, credited, barred, and swept.
 
-ghost use Rattle.std.specs.Prelude.{◌≡◌, ◌≤◌, IfOk, IfSome, None, Some};
+ghost use Rattle.std.specs.Prelude.{◌≡◌, ◌≤◌, IfOk, IfSome, IsTrue, None, Some, OnErr, true};
+ghost use Rattle.commands.specs.Kept.{is_kept};
+ghost use Rattle.commands.specs.declared.answer.Answer.TheVariants as answer;
 ghost use Rattle.commands.specs.declared.command.Command.TheVariants as command;
 ghost use Rattle.commands.specs.declared.command.Content.TheVariants as content;
 ghost use Rattle.tariffs.specs.Books.{Book};
@@ -13,8 +15,8 @@ ghost use Rattle.charging.specs.Outcomes.{is_unusable};
 ghost use Rattle.charging.specs.Stepping.{ServesAt, Credits, bar_command};
 
 use crate::committing::{commit, moment_on};
-use crate::repetition::repeated;
-use commands::{Answer, Content, Credit, Refusal};
+use crate::repetition::repeated_credit;
+use commands::{Answer, Content, Credit, KeptCredit, Refusal};
 use identifiers::AccountNumber;
 use keepers::{Keeper, KeptAnswer, Key, Loaded, StoreFault};
 use reserving::{Account, AccountFault};
@@ -104,7 +106,7 @@ pub(crate) fn serve_credit<K: Keeper>(
     let kept = find_credit(keeper, &credit)?;
     if let Some(kept) = kept {
         let conflict = Answer::Refused(Refusal::ContentDiffers);
-        return Ok(repeated(kept, &Content::Credit(credit), conflict));
+        return Ok(repeated_credit(kept, &credit, conflict));
     }
     let Some(loaded) = keeper.load(book, &credit.account, moment)? else {
         return Ok(Answer::Refused(Refusal::AccountUnknown));
@@ -127,8 +129,8 @@ fn find_credit<K: Keeper>(keeper: &mut K, credit: &Credit) -> Result<Option<Kept
 fn is_unusable(credit: &Credit, moment: Moment) -> bool
     ensures { result ≡ is_unusable credit.now moment }
 {
-    let from = credit.from.unwrap_or(moment);
-    let until = credit.until.unwrap_or(Moment::no_end());
+    let from = credit.from_at(moment);
+    let until = credit.end();
     credit.amount.micros() == 0 || until <= from || until <= moment
 }
 
@@ -144,17 +146,29 @@ fn add_bucket(
         IsWith ledger left moment account.old →
         Credits number credit.now moment ledger left account.new) }
     ensures moment { IfOk result (λ number. IfSome number (λ n. account.new.as_of ≡ moment)) }
+    ensures some { IfOk result (λ number. IfSome number (λ n. is_kept credit.now ≡ true)) }
     ensures tariff { account.new.book ≡ account.old.book }
 {
     if is_unusable(credit, moment) {
         return Ok(None);
     }
-    let from = credit.from.unwrap_or(moment);
-    let until = credit.until.unwrap_or(Moment::no_end());
+    let from = credit.from_at(moment);
+    let until = credit.end();
     match account.credit(from, until, credit.scope, credit.amount, moment) {
         Ok(number) => Ok(Some(number)),
         Err(AccountFault::Limit) => Ok(None),
         Err(AccountFault::Memory) => Err(AllocError),
+    }
+}
+
+/// What is kept of a credit that made this bucket.
+fn kept_credit(credit: Credit, number: u32) -> KeptAnswer
+    requires { IsTrue (is_kept credit) }
+    ensures { result ≡ record { content = content.Credit credit; answer = answer.Bucket number } }
+{
+    KeptAnswer {
+        content: Content::Credit(KeptCredit::new(credit)),
+        answer: Answer::Bucket(number),
     }
 }
 
@@ -177,10 +191,7 @@ fn credit_account<K: Keeper>(
     let moment = moment_on(&loaded.account, moment);
     match add_bucket(&mut loaded.account, &credit, moment) {
         Ok(Some(number)) => {
-            let kept = KeptAnswer {
-                content: Content::Credit(credit),
-                answer: Answer::Bucket(number),
-            };
+            let kept = kept_credit(credit, number);
             commit(keeper, loaded, Vec::new(alloc), Some(kept))?;
             Ok(Answer::Bucket(number))
         }

@@ -9,3 +9,4 @@ pub mod Refunds
 pub mod Codes
 pub mod Alike
 pub mod Inverse
+pub mod Kept

@@ -1,8 +1,94 @@
-ghost use Rattle.std.specs.Prelude.{◌≡◌, ◌↔◌, IsTrue};
+ghost use Rattle.std.specs.Prelude.{◌≡◌, ◌↔◌, ◌≤◌, IsSome, IfSome, IsTrue, unwrap_or};
+ghost use Rattle.commands.specs.Kept.{is_kept};
 
 use crate::request::Request;
 use identifiers::{AccountNumber, Reference};
+use std::marker::Model;
 use units::{Moment, Money};
+
+/// From when a credit can be used: a moment of a command, 0 to 4,102,444,799.
+///
+/// Contracts see the moment.
+#[derive(Clone, Copy, Debug, PartialEq, Eq)]
+pub struct CreditStart {
+    moment: Moment,
+}
+
+impl Model for CreditStart {
+    ghost use Rattle.std.specs.Prelude.{ℕ, ◌≤◌};
+
+    ghost Value = { ℕ };
+
+    ghost view = { λ s. s.moment };
+
+    ghost invariant = { λ s. s.moment ≤ 4_102_444_799 };
+
+    ghost inverse = { λ n. record { moment = n } };
+}
+
+impl CreditStart {
+    /// The start at this moment; None from 4,102,444,800 on.
+    pub fn new(moment: Moment) -> Option<CreditStart>
+        ensures in_range { IsSome result ↔ (moment ≤ 4_102_444_799) }
+        ensures value { IfSome result (λ s. s ≡ moment) }
+    {
+        if moment < Moment::no_end() {
+            Some(CreditStart { moment })
+        } else {
+            None
+        }
+    }
+
+    /// The moment.
+    pub fn moment(self) -> Moment
+        ensures value { result ≡ self }
+        ensures in_range { result ≤ 4_102_444_799 }
+    {
+        self.moment
+    }
+}
+
+/// Until when a credit can be used: 1 to 4,102,444,799, or 4,102,444,800, which is "no end".
+///
+/// Contracts see the moment.
+#[derive(Clone, Copy, Debug, PartialEq, Eq)]
+pub struct CreditEnd {
+    moment: Moment,
+}
+
+impl Model for CreditEnd {
+    ghost use Rattle.std.specs.Prelude.{ℕ, ◌≤◌};
+
+    ghost Value = { ℕ };
+
+    ghost view = { λ e. e.moment };
+
+    ghost invariant = { λ e. (1 ≤ e.moment) × (e.moment ≤ 4_102_444_800) };
+
+    ghost inverse = { λ n. record { moment = n } };
+}
+
+impl CreditEnd {
+    /// The end at this moment; None at 0 and above 4,102,444,800.
+    pub fn new(moment: Moment) -> Option<CreditEnd>
+        ensures in_range { IsSome result ↔ ((1 ≤ moment) × (moment ≤ 4_102_444_800)) }
+        ensures value { IfSome result (λ e. e ≡ moment) }
+    {
+        if Moment::first() < moment && moment <= Moment::no_end() {
+            Some(CreditEnd { moment })
+        } else {
+            None
+        }
+    }
+
+    /// The moment.
+    pub fn moment(self) -> Moment
+        ensures value { result ≡ self }
+        ensures in_range { (1 ≤ result) × (result ≤ 4_102_444_800) }
+    {
+        self.moment
+    }
+}
 
 /// A credit by an operator: a new bucket for the account.
 #[derive(Clone, Debug, Drop, PartialEq, Eq)]
@@ -10,13 +96,99 @@ pub struct Credit {
     pub account: AccountNumber,
     pub amount: Money,
     /// From when it can be used; None: from the moment of the command.
-    pub from: Option<Moment>,
+    pub from: Option<CreditStart>,
     /// Until when it can be used; None: without an end.
-    pub until: Option<Moment>,
+    pub until: Option<CreditEnd>,
     /// The rating group that it pays for; None: all.
     pub scope: Option<u32>,
     /// The operator's name for it: a credit with the same reference is a repeat.
     pub reference: Reference,
+}
+
+impl Credit {
+    /// From when it can be used, as a command of this moment.
+    pub fn from_at(&self, moment: Moment) -> Moment
+        ensures { result ≡ unwrap_or self.now.from moment }
+    {
+        match self.from {
+            None => moment,
+            Some(start) => start.moment(),
+        }
+    }
+
+    /// Whether it can be kept: a credit of nothing is refused.
+    pub fn can_be_kept(&self) -> bool
+        ensures { result ≡ is_kept self.now }
+    {
+        1 <= self.amount.micros()
+    }
+
+    /// Until when it can be used.
+    pub fn end(&self) -> Moment
+        ensures { result ≡ unwrap_or self.now.until 4_102_444_800 }
+    {
+        match self.until {
+            None => Moment::no_end(),
+            Some(end) => end.moment(),
+        }
+    }
+}
+
+/// A credit that was accepted: it is of 1 micro-unit or more.
+///
+/// Contracts see the credit.
+#[derive(Clone, Debug, Drop)]
+pub struct KeptCredit {
+    credit: Credit,
+}
+
+impl Model for KeptCredit {
+    ghost use Rattle.std.specs.Prelude.{IsTrue};
+    ghost use Rattle.commands.specs.declared.command.Credit.{Credit};
+    ghost use Rattle.commands.specs.Kept.{is_kept};
+
+    ghost Value = { Credit };
+
+    ghost view = { λ k. k.credit };
+
+    ghost invariant = { λ k. IsTrue (is_kept k.credit) };
+}
+
+impl KeptCredit {
+    /// This credit.
+    pub fn new(credit: Credit) -> KeptCredit
+        requires { IsTrue (is_kept credit) }
+        ensures { result ≡ credit }
+    {
+        KeptCredit { credit }
+    }
+
+    /// The credit.
+    pub fn credit(&self) -> &Credit
+        ensures value { result.now ≡ self.now }
+        ensures rule { IsTrue (is_kept self.now) }
+    {
+        &self.credit
+    }
+}
+
+impl PartialEq for KeptCredit {
+    ghost use Rattle.std.specs.Cmp.{partial_equiv_from_equiv};
+    ghost use Rattle.commands.specs.contracts.command.CreditEq.TheImpl.Laws.{laws-law};
+
+    ghost eq = { ⟦<Credit as PartialEq>⟧.eq };
+
+    ghost laws = { partial_equiv_from_equiv laws-law };
+
+    fn eq(&self, other: &KeptCredit) -> bool {
+        self.credit == other.credit
+    }
+}
+
+impl Eq for KeptCredit {
+    ghost use Rattle.commands.specs.contracts.command.CreditEq.TheImpl.Laws.{laws-law};
+
+    ghost laws = { laws-law };
 }
 
 /// A command of the charging system.
@@ -42,7 +214,7 @@ pub enum Content {
     /// Of a request, under its session and number.
     Request(Request),
     /// Of a credit, under its reference.
-    Credit(Credit),
+    Credit(KeptCredit),
 }
 
 /// Whether two credits are the same: a credit that comes again with the same content is a repeat
@@ -51,6 +223,17 @@ pub fn same_credit(a: &Credit, b: &Credit) -> bool
     ensures { IsTrue result ↔ (a.now ≡ b.now) }
 {
     a == b
+}
+
+/// Whether what is kept is this credit.
+#[tactic(auto, using(crate::proofs::Exact::credit_exact))]
+pub fn is_kept_credit(kept: &Content, credit: &Credit) -> bool
+    ensures { IsTrue result ↔ (kept.now ≡ Content.Credit credit.now) }
+{
+    match kept {
+        Content::Request(_) => false,
+        Content::Credit(one) => same_credit(one.credit(), credit),
+    }
 }
 
 /// Whether what is kept of two commands is the same.

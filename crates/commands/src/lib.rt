@@ -18,7 +18,10 @@ pub use crate::answer::{
     ServiceAnswer, ServiceAnswers, ServiceFailure, ServiceOutcome,
 };
 pub use crate::avp::Avp;
-pub use crate::command::{Command, Content, Credit, same_content, same_credit};
+pub use crate::command::{
+    Command, Content, Credit, CreditEnd, CreditStart, KeptCredit, is_kept_credit, same_content,
+    same_credit,
+};
 pub use crate::quantity::Quantity;
 pub use crate::request::{Ask, Event, EventAction, Refund, Request, RequestKind, same_request};
 pub use crate::service::{

@@ -104,7 +104,8 @@ pub fn optional_moment(
     high: u64,
 ) -> Result<Option<Moment>, WireFault>
     requires { high ≤ 4_102_488_000 }
-    ensures { Says (λ m. m) result (optional_in name.now fault low high (view parent.now)) }
+    ensures reads { Says (λ m. m) result (optional_in name.now fault low high (view parent.now)) }
+    ensures within { IfOk result (λ o. IfSome o (λ m. (low ≤ m) × (m ≤ high))) }
 {
     let seconds = optional_in(parent, name, fault, low, high)?;
     Ok(moment(seconds))

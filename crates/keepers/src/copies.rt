@@ -2,7 +2,7 @@
 
 ghost use Rattle.std.specs.Prelude.{◌≡◌, IfOk};
 
-use commands::{Answer, Ask, Content, Credit, Request};
+use commands::{Answer, Ask, Content, Credit, KeptCredit, Request};
 use std::alloc::AllocError;
 
 /// The same answer once more.
@@ -37,12 +37,18 @@ pub fn copy_credit(credit: &Credit) -> Result<Credit, AllocError>
     credit.clone()
 }
 
+fn copy_kept(credit: &KeptCredit) -> Result<KeptCredit, AllocError>
+    ensures { IfOk result (λ copy. copy ≡ credit.now) }
+{
+    credit.clone()
+}
+
 /// The same content once more.
 pub fn copy_content(content: &Content) -> Result<Content, AllocError>
     ensures { IfOk result (λ copy. copy ≡ content.now) }
 {
     match content {
         Content::Request(request) => Ok(Content::Request(copy_request(request)?)),
-        Content::Credit(credit) => Ok(Content::Credit(copy_credit(credit)?)),
+        Content::Credit(credit) => Ok(Content::Credit(copy_kept(credit)?)),
     }
 }

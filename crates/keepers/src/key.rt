@@ -39,7 +39,7 @@ impl Key {
                     number: request.number,
                 })
             }
-            Content::Credit(credit) => Ok(Key::Reference(credit.reference.clone()?)),
+            Content::Credit(kept) => Ok(Key::Reference(kept.credit().reference.clone()?)),
         }
     }
 }

@@ -3,7 +3,7 @@
 
 use crate::{Change, Failing, Keeper, KeptAnswer, Key, MemoryKeeper, StoreFault, copy_credit};
 use buckets::Bucket;
-use commands::{Answer, Content, Credit};
+use commands::{Answer, Content, Credit, CreditEnd, KeptCredit};
 use identifiers::{AccountNumber, Reference, SessionId};
 use reserving::{Account, ChargeRow};
 use std::alloc::Global;
@@ -45,7 +45,7 @@ fn credit(alloc: Global, text: &str) -> Result<Credit, Fail> {
         account: account(alloc, "49151")?,
         amount: Money::new(150_000).ok_or("an amount")?,
         from: None,
-        until: Some(moment(END)?),
+        until: CreditEnd::new(moment(END)?),
         scope: None,
         reference: reference(alloc, text)?,
     })
@@ -105,6 +105,16 @@ fn open<K: Keeper>(
     })
 }
 
+/// What is kept of a credit.
+fn content_of(credit: Credit) -> Result<Content, Fail> {
+    let kept = if credit.can_be_kept() {
+        Some(KeptCredit::new(credit))
+    } else {
+        None
+    };
+    Ok(Content::Credit(kept.ok_or("a credit of something")?))
+}
+
 /// Credits an account and keeps the answer.
 fn give<K: Keeper>(
     alloc: Global,
@@ -113,11 +123,11 @@ fn give<K: Keeper>(
     credit: &Credit,
     moment: Moment,
 ) -> Result<(), StoreFault> {
-    let content = Content::Credit(copy_credit(credit)?);
+    let content = content_of(copy_credit(credit)?)?;
     let Some(mut loaded) = keeper.load(book, &credit.account, moment)? else {
         return Ok(());
     };
-    let until = credit.until.unwrap_or(Moment::no_end());
+    let until = credit.end();
     if moment < loaded.account.as_of() {
         keeper.abandon(loaded);
         return Ok(());
@@ -381,7 +391,7 @@ fn keys(rt: HostRuntime) -> Result<(), Fail> {
     };
     let second = Key::Request { session, number: 1 };
     assert!(rt; first == first.clone()? && first != second);
-    let key = Key::of(&Content::Credit(credit(rt.alloc(), "v1")?))?;
+    let key = Key::of(&content_of(credit(rt.alloc(), "v1")?)?)?;
     assert!(rt; key == Key::Reference(reference(rt.alloc(), "v1")?));
     assert!(rt; key != first);
     assert_eq!(rt; StoreFault::Memory.number(), 1);

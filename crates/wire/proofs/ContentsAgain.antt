@@ -12,6 +12,7 @@ use Rattle.identifiers.specs.Texts.{is_visible, is_reference}
 use Rattle.commands.specs.declared.avp.Avp.TheVariants as avp
 use Rattle.commands.specs.Names.{name_of}
 use Rattle.commands.specs.declared.request.Request.{Request}
+use Rattle.commands.specs.Kept.{is_kept}
 use Rattle.commands.specs.declared.command.Credit.{Credit}
 use Rattle.commands.specs.declared.command.Content.{Content}
 use Rattle.commands.specs.declared.command.Content.TheVariants as content
@@ -25,6 +26,7 @@ use Rattle.json_fields.proofs.Found.{get_skip, get_here, number_found, from_zero
 use Rattle.json_fields.proofs.Fit.{Fit, FitMembers, fit_whole, fit_text, fit_object, fit_none, fit_member, fit_perhaps, fit_optional, fit_deeper, above_perhaps, document_again, ascii_text}
 use Rattle.json_fields.proofs.Kept.{same_value, bind_ok, where_ok}
 use Rattle.json_fields.proofs.Order.{in_order}
+use Rattle.wire_requests.proofs.Micros.{number_ok}
 use Rattle.wire_requests.specs.Spelled.{request_text}
 use Rattle.wire_requests.specs.Reading.{session_at, request_in, request_of}
 use Rattle.wire_requests.proofs.RequestsAgain.{and_three, visible_small, requests_again}
@@ -129,6 +131,18 @@ contents_again (content.Request r) is = request_content_again (request_text r) r
 contents_again (content.Credit c) is = credit_content_again c is
 
 -- ---- what is read is of the account, and is what was written
+
+-- a credit that is read is of 1 micro-unit or more
+pub credit_some : (account : List ℕ) (d : Data) (c : Credit) → credit_at account d ≡ Ok c → is_kept c ≡ true
+unfolding credit_at
+credit_some account d c h =
+    let amount = bind_ok (number_at avp.Amount 1 1_000_000_000_000_000 d) _ c h in
+    let from = bind_ok (optional_at avp.From 0 4_102_444_799 d) _ c amount.2 in
+    let until = bind_ok (optional_at avp.Until 1 4_102_444_800 d) _ c from.2 in
+    let scope = bind_ok (optional_at avp.Scope 0 4_294_967_295 d) _ c until.2 in
+    let reference = bind_ok (reference_at d) _ c scope.2 in
+    let few = number_ok avp.Amount 1 1_000_000_000_000_000 d amount.0 amount.1 in
+    subst (λ (x : Credit). is_kept x ≡ true) (same_value _ c reference.2) few
 
 credit_account : (account : List ℕ) (d : Data) (c : Credit) → credit_at account d ≡ Ok c → c.account ≡ account
 unfolding credit_at

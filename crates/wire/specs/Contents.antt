@@ -1,5 +1,5 @@
 -- What is kept of a command, as text.
-use Rattle.std.specs.Prelude.{◌≡◌, ℕ, List, Option, Some, None, Result, Ok, Err, ⊤, nat_eq}
+use Rattle.std.specs.Prelude.{◌≡◌, ℕ, List, Option, Some, None, Result, Ok, Err, nat_eq}
 use Rattle.std.specs.Cmp.Lexicographic.{pointwise}
 use Rattle.serde_json.specs.Data.{Data}
 use Rattle.serde_json.specs.Find.{get}
@@ -53,11 +53,6 @@ account_of (content.Credit c) = c.account
 abbrev pub IsContent : Content → Type 0
 IsContent (content.Request r) = IsRequest r
 IsContent (content.Credit c) = IsCredit c
-
--- a credit is kept with the ranges of its body; a request has no ranges beside those of its types
-abbrev pub IsKept : Content → Type 0
-IsKept (content.Request r) = ⊤
-IsKept (content.Credit c) = IsCredit c
 
 -- what was written is read again
 abbrev pub ContentsReadAgain : (Content → List ℕ) → Type 0

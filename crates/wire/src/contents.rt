@@ -4,21 +4,20 @@ ghost use Rattle.serde_json.specs.View.{view};
 ghost use Rattle.commands.specs.Names.{name_of};
 ghost use Rattle.json_fields.specs.Gives.{Gives};
 ghost use Rattle.wire.specs.Credits.{credit_data};
-ghost use Rattle.wire.specs.Contents.{content_text, content_of, request_content_in, credit_content_in, content_when, account_of, IsKept, ContentsReadAgain, ReadsWritten, CreditsAreInOrder};
+ghost use Rattle.wire.specs.Contents.{content_text, content_of, request_content_in, credit_content_in, content_when, account_of, ContentsReadAgain, ReadsWritten, CreditsAreInOrder};
 
 use crate::credits::{credit_in, credit_written};
-use commands::{Avp, Content, Credit, Request};
+use commands::{Avp, Content, KeptCredit, Request};
 use identifiers::AccountNumber;
 use json_fields::{WireFault, document, is_text};
 use serde_json::Value;
 use std::alloc::{AllocError, Global};
 use wire_requests::{request, write_request};
 
-fn write_credit(alloc: Global, credit: &Credit) -> Result<String, AllocError>
+fn write_credit(alloc: Global, credit: &KeptCredit) -> Result<String, AllocError>
     ensures text { IfOk result (λ s. string_bytes s ≡ content_text (Content.Credit credit.now)) }
     ensures read_again { IfOk result
-        (λ s. IsKept (Content.Credit credit.now) →
-        content_of credit.now.account (string_bytes s) ≡ Ok (Content.Credit credit.now)) }
+        (λ s. content_of credit.now.account (string_bytes s) ≡ Ok (Content.Credit credit.now)) }
 {
     let text = credit_written(alloc, credit)?;
     Ok(text)
@@ -35,12 +34,11 @@ fn write_kept_request(alloc: Global, request: &Request) -> Result<String, AllocE
 
 /// The text that is kept of an accepted command: of a request its text, of a credit its body, as
 /// compact JSON with the members in the byte order of their names. It is read again as the same
-/// content, where a credit is within the ranges of its body.
+/// content.
 pub fn write_content(alloc: Global, content: &Content) -> Result<String, AllocError>
     ensures text { IfOk result (λ s. string_bytes s ≡ content_text content.now) }
     ensures read_again { IfOk result
-        (λ s. IsKept content.now →
-        content_of (account_of content.now) (string_bytes s) ≡ Ok content.now) }
+        (λ s. content_of (account_of content.now) (string_bytes s) ≡ Ok content.now) }
 {
     match content {
         Content::Request(request) => write_kept_request(alloc, request),
@@ -64,7 +62,7 @@ fn request_content(
     }
 }
 
-#[tactic(auto, unfolding(crate::specs::Contents::credit_content_in))]
+#[tactic(auto, using(crate::proofs::ContentsAgain::credit_some), unfolding(crate::specs::Contents::credit_content_in))]
 fn credit_content(
     alloc: Global,
     account: AccountNumber,
@@ -72,7 +70,8 @@ fn credit_content(
 ) -> Result<Content, WireFault>
     ensures { Gives (λ c. c) result (credit_content_in account (view parent.now)) }
 {
-    Ok(Content::Credit(credit_in(alloc, account, parent)?))
+    let credit = credit_in(alloc, account, parent)?;
+    Ok(Content::Credit(KeptCredit::new(credit)))
 }
 
 /// What a kept object of this account is, by the member that stands.

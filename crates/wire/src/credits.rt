@@ -1,11 +1,11 @@
-ghost use Rattle.std.specs.Prelude.{◌≡◌, ◌≤◌, IfOk, IfSome, string_bytes};
+ghost use Rattle.std.specs.Prelude.{◌≡◌, ◌≤◌, IfOk, IfSome, OnOk, string_bytes};
 ghost use Rattle.serde_json.specs.View.{view};
 ghost use Rattle.json_fields.specs.Gives.{Gives, Says};
 ghost use Rattle.json_fields.specs.Fields.{number_at, optional_at};
 ghost use Rattle.json_fields.specs.Tokens.{Adds, tokens_of};
-ghost use Rattle.wire.specs.Credits.{reference_at, credit_at, credit_of, credit_data, credit_text};
+ghost use Rattle.wire.specs.Credits.{reference_at, credit_at, credit_of, credit_data, credit_text, IsCredit};
 
-use commands::{Avp, Credit};
+use commands::{Avp, Credit, CreditEnd, CreditStart, KeptCredit};
 use identifiers::{AccountNumber, Reference};
 use json::Writer;
 use json_fields::{
@@ -45,9 +45,44 @@ fn amount(parent: &Value) -> Result<Money, WireFault>
 
 fn moment_at(parent: &Value, name: Avp, low: u64, high: u64) -> Result<Option<Moment>, WireFault>
     requires { high ≤ 4_102_488_000 }
-    ensures { Says (λ m. m) result (optional_at name low high (view parent.now)) }
+    ensures reads { Says (λ m. m) result (optional_at name low high (view parent.now)) }
+    ensures within { IfOk result (λ o. IfSome o (λ m. (low ≤ m) × (m ≤ high))) }
 {
     optional_moment(parent, name.name(), WireFault::Invalid(name), low, high)
+}
+
+fn start_of(moment: Option<Moment>) -> Option<CreditStart>
+    requires { IfSome moment (λ m. (0 ≤ m) × (m ≤ 4_102_444_799)) }
+    ensures { result ≡ moment }
+{
+    match moment {
+        None => None,
+        Some(moment) => CreditStart::new(moment),
+    }
+}
+
+fn end_of(moment: Option<Moment>) -> Option<CreditEnd>
+    requires { IfSome moment (λ m. (1 ≤ m) × (m ≤ 4_102_444_800)) }
+    ensures { result ≡ moment }
+{
+    match moment {
+        None => None,
+        Some(moment) => CreditEnd::new(moment),
+    }
+}
+
+fn start(parent: &Value) -> Result<Option<CreditStart>, WireFault>
+    ensures { Says (λ s. s) result (optional_at Avp.From 0 4_102_444_799 (view parent.now)) }
+{
+    let moment = moment_at(parent, Avp::From, 0, 4_102_444_799)?;
+    Ok(start_of(moment))
+}
+
+fn end(parent: &Value) -> Result<Option<CreditEnd>, WireFault>
+    ensures { Says (λ e. e) result (optional_at Avp.Until 1 4_102_444_800 (view parent.now)) }
+{
+    let moment = moment_at(parent, Avp::Until, 1, 4_102_444_800)?;
+    Ok(end_of(moment))
 }
 
 /// The credit of this account that an object is, or the first fault in the order of its members.
@@ -60,8 +95,8 @@ pub(crate) fn credit_in(
     ensures { Gives (λ c. c) result (credit_at account (view parent.now)) }
 {
     let amount = amount(parent)?;
-    let from = moment_at(parent, Avp::From, 0, 4_102_444_799)?;
-    let until = moment_at(parent, Avp::Until, 1, 4_102_444_800)?;
+    let from = start(parent)?;
+    let until = end(parent)?;
     let scope = scope(optional_number(parent, Avp::Scope, 0, 4_294_967_295)?);
     let reference = reference(alloc, parent)?;
     Ok(Credit {
@@ -89,29 +124,56 @@ pub fn read_credit(alloc: Global, account: AccountNumber, bytes: &[u8]) -> Resul
 }
 
 fn group_of(scope: Option<u32>) -> Option<u64>
-    ensures { result ≡ scope }
+    ensures value { result ≡ scope }
+    ensures within { IfSome scope (λ g. g ≤ 4_294_967_295) }
 {
-    scope.map(|group| group as u64)
+    match scope {
+        None => None,
+        Some(group) => Some(group as u64),
+    }
+}
+
+fn started(start: Option<CreditStart>) -> Option<Moment>
+    ensures value { result ≡ start }
+    ensures within { IfSome start (λ m. m ≤ 4_102_444_799) }
+{
+    match start {
+        None => None,
+        Some(start) => Some(start.moment()),
+    }
+}
+
+fn ended(end: Option<CreditEnd>) -> Option<Moment>
+    ensures value { result ≡ end }
+    ensures within { IfSome end (λ m. (1 ≤ m) × (m ≤ 4_102_444_800)) }
+{
+    match end {
+        None => None,
+        Some(end) => Some(end.moment()),
+    }
 }
 
 #[tactic(auto, using(json_fields::proofs::Tokens::perhaps_front), unfolding(crate::specs::Credits::credit_data))]
-fn put_credit(out: &mut Writer, credit: &Credit) -> Result<(), AllocError>
-    ensures { Adds result out.old out.new (tokens_of (credit_data credit.now)) }
+fn put_credit(out: &mut Writer, kept: &KeptCredit) -> Result<(), AllocError>
+    ensures adds { Adds result out.old out.new (tokens_of (credit_data kept.now)) }
+    ensures rule { OnOk result (IsCredit kept.now) }
 {
+    let credit = kept.credit();
     out.begin_object()?;
     put_number(out, Avp::Amount.name(), credit.amount.micros())?;
-    put_moment(out, Avp::From.name(), credit.from)?;
+    put_moment(out, Avp::From.name(), started(credit.from))?;
     put_text(out, Avp::Reference.name(), credit.reference.as_str())?;
     put_perhaps(out, Avp::Scope.name(), group_of(credit.scope))?;
-    put_moment(out, Avp::Until.name(), credit.until)?;
+    put_moment(out, Avp::Until.name(), ended(credit.until))?;
     out.end_object()?;
     Ok(())
 }
 
 /// The text of a credit as it is kept.
 #[tactic(auto, unfolding(crate::specs::Credits::credit_text))]
-pub(crate) fn credit_written(alloc: Global, credit: &Credit) -> Result<String, AllocError>
-    ensures { IfOk result (λ s. string_bytes s ≡ credit_text credit.now) }
+pub(crate) fn credit_written(alloc: Global, credit: &KeptCredit) -> Result<String, AllocError>
+    ensures text { IfOk result (λ s. string_bytes s ≡ credit_text credit.now) }
+    ensures rule { IfOk result (λ s. IsCredit credit.now) }
 {
     let mut out = Writer::new(Vec::new(alloc));
     put_credit(&mut out, credit)?;

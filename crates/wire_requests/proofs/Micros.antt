@@ -30,7 +30,7 @@ too_many d z h =
     lt-leb (micros_told d z) 1000000000000000 (omega (arith, at_least d z, far))
 
 -- a number that is read is within its range
-number_ok : (a : Avp) (low high : ℕ) (d : Data) (n : ℕ) → number_at a low high d ≡ Ok n → nat_le low n ≡ true
+pub number_ok : (a : Avp) (low high : ℕ) (d : Data) (n : ℕ) → number_at a low high d ≡ Ok n → nat_le low n ≡ true
 unfolding number_at
 number_ok a low high d n h =
     let v = bind_ok (member_at a d) _ n h in

@@ -2,7 +2,7 @@
 
 use crate::requests::WRITTEN;
 use crate::tables::{Told, try_told};
-use commands::{Content, Credit, same_content};
+use commands::{Content, Credit, CreditEnd, CreditStart, KeptCredit, same_content};
 use identifiers::{AccountNumber, Reference};
 use std::alloc::Global;
 use std::test::Fail;
@@ -18,7 +18,7 @@ fn account(alloc: Global) -> Result<AccountNumber, Fail> {
 fn account_of(content: &Content) -> Result<AccountNumber, Fail> {
     match content {
         Content::Request(request) => Ok(request.account.clone()?),
-        Content::Credit(credit) => Ok(credit.account.clone()?),
+        Content::Credit(kept) => Ok(kept.credit().account.clone()?),
     }
 }
 
@@ -39,9 +39,19 @@ fn kept(alloc: Global, content: &Content) -> Result<String, Fail> {
     }
 }
 
+/// What is kept of a credit.
+fn content_of(credit: Credit) -> Result<Content, Fail> {
+    let kept = if credit.can_be_kept() {
+        Some(KeptCredit::new(credit))
+    } else {
+        None
+    };
+    Ok(Content::Credit(kept.ok_or("a credit of something")?))
+}
+
 fn credit(alloc: Global, body: &[u8]) -> Result<Content, Fail> {
     let account = account(alloc)?;
-    Ok(Content::Credit(read_credit(alloc, account, body)?))
+    content_of(read_credit(alloc, account, body)?)
 }
 
 pub(crate) fn kept_credit(alloc: Global, body: &[u8]) -> Result<String, Fail> {
@@ -78,32 +88,38 @@ fn requests(rt: HostRuntime) -> Result<(), Fail> {
     try_told(&rt, rt.alloc(), Told::KeptRequest, WRITTEN)
 }
 
-/// A credit that no body can say: of no money, and past the last moment of a command.
-fn widest(alloc: Global) -> Result<Content, Fail> {
+/// The credit that begins as late and ends as early as one can.
+fn widest(alloc: Global) -> Result<Credit, Fail> {
     let reference = Reference::new(alloc, "r1")?.ok_or("a reference")?;
-    Ok(Content::Credit(Credit {
+    Ok(Credit {
         account: account(alloc)?,
-        amount: Money::new(0).ok_or("an amount")?,
-        from: Moment::new(4_102_488_000),
-        until: Moment::new(0),
+        amount: Money::new(1).ok_or("an amount")?,
+        from: CreditStart::new(Moment::new(4_102_444_799).ok_or("a moment")?),
+        until: CreditEnd::new(Moment::new(1).ok_or("a moment")?),
         scope: Some(7),
         reference,
-    }))
+    })
 }
 
-/// A credit that no body can say is written, and not read: only what is within a body's ranges is
-/// ever kept.
+/// Each credit that can be kept is read again, also where it could never be used.
 #[test]
 fn widest_credit(rt: HostRuntime) -> Result<(), Fail> {
-    let alloc = rt.alloc();
-    let content = widest(alloc)?;
-    let text = write_content(alloc, &content)?;
+    let content = content_of(widest(rt.alloc())?)?;
+    let text = kept(rt.alloc(), &content)?;
     assert_eq!(rt;
         text.as_str(),
-        r#"{"Amount":0,"From":4102488000,"Reference":"r1","Scope":7,"Until":0}"#
+        r#"{"Amount":1,"From":4102444799,"Reference":"r1","Scope":7,"Until":1}"#
     );
-    let told = shown(alloc, text.as_bytes())?;
-    assert_eq!(rt; told.as_str(), "Amount is invalid");
+    Ok(())
+}
+
+/// No credit begins past the last moment of a command, or ends at 0 or past "no end".
+#[test]
+fn starts_and_ends(rt: HostRuntime) -> Result<(), Fail> {
+    let late = Moment::new(4_102_444_800).ok_or("a moment")?;
+    let last = Moment::new(4_102_444_801).ok_or("a moment")?;
+    assert!(rt; CreditStart::new(late).is_none() && CreditEnd::new(late).is_some());
+    assert!(rt; CreditEnd::new(last).is_none() && CreditEnd::new(Moment::first()).is_none());
     Ok(())
 }
 
@@ -118,13 +134,13 @@ pub(crate) fn shown(alloc: Global, text: &[u8]) -> Result<String, Fail> {
 
 /// A kept text, and the value that it is read as.
 const SHOWN: &str = r##"{"Amount":1000000,"From":0,"Reference":"r1","Scope":10,
-  "Until":4102444800} -> Credit(Credit { account: AccountNumber { text: "49151" },
-   amount: Money { micros: 1000000 }, from: Some(Moment { seconds: 0 }),
-   until: Some(Moment { seconds: 4102444800 }), scope: Some(10), reference: Reference { text:
-   "r1" } })
-{"Amount":1,"Reference":"r1"} -> Credit(Credit { account: AccountNumber { text: "49151" },
-   amount: Money { micros: 1 }, from: None, until: None, scope: None,
-   reference: Reference { text: "r1" } })
+  "Until":4102444800} -> Credit(KeptCredit { credit: Credit { account: AccountNumber { text:
+   "49151" }, amount: Money { micros: 1000000 }, from: Some(CreditStart { moment: Moment {
+   seconds: 0 } }), until: Some(CreditEnd { moment: Moment { seconds: 4102444800 } }),
+   scope: Some(10), reference: Reference { text: "r1" } } })
+{"Amount":1,"Reference":"r1"} -> Credit(KeptCredit { credit: Credit { account: AccountNumber { text:
+   "49151" }, amount: Money { micros: 1 }, from: None, until: None, scope: None,
+   reference: Reference { text: "r1" } } })
 {"CC-Request-Number":4,"CC-Request-Type":3,"Multiple-Services-Credit-Control":[],
   "Session-Id":"s1","Subscription-Id":{"Subscription-Id-Data":"49151","Subscription-Id-Type":0}}
    -> Request(Request { session: SessionId { text: "s1" }, number: 4,

@@ -1,6 +1,4 @@
 use Rattle.std.proofs.Common.{ap, refl, Some}
-use Rattle.commands.specs.declared.answer.Answer.TheVariants as answer
-use Rattle.commands.specs.declared.command.Content.TheVariants as content
 use Rattle.reserving.specs.Stored.{stored}
 use Rattle.charging.proofs.Operated.{credit-told, credit-done}
 use Rattle.charging.proofs.operators.credit_account.Goals as goal
@@ -20,10 +18,7 @@ returns-in_ok-commit-in-Ok-Some-clause-served g c = λ clean b load fresh list t
       after = stored c.add_bucket.new.account;
       before = c.args.loaded.before;
       charges = c.new.result;
-      kept = Some (record {
-        content = content.Credit c.args.credit;
-        answer = answer.Bucket c.in-Ok-Some.number;
-      });
+      kept = Some c.kept_credit-kept.result;
     })
     c.in-Ok-Some.field-0-is c.in-Ok-Some.ensures.tariff c.in-Ok-Some.ensures.moment
     (record {
@@ -31,7 +26,7 @@ returns-in_ok-commit-in-Ok-Some-clause-served g c = λ clean b load fresh list t
       moment = refl;
       after = refl;
       charges = c.new.ensures.items;
-      kept_is = refl;
+      kept_is = ap Some c.kept_credit-kept.ensures;
     })
     (c.in_ok-commit-in-Ok-Some.ensures.done clean)
 

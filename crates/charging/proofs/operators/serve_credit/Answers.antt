@@ -12,8 +12,8 @@ pub returns-in-Some-clause-served : goal.returns-in-Some-clause-served
 returns-in-Some-clause-served g c = λ clean list time is le.
     credit-again c.args.book.now list c.args.credit c.args.moment
     (g.K.Keeper.content c.args.keeper.now) (g.K.Keeper.content c.find_credit.new.keeper)
-    c.in-Some.kept c.repeated.result time le is
-    (sym (c.in_ok-kept.ensures.found clean) ∙ c.in-Some.is) c.repeated.ensures
+    c.in-Some.kept c.repeated_credit.result time le is
+    (sym (c.in_ok-kept.ensures.found clean) ∙ c.in-Some.is) c.repeated_credit.ensures
     (c.in_ok-kept.ensures.same clean)
 
 pub returns-in_default-2-clause-served : goal.returns-in_default-2-clause-served
