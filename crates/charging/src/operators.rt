@@ -11,12 +11,11 @@ ghost use Rattle.reserving.specs.Left.{LeftRows, IsWith};
 ghost use Rattle.keepers.specs.Keys.{key_of};
 ghost use Rattle.keepers.specs.Change.{IsLoad};
 ghost use Rattle.keepers.specs.Keeping.{Keeps, Reads};
-ghost use Rattle.charging.specs.Outcomes.{is_unusable};
+ghost use Rattle.charging.specs.Outcomes.{is_unusable, repeated};
 ghost use Rattle.charging.specs.Stepping.{ServesAt, Credits, bar_command};
 
 use crate::committing::{commit, moment_on};
-use crate::repetition::repeated_credit;
-use commands::{Answer, Content, Credit, KeptCredit, Refusal};
+use commands::{Answer, Content, Credit, KeptCredit, Refusal, is_kept_credit};
 use identifiers::AccountNumber;
 use keepers::{Keeper, KeptAnswer, Key, Loaded, StoreFault};
 use reserving::{Account, AccountFault};
@@ -112,6 +111,17 @@ pub(crate) fn serve_credit<K: Keeper>(
         return Ok(Answer::Refused(Refusal::AccountUnknown));
     };
     credit_account(alloc, keeper, loaded, credit, moment)
+}
+
+/// The answer to a credit whose reference is kept: its first answer where it is the same credit.
+fn repeated_credit(kept: KeptAnswer, credit: &Credit, conflict: Answer) -> Answer
+    ensures { result ≡ repeated kept (content.Credit credit.now) conflict }
+{
+    if is_kept_credit(&kept.content, credit) {
+        kept.answer
+    } else {
+        conflict
+    }
 }
 
 /// What is kept under a credit's reference.

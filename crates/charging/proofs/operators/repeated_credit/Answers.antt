@@ -1,7 +1,7 @@
 use Rattle.std.proofs.Common.{◌∙◌, ap, sym, if◌then◌else◌}
 use Rattle.commands.specs.declared.command.Content.TheVariants as content
 use Rattle.charging.proofs.KeptKeys.{same-content}
-use Rattle.charging.proofs.repetition.repeated_credit.Goals as goal
+use Rattle.charging.proofs.operators.repeated_credit.Goals as goal
 
 pub returns-then-is_kept_credit : goal.returns-then-is_kept_credit
 returns-then-is_kept_credit c =
