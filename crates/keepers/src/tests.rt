@@ -123,7 +123,9 @@ fn give<K: Keeper>(
     credit: &Credit,
     moment: Moment,
 ) -> Result<(), StoreFault> {
-    let content = content_of(copy_credit(credit)?)?;
+    let Ok(content) = content_of(copy_credit(credit)?) else {
+        return Err(StoreFault::Memory);
+    };
     let Some(mut loaded) = keeper.load(book, &credit.account, moment)? else {
         return Ok(());
     };
