@@ -105,14 +105,13 @@ fn open<K: Keeper>(
     })
 }
 
-/// What is kept of a credit.
-fn content_of(credit: Credit) -> Result<Content, Fail> {
-    let kept = if credit.can_be_kept() {
-        Some(KeptCredit::new(credit))
+/// What is kept of a credit, if it is of something.
+fn content_of(credit: Credit) -> Option<Content> {
+    if credit.can_be_kept() {
+        Some(Content::Credit(KeptCredit::new(credit)))
     } else {
         None
-    };
-    Ok(Content::Credit(kept.ok_or("a credit of something")?))
+    }
 }
 
 /// Credits an account and keeps the answer.
@@ -123,7 +122,7 @@ fn give<K: Keeper>(
     credit: &Credit,
     moment: Moment,
 ) -> Result<(), StoreFault> {
-    let Ok(content) = content_of(copy_credit(credit)?) else {
+    let Some(content) = content_of(copy_credit(credit)?) else {
         return Err(StoreFault::Memory);
     };
     let Some(mut loaded) = keeper.load(book, &credit.account, moment)? else {
@@ -393,7 +392,8 @@ fn keys(rt: HostRuntime) -> Result<(), Fail> {
     };
     let second = Key::Request { session, number: 1 };
     assert!(rt; first == first.clone()? && first != second);
-    let key = Key::of(&content_of(credit(rt.alloc(), "v1")?)?)?;
+    let content = content_of(credit(rt.alloc(), "v1")?).ok_or("a credit of something")?;
+    let key = Key::of(&content)?;
     assert!(rt; key == Key::Reference(reference(rt.alloc(), "v1")?));
     assert!(rt; key != first);
     assert_eq!(rt; StoreFault::Memory.number(), 1);
