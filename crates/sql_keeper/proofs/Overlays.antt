@@ -1,0 +1,192 @@
+-- Rows that are put one after another, as one change over what was there.
+use Rattle.std.proofs.Common.{◌≡◌, ◌≢◌, ℕ, Bool, true, false, cond, List, [], ◌∷◌, refl, sym, ap, ap₂, ◌∙◌, true≢false, Option, Some, None}
+use Rattle.std.specs.Prelude.{if◌then◌else◌, ◌&&◌, ◌+◌, nat_eq, is_some}
+use Rattle.std.specs.List.{find}
+use Rattle.std.specs.Cmp.{unsigned_Decides}
+use Rattle.std.specs.Cmp.Lexicographic.{bytes_decides}
+use Rattle.std.proofs.lemmas.Bool.{and_parts}
+use Rattle.identifiers.specs.Texts.{same_name}
+use Rattle.buckets.specs.Row.{Row as Bucket}
+use Rattle.buckets.specs.Spend.{DiffersFromAll, AreDistinct}
+use Rattle.reserving.specs.declared.charge.ChargeRow.{ChargeRow}
+use Rattle.reserving.specs.declared.session.Session.{Session}
+use Rattle.reserving.specs.declared.session.SessionGroup.{SessionGroup}
+use Rattle.reserving.specs.declared.session.Counter.{Counter}
+use Rattle.reserving.specs.Sessions.{is_session, session_in, is_of, is_counter, counter_in}
+use Rattle.reserving.specs.Rows.{EachIn, AreApart}
+use Rattle.reserving.specs.Left.{bucket_in, first_of}
+use Rattle.keepers.specs.Tables.{charge_in}
+use Rattle.keepers.specs.Keyed.{same_bucket, same_session, same_counter}
+use Rattle.sql_rows.specs.Content.{Rows, Content, with_rows, with_bucket, with_counter, with_session, with_charge}
+use Rattle.sql_rows.specs.Each.{with_buckets, with_counters, with_sessions, with_charges}
+
+-- ---- a name and a number that two rows share
+
+pub name_from : (a b : List ℕ) → same_name a b ≡ true → a ≡ b
+name_from a b e = (bytes_decides a b).0 e
+
+pub name_itself : (a : List ℕ) → same_name a a ≡ true
+name_itself a = (bytes_decides a a).1 refl
+
+pub number_from : (n m : ℕ) → nat_eq n m ≡ true → n ≡ m
+number_from n m e = (unsigned_Decides n m).0 e
+
+pub number_itself : (n : ℕ) → nat_eq n n ≡ true
+number_itself n = (unsigned_Decides n n).1 refl
+
+pub both : (a b : Bool) → a ≡ true → b ≡ true → (a && b) ≡ true
+both true b p q = q
+both false b p q = absurd (true≢false (sym p))
+
+pub not_both : {X : Type 0} → true ≡ false → X
+not_both e = absurd (true≢false e)
+
+pub one_session : (s : List ℕ) (x y : Session) → is_session s x ≡ true → is_session s y ≡ true → is_session x.id y ≡ true
+one_session s x y p q = ap (same_name y.id) (name_from x.id s p) ∙ q
+
+pub one_group : (s : List ℕ) (g : ℕ) (x y : SessionGroup) → is_of s g x ≡ true → is_of s g y ≡ true → is_of x.session x.group y ≡ true
+one_group s g x y p q =
+    let a = and_parts (same_name x.session s) (nat_eq x.group g) p in
+    ap₂ (λ n m. same_name y.session n && nat_eq y.group m) (name_from x.session s a.0) (number_from x.group g a.1) ∙ q
+
+one_counter : (g c : ℕ) (x y : Counter) → is_counter g c x ≡ true → is_counter g c y ≡ true → is_counter x.group x.cycle y ≡ true
+one_counter g c x y p q =
+    let a = and_parts (nat_eq x.group g) (nat_eq x.cycle c) p in
+    ap₂ (λ n m. nat_eq y.group n && nat_eq y.cycle m) (number_from x.group g a.0) (number_from x.cycle c a.1) ∙ q
+
+one_bucket : (n : ℕ) (x y : Bucket) → nat_eq x.number n ≡ true → nat_eq y.number n ≡ true → same_bucket x y ≡ true
+one_bucket n x y p q = ap (nat_eq y.number) (number_from x.number n p) ∙ q
+
+distinct_from : (n : ℕ) (xs : List Bucket) → DiffersFromAll n xs → EachIn (λ y. nat_eq y.number n ≡ false) xs
+distinct_from n [] h = tt
+distinct_from n (x ∷ xs) h = (go (nat_eq x.number n) refl, distinct_from n xs h.1)
+  where
+    go : (t : Bool) → nat_eq x.number n ≡ t → nat_eq x.number n ≡ false
+    go true e = absurd (h.0 (number_from x.number n e))
+    go false e = e
+
+pub distinct_apart : (xs : List Bucket) → AreDistinct xs → AreApart same_bucket xs
+distinct_apart [] h = tt
+distinct_apart (x ∷ xs) h = (distinct_from x.number xs h.0, distinct_apart xs h.1)
+
+-- ---- one row over those after it
+
+module _ {X : Type 0} (same : X → X → Bool) (is : X → Bool) (one : (x y : X) → is x ≡ true → is y ≡ true → same x y ≡ true) where
+  pub none_more : (x : X) (xs : List X) → is x ≡ true → EachIn (λ y. same x y ≡ false) xs → find is xs ≡ None
+  none_more x [] e h = refl
+  none_more x (y ∷ ys) e h = at (is y) refl (none_more x ys e h.1)
+    where
+      at : (t : Bool) → is y ≡ t → find is ys ≡ None → cond t (Some y) (find is ys) ≡ None
+      at true k rest = not_both (sym (one x y e k) ∙ h.0)
+      at false k rest = rest
+
+  pub one_over : (x : X) (xs : List X) (r : Option X) → EachIn (λ y. same x y ≡ false) xs → first_of (find is xs) (if is x then Some x else r) ≡ first_of (find is (x ∷ xs)) r
+  one_over x xs r h = at (is x) refl
+    where
+      at : (t : Bool) → is x ≡ t → first_of (find is xs) (if t then Some x else r) ≡ first_of (cond t (Some x) (find is xs)) r
+      at true e = ap (λ o. first_of o (Some x)) (none_more x xs e h)
+      at false e = refl
+
+-- ---- an account's rows change, and no other's
+
+chosen_twice : (p : Bool) (r : Rows) (f g : Rows → Rows) → (if p then f (if p then g r else r) else (if p then g r else r)) ≡ (if p then f (g r) else r)
+chosen_twice true r f g = refl
+chosen_twice false r f g = refl
+
+chosen_none : (p : Bool) (r : Rows) → r ≡ (if p then r else r)
+chosen_none true r = refl
+chosen_none false r = refl
+
+-- two changes of one account are one
+pub with_twice : (a : List ℕ) (f g : Rows → Rows) (c : Content) → with_rows a f (with_rows a g c) ≡ with_rows a (λ r. f (g r)) c
+with_twice a f g c = λ i. record c { rows = λ x. chosen_twice (same_name a x) (c.rows x) f g i }
+
+pub with_none : (a : List ℕ) (c : Content) → c ≡ with_rows a (λ r. r) c
+with_none a c = λ i. record c { rows = λ x. chosen_none (same_name a x) (c.rows x) i }
+
+-- an account is opened, unless it is there, and its rows change
+abbrev pub opened : List ℕ → (Rows → Rows) → Content → Content
+opened a f c = record c {
+  rows = λ x. if same_name a x then f (c.rows x) else c.rows x;
+  count = if is_some (c.rows a).head then c.count else c.count + 1;
+}
+
+pub with_opened : (a : List ℕ) (f g : Rows → Rows) (c : Content) → with_rows a f (opened a g c) ≡ opened a (λ r. f (g r)) c
+with_opened a f g c = λ i. record (opened a g c) { rows = λ x. chosen_twice (same_name a x) (c.rows x) f g i }
+
+-- ---- a list of rows
+
+unfoldable pub each : {X : Type 0} → List ℕ → (X → Rows → Rows) → List X → Content → Content
+each a f [] c = c
+each a f (x ∷ xs) c = each a f xs (with_rows a (f x) c)
+
+module _ {X : Type 0} (a : List ℕ) (same : X → X → Bool) (f : X → Rows → Rows) (over : List X → Rows → Rows) (none : (r : Rows) → over [] r ≡ r)
+    (step : (x : X) (xs : List X) (r : Rows) → EachIn (λ y. same x y ≡ false) xs → over xs (f x r) ≡ over (x ∷ xs) r) where
+  pub each_over : (xs : List X) (c : Content) → AreApart same xs → each a f xs c ≡ with_rows a (over xs) c
+  unfolding each
+  each_over [] c h = with_none a c ∙ (λ i. with_rows a (λ r. sym (none r) i) c)
+  each_over (x ∷ xs) c h =
+      each_over xs (with_rows a (f x) c) h.1 ∙ with_twice a (over xs) (f x) c ∙ (λ i. with_rows a (λ r. step x xs r h.0 i) c)
+
+abbrev pub over_buckets : List Bucket → Rows → Rows
+over_buckets xs r = record r { buckets = λ n. first_of (bucket_in n xs) (r.buckets n) }
+
+abbrev pub over_counters : List Counter → Rows → Rows
+over_counters xs r = record r { counters = λ g c. first_of (counter_in g c xs) (r.counters g c) }
+
+abbrev pub over_sessions : List Session → Rows → Rows
+over_sessions xs r = record r { sessions = λ s. first_of (session_in s xs) (r.sessions s) }
+
+abbrev pub over_charges : List ChargeRow → Rows → Rows
+over_charges xs r = record r { charges = λ n. first_of (charge_in n xs) (r.charges n) }
+
+buckets_each : (a : List ℕ) (xs : List Bucket) (c : Content) → with_buckets a xs c ≡ each a with_bucket xs c
+unfolding each
+buckets_each a [] c = refl
+buckets_each a (x ∷ xs) c = buckets_each a xs (with_rows a (with_bucket x) c)
+
+counters_each : (a : List ℕ) (xs : List Counter) (c : Content) → with_counters a xs c ≡ each a with_counter xs c
+unfolding each
+counters_each a [] c = refl
+counters_each a (x ∷ xs) c = counters_each a xs (with_rows a (with_counter x) c)
+
+sessions_each : (a : List ℕ) (xs : List Session) (c : Content) → with_sessions a xs c ≡ each a with_session xs c
+unfolding each
+sessions_each a [] c = refl
+sessions_each a (x ∷ xs) c = sessions_each a xs (with_rows a (with_session x) c)
+
+charges_each : (a : List ℕ) (xs : List ChargeRow) (c : Content) → with_charges a xs c ≡ each a with_charge xs c
+unfolding each
+charges_each a [] c = refl
+charges_each a (x ∷ xs) c = charges_each a xs (with_rows a (with_charge x) c)
+
+pub buckets_over : (a : List ℕ) (xs : List Bucket) (c : Content) → AreDistinct xs → with_buckets a xs c ≡ with_rows a (over_buckets xs) c
+buckets_over a xs c h =
+    buckets_each a xs c
+    ∙ each_over a same_bucket with_bucket over_buckets (λ r. refl)
+    (λ x xs r apart i. record r { buckets = λ n. one_over same_bucket (λ b. nat_eq b.number n) (one_bucket n) x xs (r.buckets n) apart i }) xs c (distinct_apart xs h)
+
+pub counters_over : (a : List ℕ) (xs : List Counter) (c : Content) → AreApart same_counter xs → with_counters a xs c ≡ with_rows a (over_counters xs) c
+counters_over a xs c h =
+    counters_each a xs c
+    ∙ each_over a same_counter with_counter over_counters (λ r. refl)
+    (λ x xs r apart i. record r { counters = λ g k. one_over same_counter (is_counter g k) (one_counter g k) x xs (r.counters g k) apart i }) xs c h
+
+pub sessions_over : (a : List ℕ) (xs : List Session) (c : Content) → AreApart same_session xs → with_sessions a xs c ≡ with_rows a (over_sessions xs) c
+sessions_over a xs c h =
+    sessions_each a xs c
+    ∙ each_over a same_session with_session over_sessions (λ r. refl)
+    (λ x xs r apart i. record r { sessions = λ s. one_over same_session (is_session s) (one_session s) x xs (r.sessions s) apart i }) xs c h
+
+-- no two charges have one number
+abbrev pub same_charge : ChargeRow → ChargeRow → Bool
+same_charge x y = nat_eq y.number x.number
+
+one_charge : (n : ℕ) (x y : ChargeRow) → nat_eq x.number n ≡ true → nat_eq y.number n ≡ true → nat_eq y.number x.number ≡ true
+one_charge n x y p q = ap (nat_eq y.number) (number_from x.number n p) ∙ q
+
+pub charges_over : (a : List ℕ) (xs : List ChargeRow) (c : Content) → AreApart same_charge xs → with_charges a xs c ≡ with_rows a (over_charges xs) c
+charges_over a xs c h =
+    charges_each a xs c
+    ∙ each_over a same_charge with_charge over_charges (λ r. refl)
+    (λ x xs r apart i. record r { charges = λ n. one_over same_charge (λ b. nat_eq b.number n) (one_charge n) x xs (r.charges n) apart i }) xs c h

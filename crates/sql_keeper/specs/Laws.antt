@@ -1,0 +1,29 @@
+-- What is proved of definitions alone.
+-- Source: profile.
+use Rattle.std.specs.Prelude.{◌≡◌, ℕ, List, [], Option}
+use Rattle.reserving.specs.Stored.{IsStored}
+use Rattle.keepers.specs.declared.loaded.Change.{Change}
+use Rattle.keepers.specs.Tables.{no_tables}
+use Rattle.keepers.specs.Change.{IsMadeFrom, changed}
+use Rattle.sql_rows.specs.Values.{Meta, Kept}
+use Rattle.sql_rows.specs.Content.{Content, content_of}
+use Rattle.sql_keeper.specs.Content.{tables_of}
+use Rattle.sql_keeper.specs.Writes.{AreTexts, with_change}
+use Rattle.sql_keeper.specs.Tests.{AreWritable, AreNumbered, first_number}
+
+-- the rows that a change writes, put one after another, read as the change over the tables that
+-- were there
+abbrev pub AreChangesRead : Type 0
+AreChangesRead =
+    (names : List (List ℕ)) (m : Meta) (change : Change) (texts : Option Kept) (c : Content)
+    → IsStored change.after
+    → AreWritable names change.after.sessions change.after.groups
+    → AreNumbered (first_number (c.rows change.number).head) change.after.next_charge
+    change.charges.items
+    → AreTexts change.number change.kept texts → m.last ≡ change.moment
+    → IsMadeFrom change.before change.after ((tables_of names c).rows change.number)
+    → tables_of names (with_change names m change texts c) ≡ changed change (tables_of names c)
+
+-- tables without rows hold nothing
+abbrev pub AreNewTablesEmpty : Type 0
+AreNewTablesEmpty = (names : List (List ℕ)) → tables_of names (content_of (λ t. [])) ≡ no_tables

@@ -1,0 +1,5 @@
+pub mod Asks
+pub mod Content
+pub mod Laws
+pub mod Tests
+pub mod Writes

@@ -1,0 +1,86 @@
+-- What a change writes, one row after another.
+-- Source: profile.
+use Rattle.std.specs.Prelude.{◌≡◌, ℕ, List, [], Option, Some, None, unwrap_or, option_map, slice_get}
+use Rattle.calendar.specs.declared.week.Period.{Period}
+use Rattle.rating.specs.declared.grant.Periods.{Periods}
+use Rattle.reserving.specs.declared.session.SessionGroup.{SessionGroup}
+use Rattle.reserving.specs.declared.session.Reservation.{Reservation}
+use Rattle.reserving.specs.Sessions.{holds_in}
+use Rattle.reserving.specs.Stored.{StoredRows}
+use Rattle.keepers.specs.declared.key.Key.{Key}
+use Rattle.keepers.specs.declared.key.KeptAnswer.{KeptAnswer}
+use Rattle.keepers.specs.declared.loaded.Change.{Change}
+use Rattle.keepers.specs.Keys.{key_of}
+use Rattle.keepers.specs.declared.key.Key.TheVariants.{Request, Reference}
+use Rattle.sql_rows.specs.declared.head.Head.{Head as HeadColumns}
+use Rattle.sql_rows.specs.Values.{Meta, Group, PeriodNames, Kept, request_kind, reference_kind}
+use Rattle.sql_rows.specs.Content.{Content, with_rows, with_meta, with_account, with_group, without_holds, with_answer}
+use Rattle.sql_rows.specs.Each.{with_each, with_buckets, with_counters, with_sessions, with_holds, with_charges}
+use Rattle.sql_keeper.specs.Content.{kept_in}
+
+-- ---- periods by their names
+
+abbrev pub name_at : List (List ℕ) → Period → List ℕ
+name_at names p = unwrap_or (slice_get names p.0) []
+
+abbrev pub names_at : List (List ℕ) → Periods → PeriodNames
+names_at names p = record { before = name_at names p.before; after = name_at names p.after }
+
+abbrev pub columns_of : List (List ℕ) → SessionGroup → Group
+columns_of names r = record {
+  used = r.used;
+  periods = option_map (λ (x : Reservation). names_at names x.periods) r.reservation;
+}
+
+abbrev pub head_of : StoredRows → HeadColumns
+head_of w = record {
+  barred = w.barred;
+  as_of = w.as_of;
+  next_bucket = w.next_bucket;
+  next_charge = w.next_charge;
+}
+
+-- what a session has of a rating group, and in place of what was held there what its reservation
+-- holds
+abbrev pub with_held_group : List ℕ → List (List ℕ) → SessionGroup → Content → Content
+with_held_group a names r c =
+    with_holds a r.session r.group (holds_in r.reservation)
+    (with_rows a (without_holds r.session r.group)
+    (with_rows a (with_group r.session r.group (columns_of names r)) c))
+
+abbrev pub with_groups : List ℕ → List (List ℕ) → List SessionGroup → Content → Content
+with_groups a names = with_each (with_held_group a names)
+
+abbrev pub with_texts : List ℕ → Key → Kept → Content → Content
+with_texts a (Request s n) k c = with_rows a (with_answer request_kind s n k) c
+with_texts a (Reference x) k c = with_rows a (with_answer reference_kind x 0 k) c
+
+-- ---- all of a change
+
+-- the rows of an account as they become
+abbrev pub with_stored : List ℕ → List (List ℕ) → StoredRows → Content → Content
+with_stored a names w c =
+    with_groups a names w.groups (with_sessions a w.sessions (with_counters a w.counters
+    (with_buckets a w.buckets (with_account a (head_of w) c))))
+
+-- what is kept of a command, as the texts that stand for it
+abbrev pub with_kept : List ℕ → Option KeptAnswer → Option Kept → Content → Content
+with_kept a None t c = c
+with_kept a (Some k) None c = c
+with_kept a (Some k) (Some t) c = with_texts a (key_of k.content) t c
+
+abbrev pub AreTexts : List ℕ → Option KeptAnswer → Option Kept → Type 0
+AreTexts a None t = Unit {0}
+AreTexts a (Some k) None = ⊥
+AreTexts a (Some k) (Some t) = kept_in a t ≡ Some k
+
+-- what is kept once after a change: the first version of the tables, the text of the book, and
+-- the moment
+abbrev pub meta_with : List ℕ → Change → Meta
+meta_with text change = record { version = 1; book = text; last = change.moment }
+
+-- all of a change
+abbrev pub with_change : List (List ℕ) → Meta → Change → Option Kept → Content → Content
+with_change names m change texts c =
+    with_kept change.number change.kept texts (with_charges change.number change.charges.items
+    (with_stored change.number names change.after (with_meta m c)))

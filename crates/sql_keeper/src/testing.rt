@@ -1,0 +1,111 @@
+//! What is tested of a change before it is written, so that what is written reads as the change.
+
+ghost use Rattle.std.specs.Prelude.{◌≡◌, IsTrue, option_map};
+ghost use Rattle.reserving.specs.Sessions.{session_in};
+ghost use Rattle.reserving.specs.Left.{is_open_row};
+ghost use Rattle.sql_keeper.specs.Tests.{AreNumbered, AreWritable, IsNamed, IsWritable, MayStand, first_number};
+
+use calendar::Period;
+use identifiers::SessionId;
+use keepers::Change;
+use reserving::{ChargeRow, Reservation, Session, SessionGroup, SessionState};
+use sql_rows::Head;
+use tariffs::TariffBook;
+
+/// The number of the next charge of an account; of the first one where it isn't there yet.
+fn first_number(head: &Option<Head>) -> u64
+    ensures { result ≡ first_number head.now }
+{
+    match head {
+        None => 1,
+        Some(head) => {
+            if head.next_charge == 0 {
+                1
+            } else {
+                head.next_charge
+            }
+        }
+    }
+}
+
+/// Whether charges are numbered one after another, from one number to below the next.
+pub(crate) fn are_numbered(charges: &[ChargeRow], from: u64, next: u64) -> bool
+    ensures { IsTrue result → AreNumbered from next charges.now }
+{
+    let mut number = from;
+    'charges: for charge in charges {
+        if number != charge.number as u64 {
+            return false;
+        }
+        number = charge.number as u64 + 1;
+    }
+    number == next
+}
+
+/// Whether a session is open by the rows.
+fn is_open(sessions: &[Session], id: &SessionId) -> bool
+    ensures { result ≡ is_open_row (session_in id.now sessions.now) }
+{
+    for session in sessions {
+        if session.id == *id {
+            return session.state == SessionState::Open;
+        }
+    }
+    false
+}
+
+/// Whether the book has a name for a period.
+fn is_named(book: &TariffBook, period: Period) -> bool
+    ensures { IsTrue result → IsNamed book.now.periods period }
+{
+    book.period_name(period).is_some()
+}
+
+fn is_writable(
+    book: &TariffBook,
+    sessions: &[Session],
+    session: &SessionId,
+    reservation: &Reservation,
+) -> bool
+    ensures { IsTrue result → IsWritable book.now.periods sessions.now session.now reservation.now }
+{
+    let _holds = reservation.holds.as_slice();
+    let periods = reservation.periods;
+    is_open(sessions, session) && is_named(book, periods.before) && is_named(book, periods.after)
+}
+
+fn may_stand(book: &TariffBook, sessions: &[Session], row: &SessionGroup) -> bool
+    ensures { IsTrue result →
+        MayStand book.now.periods sessions.now row.now.session row.now.reservation }
+{
+    match &row.reservation {
+        None => true,
+        Some(reservation) => is_writable(book, sessions, &row.session, reservation),
+    }
+}
+
+/// Whether each reservation stands in an open session, with periods that have names.
+pub(crate) fn are_writable(book: &TariffBook, sessions: &[Session], groups: &[SessionGroup]) -> bool
+    ensures { IsTrue result → AreWritable book.now.periods sessions.now groups.now }
+{
+    'groups: for group in groups {
+        if !may_stand(book, sessions, group) {
+            return false;
+        }
+    }
+    true
+}
+
+/// Whether a change may be written over an account with this head, so that what is written reads as
+/// the change: each reservation stands in an open session, with periods that the book names, and
+/// the charges are numbered on.
+pub fn may_be_written(book: &TariffBook, head: &Option<Head>, change: &Change) -> bool
+    ensures reservations { IsTrue result →
+        AreWritable book.now.periods change.now.after.sessions change.now.after.groups }
+    ensures numbers { IsTrue result →
+        AreNumbered (first_number head.now) change.now.after.next_charge change.now.charges.items }
+{
+    let rows = &change.after;
+    are_writable(book, rows.sessions(), rows.groups())
+        && are_numbered(&change.charges, first_number(head), rows.next_charge())
+}
