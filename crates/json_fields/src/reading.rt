@@ -162,7 +162,7 @@ pub fn read_each<T: Drop, F: Fn(&[T], &Value) -> Result<T, WireFault>>(
     ensures { (says : List T → Data → Result T WireFault) → IsReadBy (F.post read) says →
         Gives (λ v. v.items) result (read_each says [] (items_view list.now.items)) }
 {
-    let mut done = Vec::new(alloc);
+    let mut done = Vec::with_capacity(alloc, list.len())?;
     for value in list {
         done.push(read(&done, value)?)?;
     }

@@ -6,11 +6,11 @@ use Rattle.json_fields.proofs.Loop.{goes_on, fails_at, is_done}
 use Rattle.json_fields.proofs.reading.read_each.Goals as goal
 
 pub loop-value-init : goal.loop-value-init
-loop-value-init g c = λ says reads. rw c.new-done.ensures.items refl
+loop-value-init g c = λ says reads. rw c.in_ok-done.ensures.items refl
 
 pub returns-in_err-read : goal.returns-in_err-read
 returns-in_err-read g c = λ says reads.
-    let p = err_from_is_err_and c.from_residual.result c.from_residual.ensures.1 in
+    let p = err_from_is_err_and c.from_residual-in_err-read.result c.from_residual-in_err-read.ensures.1 in
     let vs = c.args.list.now.items in
     let lt : c.loop-value.value-index < length vs = rw (← c.deref-value-items.ensures.value) c.loop-value-test.true in
     let is : c.value-item.result ≡ get_or vs c.loop-value.value-index c.value-item.result = rw (← c.deref-value-items.ensures.value) c.value-item.is in
