@@ -1,0 +1,97 @@
+//! A connection to the files at a path, with the office's choice of options.
+
+ghost use Rattle.std.specs.Prelude.{codes, ◌≡◌, true, false, IsTrue, IfOk, IfErr};
+ghost use Rattle.sqlite_wal.specs.Files.{image_at};
+ghost use Rattle.sqlite_std_file.specs.File.{file_is_usable, IsFresh};
+ghost use Rattle.sqlite.specs.State.{HasCleanDisk};
+ghost use Rattle.sqlite.specs.Held.{IsNew};
+ghost use Rattle.sqlite.specs.Opening.{is_open_error};
+ghost use Rattle.sqlite.specs.Start.{FindsIn};
+ghost use Rattle.sqlite.specs.Files.{file_state, IsOpened};
+
+use sqlite::{Connection, Error, ErrorCode};
+use sqlite_disk::{Files, Start};
+use sqlite_pager::Options;
+use sqlite_std_file::{FileFrom, OpenError};
+use sqlite_store::FileStore;
+use std::hash::{BuildHasher, RandomState};
+use std::io::ErrorKind;
+
+/// The file and the log of a database, which held what `S` says.
+pub type DatabaseFiles<S> = FileStore<FileFrom<S>>;
+
+/// How many pages are kept, and how many may change in a transaction before some are written.
+const PAGES: usize = 2000;
+
+/// After how many pages the log is written back into the file. A longer log makes the mean command
+/// faster and the one that writes it back slower: some 30 ms at 4,000.
+const CHECKPOINT_FRAMES: usize = 4000;
+
+const NO_MEMORY: Error = Error::SqliteFailure(ErrorCode::OutOfMemory);
+
+const CANNOT_OPEN: Error = Error::SqliteFailure(ErrorCode::CannotOpen);
+
+/// The file at the path and its log, each made where it isn't there. A name that SQLite takes for
+/// something else than a file, `:memory:` or one that begins with `file:`, can't be opened.
+fn files_at<S: Start>(rt: &HostRuntime, path: &str, start: S) -> Result<Files<FileFrom<S>>, Error>
+    ensures memory { path.now ≡ codes ":memory:" → result ≡ Err (Error.SqliteFailure ErrorCode.CannotOpen) }
+    ensures named { IfErr result (λ e. IsTrue (is_open_error e)) }
+    ensures usable { IfOk result (λ files. IsTrue (file_is_usable S.Start files.log) × IsTrue (file_is_usable S.Start files.db)) }
+    ensures fresh { IfOk result (λ files. IsFresh true files.log × IsFresh false files.db) }
+{
+    if path == ":memory:" || path.starts_with("file:") {
+        return Err(CANNOT_OPEN);
+    }
+    match sqlite_std_file::open(rt, path, start) {
+        Ok(files) => Ok(files),
+        Err(OpenError::OutOfMemory) => Err(NO_MEMORY),
+        Err(OpenError::Busy) => Err(Error::SqliteFailure(ErrorCode::DatabaseBusy)),
+        Err(OpenError::Io(error)) if error.kind() == ErrorKind::OutOfMemory => Err(NO_MEMORY),
+        Err(_) => Err(CANNOT_OPEN),
+    }
+}
+
+/// The options, with a salt of the log drawn from the machine's random numbers, so that frames of
+/// an old log aren't taken for new ones.
+fn options(rt: &HostRuntime) -> Result<Options, Error>
+    ensures { IfErr result (λ e. e ≡ Error.SqliteFailure ErrorCode.CannotOpen) }
+{
+    let seed = RandomState::new(rt)
+        .map_err(|_| CANNOT_OPEN)?
+        .hash_one(&0u8);
+    Ok(Options {
+        cache_pages: PAGES,
+        spill_pages: PAGES,
+        checkpoint_frames: CHECKPOINT_FRAMES,
+        seed,
+    })
+}
+
+/// Opens the database at the path, which is made where there is none. What it holds is what an
+/// earlier process committed, whole, whatever stopped it. `start` says what may have become of a
+/// write that was torn: `Wary` supposes nothing.
+///
+/// Errors: the file or its log can't be opened or made, another process has it, it isn't a
+/// database, or memory is refused. Nothing that was committed is changed.
+pub fn open_database<S: Start>(
+    rt: &HostRuntime,
+    path: &str,
+    start: S,
+) -> Result<Connection<DatabaseFiles<S>>, Error>
+    ensures memory { path.now ≡ codes ":memory:" → result ≡ Err (Error.SqliteFailure ErrorCode.CannotOpen) }
+    ensures named { IfErr result (λ e. IsTrue (is_open_error e)) }
+    ensures opened { IfOk result (λ c. HasCleanDisk (file_state c) → IsOpened c) }
+    ensures found { IfOk result (λ c. HasCleanDisk (file_state c) → FindsIn (image_at S.Start) (file_state c)) }
+    ensures fresh { IfOk result IsNew }
+    ensures guarded { IfOk result (λ c. HasCleanDisk (file_state c) → (file_state c).IsShielded) }
+{
+    let files = files_at(rt, path, start)?;
+    let options = options(rt)?;
+    match Connection::open_files(rt.alloc(), files, options) {
+        Ok(connection) => Ok(connection),
+        Err((error, left)) => {
+            drop(left);
+            Err(error)
+        }
+    }
+}
