@@ -24,8 +24,8 @@ module _ {X : Type 0} (change : X → Content → Content) (all : List X) where
     pub sofar : HasCleanDisk now → IsTrue old.is_open → IsPut rest old now
 
   -- one more
-  put_more : {E : Type 0} (x : X) (rest : List X) (old mid now : State) (count : ℕ)
-      → HasPut (x ∷ rest) old mid → Attempts {A = ℕ} {E = E} (Makes (change x)) mid now (Ok count) → HasPut rest old now
+  put_more : {A E : Type 0} (x : X) (rest : List X) (old mid now : State) (count : A)
+      → HasPut (x ∷ rest) old mid → Attempts {A = A} {E = E} (Makes (change x)) mid now (Ok count) → HasPut rest old now
   put_more x rest old mid now count h a = record {
     survives = survives_then old mid now (λ _. ⊥) (λ _. ⊥) (λ _. ⊥) (λ clean db no. no) (λ clean db no. no) h.survives
         a.survives;
@@ -48,16 +48,16 @@ module _ {X : Type 0} (change : X → Content → Content) (all : List X) where
   }
 
   -- the row of a loop's turn
-  pub put_next : {E : Type 0} (i : ℕ) (x : X) (old mid now : State) (count : ℕ) → i < length all
+  pub put_next : {A E : Type 0} (i : ℕ) (x : X) (old mid now : State) (count : A) → i < length all
       → x ≡ get_or all i x → HasPut (drop i all) old mid
-      → Attempts {A = ℕ} {E = E} (Makes (change x)) mid now (Ok count) → HasPut (drop (i + 1) all) old now
+      → Attempts {A = A} {E = E} (Makes (change x)) mid now (Ok count) → HasPut (drop (i + 1) all) old now
   put_next i x old mid now count less is h a =
       put_more x (drop (i + 1) all) old mid now count (subst (λ xs. HasPut xs old mid)
       (drop_more all i x less ∙ ap (λ y. y ∷ drop (i + 1) all) (sym is)) h) a
 
   -- the same of a row that is copied
-  pub put_at : {E : Type 0} (i : ℕ) (x : X) (old mid now : State) (count : ℕ) → i < length all
-      → HasPut (drop i all) old mid → Attempts {A = ℕ} {E = E} (Makes (change (get_or all i x))) mid now (Ok count)
+  pub put_at : {A E : Type 0} (i : ℕ) (x : X) (old mid now : State) (count : A) → i < length all
+      → HasPut (drop i all) old mid → Attempts {A = A} {E = E} (Makes (change (get_or all i x))) mid now (Ok count)
       → HasPut (drop (i + 1) all) old now
   put_at i x old mid now count less h a =
       put_more (get_or all i x) (drop (i + 1) all) old mid now count

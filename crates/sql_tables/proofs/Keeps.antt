@@ -1,6 +1,6 @@
 -- What a refusal keeps.
 use Rattle.std.proofs.Common.{◌≡◌, inl, inr, ℕ, List, Option, Some, None, Ok, Err, Result, IfOk, OnOk, OnErr, IsTrue}
-use Rattle.std.proofs.Common.{refl, true, false, sym, subst, ap, ◌∙◌, arith, ◌≤◌}
+use Rattle.std.proofs.Common.{refl, true, false, Bool, sym, subst, ap, ◌∙◌, arith, ◌≤◌}
 use Rattle.std.specs.Result.{IfErr}
 use Rattle.sqlite_value.specs.Order.{Row}
 use Rattle.sqlite_schema.specs.declared.command.Returning.{Returning}
@@ -11,9 +11,11 @@ use Rattle.sqlite.specs.Listing.{understood}
 use Rattle.sqlite_catalog.specs.Listing.{IsSound}
 use Rattle.sqlite_schema.specs.Rules.{Fits}
 use Rattle.sqlite.specs.State.{State, IsLive, ExecutesInside, KeepsCommit, Shows, IsUnchanged, Shown, ShowsRows}
-use Rattle.sqlite.specs.State.{FailsToQuery, FailsToShow, IsNotRun, HasCleanDisk}
+use Rattle.sqlite.specs.State.{FailsToQuery, FailsToShow, IsNotRun, HasCleanDisk, Survives, CommitsShowing}
 use Rattle.sqlite_trees.specs.View.{doubt}
-use Rattle.sqlite.proofs.Callers.{IsPlain}
+use Rattle.sqlite.proofs.Callers.{IsPlain, never_commits}
+use Rattle.sqlite.proofs.StateLemmas.{survives_weaker}
+use Rattle.sqlite_trees.specs.Tree.{Trees}
 use Rattle.sql_tables.specs.Schema.{book_schema}
 use Rattle.sql_tables.specs.Statements.{Answers, IsBook, Spares, IsIdle, AreStored}
 use Rattle.sql_tables.specs.Statements.{IsStill, HasIdleBook, OnlyReads, Attempts}
@@ -113,23 +115,58 @@ idle_still old new idle still = record {
   settled = still.now_is ∙ idle.settled ∙ sym still.committed_is;
 }
 
+-- a selection commits nothing: what it may show as committed is that of an open connection
+pub reads_survive : (sql : List ℕ) (params : Row) (old new : State) → IsPlain (understood book_schema sql)
+    → HasIdleBook old → Survives old new (CommitsShowing sql params old) → Survives old new (λ _. old.is_open ≡ false)
+reads_survive sql params old new plain idle s =
+    survives_weaker old new _ _ (λ clean db may. go (omega (arith, s.clean, clean)) db may old.is_open refl) s
+  where
+    go : HasCleanDisk old → (db : Trees) → CommitsShowing sql params old db → (b : Bool) → old.is_open ≡ b
+        → old.is_open ≡ false
+    go clean db may false e = e
+    go clean db may true e = absurd (never_commits sql params old db (subst (λ s. IsPlain (understood s sql))
+        (sym (idle clean e).book.schema) plain) may)
+
 pub reads_only : {V : Type 0} (items : V → List Row) (sql : List ℕ) (params : Row) (old new : State)
     (r : Result V Error) → IsPlain (understood book_schema sql) → HasIdleBook old
-    → doubt old.is_clean ≤ doubt new.is_clean → (old.in_transaction ≡ false → new.in_transaction ≡ false)
+    → Survives old new (CommitsShowing sql params old) → (old.in_transaction ≡ false → new.in_transaction ≡ false)
     → (HasCleanDisk new → IfOk r (λ v. Shown sql params old new (items v)))
     → (HasCleanDisk new → IfErr r (FailsToQuery sql params old new)) → OnlyReads old new
-reads_only items sql params old new r plain idle less mode ok err = record {
+reads_only items sql params old new r plain idle survives mode ok err = record {
   still = still;
   idle = λ clean on. let s = still clean on in idle_still old new (idle (cleanness clean) s.was_open) s;
   cleanness = cleanness;
   mode = mode;
+  counts = survives.counts;
+  closes = survives.closes;
 }
   where
     cleanness : HasCleanDisk new → HasCleanDisk old
-    cleanness clean = omega (arith, less, clean)
+    cleanness clean = omega (arith, survives.clean, clean)
 
     still : HasCleanDisk new → IsTrue new.is_open → IsStill old new
     still clean on = reads_still items sql params old new r plain (idle (cleanness clean)) (ok clean) (err clean) on
+
+-- one selection after another
+pub only_reads_then : (a b c : State) → OnlyReads a b → OnlyReads b c → OnlyReads a c
+only_reads_then a b c one two = record {
+  still = λ clean on.
+      let t = two.still clean on in
+      let s = one.still (two.cleanness clean) t.was_open in
+      record {
+        was_open = s.was_open;
+        now_is = t.now_is ∙ s.now_is;
+        committed_is = t.committed_is ∙ s.committed_is;
+      };
+  idle = two.idle;
+  cleanness = λ clean. one.cleanness (two.cleanness clean);
+  mode = λ plain. two.mode (one.mode plain);
+  counts = omega (arith, one.counts, two.counts);
+  closes = λ clean on. elim (one.closes (two.cleanness clean) on) [
+    | inl still ↦ elim (two.closes clean still) [ inl last ↦ inl last | inr fault ↦ inr (omega (arith, one.counts, fault)) ]
+    | inr fault ↦ inr (omega (arith, two.counts, fault))
+  ];
+}
 
 -- ---- the rules of the tables
 

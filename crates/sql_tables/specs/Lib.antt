@@ -1,4 +1,5 @@
 pub mod Keyed
+pub mod Ours
 pub mod Schema
 pub mod Selects
 pub mod Stages

@@ -1,11 +1,12 @@
 -- What statements do to a connection.
-use Rattle.std.specs.Prelude.{◌≡◌, ◌≢◌, ◌⊎◌, ℕ, true, List, [], ◌∷◌, Option, None, cond, take, length, is_some, ◌+◌}
+use Rattle.std.specs.Prelude.{◌≡◌, ◌≢◌, ◌⊎◌, ◌≤◌, ℕ, true, List, [], ◌∷◌, Option, None, cond, take, length, is_some, ◌+◌}
 use Rattle.std.specs.Prelude.{if◌then◌else◌, IsTrue, false, Result, IfOk, OnOk, OnErr}
 use Rattle.std.specs.List.{AllByRecursion}
 use Rattle.std.specs.FinMap.{get, insert}
 use Rattle.std.specs.Ordering.{eq_by_cmp}
 use Rattle.sqlite_value.specs.declared.value.Value.TheVariants.{Null}
 use Rattle.sqlite_value.specs.Order.{Row, row_cmp}
+use Rattle.sqlite_disk.specs.Disk.{MoreFaults}
 use Rattle.sqlite_trees.specs.Objects.{catalog_tree}
 use Rattle.sqlite_trees.specs.Tree.{Trees}
 use Rattle.sqlite_schema.specs.declared.schema.Table.{Table}
@@ -91,6 +92,9 @@ pub record OnlyReads (old new : State) : Type 0 where
   pub idle : HasIdleBook new
   pub cleanness : HasCleanDisk new → HasCleanDisk old
   pub mode : old.in_transaction ≡ false → new.in_transaction ≡ false
+  pub counts : old.faults ≤ new.faults
+  -- only a fault of the disk shuts the connection
+  pub closes : HasCleanDisk new → IsTrue old.is_open → IsTrue new.is_open ⊎ MoreFaults old.faults new.faults
 
 -- outside a transaction: what the call answers is told by the tables, and it changes nothing
 pub record Reads {A E : Type 0} (told : Trees → A → Type 0) (old new : State) (result : Result A E) : Type 0 where

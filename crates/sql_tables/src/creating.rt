@@ -281,8 +281,8 @@ fn create_rest<S: Alter>(tx: &mut Transaction<'_, S>) -> Result<(), Error>
     Ok(())
 }
 
-/// Makes each table and the index.
-fn create_each<S: Alter>(tx: &mut Transaction<'_, S>) -> Result<(), Error>
+/// Makes each table and the index, within a transaction, in a database that has none.
+pub fn create_each<S: Alter>(tx: &mut Transaction<'_, S>) -> Result<(), Error>
     requires stage { HasStage 0 (state S.Store tx.old.conn.now) }
     ensures same_reference { tx.new.conn.ghost_name ≡ tx.old.conn.ghost_name }
     ensures makes { Attempts BuildsAll (state S.Store tx.old.conn.now) (state S.Store tx.new.conn.now) result }

@@ -3,12 +3,14 @@
 
 mod creating;
 mod reading;
+mod schemas;
 mod values;
 mod writing;
 
-pub use crate::creating::{create_in_memory, create_tables};
+pub use crate::creating::{create_each, create_in_memory, create_tables};
 pub use crate::reading::{
     ReadFault, has_columns, null_at, number_at, one_of, optional_at, read, small_at, text_at,
 };
+pub use crate::schemas::{has_ours, is_blank};
 pub use crate::values::{checked, flag, large, null, optional, text, whole};
 pub use crate::writing::write;

@@ -1,11 +1,11 @@
-ghost use Rattle.std.specs.Prelude.{◌≡◌, IfOk, OnOk, pos, length, option_map};
+ghost use Rattle.std.specs.Prelude.{◌≡◌, false, IfOk, OnOk, pos, length, option_map};
 ghost use Rattle.sql_tables.specs.Schema.{book_schema};
 ghost use Rattle.sql_tables.specs.Selects.{one_or_none};
 ghost use Rattle.sql_tables.specs.Statements.{Answers, HasIdleBook, OnlyReads};
 ghost use Rattle.sqlite.specs.Given.{IsPlain};
 ghost use Rattle.sqlite.specs.Held.{state};
 ghost use Rattle.sqlite.specs.Listing.{understood};
-ghost use Rattle.sqlite.specs.State.{HasCleanDisk};
+ghost use Rattle.sqlite.specs.State.{HasCleanDisk, Survives};
 ghost use Rattle.sqlite.specs.Values.{bound, or_null};
 ghost use Rattle.sqlite_value.specs.Order.{column};
 ghost use Rattle.sqlite_value.specs.declared.value.Value.TheVariants.{Int, Null, Text};
@@ -49,6 +49,9 @@ pub fn read<S: Alter>(
     ensures answers { HasCleanDisk (state S.Store conn.new) → IfOk result (λ rows.
         Answers sql.now (bound params.now) (state S.Store conn.old) (state S.Store conn.new) rows.items) }
     ensures reads { OnlyReads (state S.Store conn.old) (state S.Store conn.new) }
+    // A stop leaves what it left before.
+    ensures stops { Survives (state S.Store conn.old) (state S.Store conn.new)
+        (λ _. (state S.Store conn.old).is_open ≡ false) }
 {
     let _ours = conn.schema();
     match conn.query_all(sql, params) {

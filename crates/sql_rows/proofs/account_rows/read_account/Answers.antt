@@ -11,19 +11,17 @@ use Rattle.sql_rows.proofs.account_rows.read_account.Goals as goal
 pub read-requires-clause-plain : goal.read-requires-clause-plain
 read-requires-clause-plain g c = read_account_plain
 
-pub returns : goal.returns
-returns g c =
+pub returns-clause-reads : goal.returns-clause-reads
+returns-clause-reads g c =
     let old = state g.S.Store c.args.conn.now in
     let new = state g.S.Store c.read.new.conn in
     record {
-      reads = record {
-        found = λ clean. told_if_ok c.head_among.result
-            (λ o is. account_read c.args.account.now old new c.in_ok-rows.rows.items _
-            (subst (λ p. Answers read_account_text p old new c.in_ok-rows.rows.items)
-            (λ i. map bound_value ((c.text-of_account.ensures ∙ ap Text c.as_str.ensures.value) i ∷ []))
-            (c.in_ok-rows.ensures.answers clean))
-            (sym c.deref.ensures.value ∙ is))
-            c.head_among.ensures;
-        only = c.read.ensures.reads;
-      };
+      found = λ clean. told_if_ok c.head_among.result
+          (λ o is. account_read c.args.account.now old new c.in_ok-rows.rows.items _
+          (subst (λ p. Answers read_account_text p old new c.in_ok-rows.rows.items)
+          (λ i. map bound_value ((c.text-of_account.ensures ∙ ap Text c.as_str.ensures.value) i ∷ []))
+          (c.in_ok-rows.ensures.answers clean))
+          (sym c.deref.ensures.value ∙ is))
+          c.head_among.ensures;
+      only = c.read.ensures.reads;
     }
