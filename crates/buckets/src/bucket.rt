@@ -1,6 +1,9 @@
 ghost use Rattle.std.specs.Prelude.{◌≡◌, ℕ, ◌+◌, ◌-◌, ◌≤◌, ◌<◌, ◌==◌, ◌&&◌, IsTrue, ◌↔◌};
 ghost use Rattle.buckets.specs.Row.{is_eligible, eligible_amount, with_hold, with_charge, with_charge_of_hold, with_release, with_end, new_row, IsBalanced};
 
+mod columns;
+
+pub use crate::bucket::columns::Columns;
 use std::marker::Model;
 use units::{Moment, Money};
 

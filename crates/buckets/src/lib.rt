@@ -8,7 +8,7 @@ mod holds;
 mod laws;
 mod purse;
 
-pub use crate::bucket::Bucket;
+pub use crate::bucket::{Bucket, Columns};
 pub use crate::holds::{Hold, HoldRoom, Holds};
 pub use crate::laws::{
     nothing_left_where_short, settles_as_charged_and_released, shares_sum_to_the_amount,
