@@ -8,6 +8,3 @@ mod words;
 pub use crate::dated::{DatedLine, dated_line};
 pub use crate::numbers::number;
 pub use crate::words::{OnceWords, once_words};
-
-#[cfg(test)]
-mod tests;

@@ -11,6 +11,3 @@ mod row;
 pub use crate::fault::{FaultKind, VoucherFault};
 pub use crate::reading::read_vouchers;
 pub use crate::row::VoucherRow;
-
-#[cfg(test)]
-mod tests;

@@ -1,14 +1,13 @@
 //! Files of vouchers: each field at and past its limits, in the first record and in later ones, as
-//! CSV writes them; and
-//! readers that fail. What the files say was reckoned by Python's `csv` and the rules of the
-//! fields.
+//! CSV writes them; and readers that fail. What the files say was reckoned by Python's `csv` and the
+//! rules of the fields.
 
-use crate::{FaultKind, VoucherFault, VoucherRow, read_vouchers};
 use std::alloc::Global;
 use std::io;
 use std::io::{ErrorKind, Read};
 use std::process::Abort;
 use std::test::Fail;
+use vouchers::{FaultKind, VoucherFault, VoucherRow, read_vouchers};
 
 /// A number that may be absent.
 fn or_dash(alloc: Global, number: Option<u64>) -> Result<String, Fail> {

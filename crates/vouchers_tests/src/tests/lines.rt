@@ -1,4 +1,6 @@
-use crate::{dated_line, number};
+//! Numbers and lines of operators.
+
+use operator::{dated_line, number};
 
 #[test]
 fn a_number_has_16_digits_at_most(rt: HostRuntime) {
