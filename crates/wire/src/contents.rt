@@ -105,6 +105,7 @@ pub fn read_content(
 ) -> Result<Content, WireFault>
     ensures text { IfOk result (λ c. content_text c ≡ bytes.now) }
     ensures account { IfOk result (λ c. account_of c ≡ account) }
+    ensures said { IfOk result (λ c. content_of account bytes.now ≡ Ok c) }
     ensures written { ReadsWritten account bytes.now result }
 {
     let content = content(alloc, account, bytes)?;

@@ -1,4 +1,4 @@
-ghost use Rattle.std.specs.Prelude.{◌≡◌, ◌≤◌, ◌⊎◌, IfOk};
+ghost use Rattle.std.specs.Prelude.{◌≡◌, ◌≤◌, ◌⊎◌, IfOk, Ok};
 ghost use Rattle.serde_json.specs.View.{view};
 ghost use Rattle.serde_json.specs.Find.{get};
 ghost use Rattle.commands.specs.Names.{name_of, cost_information, refusal};
@@ -190,6 +190,7 @@ fn told(fault: WireFault) -> WireFault
 /// `NotRequest` where the bytes are no answer's text, `Memory` where memory ran out.
 pub fn read_answer(alloc: Global, bytes: &[u8]) -> Result<Answer, WireFault>
     ensures text { IfOk result (λ a. answer_text a ≡ bytes.now) }
+    ensures said { IfOk result (λ a. answer_of bytes.now ≡ Ok a) }
     ensures written { ReadsWritten bytes.now result }
 {
     let answer = match answer(alloc, bytes) {
