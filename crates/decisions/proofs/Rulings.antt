@@ -131,6 +131,21 @@ pub ruled_ok : {E : Type 0} (p q : Ledger → LeftRows → Type 0) (d e : Ledger
 ruled_ok p q d e t old new (Ok r) gives same is = ruled_as p q d e t old new r gives same is
 ruled_ok p q d e t old new (Err fault) gives same is = tt
 
+-- the ruling on a session's request, of which it tells the decision by other values than the call
+pub ruled_asked : {E : Type 0} (result : Result Ruling E) (asked : Ledger → LeftRows → Type 0)
+    (d : ℕ → List ℕ → ℕ → List Service → Ledger → Decision) (e : Ledger → Decision)
+    (old new : AccountRows) (t u : ℕ) (s v : List ℕ) (m n : ℕ) (xs ys : List Service) →
+    t ≡ u → s ≡ v → m ≡ n → xs ≡ ys → ((ledger : Ledger) → e ledger ≡ d u v n ys ledger) →
+    IfOk result (IsRuledBy Always (d t s m xs) t old new) →
+    IfOk result (IsRuledBy asked e u old new)
+ruled_asked result asked d e old new t u s v m n xs ys at session number services same is =
+    ruled_ok Always asked (d u v n ys) e u old new result (λ ledger left a h. tt)
+    (λ ledger left a h. same ledger)
+    (subst (λ x. IfOk result (IsRuledBy Always (d x v n ys) x old new)) at
+    (subst (λ x. IfOk result (IsRuledBy Always (d t x n ys) t old new)) session
+    (subst (λ x. IfOk result (IsRuledBy Always (d t s x ys) t old new)) number
+    (subst (λ x. IfOk result (IsRuledBy Always (d t s m x) t old new)) services is))))
+
 pub ruled_if : {E : Type 0} (asked : Ledger → LeftRows → Type 0) (decision : Ledger → Decision)
     (t : ℕ) (old new : AccountRows) (o : Outcome) (c : List ChargeRow) (result : Result Ruling E) →
     IfOk result (λ r. r.outcome ≡ o) → IfOk result (λ r. r.accepted ≡ true) →

@@ -16,6 +16,7 @@ use crate::events::{debit, refund};
 use crate::granting::{open_unless_barred, renew};
 use crate::reads::{checked, priced};
 use crate::refusing::{early_refusal, initial_refusal};
+use crate::request_head::{Asked, asked_by};
 use crate::ruling::Ruling;
 use crate::settling::{end, settle_services};
 use commands::{Ask, Event, EventAction, Failure, Outcome, Request, RequestAnswer, Service};
@@ -38,23 +39,22 @@ pub struct Decided {
 fn initial(
     alloc: Global,
     account: &mut Account,
-    request: &Request,
+    asked: &Asked,
     services: &[Service],
     known: bool,
-    moment: Moment,
 ) -> Result<Ruling, AllocError>
     requires apart { groups_differ services.now ≡ true }
-    requires later { account.old.as_of ≤ moment }
-    ensures ruled { IfOk result (IsRuledBy (Knows request.now.session known)
-        (initial_decision account.old.book moment request.now.session request.now.number
+    requires later { account.old.as_of ≤ asked.now.moment }
+    ensures ruled { IfOk result (IsRuledBy (Knows asked.now.session.now known)
+        (initial_decision account.old.book asked.now.moment asked.now.session.now asked.now.number
         services.now)
-        moment account.old account.new) }
+        asked.now.moment account.old account.new) }
     ensures tariff { account.new.book ≡ account.old.book }
 {
-    if let Some(failure) = initial_refusal(account, &request.session, services, known) {
+    if let Some(failure) = initial_refusal(account, asked.session, services, known) {
         return Ok(Ruling::refused(alloc, failure));
     }
-    open_unless_barred(alloc, account, request, services, moment)
+    open_unless_barred(alloc, account, asked, services)
 }
 
 /// Settles the services of a session's update or termination, and answers their charges; or why it
@@ -62,42 +62,35 @@ fn initial(
 fn settle_or_refuse(
     alloc: Global,
     account: &mut Account,
-    request: &Request,
+    asked: &Asked,
     services: &[Service],
-    moment: Moment,
 ) -> Result<Result<Vec<ChargeRow>, Failure>, AllocError>
     requires apart { groups_differ services.now ≡ true }
-    requires later { account.old.as_of ≤ moment }
+    requires later { account.old.as_of ≤ asked.now.moment }
     ensures unrefused { IfOk result
-        (λ r. IfOk r (λ charges. IsRefusal None account.old moment request.now.session
-        request.now.number services.now)) }
+        (λ r. IfOk r (λ charges. IsRefusal None account.old asked.now.moment asked.now.session.now
+        asked.now.number services.now)) }
     ensures settles { IfOk result
-        (λ r. IfOk r (λ charges. Settles charges.items account.old account.new moment
-        request.now.session services.now)) }
+        (λ r. IfOk r (λ charges. Settles charges.items account.old account.new asked.now.moment
+        asked.now.session.now services.now)) }
     ensures refused { IfOk result
         (λ r. IfErr r (λ failure.
-        IsRefusal (Some failure) account.old moment request.now.session request.now.number
+        IsRefusal (Some failure) account.old asked.now.moment asked.now.session.now asked.now.number
         services.now)) }
     ensures same { IfOk result (λ r. IfErr r (λ failure. account.new ≡ account.old)) }
     ensures live { IfOk result
-        (λ r. OnOk r (is_live_in account.new.book.validity moment account.new.sessions
-        request.now.session ≡ true)) }
+        (λ r. OnOk r (is_live_in account.new.book.validity asked.now.moment account.new.sessions
+        asked.now.session.now ≡ true)) }
     ensures free { IfOk result
-        (λ r. OnOk r (AreFree account.old.book request.now.session services.now
+        (λ r. OnOk r (AreFree account.old.book asked.now.session.now services.now
         account.new.groups)) }
-    ensures later { account.new.as_of ≤ moment }
+    ensures later { account.new.as_of ≤ asked.now.moment }
     ensures tariff { account.new.book ≡ account.old.book }
 {
-    if let Some(failure) = early_refusal(
-        account,
-        &request.session,
-        request.number,
-        services,
-        moment,
-    ) {
+    if let Some(failure) = early_refusal(account, asked, services) {
         return Ok(Err(failure));
     }
-    match settle_services(alloc, account, &request.session, services, moment) {
+    match settle_services(alloc, account, asked, services) {
         Ok(charges) => Ok(Ok(charges)),
         Err(AccountFault::Limit) => Ok(Err(Failure::UnableToComply)),
         Err(AccountFault::Memory) => Err(AllocError),
@@ -107,72 +100,69 @@ fn settle_or_refuse(
 fn update(
     alloc: Global,
     account: &mut Account,
-    request: &Request,
+    asked: &Asked,
     services: &[Service],
-    moment: Moment,
 ) -> Result<Ruling, AllocError>
     requires apart { groups_differ services.now ≡ true }
-    requires later { account.old.as_of ≤ moment }
+    requires later { account.old.as_of ≤ asked.now.moment }
     ensures ruled { IfOk result (IsRuledBy Always
-        (update_decision account.old.book moment request.now.session request.now.number
+        (update_decision account.old.book asked.now.moment asked.now.session.now asked.now.number
         services.now)
-        moment account.old account.new) }
+        asked.now.moment account.old account.new) }
     ensures tariff { account.new.book ≡ account.old.book }
 {
-    let charges = match settle_or_refuse(alloc, account, request, services, moment)? {
+    let charges = match settle_or_refuse(alloc, account, asked, services)? {
         Ok(charges) => charges,
         Err(failure) => return Ok(Ruling::refused(alloc, failure)),
     };
-    let answers = renew(alloc, account, request, services, moment)?;
+    let answers = renew(alloc, account, asked, services)?;
     Ok(Ruling::accepted(Outcome::Services(answers), charges))
 }
 
 fn terminate(
     alloc: Global,
     account: &mut Account,
-    request: &Request,
+    asked: &Asked,
     services: &[Service],
-    moment: Moment,
 ) -> Result<Ruling, AllocError>
     requires apart { groups_differ services.now ≡ true }
-    requires later { account.old.as_of ≤ moment }
+    requires later { account.old.as_of ≤ asked.now.moment }
     ensures ruled { IfOk result (IsRuledBy Always
-        (termination_decision account.old.book moment request.now.session request.now.number
-        services.now)
-        moment account.old account.new) }
+        (termination_decision account.old.book asked.now.moment asked.now.session.now
+        asked.now.number services.now)
+        asked.now.moment account.old account.new) }
     ensures tariff { account.new.book ≡ account.old.book }
 {
-    let charges = match settle_or_refuse(alloc, account, request, services, moment)? {
+    let charges = match settle_or_refuse(alloc, account, asked, services)? {
         Ok(charges) => charges,
         Err(failure) => return Ok(Ruling::refused(alloc, failure)),
     };
     let answers = settled_answers(alloc, account.book(), services)?;
-    end(account, request, moment);
+    end(account, asked);
     Ok(Ruling::accepted(Outcome::Services(answers), charges))
 }
 
 fn decide_event(
     alloc: Global,
     account: &mut Account,
-    request: &Request,
+    asked: &Asked,
     event: &Event,
     known: bool,
-    moment: Moment,
 ) -> Result<Ruling, AllocError>
-    requires later { account.old.as_of ≤ moment }
-    ensures ruled { IfOk result (IsRuledBy (KnowsUnlessRead event.now request.now.session known)
-        (event_decision account.old.book moment request.now.session request.now.number event.now)
-        moment account.old account.new) }
+    requires later { account.old.as_of ≤ asked.now.moment }
+    ensures ruled { IfOk result (IsRuledBy (KnowsUnlessRead event.now asked.now.session.now known)
+        (event_decision account.old.book asked.now.moment asked.now.session.now asked.now.number
+        event.now) asked.now.moment account.old account.new) }
     ensures tariff { account.new.book ≡ account.old.book }
 {
     match event.action {
-        EventAction::DirectDebiting => debit(alloc, account, request, event, known, moment),
+        EventAction::DirectDebiting => debit(alloc, account, asked, event, known),
         EventAction::CheckBalance => {
-            let outcome = checked(account, event, moment);
+            let outcome = checked(account, event, asked.moment);
             Ok(Ruling::told(alloc, outcome))
         }
         EventAction::PriceEnquiry => {
-            let outcome = priced(account, event, moment);
+            let outcome = priced(account, event, asked.moment);
             Ok(Ruling::told(alloc, outcome))
         }
     }
@@ -191,25 +181,13 @@ fn decide_ask(
         moment account.old account.new) }
     ensures tariff { account.new.book ≡ account.old.book }
 {
+    let asked = asked_by(request, moment);
     match &request.ask {
-        Ask::Initial(services) => initial(
-            alloc,
-            account,
-            request,
-            services.as_slice(),
-            known,
-            moment,
-        ),
-        Ask::Update(services) => update(alloc, account, request, services.as_slice(), moment),
-        Ask::Termination(services) => terminate(
-            alloc,
-            account,
-            request,
-            services.as_slice(),
-            moment,
-        ),
-        Ask::Event(event) => decide_event(alloc, account, request, event, known, moment),
-        Ask::Refund(money) => refund(alloc, account, request, *money, known, moment),
+        Ask::Initial(services) => initial(alloc, account, &asked, services.as_slice(), known),
+        Ask::Update(services) => update(alloc, account, &asked, services.as_slice()),
+        Ask::Termination(services) => terminate(alloc, account, &asked, services.as_slice()),
+        Ask::Event(event) => decide_event(alloc, account, &asked, event, known),
+        Ask::Refund(money) => refund(alloc, account, &asked, *money, known),
     }
 }
 

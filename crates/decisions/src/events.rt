@@ -13,10 +13,11 @@ use crate::charges::charge_row;
 use crate::looking::tariff_of;
 use crate::refusing::{debit_refusal, refund_refusal};
 use crate::reports::event_quantity;
+use crate::request_head::Asked;
 use crate::ruling::{Ruling, deny};
 use commands::{
-    Event, Failure, Outcome, Quantity, Refund, Request, ServiceAnswer, ServiceAnswers,
-    ServiceFailure, ServiceOutcome,
+    Event, Failure, Outcome, Quantity, Refund, ServiceAnswer, ServiceAnswers, ServiceFailure,
+    ServiceOutcome,
 };
 use reserving::{Account, AccountFault, ChargeRow};
 use std::alloc::{AllocError, Global};
@@ -47,42 +48,41 @@ fn charged(
 fn charge(
     alloc: Global,
     account: &mut Account,
-    request: &Request,
+    asked: &Asked,
     tariff: &Tariff,
     event: &Event,
-    moment: Moment,
 ) -> Result<Ruling, AllocError>
-    requires later { account.old.as_of ≤ moment }
-    requires new { session_in request.now.session account.old.sessions ≡ None }
+    requires later { account.old.as_of ≤ asked.now.moment }
+    requires new { session_in asked.now.session.now account.old.sessions ≡ None }
     requires kind { asks_other tariff.now.unit (Some event.now.requested) ≡ false }
-    ensures ruled { IfOk result (IsRuledBy (IsNew request.now.session)
-        (charged_if_covered account.old.book tariff.now moment request.now.session
-        request.now.number event.now.group
+    ensures ruled { IfOk result (IsRuledBy (IsNew asked.now.session.now)
+        (charged_if_covered account.old.book tariff.now asked.now.moment asked.now.session.now
+        asked.now.number event.now.group
         (event_units tariff.now event.now.requested))
-        moment account.old account.new) }
+        asked.now.moment account.old account.new) }
     ensures tariff { account.new.book ≡ account.old.book }
 {
     let quantity = event_quantity(tariff, &event.requested);
     let next = account.next_charge();
     let settled = match account.debit(
-        &request.session,
+        asked.session,
         event.group,
         Units(quantity.units()),
-        moment,
+        asked.moment,
     ) {
         Ok(Some(settled)) => settled,
         Ok(None) => {
             let why = ServiceFailure::CreditLimitReached;
-            return deny(alloc, account, request, why, moment);
+            return deny(alloc, account, asked, why);
         }
         Err(AccountFault::Limit) => return Ok(Ruling::refused(alloc, Failure::UnableToComply)),
         Err(AccountFault::Memory) => return Err(AllocError),
     };
-    let Ok(()) = account.deny(&request.session, request.number, moment) else {
+    let Ok(()) = account.deny(asked.session, asked.number, asked.moment) else {
         return Err(AllocError);
     };
-    let name = request.session.clone()?;
-    let row = charge_row(next as u32, name, event.group, settled, moment);
+    let name = asked.session.clone()?;
+    let row = charge_row(next as u32, name, event.group, settled, asked.moment);
     charged(alloc, event.group, quantity, row)
 }
 
@@ -91,28 +91,27 @@ fn charge(
 fn charge_unless_denied(
     alloc: Global,
     account: &mut Account,
-    request: &Request,
+    asked: &Asked,
     event: &Event,
-    moment: Moment,
 ) -> Result<Ruling, AllocError>
-    requires later { account.old.as_of ≤ moment }
-    requires new { session_in request.now.session account.old.sessions ≡ None }
+    requires later { account.old.as_of ≤ asked.now.moment }
+    requires new { session_in asked.now.session.now account.old.sessions ≡ None }
     requires units { event_fault account.old.book event.now ≡ None }
-    ensures ruled { IfOk result (IsRuledBy (IsNew request.now.session)
-        (charged_unless_barred account.old.book moment request.now.session request.now.number
-        event.now)
-        moment account.old account.new) }
+    ensures ruled { IfOk result (IsRuledBy (IsNew asked.now.session.now)
+        (charged_unless_barred account.old.book asked.now.moment asked.now.session.now
+        asked.now.number event.now)
+        asked.now.moment account.old account.new) }
     ensures tariff { account.new.book ≡ account.old.book }
 {
     if account.is_barred() {
         let why = ServiceFailure::EndUserServiceDenied;
-        return deny(alloc, account, request, why, moment);
+        return deny(alloc, account, asked, why);
     }
     let Some(tariff) = tariff_of(account, event.group) else {
         let why = ServiceFailure::RatingFailed;
-        return deny(alloc, account, request, why, moment);
+        return deny(alloc, account, asked, why);
     };
-    charge(alloc, account, request, tariff, event, moment)
+    charge(alloc, account, asked, tariff, event)
 }
 
 /// Decides a debit: an event's units are charged at once (RFC 8506 section 6.3; TS 32.299,
@@ -120,44 +119,43 @@ fn charge_unless_denied(
 pub(crate) fn debit(
     alloc: Global,
     account: &mut Account,
-    request: &Request,
+    asked: &Asked,
     event: &Event,
     known: bool,
-    moment: Moment,
 ) -> Result<Ruling, AllocError>
-    requires later { account.old.as_of ≤ moment }
-    ensures ruled { IfOk result (IsRuledBy (Knows request.now.session known)
-        (debit_decision account.old.book moment request.now.session request.now.number event.now)
-        moment account.old account.new) }
+    requires later { account.old.as_of ≤ asked.now.moment }
+    ensures ruled { IfOk result (IsRuledBy (Knows asked.now.session.now known)
+        (debit_decision account.old.book asked.now.moment asked.now.session.now asked.now.number
+        event.now) asked.now.moment account.old account.new) }
     ensures tariff { account.new.book ≡ account.old.book }
 {
-    if let Some(failure) = debit_refusal(account, &request.session, event, known) {
+    if let Some(failure) = debit_refusal(account, asked.session, event, known) {
         return Ok(Ruling::refused(alloc, failure));
     }
-    charge_unless_denied(alloc, account, request, event, moment)
+    charge_unless_denied(alloc, account, asked, event)
 }
 
 /// Pays money back into a bucket for all rating groups, from the moment on, without an end.
 fn pay_back(
     alloc: Global,
     account: &mut Account,
-    request: &Request,
+    asked: &Asked,
     refund: Refund,
-    moment: Moment,
 ) -> Result<Ruling, AllocError>
-    requires later { account.old.as_of ≤ moment }
-    requires new { session_in request.now.session account.old.sessions ≡ None }
-    ensures ruled { IfOk result (IsRuledBy (IsNew request.now.session)
-        (refunded moment request.now.session request.now.number refund)
-        moment account.old account.new) }
+    requires later { account.old.as_of ≤ asked.now.moment }
+    requires new { session_in asked.now.session.now account.old.sessions ≡ None }
+    ensures ruled { IfOk result (IsRuledBy (IsNew asked.now.session.now)
+        (refunded asked.now.moment asked.now.session.now asked.now.number refund)
+        asked.now.moment account.old account.new) }
     ensures tariff { account.new.book ≡ account.old.book }
 {
+    let moment = asked.moment;
     match account.credit(moment, Moment::no_end(), None, refund.money(), moment) {
         Ok(_) => {}
         Err(AccountFault::Limit) => return Ok(Ruling::refused(alloc, Failure::UnableToComply)),
         Err(AccountFault::Memory) => return Err(AllocError),
     }
-    let Ok(()) = account.deny(&request.session, request.number, moment) else {
+    let Ok(()) = account.deny(asked.session, asked.number, moment) else {
         return Err(AllocError);
     };
     Ok(Ruling::accepted(Outcome::Refunded, Vec::new(alloc)))
@@ -167,19 +165,18 @@ fn pay_back(
 pub(crate) fn refund(
     alloc: Global,
     account: &mut Account,
-    request: &Request,
+    asked: &Asked,
     refund: Refund,
     known: bool,
-    moment: Moment,
 ) -> Result<Ruling, AllocError>
-    requires later { account.old.as_of ≤ moment }
-    ensures ruled { IfOk result (IsRuledBy (Knows request.now.session known)
-        (refund_decision account.old.book moment request.now.session request.now.number refund)
-        moment account.old account.new) }
+    requires later { account.old.as_of ≤ asked.now.moment }
+    ensures ruled { IfOk result (IsRuledBy (Knows asked.now.session.now known)
+        (refund_decision account.old.book asked.now.moment asked.now.session.now asked.now.number
+        refund) asked.now.moment account.old account.new) }
     ensures tariff { account.new.book ≡ account.old.book }
 {
-    if let Some(failure) = refund_refusal(account, &request.session, refund, known) {
+    if let Some(failure) = refund_refusal(account, asked.session, refund, known) {
         return Ok(Ruling::refused(alloc, failure));
     }
-    pay_back(alloc, account, request, refund, moment)
+    pay_back(alloc, account, asked, refund)
 }

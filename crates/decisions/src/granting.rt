@@ -15,11 +15,9 @@ ghost use Rattle.decisions.specs.Follows.{Grants, GrantsAll, IsNew, IsRuledBy};
 use crate::answering::granted_outcome;
 use crate::looking::{is_known, tariff_of};
 use crate::reports::{asked_units, requested_units};
+use crate::request_head::Asked;
 use crate::ruling::{Ruling, deny};
-use commands::{
-    Outcome, Request, Service, ServiceAnswer, ServiceAnswers, ServiceFailure, ServiceOutcome,
-};
-use identifiers::SessionId;
+use commands::{Outcome, Service, ServiceAnswer, ServiceAnswers, ServiceFailure, ServiceOutcome};
 use reserving::{Account, Granted};
 use std::alloc::{AllocError, Global};
 use tariffs::{Tariff, TariffBook};
@@ -74,29 +72,30 @@ fn any_grants(account: &Account, services: &[Service], moment: Moment) -> bool
 /// live.
 fn grant_units(
     account: &mut Account,
-    session: &SessionId,
+    asked: &Asked,
     tariff: &Tariff,
     group: u32,
     requested: Option<Units>,
-    moment: Moment,
 ) -> Result<ServiceOutcome, AllocError>
     requires known { Some tariff.now ≡ tariff_of account.old.book group }
-    requires later { account.old.as_of ≡ moment }
-    requires live { is_live_in account.old.book.validity moment account.old.sessions session.now ≡
-        true }
-    requires free { reservation_in session.now group account.old.groups ≡ None }
+    requires later { account.old.as_of ≡ asked.now.moment }
+    requires live { is_live_in account.old.book.validity asked.now.moment account.old.sessions
+        asked.now.session.now ≡ true }
+    requires free { reservation_in asked.now.session.now group account.old.groups ≡ None }
     ensures grants { IfOk result (λ outcome. (ledger : Ledger) (left : LeftRows) →
-        IsWith ledger left moment account.old →
-        Grants outcome (granted_units account.old.book tariff.now moment session.now group
-        (option_map (λ u. u.0) requested) ledger) left moment account.new) }
-    ensures moment { OnOk result (account.new.as_of ≡ moment) }
+        IsWith ledger left asked.now.moment account.old →
+        Grants outcome (granted_units account.old.book tariff.now asked.now.moment
+        asked.now.session.now group
+        (option_map (λ u. u.0) requested) ledger) left asked.now.moment account.new) }
+    ensures moment { OnOk result (account.new.as_of ≡ asked.now.moment) }
     ensures live { OnOk result
-        (is_live_in account.new.book.validity moment account.new.sessions session.now ≡ true) }
+        (is_live_in account.new.book.validity asked.now.moment account.new.sessions
+        asked.now.session.now ≡ true) }
     ensures others { OnOk result
-        (OthersKept session.now group account.old.groups account.new.groups) }
+        (OthersKept asked.now.session.now group account.old.groups account.new.groups) }
     ensures tariff { account.new.book ≡ account.old.book }
 {
-    match account.reserve(session, group, requested, moment) {
+    match account.reserve(asked.session, group, requested, asked.moment) {
         Ok(Granted::Nothing) => Ok(ServiceOutcome::Failed(ServiceFailure::CreditLimitReached)),
         Ok(
             Granted::Units {
@@ -114,24 +113,24 @@ fn grant_units(
 /// and a barred account is granted nothing, 4010.
 fn grant(
     account: &mut Account,
-    session: &SessionId,
+    asked: &Asked,
     service: &Service,
-    moment: Moment,
 ) -> Result<ServiceOutcome, AllocError>
-    requires later { account.old.as_of ≡ moment }
-    requires live { is_live_in account.old.book.validity moment account.old.sessions session.now ≡
-        true }
+    requires later { account.old.as_of ≡ asked.now.moment }
+    requires live { is_live_in account.old.book.validity asked.now.moment account.old.sessions
+        asked.now.session.now ≡ true }
     requires free { is_known account.old.book service.now.group ≡ true →
-        reservation_in session.now service.now.group account.old.groups ≡ None }
+        reservation_in asked.now.session.now service.now.group account.old.groups ≡ None }
     ensures grants { IfOk result (λ outcome. (ledger : Ledger) (left : LeftRows) →
-        IsWith ledger left moment account.old →
-        Grants outcome (granted account.old.book moment session.now service.now ledger) left moment
-        account.new) }
-    ensures moment { OnOk result (account.new.as_of ≡ moment) }
+        IsWith ledger left asked.now.moment account.old →
+        Grants outcome (granted account.old.book asked.now.moment asked.now.session.now service.now
+        ledger) left asked.now.moment account.new) }
+    ensures moment { OnOk result (account.new.as_of ≡ asked.now.moment) }
     ensures live { OnOk result
-        (is_live_in account.new.book.validity moment account.new.sessions session.now ≡ true) }
+        (is_live_in account.new.book.validity asked.now.moment account.new.sessions
+        asked.now.session.now ≡ true) }
     ensures others { OnOk result
-        (OthersKept session.now service.now.group account.old.groups account.new.groups) }
+        (OthersKept asked.now.session.now service.now.group account.old.groups account.new.groups) }
     ensures tariff { account.new.book ≡ account.old.book }
 {
     let Some(tariff) = tariff_of(account, service.group) else {
@@ -145,32 +144,31 @@ fn grant(
         return Ok(ServiceOutcome::Failed(why));
     }
     let requested = requested_units(requested);
-    grant_units(account, session, tariff, service.group, requested, moment)
+    grant_units(account, asked, tariff, service.group, requested)
 }
 
 /// Grants the services of a live session what they ask for, in the order of the request.
 fn grant_services(
     alloc: Global,
     account: &mut Account,
-    session: &SessionId,
+    asked: &Asked,
     services: &[Service],
-    moment: Moment,
 ) -> Result<ServiceAnswers, AllocError>
     requires apart { groups_differ services.now ≡ true }
-    requires later { account.old.as_of ≡ moment }
-    requires live { is_live_in account.old.book.validity moment account.old.sessions session.now ≡
-        true }
-    requires free { AreFree account.old.book session.now services.now account.old.groups }
+    requires later { account.old.as_of ≡ asked.now.moment }
+    requires live { is_live_in account.old.book.validity asked.now.moment account.old.sessions
+        asked.now.session.now ≡ true }
+    requires free { AreFree account.old.book asked.now.session.now services.now account.old.groups }
     ensures grants { IfOk result (λ answers. (ledger : Ledger) (left : LeftRows) →
-        IsWith ledger left moment account.old →
-        GrantsAll answers account.old.book moment session.now services.now ledger left
-        account.new) }
-    ensures moment { OnOk result (account.new.as_of ≡ moment) }
+        IsWith ledger left asked.now.moment account.old →
+        GrantsAll answers account.old.book asked.now.moment asked.now.session.now services.now
+        ledger left account.new) }
+    ensures moment { OnOk result (account.new.as_of ≡ asked.now.moment) }
     ensures tariff { account.new.book ≡ account.old.book }
 {
     let mut answers = Vec::with_capacity(alloc, services.len())?;
     for service in services {
-        let outcome = grant(account, session, service, moment)?;
+        let outcome = grant(account, asked, service)?;
         let group = service.group;
         answers.push(ServiceAnswer { group, outcome })?;
     }
@@ -182,33 +180,32 @@ fn grant_services(
 pub(crate) fn open_unless_barred(
     alloc: Global,
     account: &mut Account,
-    request: &Request,
+    asked: &Asked,
     services: &[Service],
-    moment: Moment,
 ) -> Result<Ruling, AllocError>
     requires apart { groups_differ services.now ≡ true }
-    requires later { account.old.as_of ≤ moment }
-    requires new { session_in request.now.session account.old.sessions ≡ None }
-    requires free { AreFree account.old.book request.now.session services.now account.old.groups }
-    ensures ruled { IfOk result (IsRuledBy (IsNew request.now.session)
-        (opened_unless_barred account.old.book moment request.now.session request.now.number
-        services.now)
-        moment account.old account.new) }
+    requires later { account.old.as_of ≤ asked.now.moment }
+    requires new { session_in asked.now.session.now account.old.sessions ≡ None }
+    requires free { AreFree account.old.book asked.now.session.now services.now account.old.groups }
+    ensures ruled { IfOk result (IsRuledBy (IsNew asked.now.session.now)
+        (opened_unless_barred account.old.book asked.now.moment asked.now.session.now
+        asked.now.number services.now)
+        asked.now.moment account.old account.new) }
     ensures tariff { account.new.book ≡ account.old.book }
 {
     if account.is_barred() {
         let why = ServiceFailure::EndUserServiceDenied;
-        return deny(alloc, account, request, why, moment);
+        return deny(alloc, account, asked, why);
     }
     let _ranges = account.book().validity();
-    if !any_grants(account, services, moment) {
+    if !any_grants(account, services, asked.moment) {
         let why = first_denial(account.book(), services);
-        return deny(alloc, account, request, why, moment);
+        return deny(alloc, account, asked, why);
     }
-    let Ok(()) = account.open(&request.session, request.number, moment) else {
+    let Ok(()) = account.open(asked.session, asked.number, asked.moment) else {
         return Err(AllocError);
     };
-    let answers = grant_services(alloc, account, &request.session, services, moment)?;
+    let answers = grant_services(alloc, account, asked, services)?;
     Ok(Ruling::accepted(Outcome::Services(answers), Vec::new(alloc)))
 }
 
@@ -217,23 +214,22 @@ pub(crate) fn open_unless_barred(
 pub(crate) fn renew(
     alloc: Global,
     account: &mut Account,
-    request: &Request,
+    asked: &Asked,
     services: &[Service],
-    moment: Moment,
 ) -> Result<ServiceAnswers, AllocError>
     requires apart { groups_differ services.now ≡ true }
-    requires later { account.old.as_of ≤ moment }
-    requires live { is_live_in account.old.book.validity moment account.old.sessions
-        request.now.session ≡ true }
-    requires free { AreFree account.old.book request.now.session services.now account.old.groups }
+    requires later { account.old.as_of ≤ asked.now.moment }
+    requires live { is_live_in account.old.book.validity asked.now.moment account.old.sessions
+        asked.now.session.now ≡ true }
+    requires free { AreFree account.old.book asked.now.session.now services.now account.old.groups }
     ensures grants { IfOk result (λ answers. (ledger : Ledger) (left : LeftRows) →
-        IsWith ledger left moment account.old →
-        GrantsAll answers account.old.book moment request.now.session services.now
-        (touched moment request.now.session request.now.number ledger) left account.new) }
-    ensures moment { OnOk result (account.new.as_of ≡ moment) }
+        IsWith ledger left asked.now.moment account.old →
+        GrantsAll answers account.old.book asked.now.moment asked.now.session.now services.now
+        (touched asked.now.moment asked.now.session.now asked.now.number ledger) left account.new) }
+    ensures moment { OnOk result (account.new.as_of ≡ asked.now.moment) }
     ensures tariff { account.new.book ≡ account.old.book }
 {
     let _ranges = account.book().validity();
-    account.touch(&request.session, request.number, moment);
-    grant_services(alloc, account, &request.session, services, moment)
+    account.touch(asked.session, asked.number, asked.moment);
+    grant_services(alloc, account, asked, services)
 }

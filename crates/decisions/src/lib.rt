@@ -14,6 +14,7 @@ mod looking;
 mod reads;
 mod refusing;
 mod reports;
+mod request_head;
 mod ruling;
 mod settling;
 

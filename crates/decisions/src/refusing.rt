@@ -15,10 +15,10 @@ ghost use Rattle.decisions.specs.Events.{event_fault, read_refusal, debit_refusa
 
 use crate::looking::{has_record, is_late, is_recorded, tariff_of, used_of};
 use crate::reports::{wrong_event, wrong_units};
+use crate::request_head::Asked;
 use commands::{Avp, Event, Failure, Refund, Service};
 use identifiers::SessionId;
 use reserving::Account;
-use units::Moment;
 
 /// What is wrong with the units of a service, where its group has a tariff.
 fn service_fault(account: &Account, session: &SessionId, service: &Service) -> Option<Avp>
@@ -80,24 +80,25 @@ pub(crate) fn initial_refusal(
 /// Why an update or a termination is refused before anything is settled.
 pub(crate) fn early_refusal(
     account: &Account,
-    session: &SessionId,
-    number: u32,
+    asked: &Asked,
     services: &[Service],
-    moment: Moment,
 ) -> Option<Failure>
-    requires later { account.now.as_of ≤ moment }
-    ensures left { (ledger : Ledger) (left : LeftRows) → IsWith ledger left moment account.now →
-        result ≡ early_refusal account.now.book moment session.now number services.now ledger }
+    requires later { account.now.as_of ≤ asked.now.moment }
+    ensures left { (ledger : Ledger) (left : LeftRows) → IsWith ledger left asked.now.moment
+        account.now →
+        result ≡ early_refusal account.now.book asked.now.moment asked.now.session.now
+        asked.now.number services.now ledger }
     ensures live { result ≡ None →
-        is_live_in account.now.book.validity moment account.now.sessions session.now ≡ true }
+        is_live_in account.now.book.validity asked.now.moment account.now.sessions
+        asked.now.session.now ≡ true }
 {
-    if !account.is_live(session, moment) {
+    if !account.is_live(asked.session, asked.moment) {
         return Some(Failure::UnknownSessionId);
     }
-    if is_late(account, session, number) {
+    if is_late(account, asked.session, asked.number) {
         return Some(Failure::InvalidAvpValue(Avp::RequestNumber));
     }
-    invalid_report(account, session, services)
+    invalid_report(account, asked.session, services)
 }
 
 fn event_fault(account: &Account, event: &Event) -> Option<Avp>

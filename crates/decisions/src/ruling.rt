@@ -5,10 +5,10 @@ ghost use Rattle.reserving.specs.Sessions.{session_in};
 ghost use Rattle.decisions.specs.Decided.{denied};
 ghost use Rattle.decisions.specs.Follows.{IsNew, IsRuledBy};
 
-use commands::{Failure, Outcome, Request, ServiceFailure};
+use crate::request_head::Asked;
+use commands::{Failure, Outcome, ServiceFailure};
 use reserving::{Account, ChargeRow};
 use std::alloc::{AllocError, Global};
-use units::Moment;
 
 /// What a request is answered, whether it is accepted, and the charges that it made, in order.
 #[derive(Drop)]
@@ -60,18 +60,17 @@ impl Ruling {
 pub(crate) fn deny(
     alloc: Global,
     account: &mut Account,
-    request: &Request,
+    asked: &Asked,
     why: ServiceFailure,
-    moment: Moment,
 ) -> Result<Ruling, AllocError>
-    requires later { account.old.as_of ≤ moment }
-    requires new { session_in request.now.session account.old.sessions ≡ None }
-    ensures ruled { IfOk result (IsRuledBy (IsNew request.now.session)
-        (denied moment request.now.session request.now.number why)
-        moment account.old account.new) }
+    requires later { account.old.as_of ≤ asked.now.moment }
+    requires new { session_in asked.now.session.now account.old.sessions ≡ None }
+    ensures ruled { IfOk result (IsRuledBy (IsNew asked.now.session.now)
+        (denied asked.now.moment asked.now.session.now asked.now.number why)
+        asked.now.moment account.old account.new) }
     ensures tariff { account.new.book ≡ account.old.book }
 {
-    match account.deny(&request.session, request.number, moment) {
+    match account.deny(asked.session, asked.number, asked.moment) {
         Ok(()) => Ok(Ruling::accepted(Outcome::Failed(Failure::Denied(why)), Vec::new(alloc))),
         Err(_) => Err(AllocError),
     }

@@ -14,41 +14,44 @@ ghost use Rattle.decisions.specs.Follows.{Reports, Settles, Passes, charges_of};
 use crate::charges::charge_row;
 use crate::looking::is_known;
 use crate::reports::parts_of;
-use commands::{Request, Service};
-use identifiers::SessionId;
+use crate::request_head::Asked;
+use commands::Service;
 use reserving::{Account, AccountFault, ChargeRow};
 use std::alloc::Global;
 use tariffs::TariffBook;
-use units::{Moment, UsedPart};
+use units::UsedPart;
 
 /// Settles a report of use for a live session, and answers its charge. At a fault nothing has
 /// changed.
 fn settle_report(
     account: &mut Account,
-    session: &SessionId,
+    asked: &Asked,
     group: u32,
     parts: &[UsedPart],
-    moment: Moment,
 ) -> Result<ChargeRow, AccountFault>
-    requires later { account.old.as_of ≤ moment }
-    requires live { is_live_in account.old.book.validity moment account.old.sessions session.now ≡
-        true }
+    requires later { account.old.as_of ≤ asked.now.moment }
+    requires live { is_live_in account.old.book.validity asked.now.moment account.old.sessions
+        asked.now.session.now ≡ true }
     requires reported { length parts.now ≢ 0 }
     ensures reports { IfOk result
-        (λ row. Reports row account.old account.new moment session.now group parts.now) }
-    ensures as_of { OnOk result (account.new.as_of ≡ moment) }
-    ensures sessions { OnOk result (account.new.sessions ≡ (advanced moment account.old).sessions) }
-    ensures free { OnOk result (reservation_in session.now group account.new.groups ≡ None) }
-    ensures kept { OnOk result (AreKept session.now account.old.groups account.new.groups) }
+        (λ row. Reports row account.old account.new asked.now.moment asked.now.session.now group
+        parts.now) }
+    ensures as_of { OnOk result (account.new.as_of ≡ asked.now.moment) }
+    ensures sessions { OnOk result
+        (account.new.sessions ≡ (advanced asked.now.moment account.old).sessions) }
+    ensures free { OnOk result
+        (reservation_in asked.now.session.now group account.new.groups ≡ None) }
+    ensures kept { OnOk result
+        (AreKept asked.now.session.now account.old.groups account.new.groups) }
     ensures tariff { account.new.book ≡ account.old.book }
     ensures err { OnErr result (account.new ≡ account.old) }
 {
     let Ok(number) = u32::try_from(account.next_charge()) else {
         return Err(AccountFault::Limit);
     };
-    let name = session.clone()?;
-    let settled = account.settle(session, group, parts, moment)?;
-    Ok(charge_row(number, name, group, settled, moment))
+    let name = asked.session.clone()?;
+    let settled = account.settle(asked.session, group, parts, asked.moment)?;
+    Ok(charge_row(number, name, group, settled, asked.moment))
 }
 
 /// Settles a service for a live session, where its group has a tariff: its reservation ends, with
@@ -56,22 +59,22 @@ fn settle_report(
 fn settle(
     alloc: Global,
     account: &mut Account,
-    session: &SessionId,
+    asked: &Asked,
     service: &Service,
-    moment: Moment,
 ) -> Result<Option<ChargeRow>, AccountFault>
-    requires later { account.old.as_of ≤ moment }
-    requires live { is_live_in account.old.book.validity moment account.old.sessions session.now ≡
-        true }
+    requires later { account.old.as_of ≤ asked.now.moment }
+    requires live { is_live_in account.old.book.validity asked.now.moment account.old.sessions
+        asked.now.session.now ≡ true }
     ensures settles { IfOk result
-        (λ row. Settles (charges_of row) account.old account.new moment session.now
-        (service.now ∷ [])) }
-    ensures live { is_live_in account.new.book.validity moment account.new.sessions session.now ≡
-        true }
-    ensures later { account.new.as_of ≤ moment }
+        (λ row. Settles (charges_of row) account.old account.new asked.now.moment
+        asked.now.session.now (service.now ∷ [])) }
+    ensures live { is_live_in account.new.book.validity asked.now.moment account.new.sessions
+        asked.now.session.now ≡ true }
+    ensures later { account.new.as_of ≤ asked.now.moment }
     ensures free { OnOk result
-        (AreFree account.old.book session.now (service.now ∷ []) account.new.groups) }
-    ensures kept { OnOk result (AreKept session.now account.old.groups account.new.groups) }
+        (AreFree account.old.book asked.now.session.now (service.now ∷ []) account.new.groups) }
+    ensures kept { OnOk result
+        (AreKept asked.now.session.now account.old.groups account.new.groups) }
     ensures tariff { account.new.book ≡ account.old.book }
     ensures err { OnErr result (account.new ≡ account.old) }
 {
@@ -80,10 +83,10 @@ fn settle(
     }
     let parts = parts_of(alloc, service)?;
     if parts.is_empty() {
-        account.settle(session, service.group, &parts, moment)?;
+        account.settle(asked.session, service.group, &parts, asked.moment)?;
         return Ok(None);
     }
-    let row = settle_report(account, session, service.group, &parts, moment)?;
+    let row = settle_report(account, asked, service.group, &parts)?;
     Ok(Some(row))
 }
 
@@ -92,26 +95,26 @@ fn settle(
 fn settle_each(
     alloc: Global,
     account: &mut Account,
-    session: &SessionId,
+    asked: &Asked,
     services: &[Service],
-    moment: Moment,
 ) -> Result<Vec<ChargeRow>, AccountFault>
-    requires later { account.old.as_of ≤ moment }
-    requires live { is_live_in account.old.book.validity moment account.old.sessions session.now ≡
-        true }
+    requires later { account.old.as_of ≤ asked.now.moment }
+    requires live { is_live_in account.old.book.validity asked.now.moment account.old.sessions
+        asked.now.session.now ≡ true }
     ensures settles { IfOk result (λ charges.
-        Settles charges.items account.old account.new moment session.now services.now) }
-    ensures live { is_live_in account.new.book.validity moment account.new.sessions session.now ≡
-        true }
-    ensures later { account.new.as_of ≤ moment }
+        Settles charges.items account.old account.new asked.now.moment asked.now.session.now
+        services.now) }
+    ensures live { is_live_in account.new.book.validity asked.now.moment account.new.sessions
+        asked.now.session.now ≡ true }
+    ensures later { account.new.as_of ≤ asked.now.moment }
     ensures free { OnOk result
-        (AreFree account.old.book session.now services.now account.new.groups) }
+        (AreFree account.old.book asked.now.session.now services.now account.new.groups) }
     ensures tariff { account.new.book ≡ account.old.book }
 {
     let mut charges = Vec::new(alloc);
     for service in services {
         charges.reserve(1)?;
-        if let Some(row) = settle(alloc, account, session, service, moment)? {
+        if let Some(row) = settle(alloc, account, asked, service)? {
             charges.push_reserved(row);
         }
     }
@@ -120,24 +123,25 @@ fn settle_each(
 
 /// Whether a stored number would pass its limit in the settlement of a service, after so many
 /// charges of services of other groups.
-fn would_pass(
-    account: &Account,
-    session: &SessionId,
-    service: &Service,
-    charges: u64,
-    moment: Moment,
-) -> bool
-    requires later { account.now.as_of ≤ moment }
-    requires live { is_live_in account.now.book.validity moment account.now.sessions session.now ≡
-        true }
-    ensures { (ledger : Ledger) (left : LeftRows) → IsWith ledger left moment account.now →
-        result ≡ service_passes_after charges account.now.book moment session.now service.now
-        ledger }
+fn would_pass(account: &Account, asked: &Asked, service: &Service, charges: u64) -> bool
+    requires later { account.now.as_of ≤ asked.now.moment }
+    requires live { is_live_in account.now.book.validity asked.now.moment account.now.sessions
+        asked.now.session.now ≡ true }
+    ensures { (ledger : Ledger) (left : LeftRows) →
+        IsWith ledger left asked.now.moment account.now →
+        result ≡ service_passes_after charges account.now.book asked.now.moment
+        asked.now.session.now service.now ledger }
 {
     let known = is_known(account.book(), service.group);
     match &service.used {
         Some(used) if known => {
-            account.would_pass(session, service.group, used.parts(), charges, moment)
+            account.would_pass(
+                asked.session,
+                service.group,
+                used.parts(),
+                charges,
+                asked.moment,
+            )
         }
         _ => false,
     }
@@ -170,22 +174,19 @@ fn service_charges(book: &TariffBook, service: &Service) -> u64
 
 /// Whether a stored number would pass its limit in the settlements of the services of a session's
 /// request.
-fn any_would_pass(
-    account: &Account,
-    session: &SessionId,
-    services: &[Service],
-    moment: Moment,
-) -> bool
+fn any_would_pass(account: &Account, asked: &Asked, services: &[Service]) -> bool
     requires apart { groups_differ services.now ≡ true }
-    requires later { account.now.as_of ≤ moment }
-    requires live { is_live_in account.now.book.validity moment account.now.sessions session.now ≡
-        true }
-    ensures { (ledger : Ledger) (left : LeftRows) → IsWith ledger left moment account.now →
-        result ≡ any_passes account.now.book moment session.now services.now ledger }
+    requires later { account.now.as_of ≤ asked.now.moment }
+    requires live { is_live_in account.now.book.validity asked.now.moment account.now.sessions
+        asked.now.session.now ≡ true }
+    ensures { (ledger : Ledger) (left : LeftRows) →
+        IsWith ledger left asked.now.moment account.now →
+        result ≡ any_passes account.now.book asked.now.moment asked.now.session.now services.now
+        ledger }
 {
     let mut charges = 0;
     for service in services {
-        if would_pass(account, session, service, charges, moment) {
+        if would_pass(account, asked, service, charges) {
             return true;
         }
         charges += service_charges(account.book(), service);
@@ -199,51 +200,55 @@ fn any_would_pass(
 pub(crate) fn settle_services(
     alloc: Global,
     account: &mut Account,
-    session: &SessionId,
+    asked: &Asked,
     services: &[Service],
-    moment: Moment,
 ) -> Result<Vec<ChargeRow>, AccountFault>
     requires apart { groups_differ services.now ≡ true }
-    requires later { account.old.as_of ≤ moment }
-    requires live { is_live_in account.old.book.validity moment account.old.sessions session.now ≡
-        true }
+    requires later { account.old.as_of ≤ asked.now.moment }
+    requires live { is_live_in account.old.book.validity asked.now.moment account.old.sessions
+        asked.now.session.now ≡ true }
     ensures settles { IfOk result (λ charges.
-        Settles charges.items account.old account.new moment session.now services.now) }
+        Settles charges.items account.old account.new asked.now.moment asked.now.session.now
+        services.now) }
     ensures limit { result ≡ Err AccountFault.Limit →
-        Passes account.old moment session.now services.now }
+        Passes account.old asked.now.moment asked.now.session.now services.now }
     ensures same { result ≡ Err AccountFault.Limit → account.new ≡ account.old }
     ensures within { result ≡ Err AccountFault.Memory → (ledger : Ledger) (left : LeftRows) →
-        IsWith ledger left moment account.old →
-        any_passes account.old.book moment session.now services.now ledger ≡ false }
+        IsWith ledger left asked.now.moment account.old →
+        any_passes account.old.book asked.now.moment asked.now.session.now services.now ledger ≡
+        false }
     ensures live { OnOk result
-        (is_live_in account.new.book.validity moment account.new.sessions session.now ≡ true) }
-    ensures later { account.new.as_of ≤ moment }
+        (is_live_in account.new.book.validity asked.now.moment account.new.sessions
+        asked.now.session.now ≡ true) }
+    ensures later { account.new.as_of ≤ asked.now.moment }
     ensures free { OnOk result
-        (AreFree account.old.book session.now services.now account.new.groups) }
+        (AreFree account.old.book asked.now.session.now services.now account.new.groups) }
     ensures tariff { account.new.book ≡ account.old.book }
 {
-    if any_would_pass(account, session, services, moment) {
+    if any_would_pass(account, asked, services) {
         return Err(AccountFault::Limit);
     }
     // The limits were asked: what still fails is want of memory.
-    match settle_each(alloc, account, session, services, moment) {
+    match settle_each(alloc, account, asked, services) {
         Ok(charges) => Ok(charges),
         Err(_) => Err(AccountFault::Memory),
     }
 }
 
 /// Ends a live session with its last request.
-pub(crate) fn end(account: &mut Account, request: &Request, moment: Moment)
-    requires later { account.old.as_of ≤ moment }
-    requires live { is_live_in account.old.book.validity moment account.old.sessions
-        request.now.session ≡ true }
-    ensures left { (ledger : Ledger) (left : LeftRows) → IsWith ledger left moment account.old →
-        IsWith (closed moment request.now.session
-        (touched moment request.now.session request.now.number ledger)) left moment account.new }
-    ensures moment { account.new.as_of ≡ moment }
+pub(crate) fn end(account: &mut Account, asked: &Asked)
+    requires later { account.old.as_of ≤ asked.now.moment }
+    requires live { is_live_in account.old.book.validity asked.now.moment account.old.sessions
+        asked.now.session.now ≡ true }
+    ensures left { (ledger : Ledger) (left : LeftRows) →
+        IsWith ledger left asked.now.moment account.old →
+        IsWith (closed asked.now.moment asked.now.session.now
+        (touched asked.now.moment asked.now.session.now asked.now.number ledger)) left
+        asked.now.moment account.new }
+    ensures moment { account.new.as_of ≡ asked.now.moment }
     ensures tariff { account.new.book ≡ account.old.book }
 {
     let _ranges = account.book().validity();
-    account.touch(&request.session, request.number, moment);
-    account.close(&request.session, moment);
+    account.touch(asked.session, asked.number, asked.moment);
+    account.close(asked.session, asked.moment);
 }

@@ -8,26 +8,27 @@ use Rattle.decisions.proofs.deciding.update.Goals as goal
 
 pub returns-clause-ruled : goal.returns-clause-ruled
 returns-clause-ruled c =
-    let unrefused : IsRefusal None c.args.account.now c.args.moment c.args.request.now.session
-    c.args.request.now.number c.args.services.now = search rules in
+    let unrefused : IsRefusal None c.args.account.now c.args.asked.now.moment
+    c.args.asked.now.session.now c.args.asked.now.number c.args.services.now = search rules in
     let settles : Settles c.in-Ok.charges.items c.args.account.now c.settle_or_refuse.new.account
-    c.args.moment c.args.request.now.session c.args.services.now = search rules in
-    ruled_as Always Always (updated c.args.account.now.book c.args.moment c.args.request.now.session
-    c.args.request.now.number c.args.services.now)
-    (update_decision c.args.account.now.book c.args.moment c.args.request.now.session
-    c.args.request.now.number c.args.services.now) c.args.moment c.args.account.now
+    c.args.asked.now.moment c.args.asked.now.session.now c.args.services.now = search rules in
+    ruled_as Always Always (updated c.args.account.now.book c.args.asked.now.moment
+    c.args.asked.now.session.now c.args.asked.now.number c.args.services.now)
+    (update_decision c.args.account.now.book c.args.asked.now.moment c.args.asked.now.session.now
+    c.args.asked.now.number c.args.services.now) c.args.asked.now.moment c.args.account.now
     c.renew.new.account c.accepted.result (λ ledger left always h. always)
     (λ ledger left always h. ap
     (λ o. refused_or o ledger
-    (updated c.args.account.now.book c.args.moment c.args.request.now.session
-    c.args.request.now.number c.args.services.now ledger)) (unrefused ledger left h))
-    (ruled_accepted Always (updated c.args.account.now.book c.args.moment c.args.request.now.session
-    c.args.request.now.number c.args.services.now) c.args.moment c.args.account.now
+    (updated c.args.account.now.book c.args.asked.now.moment c.args.asked.now.session.now
+    c.args.asked.now.number c.args.services.now ledger)) (unrefused ledger left h))
+    (ruled_accepted Always (updated c.args.account.now.book c.args.asked.now.moment
+    c.args.asked.now.session.now
+    c.args.asked.now.number c.args.services.now) c.args.asked.now.moment c.args.account.now
     c.renew.new.account (Services c.in_ok-answers.answers) c.in-Ok.charges.items
     c.accepted.result
     c.accepted.ensures.outcome c.accepted.ensures.accepted c.accepted.ensures.charges
     c.in_ok-answers.ensures.moment
     (follows_updated c.args.account.now c.settle_or_refuse.new.account c.renew.new.account
-    c.args.moment c.args.request.now.session c.args.request.now.number c.args.services.now
+    c.args.asked.now.moment c.args.asked.now.session.now c.args.asked.now.number c.args.services.now
     c.in_ok-answers.answers c.in-Ok.charges.items
     c.settle_or_refuse.ensures.tariff settles c.in_ok-answers.ensures.grants))

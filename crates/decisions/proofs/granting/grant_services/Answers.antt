@@ -19,23 +19,26 @@ loop-service-preserved c =
     (omega arith) c.service-item.is in
     let apart : groups_differ (x ∷ rest) ≡ true =
     subst (λ ys. groups_differ ys ≡ true) left c.loop-service.invariant.apart in
-    let free : AreFree book c.args.session.now (x ∷ rest) c.loop-service.account.groups =
-    subst (λ ys. AreFree book c.args.session.now ys c.loop-service.account.groups) left
+    let free : AreFree book c.args.asked.now.session.now (x ∷ rest) c.loop-service.account.groups =
+    subst (λ ys. AreFree book c.args.asked.now.session.now ys c.loop-service.account.groups) left
     c.loop-service.invariant.free in
-    let so : GrantsTo c.args.account.now c.loop-service.account c.args.moment c.args.session.now
-    c.args.services.now (x ∷ rest) c.loop-service.answers.items =
-    subst (λ ys. GrantsTo c.args.account.now c.loop-service.account c.args.moment c.args.session.now
+    let so : GrantsTo c.args.account.now c.loop-service.account c.args.asked.now.moment
+    c.args.asked.now.session.now c.args.services.now (x ∷ rest) c.loop-service.answers.items =
+    subst (λ ys. GrantsTo c.args.account.now c.loop-service.account c.args.asked.now.moment
+    c.args.asked.now.session.now
     c.args.services.now ys c.loop-service.answers.items) left c.loop-service.invariant.grants in
-    let next : GrantsTo c.args.account.now c.grant.new.account c.args.moment c.args.session.now
-    c.args.services.now rest (c.loop-service.answers.items
+    let next : GrantsTo c.args.account.now c.grant.new.account c.args.asked.now.moment
+    c.args.asked.now.session.now c.args.services.now rest (c.loop-service.answers.items
     ++ answer_with x c.in_ok-outcome.outcome ∷ []) =
-    grants_one c.args.account.now c.loop-service.account c.grant.new.account c.args.moment
-    c.args.session.now c.args.services.now x rest c.loop-service.answers.items
+    grants_one c.args.account.now c.loop-service.account c.grant.new.account c.args.asked.now.moment
+    c.args.asked.now.session.now c.args.services.now x rest c.loop-service.answers.items
     c.in_ok-outcome.outcome so c.loop-service.invariant.tariff c.in_ok-outcome.ensures.grants in
     record {
-      grants = subst (GrantsTo c.args.account.now c.grant.new.account c.args.moment
-          c.args.session.now c.args.services.now rest) (sym c.in_ok-push.ensures.items) next;
-      free = free_others book c.args.session.now x.group rest c.loop-service.account.groups
+      grants = subst (GrantsTo c.args.account.now c.grant.new.account c.args.asked.now.moment
+          c.args.asked.now.session.now c.args.services.now rest) (sym c.in_ok-push.ensures.items)
+          next;
+      free = free_others book c.args.asked.now.session.now x.group rest
+          c.loop-service.account.groups
           c.grant.new.account.groups (differs_first x rest apart) c.in_ok-outcome.ensures.others
           free.1;
       apart = differs_rest x rest apart;
@@ -49,12 +52,12 @@ returns-clause-grants c =
     let ended : drop c.loop-service.service-index c.args.services.now ≡ [] =
     drop_of_length-le c.args.services.now c.loop-service-test.false in
     let all =
-    grants_all c.args.account.now c.loop-service.account c.args.moment c.args.session.now
-    c.args.services.now c.loop-service.answers.items
-    (subst (λ ys. GrantsTo c.args.account.now c.loop-service.account c.args.moment
-    c.args.session.now c.args.services.now ys c.loop-service.answers.items) ended
+    grants_all c.args.account.now c.loop-service.account c.args.asked.now.moment
+    c.args.asked.now.session.now c.args.services.now c.loop-service.answers.items
+    (subst (λ ys. GrantsTo c.args.account.now c.loop-service.account c.args.asked.now.moment
+    c.args.asked.now.session.now c.args.services.now ys c.loop-service.answers.items) ended
     c.loop-service.invariant.grants) in
     λ ledger left h.
-    subst (λ (xs : List ServiceAnswer). GrantsAll xs c.args.account.now.book c.args.moment
-    c.args.session.now c.args.services.now ledger left c.loop-service.account)
+    subst (λ (xs : List ServiceAnswer). GrantsAll xs c.args.account.now.book c.args.asked.now.moment
+    c.args.asked.now.session.now c.args.services.now ledger left c.loop-service.account)
     (sym c.new.ensures) (all ledger left h)

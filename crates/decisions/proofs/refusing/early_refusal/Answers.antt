@@ -13,41 +13,45 @@ use Rattle.decisions.proofs.refusing.early_refusal.Goals as goal
 
 pub returns-then-is_late-clause-left : goal.returns-then-is_late-clause-left
 returns-then-is_late-clause-left c = λ ledger left h.
-    let gone : NotLeft c.args.session.now left =
-    live_unleft ledger left c.args.moment c.args.moment c.args.account.now
-    c.args.session.now h (sym c.is_live.ensures.rows ∙ c.if-not-is_live.false) in
-    let live : is_live c.args.account.now.book.validity c.args.moment ledger c.args.session.now ≡
+    let gone : NotLeft c.args.asked.now.session.now left =
+    live_unleft ledger left c.args.asked.now.moment c.args.asked.now.moment c.args.account.now
+    c.args.asked.now.session.now h (sym c.is_live.ensures.rows ∙ c.if-not-is_live.false) in
+    let live : is_live c.args.account.now.book.validity c.args.asked.now.moment ledger
+    c.args.asked.now.session.now ≡
     true = sym (c.is_live.ensures.left ledger left h c.requires.later)
     ∙ c.if-not-is_live.false in
     then_is (Some (invalid RequestNumber))
-    (option_map invalid (units_fault c.args.account.now.book c.args.session.now ledger
-    c.args.services.now)) (is_late c.args.number (last_recording c.args.session.now ledger))
-    (sym c.if-is_late.true ∙ c.is_late.ensures ledger left c.args.moment gone h)
+    (option_map invalid (units_fault c.args.account.now.book c.args.asked.now.session.now ledger
+    c.args.services.now)) (is_late c.args.asked.now.number (last_recording
+    c.args.asked.now.session.now ledger))
+    (sym c.if-is_late.true ∙ c.is_late.ensures ledger left c.args.asked.now.moment gone h)
     ∙ else_is (Some UnknownSessionId)
-    (if is_late c.args.number (last_recording c.args.session.now ledger)
+    (if is_late c.args.asked.now.number (last_recording c.args.asked.now.session.now ledger)
     then Some (invalid RequestNumber)
-    else option_map invalid (units_fault c.args.account.now.book c.args.session.now ledger
+    else option_map invalid (units_fault c.args.account.now.book c.args.asked.now.session.now ledger
     c.args.services.now))
-    (not (is_live c.args.account.now.book.validity c.args.moment ledger c.args.session.now))
-    (ap not (sym live))
+    (not (is_live c.args.account.now.book.validity c.args.asked.now.moment ledger
+    c.args.asked.now.session.now)) (ap not (sym live))
 
 pub returns-clause-left : goal.returns-clause-left
 returns-clause-left c = λ ledger left h.
-    let gone : NotLeft c.args.session.now left =
-    live_unleft ledger left c.args.moment c.args.moment c.args.account.now
-    c.args.session.now h (sym c.is_live.ensures.rows ∙ c.if-not-is_live.false) in
-    let live : is_live c.args.account.now.book.validity c.args.moment ledger c.args.session.now ≡
+    let gone : NotLeft c.args.asked.now.session.now left =
+    live_unleft ledger left c.args.asked.now.moment c.args.asked.now.moment c.args.account.now
+    c.args.asked.now.session.now h (sym c.is_live.ensures.rows ∙ c.if-not-is_live.false) in
+    let live : is_live c.args.account.now.book.validity c.args.asked.now.moment ledger
+    c.args.asked.now.session.now ≡
     true = sym (c.is_live.ensures.left ledger left h c.requires.later)
     ∙ c.if-not-is_live.false in
-    c.invalid_report.ensures ledger left c.args.moment gone h
+    c.invalid_report.ensures ledger left c.args.asked.now.moment gone h
     ∙ else_is (Some (invalid RequestNumber))
-    (option_map invalid (units_fault c.args.account.now.book c.args.session.now ledger
-    c.args.services.now)) (is_late c.args.number (last_recording c.args.session.now ledger))
-    (sym c.if-is_late.false ∙ c.is_late.ensures ledger left c.args.moment gone h)
+    (option_map invalid (units_fault c.args.account.now.book c.args.asked.now.session.now ledger
+    c.args.services.now)) (is_late c.args.asked.now.number (last_recording
+    c.args.asked.now.session.now ledger))
+    (sym c.if-is_late.false ∙ c.is_late.ensures ledger left c.args.asked.now.moment gone h)
     ∙ else_is (Some UnknownSessionId)
-    (if is_late c.args.number (last_recording c.args.session.now ledger)
+    (if is_late c.args.asked.now.number (last_recording c.args.asked.now.session.now ledger)
     then Some (invalid RequestNumber)
-    else option_map invalid (units_fault c.args.account.now.book c.args.session.now ledger
+    else option_map invalid (units_fault c.args.account.now.book c.args.asked.now.session.now ledger
     c.args.services.now))
-    (not (is_live c.args.account.now.book.validity c.args.moment ledger c.args.session.now))
-    (ap not (sym live))
+    (not (is_live c.args.account.now.book.validity c.args.asked.now.moment ledger
+    c.args.asked.now.session.now)) (ap not (sym live))

@@ -18,14 +18,14 @@ loop-service-preserved c =
     first_left c.args.services.now c.loop-service.service-index x
     (omega arith) c.service-item.is in
     let book : Book = c.args.account.now.book in
-    let so : SettlesTo c.args.account.now c.loop-service.account c.args.moment c.args.session.now
-    c.args.services.now (x ∷ rest) c.loop-service.charges.items =
-    subst (λ ys. SettlesTo c.args.account.now c.loop-service.account c.args.moment
-    c.args.session.now c.args.services.now ys c.loop-service.charges.items) left
+    let so : SettlesTo c.args.account.now c.loop-service.account c.args.asked.now.moment
+    c.args.asked.now.session.now c.args.services.now (x ∷ rest) c.loop-service.charges.items =
+    subst (λ ys. SettlesTo c.args.account.now c.loop-service.account c.args.asked.now.moment
+    c.args.asked.now.session.now c.args.services.now ys c.loop-service.charges.items) left
     c.loop-service.invariant.settles in
-    let frees : FreesTo book c.args.session.now c.args.services.now
+    let frees : FreesTo book c.args.asked.now.session.now c.args.services.now
     (x ∷ rest) c.loop-service.account.groups =
-    subst (λ ys. FreesTo book c.args.session.now c.args.services.now ys
+    subst (λ ys. FreesTo book c.args.asked.now.session.now c.args.services.now ys
     c.loop-service.account.groups) left c.loop-service.invariant.frees in
     let own : List ChargeRow = charges_of c.in_ok-row.field-0 in
     let charges : c.match-branch-3.charges.items ≡ c.loop-service.charges.items ++ own =
@@ -38,14 +38,15 @@ loop-service-preserved c =
           ∙ ap (λ o. c.loop-service.charges.items ++ charges_of o) (sym w.in_default.is)
     ] in
     record {
-      settles = subst (SettlesTo c.args.account.now c.settle.new.account c.args.moment
-          c.args.session.now c.args.services.now rest) (sym charges)
-          (settles_one c.args.account.now c.loop-service.account c.settle.new.account c.args.moment
-          c.args.session.now c.args.services.now x rest c.loop-service.charges.items own so
-          c.loop-service.invariant.tariff c.in_ok-row.ensures.settles);
-      frees = frees_one book c.args.session.now c.args.services.now x rest
+      settles = subst (SettlesTo c.args.account.now c.settle.new.account c.args.asked.now.moment
+          c.args.asked.now.session.now c.args.services.now rest) (sym charges)
+          (settles_one c.args.account.now c.loop-service.account c.settle.new.account
+          c.args.asked.now.moment
+          c.args.asked.now.session.now c.args.services.now x rest c.loop-service.charges.items own
+          so c.loop-service.invariant.tariff c.in_ok-row.ensures.settles);
+      frees = frees_one book c.args.asked.now.session.now c.args.services.now x rest
           c.loop-service.account.groups c.settle.new.account.groups frees c.in_ok-row.ensures.kept
-          (subst (λ b. AreFree b c.args.session.now (x ∷ []) c.settle.new.account.groups)
+          (subst (λ b. AreFree b c.args.asked.now.session.now (x ∷ []) c.settle.new.account.groups)
           c.loop-service.invariant.tariff c.in_ok-row.ensures.free);
       live = c.settle.ensures.live;
       later = c.settle.ensures.later;
@@ -56,8 +57,8 @@ pub returns-clause-settles : goal.returns-clause-settles
 returns-clause-settles c =
     let ended : drop c.loop-service.service-index c.args.services.now ≡ [] =
     drop_of_length-le c.args.services.now c.loop-service-test.false in
-    settles_all c.args.account.now c.loop-service.account c.args.moment c.args.session.now
-    c.args.services.now c.loop-service.charges.items
-    (subst (λ ys. SettlesTo c.args.account.now c.loop-service.account c.args.moment
-    c.args.session.now c.args.services.now ys c.loop-service.charges.items) ended
+    settles_all c.args.account.now c.loop-service.account c.args.asked.now.moment
+    c.args.asked.now.session.now c.args.services.now c.loop-service.charges.items
+    (subst (λ ys. SettlesTo c.args.account.now c.loop-service.account c.args.asked.now.moment
+    c.args.asked.now.session.now c.args.services.now ys c.loop-service.charges.items) ended
     c.loop-service.invariant.settles)
