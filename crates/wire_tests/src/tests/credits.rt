@@ -1,31 +1,19 @@
 //! The body of an operator's credit: its members missing, of each wrong kind, and at and past their
 //! limits.
 
-use crate::tables::joined;
+use crate::tests::tables::{Case, try_cases};
 use identifiers::AccountNumber;
 use std::alloc::Global;
-use std::process::Abort;
 use std::test::Fail;
 use wire::read_credit;
 
 /// How a credit is read: `read`, or the fault.
-fn outcome(alloc: Global, body: &[u8]) -> Result<String, Fail> {
+pub(crate) fn outcome(alloc: Global, body: &[u8]) -> Result<String, Fail> {
     let account = AccountNumber::new(alloc, "49151")?.ok_or("an account")?;
     match read_credit(alloc, account, body) {
         Ok(_) => Ok(String::from_str(alloc, "read")?),
         Err(fault) => Ok(format!(in alloc; "{fault}")?),
     }
-}
-
-/// Tries the cases `OUTCOME: BODY`.
-fn try_credits(rt: &impl Abort, alloc: Global, cases: &str) -> Result<(), Fail> {
-    let cases = joined(alloc, cases)?;
-    for line in cases.as_str().lines() {
-        let (expected, body) = line.split_once(": ").ok_or("a case")?;
-        let found = outcome(alloc, body.as_bytes())?;
-        assert_eq!(rt; found.as_str(), expected, "{body}");
-    }
-    Ok(())
 }
 
 const AMOUNTS: &str = r##"Amount is missing: {}
@@ -50,7 +38,7 @@ read: {"Amount":0,"Amount":1,"Reference":"r"}"##;
 
 #[test]
 fn amounts(rt: HostRuntime) -> Result<(), Fail> {
-    try_credits(&rt, rt.alloc(), AMOUNTS)
+    try_cases(&rt, rt.alloc(), Case::Credit, "", AMOUNTS)
 }
 
 const TIMES: &str = r##"From is invalid: {"Amount":1,"From":null,"Reference":"r"}
@@ -84,7 +72,7 @@ read: {"Amount":1,"From":6,"Until":5,"Reference":"r"}"##;
 
 #[test]
 fn times(rt: HostRuntime) -> Result<(), Fail> {
-    try_credits(&rt, rt.alloc(), TIMES)
+    try_cases(&rt, rt.alloc(), Case::Credit, "", TIMES)
 }
 
 const SCOPES_AND_REFERENCES: &str = r##"Scope is invalid: {"Amount":1,"Scope":null,"Reference":"r"}
@@ -124,7 +112,7 @@ read: {"Session-Id":5,"More":null,"Reference":"r","Amount":1}"##;
 
 #[test]
 fn scopes_and_references(rt: HostRuntime) -> Result<(), Fail> {
-    try_credits(&rt, rt.alloc(), SCOPES_AND_REFERENCES)
+    try_cases(&rt, rt.alloc(), Case::Credit, "", SCOPES_AND_REFERENCES)
 }
 
 /// Of two faults the first in the order of the members is told.
@@ -149,5 +137,5 @@ read: {"Reference":"r","Scope":1,"Until":1,"From":1,"Amount":1}"##;
 
 #[test]
 fn order(rt: HostRuntime) -> Result<(), Fail> {
-    try_credits(&rt, rt.alloc(), ORDER)
+    try_cases(&rt, rt.alloc(), Case::Credit, "", ORDER)
 }

@@ -1,7 +1,7 @@
 //! The services of updates and terminations.
 
-use crate::asking::NO_SERVICES;
-use crate::tables::{Case, try_cases};
+use crate::tests::asking::NO_SERVICES;
+use crate::tests::tables::{Case, try_cases};
 use std::test::Fail;
 
 const UPDATE: &str = r##"{"Session-Id":"s1","CC-Request-Type":2,"CC-Request-Number":1,

@@ -1,7 +1,7 @@
 //! What is kept of accepted commands, written and read again.
 
-use crate::requests::WRITTEN;
-use crate::tables::{Told, try_told};
+use crate::tests::requests::WRITTEN;
+use crate::tests::tables::{Told, try_told};
 use commands::{Content, Credit, CreditEnd, CreditStart, KeptCredit, same_content};
 use identifiers::{AccountNumber, Reference};
 use std::alloc::Global;
@@ -101,26 +101,40 @@ fn widest(alloc: Global) -> Result<Credit, Fail> {
     })
 }
 
-/// Each credit that can be kept is read again, also where it could never be used.
-#[test]
-fn widest_credit(rt: HostRuntime) -> Result<(), Fail> {
-    let content = content_of(widest(rt.alloc())?)?;
-    let text = kept(rt.alloc(), &content)?;
-    assert_eq!(rt;
-        text.as_str(),
-        r#"{"Amount":1,"From":4102444799,"Reference":"r1","Scope":7,"Until":1}"#
-    );
-    Ok(())
+/// What is kept of the widest credit.
+fn widest_kept(alloc: Global) -> Result<String, Fail> {
+    let content = content_of(widest(alloc)?)?;
+    kept(alloc, &content)
 }
 
-/// No credit begins past the last moment of a command, or ends at 0 or past "no end".
+/// Whether a credit can begin at a moment, and end there.
+fn bounds(alloc: Global, seconds: &str) -> Result<String, Fail> {
+    let moment = Moment::new(seconds.parse::<u64>()?).ok_or("a moment")?;
+    let begins = CreditStart::new(moment).is_some();
+    let ends = CreditEnd::new(moment).is_some();
+    Ok(format!(in alloc; "{begins} {ends}")?)
+}
+
+/// What is kept of the widest credit, or whether a credit can begin and end at a moment.
+pub(crate) fn at_bounds(alloc: Global, text: &str) -> Result<String, Fail> {
+    match text {
+        "widest" => widest_kept(alloc),
+        _ => bounds(alloc, text),
+    }
+}
+
+/// Each credit that can be kept is read again, also where it could never be used. No credit begins
+/// past the last moment of a command, or ends at 0 or past "no end".
+const BOUNDS: &str =
+    r##"widest -> {"Amount":1,"From":4102444799,"Reference":"r1","Scope":7,"Until":1}
+4102444799 -> true true
+4102444800 -> false true
+4102444801 -> false false
+0 -> true false"##;
+
 #[test]
 fn starts_and_ends(rt: HostRuntime) -> Result<(), Fail> {
-    let late = Moment::new(4_102_444_800).ok_or("a moment")?;
-    let last = Moment::new(4_102_444_801).ok_or("a moment")?;
-    assert!(rt; CreditStart::new(late).is_none() && CreditEnd::new(late).is_some());
-    assert!(rt; CreditEnd::new(last).is_none() && CreditEnd::new(Moment::first()).is_none());
-    Ok(())
+    try_told(&rt, rt.alloc(), Told::Bounds, BOUNDS)
 }
 
 /// What a kept text shows of itself when it is read.

@@ -1,6 +1,6 @@
 //! Members of objects, each read alone and written alone.
 
-use crate::tables::joined;
+use crate::tests::tables::{Told, joined, try_told};
 use commands::Avp;
 use json::Writer;
 use json_fields::{
@@ -58,20 +58,23 @@ fn named(alloc: Global, parent: &Value) -> Result<String, Fail> {
     Ok(format!(in alloc; "{session} {account} {kind:?}")?)
 }
 
+/// What is said of the body by the function of this name.
+pub(crate) fn said(alloc: Global, name: &str) -> Result<String, Fail> {
+    let parent = document(alloc, BODY.as_bytes())?;
+    match name {
+        "members" => members(alloc, &parent),
+        "units" => counted(alloc, &parent),
+        _ => named(alloc, &parent),
+    }
+}
+
+const SAID: &str = "members -> s1 2 Some(5) None 2 49151
+units -> Some(TotalOctets) 7 CC-Time CC-Total-Octets CC-Service-Specific-Units
+names -> s1 49151 Update";
+
 #[test]
 fn members_read(rt: HostRuntime) -> Result<(), Fail> {
-    let alloc = rt.alloc();
-    let parent = document(alloc, BODY.as_bytes())?;
-    let found = members(alloc, &parent)?;
-    assert_eq!(rt; found.as_str(), "s1 2 Some(5) None 2 49151");
-    let found = counted(alloc, &parent)?;
-    assert_eq!(rt;
-        found.as_str(),
-        "Some(TotalOctets) 7 CC-Time CC-Total-Octets CC-Service-Specific-Units"
-    );
-    let found = named(alloc, &parent)?;
-    assert_eq!(rt; found.as_str(), "s1 49151 Update");
-    Ok(())
+    try_told(&rt, rt.alloc(), Told::Members, SAID)
 }
 
 /// An object with a member of each kind.

@@ -1,6 +1,6 @@
 //! Which of two faults of a request is told: the first in the order of the table of fields.
 
-use crate::tables::{Case, try_cases};
+use crate::tests::tables::{Case, try_cases};
 use std::test::Fail;
 
 const UPDATE: &str = r##"{"Multiple-Services-Credit-Control":[{"Used-Service-Unit":[{"CC-Time":60}],

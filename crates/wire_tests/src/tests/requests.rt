@@ -1,6 +1,6 @@
 //! Requests as they are written, and read again.
 
-use crate::tables::{Told, try_told};
+use crate::tests::tables::{Told, try_told};
 use commands::{Request, same_request};
 use std::alloc::Global;
 use std::test::Fail;

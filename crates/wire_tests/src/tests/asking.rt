@@ -1,6 +1,6 @@
 //! The services of initial requests and events.
 
-use crate::tables::{Case, try_cases};
+use crate::tests::tables::{Case, try_cases};
 use std::test::Fail;
 
 const SERVICES: &str = r##"{"Session-Id":"s1","CC-Request-Type":1,"CC-Request-Number":0,

@@ -1,6 +1,6 @@
 //! The texts that answer what isn't read.
 
-use crate::tables::{Told, try_told};
+use crate::tests::tables::{Told, try_told};
 use std::alloc::Global;
 use std::test::Fail;
 use wire::{read_request, write_fault};

@@ -1,6 +1,6 @@
 //! Answers as they are read: each text gives a value that writes the same text.
 
-use crate::tables::{Told, joined, try_told};
+use crate::tests::tables::{Told, joined, try_told};
 use std::alloc::Global;
 use std::test::Fail;
 use wire::{read_answer, write_answer};

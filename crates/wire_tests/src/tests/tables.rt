@@ -1,6 +1,6 @@
 //! Tables of cases: a case is a line of a constant text.
 
-use crate::{answers_read, faults, kept, requests};
+use crate::tests::{answers, answers_read, credits, faults, kept, members, requests, texts};
 use std::alloc::Global;
 use std::process::Abort;
 use std::test::Fail;
@@ -37,6 +37,8 @@ pub(crate) enum Case {
     Text,
     /// `OUTCOME: CHANGES`.
     Changes,
+    /// `OUTCOME: BODY`, of a credit: there is no document.
+    Credit,
 }
 
 /// The body of a case.
@@ -50,10 +52,19 @@ fn body_of(
     match what {
         Case::Text => Ok(document.replace(alloc, "HERE", text)?),
         Case::Changes => changed(rt, alloc, document, text),
+        Case::Credit => Ok(String::from_str(alloc, text)?),
     }
 }
 
-/// Tries the cases of a document that is read as a request.
+/// How the body of a case is read.
+fn outcome_of(alloc: Global, what: Case, body: &[u8]) -> Result<String, Fail> {
+    match what {
+        Case::Credit => credits::outcome(alloc, body),
+        _ => outcome(alloc, body),
+    }
+}
+
+/// Tries the cases of a document that is read as a request, or of credits.
 pub(crate) fn try_cases(
     rt: &impl Abort,
     alloc: Global,
@@ -65,7 +76,7 @@ pub(crate) fn try_cases(
     for line in cases.as_str().lines() {
         let (expected, text) = line.split_once(": ").ok_or("a case")?;
         let body = body_of(rt, alloc, what, document, text)?;
-        let found = outcome(alloc, body.as_str().as_bytes())?;
+        let found = outcome_of(alloc, what, body.as_str().as_bytes())?;
         assert_eq!(rt; found.as_str(), expected, "{text}");
     }
     Ok(())
@@ -74,6 +85,12 @@ pub(crate) fn try_cases(
 /// What a case tells of its text.
 #[derive(Clone, Copy)]
 pub(crate) enum Told {
+    /// How the text of this name is read.
+    Bytes,
+    /// What is said of the members of a body.
+    Members,
+    /// The text of the answer of this name.
+    Answer,
     /// What a body is answered that isn't read.
     Fault,
     /// The text of the request that a body is.
@@ -86,6 +103,8 @@ pub(crate) enum Told {
     KeptRequest,
     /// What is kept of the credit that a body is.
     KeptCredit,
+    /// What is kept of the widest credit, or whether a credit can begin and end at a moment.
+    Bounds,
     /// The value of a kept text.
     ContentShown,
     /// Whether two bodies of credits are the same content.
@@ -96,12 +115,16 @@ pub(crate) enum Told {
 
 fn tell(alloc: Global, what: Told, text: &str) -> Result<String, Fail> {
     match what {
+        Told::Bytes => texts::named(alloc, text),
+        Told::Members => members::said(alloc, text),
+        Told::Answer => answers::named(alloc, text),
         Told::Fault => faults::answered(alloc, text.as_bytes()),
         Told::Request => requests::written(alloc, text.as_bytes()),
         Told::RequestShown => requests::shown(alloc, text.as_bytes()),
         Told::Requests => requests::compared(alloc, text),
         Told::KeptRequest => kept::kept_request(alloc, text.as_bytes()),
         Told::KeptCredit => kept::kept_credit(alloc, text.as_bytes()),
+        Told::Bounds => kept::at_bounds(alloc, text),
         Told::ContentShown => kept::shown(alloc, text.as_bytes()),
         Told::Credits => kept::compared(alloc, text),
         Told::AnswerShown => answers_read::shown(alloc, text.as_bytes()),

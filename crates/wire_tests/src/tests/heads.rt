@@ -2,7 +2,7 @@
 //!
 //! Expected faults here and in the other tables are those of the table of fields.
 
-use crate::tables::{Case, try_cases};
+use crate::tests::tables::{Case, try_cases};
 use std::test::Fail;
 
 const SESSION: &str = r##"{"Session-Id":HERE,"CC-Request-Type":1,"CC-Request-Number":0,

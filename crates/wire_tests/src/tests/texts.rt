@@ -1,6 +1,6 @@
 //! Texts that are no JSON, or no object.
 
-use crate::tables::{Case, outcome, try_cases};
+use crate::tests::tables::{Case, Told, outcome, try_cases, try_told};
 use std::alloc::Global;
 use std::test::Fail;
 
@@ -84,31 +84,6 @@ fn around(alloc: Global, before: &[u8], after: &[u8]) -> Result<String, Fail> {
     outcome(alloc, text.as_slice())
 }
 
-#[test]
-fn spaces(rt: HostRuntime) -> Result<(), Fail> {
-    let alloc = rt.alloc();
-    let found = around(alloc, b" \t\r\n", b"\n\r\t ")?;
-    assert_eq!(rt; found.as_str(), "read");
-    let found = around(alloc, b"", b"\0")?;
-    assert_eq!(rt; found.as_str(), "no JSON object");
-    let found = around(alloc, b"\x0C", b"")?;
-    assert_eq!(rt; found.as_str(), "no JSON object");
-    Ok(())
-}
-
-/// A byte order mark before the body, and bytes that aren't UTF-8 after it and alone.
-#[test]
-fn no_text(rt: HostRuntime) -> Result<(), Fail> {
-    let alloc = rt.alloc();
-    let found = around(alloc, &[0xEF, 0xBB, 0xBF], b"")?;
-    assert_eq!(rt; found.as_str(), "no JSON object");
-    let found = around(alloc, b"", &[0xFF])?;
-    assert_eq!(rt; found.as_str(), "no JSON object");
-    let found = outcome(alloc, b"")?;
-    assert_eq!(rt; found.as_str(), "no JSON object");
-    Ok(())
-}
-
 /// How a text is read that is the body with these bytes as the value of a member more.
 fn with_text(alloc: Global, bytes: &[u8]) -> Result<String, Fail> {
     let mut text = Vec::new(alloc);
@@ -116,24 +91,6 @@ fn with_text(alloc: Global, bytes: &[u8]) -> Result<String, Fail> {
     text.extend_from_slice(bytes)?;
     text.extend_from_slice(b"\"}")?;
     outcome(alloc, text.as_slice())
-}
-
-/// Bytes in a text: a letter in UTF-8, a control byte, and a beginning, a surrogate and an overlong
-/// form that aren't UTF-8.
-#[test]
-fn texts_in_utf_8(rt: HostRuntime) -> Result<(), Fail> {
-    let alloc = rt.alloc();
-    let found = with_text(alloc, &[0xC3, 0xBC])?;
-    assert_eq!(rt; found.as_str(), "Session-Id is missing");
-    let found = with_text(alloc, b"\t")?;
-    assert_eq!(rt; found.as_str(), "no JSON object");
-    let found = with_text(alloc, &[0xC3])?;
-    assert_eq!(rt; found.as_str(), "no JSON object");
-    let found = with_text(alloc, &[0xED, 0xA0, 0x80])?;
-    assert_eq!(rt; found.as_str(), "no JSON object");
-    let found = with_text(alloc, &[0xC0, 0xAF])?;
-    assert_eq!(rt; found.as_str(), "no JSON object");
-    Ok(())
 }
 
 /// How the body is read with a member more, whose value stands in so many pairs of brackets.
@@ -146,19 +103,49 @@ fn nested(alloc: Global, opened: &str, closed: &str, depth: usize) -> Result<Str
     outcome(alloc, text.as_str().as_bytes())
 }
 
-/// 127 arrays and objects around each other are read, the body's own among them, and 128 aren't.
+/// How the text is read that has this name in the table below.
+pub(crate) fn named(alloc: Global, name: &str) -> Result<String, Fail> {
+    match name {
+        "spaces around" => around(alloc, b" \t\r\n", b"\n\r\t "),
+        "a zero byte after" => around(alloc, b"", b"\0"),
+        "a form feed before" => around(alloc, b"\x0C", b""),
+        "a byte order mark before" => around(alloc, &[0xEF, 0xBB, 0xBF], b""),
+        "no UTF-8 after" => around(alloc, b"", &[0xFF]),
+        "nothing" => outcome(alloc, b""),
+        "a letter" => with_text(alloc, &[0xC3, 0xBC]),
+        "a control byte" => with_text(alloc, b"\t"),
+        "a beginning" => with_text(alloc, &[0xC3]),
+        "a surrogate" => with_text(alloc, &[0xED, 0xA0, 0x80]),
+        "an overlong form" => with_text(alloc, &[0xC0, 0xAF]),
+        "126 arrays" => nested(alloc, "[", "]", 126),
+        "127 arrays" => nested(alloc, "[", "]", 127),
+        "63 objects in arrays" => nested(alloc, "{\"a\":[", "]}", 63),
+        "64 arrays of objects" => nested(alloc, "[{\"a\":", "}]", 64),
+        _ => nested(alloc, "[", "]", 200),
+    }
+}
+
+/// Bytes around the body; bytes in a text of it, of which a beginning, a surrogate and an overlong
+/// form aren't UTF-8; and brackets: 127 arrays and objects around each other are read, the body's
+/// own among them, and 128 aren't.
+const BYTES: &str = "spaces around -> read
+a zero byte after -> no JSON object
+a form feed before -> no JSON object
+a byte order mark before -> no JSON object
+no UTF-8 after -> no JSON object
+nothing -> no JSON object
+a letter -> Session-Id is missing
+a control byte -> no JSON object
+a beginning -> no JSON object
+a surrogate -> no JSON object
+an overlong form -> no JSON object
+126 arrays -> read
+127 arrays -> no JSON object
+63 objects in arrays -> read
+64 arrays of objects -> no JSON object
+200 arrays -> no JSON object";
+
 #[test]
-fn depths(rt: HostRuntime) -> Result<(), Fail> {
-    let alloc = rt.alloc();
-    let found = nested(alloc, "[", "]", 126)?;
-    assert_eq!(rt; found.as_str(), "read");
-    let found = nested(alloc, "[", "]", 127)?;
-    assert_eq!(rt; found.as_str(), "no JSON object");
-    let found = nested(alloc, "{\"a\":[", "]}", 63)?;
-    assert_eq!(rt; found.as_str(), "read");
-    let found = nested(alloc, "[{\"a\":", "}]", 64)?;
-    assert_eq!(rt; found.as_str(), "no JSON object");
-    let found = nested(alloc, "[", "]", 200)?;
-    assert_eq!(rt; found.as_str(), "no JSON object");
-    Ok(())
+fn bytes(rt: HostRuntime) -> Result<(), Fail> {
+    try_told(&rt, rt.alloc(), Told::Bytes, BYTES)
 }

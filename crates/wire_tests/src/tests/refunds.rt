@@ -1,6 +1,6 @@
 //! The money of refunds.
 
-use crate::tables::{Case, try_cases};
+use crate::tests::tables::{Case, try_cases};
 use std::test::Fail;
 
 const REFUND: &str = r##"{"Session-Id":"r1","CC-Request-Type":4,"CC-Request-Number":0,

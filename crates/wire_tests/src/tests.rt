@@ -1,0 +1,14 @@
+mod answers;
+mod answers_read;
+mod asking;
+mod credits;
+mod faults;
+mod heads;
+mod kept;
+mod members;
+mod order;
+mod refunds;
+mod reporting;
+mod requests;
+mod tables;
+mod texts;
