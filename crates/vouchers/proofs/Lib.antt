@@ -2,3 +2,4 @@ pub mod FieldLemmas
 pub mod RecordLemmas
 pub mod FileLemmas
 pub mod Examples
+pub mod ToldLemmas

@@ -1,3 +1,4 @@
 pub mod Faults
 pub mod Rows
 pub mod Files
+pub mod Told

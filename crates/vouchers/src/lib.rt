@@ -5,9 +5,11 @@
 
 mod fault;
 mod fields;
+mod laws;
 mod reading;
 mod row;
 
 pub use crate::fault::{FaultKind, VoucherFault};
+pub use crate::laws::{voucher_fault_is_told, vouchers_are_records};
 pub use crate::reading::read_vouchers;
 pub use crate::row::VoucherRow;
