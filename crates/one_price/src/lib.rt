@@ -61,6 +61,3 @@ fn once_document(alloc: Global, price: u64, block: u64) -> Result<String, AllocE
 {
     format!(in alloc; "{TO_THE_BLOCK}{block}{TO_THE_PRICE}{price}\n")
 }
-
-#[cfg(test)]
-mod tests;

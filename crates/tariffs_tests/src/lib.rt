@@ -4,14 +4,4 @@
 #![tactic(auto)]
 
 #[cfg(test)]
-mod documents;
-#[cfg(test)]
-mod faults;
-#[cfg(test)]
-mod limits;
-#[cfg(test)]
-mod lookups;
-#[cfg(test)]
-mod switches;
-#[cfg(test)]
-mod tables;
+mod tests;

@@ -3,7 +3,7 @@
 //! ordinal, its year and month, the timestamp of a midnight, and a search over each minute of the
 //! next hour.
 
-use crate::tables::{Table, try_table};
+use crate::tests::tables::{Table, try_table};
 use calendar::{Cycle, Period};
 use std::alloc::Global;
 use std::test::Fail;
@@ -40,7 +40,12 @@ fn tiers(alloc: Global, tariff: &Tariff, period: u8) -> Result<String, Fail> {
 }
 
 /// A group of the book: what it says, and its tiers in a period.
-fn group(alloc: Global, book: &TariffBook, group: u32, period: u8) -> Result<String, Fail> {
+pub(crate) fn group(
+    alloc: Global,
+    book: &TariffBook,
+    group: u32,
+    period: u8,
+) -> Result<String, Fail> {
     match book.tariff(group) {
         Some(tariff) => {
             let described = described(alloc, tariff)?;

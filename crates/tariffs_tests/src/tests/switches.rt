@@ -1,8 +1,8 @@
 //! Switches and validity times beside a search over each minute, and those of a book as Python's
 //! `datetime` has them.
 
-use crate::documents::{sliced, whole_week};
-use crate::tables::{Table, try_table};
+use crate::tests::documents::{sliced, whole_week};
+use crate::tests::tables::{Table, try_table};
 use std::alloc::Global;
 use std::process::Abort;
 use std::test::Fail;

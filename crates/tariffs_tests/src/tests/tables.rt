@@ -1,9 +1,10 @@
 //! Tables of cases: a case is a line of a constant text, and a line that begins with two spaces
 //! goes on with the one before it.
 
-use crate::faults::outcome;
-use crate::lookups::{group_of_case, moment_of_case};
-use crate::switches::window_of_case;
+use crate::tests::faults::outcome;
+use crate::tests::lookups::{group_of_case, moment_of_case};
+use crate::tests::one_prices;
+use crate::tests::switches::window_of_case;
 use std::alloc::Global;
 use std::process::Abort;
 use std::test::Fail;
@@ -33,6 +34,10 @@ pub(crate) enum Table {
     Moments,
     /// The switch within so many seconds of a moment, in a zone.
     Windows,
+    /// What a book of one price says of itself and of a group.
+    Books,
+    /// What a book of one price says of a moment.
+    BookMoments,
 }
 
 /// What is said of a case.
@@ -41,6 +46,8 @@ fn said(alloc: Global, table: Table, case: &str) -> Result<String, Fail> {
         Table::Groups => group_of_case(alloc, case),
         Table::Moments => moment_of_case(alloc, case),
         Table::Windows => window_of_case(alloc, case),
+        Table::Books => one_prices::book_of_case(alloc, case),
+        Table::BookMoments => one_prices::moment_of_case(alloc, case),
     }
 }
 

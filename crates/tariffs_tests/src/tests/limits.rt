@@ -1,7 +1,7 @@
 //! Books with as many entries, groups, periods and tiers as there may be, and with one more.
 
-use crate::documents::entry;
-use crate::faults::outcome;
+use crate::tests::documents::entry;
+use crate::tests::faults::outcome;
 use std::alloc::Global;
 use std::test::Fail;
 

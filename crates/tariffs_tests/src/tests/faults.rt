@@ -3,8 +3,8 @@
 //! A case is the number of the fault (0: the document is read), and the texts of the document that
 //! are changed. Expected faults are reckoned from the rules of the format.
 
-use crate::documents::SMALL;
-use crate::tables::{joined, try_changes};
+use crate::tests::documents::SMALL;
+use crate::tests::tables::{joined, try_changes};
 use std::alloc::Global;
 use std::test::Fail;
 use tariffs::TariffBook;

@@ -1,0 +1,7 @@
+mod documents;
+mod faults;
+mod limits;
+mod lookups;
+mod one_prices;
+mod switches;
+mod tables;
