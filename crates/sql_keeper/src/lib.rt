@@ -2,12 +2,18 @@
 //! change before it is written.
 #![tactic(auto)]
 
+mod asking;
+mod dead;
 mod faults;
+mod finding;
+mod keeper;
 mod laws;
+mod rebuilding;
 mod testing;
 mod texts;
 
 pub use crate::faults::counted;
+pub use crate::keeper::SqlKeeper;
 pub use crate::laws::{changes_are_read, new_tables_are_empty};
 pub use crate::testing::may_be_written;
 pub use crate::texts::kept_texts;

@@ -1,0 +1,87 @@
+-- A keeper after a call that only reads, and what it hands on.
+use Rattle.std.proofs.Common.{◌≡◌, ◌≤◌, ◌⊎◌, inl, inr, ℕ, Result, Ok, Err, IfOk, IsTrue, refl, sym, subst, ap, arith, false}
+use Rattle.sqlite_disk.specs.Disk.{MoreFaults}
+use Rattle.sqlite_trees.specs.Tree.{Trees}
+use Rattle.sqlite_trees.specs.declared.store.Store.{Ghosts}
+use Rattle.sqlite.specs.Held.{state}
+use Rattle.sqlite.specs.State.{State, HasCleanDisk}
+use Rattle.sql_tables.specs.declared.reading.ReadFault.{ReadFault}
+use Rattle.sql_tables.specs.Statements.{OnlyReads, Reads as Told}
+use Rattle.sql_rows.specs.Content.{content_of}
+use Rattle.keepers.specs.declared.fault.StoreFault.{StoreFault}
+use Rattle.keepers.specs.Faults.{HasCause, max_failures}
+use Rattle.keepers.specs.Keeping.{Reads}
+use Rattle.sql_keeper.specs.Asks.{IsHanded}
+use Rattle.sql_keeper.specs.Content.{tables_of}
+use Rattle.sql_keeper.specs.Inside.{KeeperState, IsClean, StaysOpen, IsKeeper, tables_in, failed_in, clean_in}
+
+none_more : (old new : ℕ) → old ≡ 0 → new ≡ 0 → MoreFaults old new → ⊥
+none_more old new e f m =
+    let some : 1 ≤ new = subst (λ n. MoreFaults n new) e m in omega (arith, some, f)
+
+pub stays_open : (old new : State) → StaysOpen old → OnlyReads old new → StaysOpen new
+stays_open old new stays only clean none =
+    let before : old.faults ≡ 0 = omega (arith, only.counts, none) in
+    go before (only.closes clean (stays (only.cleanness clean) before))
+  where
+    go : old.faults ≡ 0 → IsTrue new.is_open ⊎ MoreFaults old.faults new.faults → IsTrue new.is_open
+    go before (inl on) = on
+    go before (inr more) = absurd (none_more old.faults new.faults before none more)
+
+pub open_of : (s : State) → StaysOpen s → IsClean s → IsTrue s.is_open
+open_of s stays clean = go clean.open_still
+  where
+    go : (s.faults ≡ 0) ⊎ IsTrue s.is_open → IsTrue s.is_open
+    go (inl none) = stays clean.disk none
+    go (inr on) = on
+
+pub was_clean : (old new : State) → StaysOpen new → OnlyReads old new → IsClean new → IsClean old
+was_clean old new stays only clean = record {
+  disk = only.cleanness clean.disk;
+  open_still = inr ((only.still clean.disk (open_of new stays clean)).was_open);
+}
+
+handed : {T : Type 0} (P Q : T → Type 0) (read : Result T ReadFault) (result : Result T StoreFault)
+    → IsHanded read result → ((x : T) → P x → Q x) → IfOk read P → IfOk result Q
+handed P Q (Ok x) (Ok y) e to p = subst Q (sym e) (to x p)
+handed P Q (Ok x) (Err f) e to p = absurd e
+handed P Q (Err f) (Ok y) e to p = absurd e
+handed P Q (Err f) (Err h) e to p = tt
+
+-- a keeper is one still
+pub keeper_after : {S : Type 0} (g : Ghosts S) (old new : KeeperState S) → IsKeeper g old
+    → OnlyReads (state g old.connection) (state g new.connection) → new.failures ≤ max_failures
+    → IsKeeper g new
+keeper_after g old new keeper only bounded = record {
+  bounded = bounded;
+  plain = only.mode keeper.plain;
+  idle = only.idle;
+  stays = stays_open (state g old.connection) (state g new.connection) keeper.stays only;
+}
+
+-- what was read is handed on as the law of keepers asks it
+pub asked : {S T : Type 0} (g : Ghosts S) (old new : KeeperState S) (told : Trees → T → Type 0)
+    (Found : T → Type 0) (read : Result T ReadFault) (result : Result T StoreFault)
+    → IsKeeper g old → Told told (state g old.connection) (state g new.connection) read
+    → new.names ≡ old.names → IsHanded read result → HasCause old.failures new.failures result
+    → ((x : T) → told (state g old.connection).now.trees x → Found x)
+    → Reads (tables_in g) failed_in (clean_in g) old new Found result
+asked g old new told Found read result keeper reads names e cause to = record {
+  found = λ clean. handed (told before.now.trees) Found read result e to (reads.found clean.disk);
+  same = λ clean. same (open_of after stays clean) clean.disk;
+  cleanness = was_clean before after stays reads.only;
+  cause = cause;
+}
+  where
+    before : State
+    before = state g old.connection
+
+    after : State
+    after = state g new.connection
+
+    stays : StaysOpen after
+    stays = stays_open before after keeper.stays reads.only
+
+    same : IsTrue after.is_open → HasCleanDisk after → tables_in g new ≡ tables_in g old
+    same on clean = λ i. tables_of (names i)
+        (content_of (((reads.only.still clean on).now_is i).trees))

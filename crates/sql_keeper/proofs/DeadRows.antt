@@ -1,0 +1,81 @@
+-- The dead buckets of an account, as rows that rise tell them.
+use Rattle.std.proofs.Common.{◌≡◌, ◌<◌, ℕ, ◌==◌, List, [], ◌∷◌, Bool, true, false, not, ◌||◌, ◌&&◌, Option, Some, None, Result, Ok, Err, IfOk, map, refl, sym, ap, ◌∙◌, subst, arith, nat_eq, nat_lt, ltb-true, ltb-false, eqb-true}
+use Rattle.std.proofs.lemmas.Bool.{eqb-false}
+use Rattle.std.specs.List.{find}
+use Rattle.std.specs.Prelude.{if◌then◌else◌}
+use Rattle.sqlite_trees.specs.Tree.{Trees}
+use Rattle.sqlite.specs.State.{State, HasCleanDisk}
+use Rattle.buckets.specs.Row.{Row}
+use Rattle.reserving.specs.Rows.{AreApart, EachIn}
+use Rattle.reserving.specs.Left.{is_dead, only, bucket_in}
+use Rattle.keepers.specs.Keyed.{same_bucket}
+use Rattle.sql_tables.specs.Selects.{only as those}
+use Rattle.sql_rows.specs.Lists.{BucketsRise, is_dead as is_spent}
+use Rattle.sql_keeper.specs.Dead.{AreDead}
+
+some_or_none : (a : ℕ) (p q : Bool) → nat_lt 0 a ≡ p → (a == 0) ≡ q → p ≡ not q
+some_or_none a true true e f =
+    absurd (let less = ltb-true 0 a e in let none = eqb-true a 0 f in omega (arith, less, none))
+some_or_none a true false e f = refl
+some_or_none a false true e f = refl
+some_or_none a false false e f =
+    absurd (let less = ltb-false 0 a e in let some = eqb-false a 0 f in some (omega (arith, less)))
+
+neither : (p q a b : Bool) → p ≡ not a → q ≡ not b → not (p || q) ≡ (a && b)
+neither p q true b e f = rw (e, f) (twice b)
+  where
+    twice : (x : Bool) → not (not x) ≡ x
+    twice true = refl
+    twice false = refl
+neither p q false b e f = rw e refl
+
+-- the test of the rows is the ledger's
+spent_is_dead : (b : Row) → is_spent b ≡ is_dead b
+spent_is_dead b = neither _ _ (b.available == 0) (b.reserved == 0)
+    (some_or_none b.available _ _ refl refl) (some_or_none b.reserved _ _ refl refl)
+
+-- of what is found, that which passes either test
+those_are : {A : Type 0} (p q : A → Bool) → ((x : A) → p x ≡ q x) → (o : Option A)
+    → those p o ≡ only q o
+those_are p q same None = refl
+those_are p q same (Some x) = ap (λ (t : Bool). if t then Some x else None) (same x)
+
+rises_over : (l m : Row) (bs : List Row) → l.number < m.number → BucketsRise (m ∷ bs) → BucketsRise (l ∷ bs)
+rises_over l m [] less rise = tt
+rises_over l m (b ∷ bs) less rise = (omega (arith, less, rise.0), rise.1)
+
+other : (m b : Row) → m.number < b.number → same_bucket m b ≡ false
+other m b less = go (b.number == m.number) refl
+  where
+    go : (t : Bool) → (b.number == m.number) ≡ t → t ≡ false
+    go true e = absurd (let same = eqb-true b.number m.number e in omega (arith, same, less))
+    go false e = refl
+
+others : (m : Row) (bs : List Row) → BucketsRise (m ∷ bs) → EachIn (λ y. same_bucket m y ≡ false) bs
+others m [] rise = tt
+others m (b ∷ bs) rise = (other m b rise.0, others m bs (rises_over m b bs rise.0 rise.1))
+
+apart : (bs : List Row) → BucketsRise bs → AreApart same_bucket bs
+apart [] rise = tt
+apart (b ∷ bs) rise = (others b bs rise, apart bs (tail b bs rise))
+  where
+    tail : (b : Row) (bs : List Row) → BucketsRise (b ∷ bs) → BucketsRise bs
+    tail b [] rise = tt
+    tail b (x ∷ xs) rise = rise.1
+
+dead_rows : (buckets : ℕ → Option Row) (bs : List Row)
+    → ((n : ℕ) → find (λ b. nat_eq b.number n) bs ≡ those is_spent (buckets n)) → BucketsRise bs
+    → AreDead buckets bs
+dead_rows buckets bs found rise = record {
+  found = λ n. found n ∙ those_are is_spent is_dead spent_is_dead (buckets n);
+  apart = apart bs rise;
+}
+
+-- values made of the rows
+pub dead_made : {V E : Type 0} (items : V → List Row) (buckets : ℕ → Option Row) (rows : List Row)
+    (r : Result V E)
+    → ((n : ℕ) → find (λ b. nat_eq b.number n) rows ≡ those is_spent (buckets n)) → BucketsRise rows
+    → IfOk r (λ v. items v ≡ rows) → IfOk r (λ v. AreDead buckets (items v))
+dead_made items buckets rows (Ok v) found rise is =
+    subst (AreDead buckets) (sym is) (dead_rows buckets rows found rise)
+dead_made items buckets rows (Err e) found rise is = tt

@@ -1,0 +1,49 @@
+//! The buckets of an account that can't be used any more.
+
+ghost use Rattle.keepers.specs.Change.{AreDeadOf};
+ghost use Rattle.keepers.specs.Keeping.{Reads as Finds};
+ghost use Rattle.sql_keeper.specs.Dead.{AreDead};
+ghost use Rattle.sql_keeper.specs.Inside.{tables_in, failed_in, clean_in};
+ghost use Rattle.sql_rows.specs.Content.{rows_in};
+ghost use Rattle.sql_tables.specs.Statements.{HasIdleBook, Reads};
+ghost use Rattle.sqlite.specs.Held.{state};
+
+use crate::faults::counted;
+use crate::keeper::SqlKeeper;
+use crate::rebuilding::buckets_of;
+use buckets::Bucket;
+use identifiers::AccountNumber;
+use keepers::StoreFault;
+use sql_rows::read_buckets_dead;
+use sql_tables::ReadFault;
+use sqlite::{Alter, Connection};
+use std::alloc::Global;
+
+fn dead_of<S: Alter>(
+    conn: &mut Connection<S>,
+    alloc: Global,
+    account: &AccountNumber,
+) -> Result<Vec<Bucket>, ReadFault>
+    requires idle { HasIdleBook (state S.Store conn.old) }
+    ensures { Reads (λ trees found. AreDead (rows_in trees account.now).buckets found.items)
+        (state S.Store conn.old) (state S.Store conn.new) result }
+{
+    let rows = read_buckets_dead(conn, alloc, account)?;
+    buckets_of(alloc, &rows)
+}
+
+impl<S: Alter> SqlKeeper<S> {
+    /// The buckets of an account that have nothing available and nothing reserved (TS 32.296,
+    /// account balance management function), in the order of their numbers; none where there is no
+    /// account. It reads all of the account's.
+    ///
+    /// # Errors
+    /// A fault of the store, which is counted, as is a row out of its rules; want of memory.
+    pub fn dead_buckets(&mut self, account: &AccountNumber) -> Result<Vec<Bucket>, StoreFault>
+        ensures { Finds (tables_in S.Store) failed_in (clean_in S.Store) self.old self.new
+            (λ found. AreDeadOf ((tables_in S.Store self.old).rows account.now) found.items) result }
+    {
+        let read = dead_of(&mut self.connection, self.alloc, account);
+        counted(&mut self.failures, read)
+    }
+}

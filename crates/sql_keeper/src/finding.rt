@@ -1,0 +1,131 @@
+//! What is kept of a command and its answer, found by its key.
+
+ghost use Rattle.std.specs.Prelude.{◌≡◌, Ok, Some, IfOk, option_map, option_and_then};
+ghost use Rattle.wire.specs.Contents.{content_of as command_of};
+ghost use Rattle.wire_answers.specs.ReadingAnswers.{answer_of};
+ghost use Rattle.keepers.specs.Keeping.{Reads as Finds};
+ghost use Rattle.sql_keeper.specs.Content.{answer_in, kept_in, texts_of};
+ghost use Rattle.sql_keeper.specs.Inside.{tables_in, failed_in, clean_in};
+ghost use Rattle.sql_rows.specs.Content.{rows_in};
+ghost use Rattle.sql_rows.specs.Texts.{kept_of};
+ghost use Rattle.sql_tables.specs.Statements.{HasIdleBook, Reads};
+ghost use Rattle.sqlite.specs.Held.{state};
+
+use crate::faults::counted;
+use crate::keeper::SqlKeeper;
+use commands::{Answer, Content};
+use identifiers::AccountNumber;
+use json_fields::WireFault;
+use keepers::{KeptAnswer, Key, StoreFault};
+use sql_rows::{Kept, read_answer_reference, read_answer_request};
+use sql_tables::ReadFault;
+use sqlite::{Alter, Connection};
+use std::alloc::Global;
+use wire::{read_answer, read_content};
+
+/// Why a text isn't read: it is out of the rules, or memory ran out.
+fn fault_of(fault: WireFault) -> ReadFault {
+    match fault {
+        WireFault::Memory => ReadFault::Memory,
+        _ => ReadFault::Rules,
+    }
+}
+
+/// The command that a text kept under an account says.
+fn content_said(alloc: Global, account: &AccountNumber, text: &str) -> Result<Content, ReadFault>
+    ensures { IfOk result (λ c. command_of account.now text.now ≡ Ok c) }
+{
+    let account = account.clone()?;
+    let bytes = text.as_bytes();
+    match read_content(alloc, account, bytes) {
+        Ok(content) => Ok(content),
+        Err(fault) => Err(fault_of(fault)),
+    }
+}
+
+/// The answer that a kept text says.
+fn answer_said(alloc: Global, text: &str) -> Result<Answer, ReadFault>
+    ensures { IfOk result (λ a. answer_of text.now ≡ Ok a) }
+{
+    let bytes = text.as_bytes();
+    match read_answer(alloc, bytes) {
+        Ok(answer) => Ok(answer),
+        Err(fault) => Err(fault_of(fault)),
+    }
+}
+
+/// What texts that are kept under an account say; texts that say nothing are out of the rules.
+fn kept_said(alloc: Global, account: &AccountNumber, texts: &Kept) -> Result<KeptAnswer, ReadFault>
+    ensures { IfOk result (λ k. kept_in account.now (kept_of texts.now) ≡ Some k) }
+{
+    let content = content_said(alloc, account, texts.content.as_str())?;
+    let answer = answer_said(alloc, texts.answer.as_str())?;
+    Ok(KeptAnswer { content, answer })
+}
+
+/// The texts that are kept under a key.
+fn texts_under<S: Alter>(
+    conn: &mut Connection<S>,
+    account: &AccountNumber,
+    key: &Key,
+) -> Result<Option<Kept>, ReadFault>
+    requires idle { HasIdleBook (state S.Store conn.old) }
+    ensures { Reads (λ trees o. option_map kept_of o ≡
+        texts_of key.now (rows_in trees account.now))
+        (state S.Store conn.old) (state S.Store conn.new) result }
+{
+    match key {
+        Key::Request { session, number } => read_answer_request(conn, account, session, *number),
+        Key::Reference(reference) => read_answer_reference(conn, account, reference),
+    }
+}
+
+/// What is kept where there are texts.
+fn kept_where(
+    alloc: Global,
+    account: &AccountNumber,
+    texts: &Option<Kept>,
+) -> Result<Option<KeptAnswer>, ReadFault>
+    ensures { IfOk result (λ o. o ≡
+        option_and_then (kept_in account.now) (option_map kept_of texts.now)) }
+{
+    match texts {
+        None => Ok(None),
+        Some(texts) => Ok(Some(kept_said(alloc, account, texts)?)),
+    }
+}
+
+fn answer_under<S: Alter>(
+    conn: &mut Connection<S>,
+    alloc: Global,
+    account: &AccountNumber,
+    key: &Key,
+) -> Result<Option<KeptAnswer>, ReadFault>
+    requires idle { HasIdleBook (state S.Store conn.old) }
+    ensures { Reads (λ trees found. found ≡
+        answer_in account.now key.now (rows_in trees account.now))
+        (state S.Store conn.old) (state S.Store conn.new) result }
+{
+    let texts = texts_under(conn, account, key)?;
+    kept_where(alloc, account, &texts)
+}
+
+impl<S: Alter> SqlKeeper<S> {
+    /// What is kept under a key of an account (a request's key is its Session-Id and
+    /// CC-Request-Number, RFC 8506 sections 8.2 and 8.4); None where nothing is.
+    ///
+    /// # Errors
+    /// A fault of the store, which is counted, as are texts that aren't those of a command and its
+    /// answer; want of memory.
+    pub fn find_answer(
+        &mut self,
+        account: &AccountNumber,
+        key: &Key,
+    ) -> Result<Option<KeptAnswer>, StoreFault>
+        ensures { Finds (tables_in S.Store) failed_in (clean_in S.Store) self.old self.new
+            (λ found. found ≡ (tables_in S.Store self.old).answers account.now key.now) result }
+    {
+        let read = answer_under(&mut self.connection, self.alloc, account, key);
+        counted(&mut self.failures, read)
+    }
+}

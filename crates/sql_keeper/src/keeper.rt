@@ -1,0 +1,53 @@
+//! A keeper over a database: what it is. Its calls stand in modules of their own.
+
+ghost use Rattle.std.specs.Prelude.{◌≡◌};
+
+use sqlite::{Alter, Connection};
+use std::alloc::Global;
+use std::marker::Model;
+use tariffs::TariffBook;
+
+/// A keeper over a database. Between calls no transaction is open, so what it holds is what was
+/// committed last.
+///
+/// Its store is clean while the disk returns what was written; where the disk failed a call, it is
+/// clean as long as the connection is open still. Nothing but a failure of the disk shuts it.
+pub struct SqlKeeper<S: Alter> {
+    pub(crate) connection: Connection<S>,
+    pub(crate) book: TariffBook,
+    pub(crate) text: String,
+    pub(crate) failures: u64,
+    pub(crate) alloc: Global,
+}
+
+impl<S: Alter> Model for SqlKeeper<S> {
+    ghost use Rattle.std.specs.String.{string_bytes};
+    ghost use Rattle.sql_keeper.specs.Inside.{KeeperState, keeper_code, IsKeeper};
+
+    ghost Value = { KeeperState S };
+
+    ghost coded = { keeper_code S.code };
+
+    ghost view = { λ k. record {
+      connection = k.connection;
+      names = k.book.periods;
+      text = string_bytes k.text;
+      failures = k.failures;
+    } };
+
+    ghost invariant = { λ k. IsKeeper S.Store (record {
+      connection = k.connection;
+      names = k.book.periods;
+      text = string_bytes k.text;
+      failures = k.failures;
+    }) };
+}
+
+impl<S: Alter> SqlKeeper<S> {
+    /// How many calls met a failure of the store; at 10^18 it stays.
+    pub fn failures(&self) -> u64
+        ensures { result ≡ self.now.failures }
+    {
+        self.failures
+    }
+}
