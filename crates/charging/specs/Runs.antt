@@ -1,10 +1,13 @@
 -- A run of dated commands: the answers, and the list of accepted commands after it.
 -- Source: profile.
-use Rattle.std.specs.Prelude.{◌≡◌, List, [], ◌∷◌, take, length}
+use Rattle.std.specs.Prelude.{◌≡◌, ◌≤◌, ◌<◌, ◌+◌, ℕ, List, [], ◌∷◌, Some, take, length, min, IfNone, IfSome}
 use Rattle.commands.specs.declared.answer.Answer.{Answer}
+use Rattle.charging.specs.declared.answers.Run.{Run}
 use Rattle.charging.specs.declared.running.DatedCommand.{DatedCommand}
 use Rattle.tariffs.specs.Books.{Book}
+use Rattle.keepers.specs.Faults.{max_failures}
 use Rattle.keepers.specs.Tables.{Tables}
+use Rattle.keepers.specs.declared.fault.StoreFault.TheVariants.{Store}
 use Rattle.charging.specs.Accepted.{Accepted, IsInTime}
 use Rattle.charging.specs.Served.{AreTables, moment_of, answer_to, with_command}
 
@@ -35,3 +38,15 @@ pub record IsRun (b : Book) (list : List Accepted) (commands : List DatedCommand
 abbrev pub Runs : Book → List DatedCommand → Tables → Tables → List Answer → Type 0
 Runs b commands old new given = (list : List Accepted) → IsInTime list → AreTables b list old →
     IsRun b list commands new given
+
+-- what a run leaves of a keeper, and where it stops
+pub record RunsOver {K : Type 0} (content : K → Tables) (failed : K → ℕ) (clean : K → Type 0)
+    (b : Book) (commands : List DatedCommand) (old new : K) (run : Run) : Type 0 where
+  pub runs : clean new → Runs b commands (content old) (content new) run.answers.items
+  pub beginning : length run.answers.items ≤ length commands
+  pub whole : IfNone run.fault (length run.answers.items ≡ length commands)
+  pub stopped : IfSome run.fault (λ fault. length run.answers.items < length commands)
+  pub unchanged : clean new → run.answers.items ≡ [] → content new ≡ content old
+  pub cleanness : clean new → clean old
+  pub failures : failed old ≤ failed new
+  pub cause : run.fault ≡ Some Store → min (failed old + 1) max_failures ≤ failed new

@@ -1,7 +1,7 @@
 ghost use Rattle.std.specs.Prelude.{◌≡◌, ◌≤◌, ◌<◌, ◌+◌, [], Some, None, length, min, IfNone, IfSome};
 ghost use Rattle.keepers.specs.Faults.{max_failures};
 ghost use Rattle.keepers.specs.declared.fault.StoreFault.TheVariants.{Store};
-ghost use Rattle.charging.specs.Runs.{Runs};
+ghost use Rattle.charging.specs.Runs.{Runs, RunsOver};
 ghost use Rattle.charging.specs.Headline.{AreAccounted};
 
 use crate::answers::Run;
@@ -62,19 +62,8 @@ fn answer_each<K: Keeper>(
     book: &TariffBook,
     commands: Vec<DatedCommand>,
 ) -> Run
-    ensures runs { K.clean keeper.new →
-        Runs book.now commands.items (K.content keeper.old)
-        (K.content keeper.new) result.answers.items }
-    ensures beginning { length result.answers.items ≤ length commands.items }
-    ensures whole { IfNone result.fault (length result.answers.items ≡ length commands.items) }
-    ensures stopped { IfSome result.fault (λ fault.
-        length result.answers.items < length commands.items) }
-    ensures unchanged { K.clean keeper.new → result.answers.items ≡ [] →
-        K.content keeper.new ≡ K.content keeper.old }
-    ensures cleanness { K.clean keeper.new → K.clean keeper.old }
-    ensures failures { K.failed keeper.old ≤ K.failed keeper.new }
-    ensures cause { result.fault ≡ Some Store →
-        min (K.failed keeper.old + 1) max_failures ≤ K.failed keeper.new }
+    ensures { RunsOver K.content K.failed K.clean book.now commands.items keeper.old keeper.new
+        result }
 {
     let mut answers = Vec::new(alloc);
     for dated in commands {

@@ -11,6 +11,15 @@ use Rattle.reserving.specs.Left.{bucket_in, placed, merged, only, first_of}
 use Rattle.reserving.proofs.LeftTests.{find_filter}
 use Rattle.keepers.specs.Keyed.{same_bucket}
 
+-- ---- what one of two lists alone tells
+
+pub told_by_one : {A : Type 0} (o l x : Option A) → (x ≡ None → o ≡ l) →
+    ((y : A) → l ≡ Some y → x ≡ None) → first_of x o ≡ first_of l x
+told_by_one o None None h k = h refl
+told_by_one o None (Some x) h k = refl
+told_by_one o (Some y) None h k = h refl
+told_by_one o (Some y) (Some x) h k = absurd (no_some x (sym (k y refl)))
+
 -- ---- what passes
 
 all_filter : (x : Row) (p : Row → Bool) (xs : List Row) → PrecedesAll x xs →

@@ -25,7 +25,7 @@ use Rattle.reserving.proofs.LeftMore.{apart_none}
 use Rattle.keepers.specs.Tables.{Rows, GroupRow, group_row, held_of}
 use Rattle.keepers.specs.Change.{is_loaded, held_over, IsLoadedFrom, AreRowsAt, IsMadeFrom, over}
 use Rattle.keepers.specs.Steps.{Extends}
-use Rattle.keepers.proofs.Found.{bucket_filter, bucket_merged}
+use Rattle.keepers.proofs.Found.{told_by_one, bucket_filter, bucket_merged}
 use Rattle.keepers.proofs.Grows.{session_stays, group_stays, counter_stays, bucket_stays}
 use Rattle.keepers.proofs.GroupRows.{among, row_over, held_over_is}
 use Rattle.keepers.proofs.Taking as taking
@@ -49,14 +49,6 @@ held_if : (t : Bool) (o : Option GroupRow) (x : GroupRow) (m n : ℕ) →
     (if t then o else None) ≡ Some x → m ≡ (if t then n else 0) → n ≡ m
 held_if true o x m n e k = sym k
 held_if false o x m n e k = absurd (no_some x e)
-
--- what is told by one of two lists alone
-told_by_one : {A : Type 0} (o l x : Option A) → (x ≡ None → o ≡ l) →
-    ((y : A) → l ≡ Some y → x ≡ None) → first_of x o ≡ first_of l x
-told_by_one o None None h k = h refl
-told_by_one o None (Some x) h k = refl
-told_by_one o (Some y) None h k = h refl
-told_by_one o (Some y) (Some x) h k = absurd (no_some x (sym (k y refl)))
 
 none_both : {A : Type 0} (l x : Option A) → l ≡ None → x ≡ None → first_of l x ≡ None
 none_both l x e k = ap (λ o. first_of o x) e ∙ k

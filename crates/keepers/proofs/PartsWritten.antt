@@ -21,16 +21,9 @@ use Rattle.keepers.specs.Tables.{head_of, group_row, held_of, no_rows}
 use Rattle.keepers.specs.Change.{held_over, over, IsMadeFrom}
 use Rattle.keepers.specs.Parts.{Parts, AreParts, rows_of, leaves_bucket, leaves_counter, leaves_session, leaves_group, with_live}
 use Rattle.keepers.specs.Keyed.{same_bucket, same_session, same_group, same_counter}
-use Rattle.keepers.proofs.Found.{one_bucket}
+use Rattle.keepers.proofs.Found.{told_by_one, one_bucket}
 use Rattle.keepers.proofs.GroupRows.{no_periods, row_over, held_over_is}
 use Rattle.keepers.proofs.PartsKept.{parts_replaced}
-
-told_by_one : {A : Type 0} (o l x : Option A) → (x ≡ None → o ≡ l) →
-    ((y : A) → l ≡ Some y → x ≡ None) → first_of x o ≡ first_of l x
-told_by_one o None None h k = h refl
-told_by_one o None (Some x) h k = refl
-told_by_one o (Some y) None h k = h refl
-told_by_one o (Some y) (Some x) h k = absurd (no_some x (sym (k y refl)))
 
 same_left : {A : Type 0} (p : A → Bool) (o l : Option A) → l ≡ only p o →
     ((y : A) → o ≡ Some y → p y ≡ true) → o ≡ l
