@@ -2,7 +2,7 @@
 -- moments, but that 503 may stand where memory or the store fails.
 -- Source: RFC 9112 sections 2.1, 6 and 9.3; the bounds: profile.
 use Rattle.std.specs.Prelude.{◌≡◌, ◌<◌, ◌≤◌, ◌-◌, ◌==◌, ℕ, zero, suc, Bool, true, if◌then◌else◌}
-use Rattle.std.specs.Prelude.{List, [], ◌++◌, Option, ◌⊎◌}
+use Rattle.std.specs.Prelude.{List, [], ◌++◌, Option, ◌⊎◌, Result, IfOk, OnErr, IfSome}
 use Rattle.std.specs.Io.KnownBytes.{Appends}
 use Rattle.tariffs.specs.Books.{Book}
 use Rattle.keepers.specs.Tables.{Tables}
@@ -13,6 +13,8 @@ use Rattle.http_answers.specs.Asking.{Asking, refuses, asked_of}
 use Rattle.http_answers.specs.Texts.{response, Begins}
 use Rattle.http_api.specs.Clocks.{GivesInTurn}
 use Rattle.http_api.specs.Replies.{Reply, IsReply, ForEachList}
+use Rattle.http_api.specs.declared.fault.ServeFault.{ServeFault}
+use Rattle.http_api.specs.declared.serving.Served.{Served}
 
 -- how many requests a connection still takes, what it has still to read, the accepted commands, the moments that the
 -- clock gave, and what was written
@@ -107,3 +109,15 @@ pub record IsBegun {C : Type 0} (gives : C → Option ℕ → C → Type 0) (b :
   pub text : List ℕ
   pub written : Begins empty full text
   pub taken : ForEachList b old (IsTaken b stream count moments text new)
+
+-- what comes of a stream, where the reader tells its bytes: it is served to the end of the connection
+abbrev pub Serves : {C : Type 0} → (C → Option ℕ → C → Type 0) → Book → Option (List ℕ) → C → C → Option (List ℕ) →
+    Option (List ℕ) → Tables → Tables → Result Served ServeFault → Type 0
+Serves gives b bytes before after empty full old new result = IfOk result (λ done. IfSome bytes (λ stream.
+    IsServed gives b stream done.requests before after empty full old new))
+
+-- or a beginning of it is
+abbrev pub Starts : {C : Type 0} → (C → Option ℕ → C → Type 0) → Book → Option (List ℕ) → C → C → Option (List ℕ) →
+    Option (List ℕ) → Tables → Tables → Result Served ServeFault → Type 0
+Starts gives b bytes before after empty full old new result = OnErr result (IfSome bytes (λ stream.
+    IsBegun gives b stream before after empty full old new))

@@ -1,7 +1,7 @@
 ghost use Rattle.std.specs.Prelude.{◌≡◌, ◌≤◌, ◌<◌, ◌+◌, ◌*◌, length, IfOk, OnErr, IfSome};
 ghost use Rattle.http_answers.specs.Routes.{table};
 ghost use Rattle.http_api.specs.Replies.{ForEachList, IsContinued};
-ghost use Rattle.http_api.specs.Connections.{left_after, IsServed, IsBegun};
+ghost use Rattle.http_api.specs.Connections.{left_after, IsServed, IsBegun, Serves, Starts};
 
 use crate::answering::answer_request;
 use crate::clock::Clock;
@@ -107,12 +107,12 @@ fn serve_requests<R: BufRead, W: Write, K: Keeper, C: Clock>(
 ) -> Result<Served, ServeFault>
     requires router { router.now ≡ table }
     requires room { 8192 ≤ 3 * length room.old }
-    ensures served { K.clean keeper.new → IfOk result (λ done. IfSome (R.remaining reader.old) (λ stream.
-        IsServed C.gives book.now stream done.requests clock.old clock.new (W.contents writer.old) (W.contents writer.new)
-        (K.content keeper.old) (K.content keeper.new))) }
-    ensures begun { K.clean keeper.new → OnErr result (IfSome (R.remaining reader.old) (λ stream.
-        IsBegun C.gives book.now stream clock.old clock.new (W.contents writer.old) (W.contents writer.new)
-        (K.content keeper.old) (K.content keeper.new))) }
+    ensures served { K.clean keeper.new → Serves C.gives book.now (R.remaining reader.old)
+        clock.old clock.new (W.contents writer.old) (W.contents writer.new)
+        (K.content keeper.old) (K.content keeper.new) result }
+    ensures begun { K.clean keeper.new → Starts C.gives book.now (R.remaining reader.old)
+        clock.old clock.new (W.contents writer.old) (W.contents writer.new)
+        (K.content keeper.old) (K.content keeper.new) result }
     ensures bounded { IfOk result (λ done. done.requests ≤ 1000) }
     ensures continued { K.clean keeper.new →
         ForEachList book.now (K.content keeper.old) (IsContinued book.now (K.content keeper.new)) }
