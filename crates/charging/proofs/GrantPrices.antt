@@ -1,6 +1,6 @@
 -- What a report within a grant's units costs is covered by the grant's price.
 use Rattle.std.proofs.Common.{◌≡◌, ℕ, zero, suc, ◌+◌, ◌-◌, ◌*◌, ◌≤◌, ◌<◌, ◌==◌, max, nat_le, Bool, true, false, List, [], ◌∷◌, refl, sym, ap, ◌∙◌, arith, Option, Some, None, inl, inr}
-use Rattle.std.specs.Prelude.{◌⊎◌, if◌then◌else◌}
+use Rattle.std.specs.Prelude.{if◌then◌else◌}
 use Rattle.std.proofs.lemmas.Bool.{cases_Bool, leb-true}
 use Rattle.std.proofs.lemmas.Bool.Decides.{nat_tests}
 use Rattle.std.proofs.lemmas.List.Sums.{sum_by-cons}
@@ -10,13 +10,16 @@ use Rattle.units.proofs.Started.{started-add}
 use Rattle.tariffs.specs.declared.tiers.Tier.{Tier}
 use Rattle.tariffs.specs.Prices.{block_price}
 use Rattle.tariffs.specs.Tariffs.{GroupTariff, tiers_at}
+use Rattle.tariffs.specs.declared.group_prices.Side.{Side}
+use Rattle.tariffs.specs.declared.group_prices.Side.TheVariants.{Before, After}
+use Rattle.tariffs.specs.GroupPrices.{tiers_on}
 use Rattle.rating.specs.declared.grant.Periods.{Periods}
 use Rattle.rating.specs.declared.report.Part.{Part}
 use Rattle.rating.specs.Rated.{rated_amount, report_amount, units_of}
 use Rattle.rating.specs.Granted.{dearer, greatest_covered, granted_units, block_start}
 use Rattle.rating.proofs.Sums.{dearer_none, dearer_grows}
 use Rattle.rating.proofs.Grants.{starts_to_end}
-use Rattle.reserving.specs.Pricing.{rated_parts, rated_with, grant_with, wanted_units}
+use Rattle.reserving.specs.Pricing.{prices_by, rated_parts, rated_with, grant_with, wanted_units}
 use Rattle.reserving.specs.Settlement.{reported}
 use Rattle.reserving.proofs.Reported.{reported_is}
 
@@ -50,33 +53,17 @@ after_most bs as' place (suc n) = omega (arith, after_most bs as' place n)
 abbrev pub dearer_at : GroupTariff → Periods → ℕ → ℕ → ℕ
 dearer_at x p place n = dearer (tiers_at x p.before.0) (tiers_at x p.after.0) place n
 
--- each part is in one of the two periods
-abbrev pub AreWithin : Periods → List Part → Type 0
-AreWithin p [] = Unit {0}
-AreWithin p (q ∷ qs) = ((q.period ≡ p.before) ⊎ (q.period ≡ p.after)) × AreWithin p qs
-
-part_most : (x : GroupTariff) (p : Periods) (q : Part) (place n : ℕ) →
-    (q.period ≡ p.before) ⊎ (q.period ≡ p.after) →
-    rated_amount (tiers_at x q.period.0) place n ≤ dearer_at x p place n
-part_most x p q place n (inl e) =
-    omega (
-      arith,
-      ap (λ k. rated_amount (tiers_at x k.0) place n) e,
-      before_most (tiers_at x p.before.0) (tiers_at x p.after.0) place n,
-    )
-part_most x p q place n (inr e) =
-    omega (
-      arith,
-      ap (λ k. rated_amount (tiers_at x k.0) place n) e,
-      after_most (tiers_at x p.before.0) (tiers_at x p.after.0) place n,
-    )
+part_most : (x : GroupTariff) (p : Periods) (side : Side) (place n : ℕ) →
+    rated_amount (tiers_on (prices_by x p) side) place n ≤ dearer_at x p place n
+part_most x p Before place n = before_most (tiers_at x p.before.0) (tiers_at x p.after.0) place n
+part_most x p After place n = after_most (tiers_at x p.before.0) (tiers_at x p.after.0) place n
 
 report_most : (x : GroupTariff) (p : Periods) (used place : ℕ) (parts : List Part) → 0 < x.block →
-    AreWithin p parts →
-    report_amount x used place parts ≤ dearer_at x p place (started used (units_of parts) x.block)
+    report_amount (prices_by x p) used place parts
+    ≤ dearer_at x p place (started used (units_of parts) x.block)
 unfolding report_amount
-report_most x p used place [] some h = omega arith
-report_most x p used place (q ∷ qs) some h =
+report_most x p used place [] some = omega arith
+report_most x p used place (q ∷ qs) some =
     let n : ℕ = started used q.units.0 x.block in
     let m : ℕ = started (used + q.units.0) (units_of qs) x.block in
     let all : started used (units_of (q ∷ qs)) x.block ≡ n + m =
@@ -89,8 +76,8 @@ report_most x p used place (q ∷ qs) some h =
     omega (
       arith,
       whole,
-      part_most x p q place n h.0,
-      report_most x p (used + q.units.0) (place + n) qs some h.1,
+      part_most x p q.side place n,
+      report_most x p (used + q.units.0) (place + n) qs some,
     )
 
 -- ---- by the group's tariff, if it has one
@@ -126,11 +113,10 @@ pub report_within : (o : Option GroupTariff) (p : Periods) (used place units : �
     (rated_with o p used place parts).amount.0 ≤ grant_price o p used place units
 report_within None p used place units parts some le = omega arith
 report_within (Some x) p used place units parts some le =
-    let all : units_of (rated_parts p parts) ≡ reported parts = omega (arith, reported_is parts) in
-    let most : report_amount x used place (rated_parts p parts) ≤
-    dearer_at x p place (started used (units_of (rated_parts p parts)) x.block) =
-    report_most x p used place (rated_parts p parts) some
-    (inl refl, (inl refl, (inl refl, (inr refl, tt)))) in
+    let all : units_of (rated_parts parts) ≡ reported parts = omega (arith, reported_is parts) in
+    let most : report_amount (prices_by x p) used place (rated_parts parts) ≤
+    dearer_at x p place (started used (units_of (rated_parts parts)) x.block) =
+    report_most x p used place (rated_parts parts) some in
     omega (
       arith,
       most,

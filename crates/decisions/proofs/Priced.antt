@@ -6,11 +6,14 @@ use Rattle.units.specs.Blocks.{started}
 use Rattle.tariffs.specs.declared.tiers.Tier.{Tier}
 use Rattle.tariffs.specs.Prices.{AreTiers, ArePriced}
 use Rattle.tariffs.specs.Tariffs.{GroupTariff, IsTariff, tiers_at}
+use Rattle.tariffs.specs.declared.group_prices.Side.{Side}
+use Rattle.tariffs.specs.declared.group_prices.Side.TheVariants.{Before, After}
+use Rattle.tariffs.specs.GroupPrices.{tiers_on}
 use Rattle.rating.specs.declared.report.Part.{Part}
 use Rattle.rating.specs.Rated.{rated_amount, report_blocks, report_amount}
 use Rattle.rating.proofs.RunFacts.{rated_bound}
 use Rattle.rating.specs.declared.grant.Periods.{Periods}
-use Rattle.reserving.specs.Pricing.{tariff_of, rated_with, rated_parts}
+use Rattle.reserving.specs.Pricing.{tariff_of, prices_by, rated_with, rated_parts}
 use Rattle.reserving.specs.Debiting.{untagged}
 use Rattle.reserving.specs.Changes.{event_price_in}
 use Rattle.reserving.specs.Rows.{AccountRows}
@@ -21,33 +24,38 @@ priced_at [] i h = tt
 priced_at (x ∷ xs) zero h = h.0.priced
 priced_at (x ∷ xs) (suc i) h = priced_at xs i h.1
 
+priced_on : (t : GroupTariff) (p : Periods) (side : Side) → IsTariff t →
+    ArePriced (tiers_on (prices_by t p) side)
+priced_on t p Before is = priced_at t.prices p.before.0 is.tiers
+priced_on t p After is = priced_at t.prices p.after.0 is.tiers
+
 -- no block costs more than 10^9
-report_bound : (t : GroupTariff) (used place : ℕ) (parts : List Part) → IsTariff t →
-    report_amount t used place parts ≤ report_blocks t.block used parts * 1_000_000_000
+report_bound : (t : GroupTariff) (p : Periods) (used place : ℕ) (parts : List Part) → IsTariff t →
+    report_amount (prices_by t p) used place parts
+    ≤ report_blocks t.block used parts * 1_000_000_000
 unfolding report_blocks report_amount
-report_bound t used place [] is = omega arith
-report_bound t used place (part ∷ parts) is =
+report_bound t p used place [] is = omega arith
+report_bound t p used place (part ∷ parts) is =
     let n : ℕ = started used part.units.0 t.block in
-    let here : rated_amount (tiers_at t part.period.0) place n ≤ n * 1_000_000_000 =
-    rated_bound (tiers_at t part.period.0) place n
-    (priced_at t.prices part.period.0 is.tiers) in
-    omega (arith, here, report_bound t (used + part.units.0) (place + n) parts is)
+    let here : rated_amount (tiers_on (prices_by t p) part.side) place n ≤ n * 1_000_000_000 =
+    rated_bound (tiers_on (prices_by t p) part.side) place n (priced_on t p part.side is) in
+    omega (arith, here, report_bound t p (used + part.units.0) (place + n) parts is)
 
 -- an event's units start the blocks of one part
-event_blocks : (block units : ℕ) (p : Periods) →
-    report_blocks block 0 (rated_parts p (untagged units)) ≡ started 0 units block
+event_blocks : (block units : ℕ) →
+    report_blocks block 0 (rated_parts (untagged units)) ≡ started 0 units block
 unfolding report_blocks
-event_blocks block units p = ap (λ n. started 0 n block + 0) (zero-add units)
+event_blocks block units = ap (λ n. started 0 n block + 0) (zero-add units)
     ∙ add-zero (started 0 units block)
 
 rated_fits : (tariff : GroupTariff) (p : Periods) (place units : ℕ) → IsTariff tariff →
     started 0 units tariff.block ≤ 1_000_000_000 →
     (rated_with (Some tariff) p 0 place (untagged units)).amount.0 < 2 ^ 64
 rated_fits tariff p place units is few =
-    let bound : report_amount tariff 0 place (rated_parts p (untagged units)) ≤
-    report_blocks tariff.block 0 (rated_parts p (untagged units)) * 1_000_000_000 =
-    report_bound tariff 0 place (rated_parts p (untagged units)) is in
-    omega (arith, bound, few, event_blocks tariff.block units p)
+    let bound : report_amount (prices_by tariff p) 0 place (rated_parts (untagged units)) ≤
+    report_blocks tariff.block 0 (rated_parts (untagged units)) * 1_000_000_000 =
+    report_bound tariff p 0 place (rated_parts (untagged units)) is in
+    omega (arith, bound, few, event_blocks tariff.block units)
 
 -- the price of an event of no more than 10^9 blocks
 pub price_fits : (a : AccountRows) (tariff : GroupTariff) (t g units : ℕ) →

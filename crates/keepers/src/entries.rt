@@ -20,7 +20,7 @@ use crate::store::Store;
 use crate::whole::WholeAccount;
 use buckets::Bucket;
 use identifiers::{AccountNumber, SessionId};
-use reserving::{Account, ChargeRow, StoredAccount};
+use reserving::{Account, ChargeRow, LoadFault, StoredAccount};
 use std::alloc::{AllocError, Global};
 use std::collections::HashMap;
 use tariffs::TariffBook;
@@ -41,7 +41,7 @@ pub(crate) fn view_entry<'b>(
     book: &'b TariffBook,
     number: &AccountNumber,
     moment: Moment,
-) -> Result<Option<Account<'b>>, AllocError>
+) -> Result<Option<Account<'b>>, LoadFault>
     ensures { IfOk result (λ found.
         IsView book.now moment (rows_of_entry (entry_in number.now accounts.now.entries.items))
         found) }
@@ -59,7 +59,7 @@ pub(crate) fn load_entry<'b>(
     book: &'b TariffBook,
     number: &AccountNumber,
     moment: Moment,
-) -> Result<Option<Loaded<'b>>, AllocError>
+) -> Result<Option<Loaded<'b>>, LoadFault>
     ensures { IfOk result (λ found.
         IsLoad book.now moment number.now
         (rows_of_entry (entry_in number.now accounts.now.entries.items)) found) }

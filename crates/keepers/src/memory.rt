@@ -1,4 +1,6 @@
-ghost use Rattle.std.specs.Prelude.{◌≡◌, ℕ, IfOk};
+ghost use Rattle.std.specs.Prelude.{◌≡◌, ◌≤◌, ◌+◌, ℕ, min, IfOk};
+ghost use Rattle.keepers.specs.Faults.{told_as, max_failures};
+ghost use Rattle.keepers.specs.Failing.{counted_failures};
 ghost use Rattle.keepers.specs.Tables.{no_tables, charge_in};
 ghost use Rattle.keepers.specs.Whole.{AreWhole};
 
@@ -13,16 +15,18 @@ use crate::loaded::{Change, Loaded};
 use crate::whole::WholeAccount;
 use buckets::Bucket;
 use identifiers::{AccountNumber, SessionId};
-use reserving::{Account, ChargeRow};
+use reserving::{Account, ChargeRow, LoadFault};
 use std::alloc::{AllocError, Global};
 use tariffs::TariffBook;
 use units::Moment;
 
-/// A keeper in memory. Its store never fails.
+/// A keeper in memory. Its store fails where an account is loaded with another book than that
+/// which priced it, and a reservation has no prices there: a store fault, which is counted.
 #[derive(Drop)]
 pub struct MemoryKeeper {
     last: Moment,
     accounts: Accounts,
+    failures: u64,
     alloc: Global,
 }
 
@@ -36,6 +40,7 @@ impl MemoryKeeper {
         MemoryKeeper {
             last: Moment::first(),
             accounts: Accounts::new(alloc),
+            failures: 0,
             alloc,
         }
     }
@@ -60,21 +65,41 @@ impl MemoryKeeper {
     }
 }
 
+/// The count of failures stays here.
+const MOST_FAILURES: u64 = 1_000_000_000_000_000_000;
+
+/// What a load that failed is told as: rows that the book doesn't price are a failure of the store,
+/// and counted.
+fn told(failures: &mut u64, fault: LoadFault) -> StoreFault
+    ensures value { result ≡ told_as fault }
+    ensures kept { counted_failures failures.old ≤ counted_failures failures.new }
+    ensures raised { result ≡ StoreFault.Store →
+        min (counted_failures failures.old + 1) max_failures ≤ counted_failures failures.new }
+{
+    match fault {
+        LoadFault::Memory => StoreFault::Memory,
+        LoadFault::OtherBook => {
+            *failures = failures.saturating_add(1);
+            StoreFault::Store
+        }
+    }
+}
+
 impl Keeper for MemoryKeeper {
     ghost use Rattle.keepers.specs.Memory.{memory_tables};
 
     ghost content = { λ k. memory_tables k.last k.accounts.entries.items };
 
-    ghost failed = { λ _. 0 };
+    ghost failed = { λ k. counted_failures k.failures };
 
     ghost clean = { λ _. Unit {0} };
 
-    ghost use Rattle.std.proofs.Common.{zero-le};
+    ghost use Rattle.keepers.specs.Failing.{counted_failures, counted-bounded};
 
-    ghost bounded = { λ _. zero-le };
+    ghost bounded = { λ k. counted-bounded k.failures };
 
     fn failures(&self) -> u64 {
-        0
+        self.failures.min(MOST_FAILURES)
     }
 
     fn last(&mut self) -> Result<Moment, StoreFault> {
@@ -87,7 +112,10 @@ impl Keeper for MemoryKeeper {
         account: &AccountNumber,
         moment: Moment,
     ) -> Result<Option<Loaded<'b>>, StoreFault> {
-        Ok(load_entry(&self.accounts, book, account, moment)?)
+        match load_entry(&self.accounts, book, account, moment) {
+            Ok(found) => Ok(found),
+            Err(fault) => Err(told(&mut self.failures, fault)),
+        }
     }
 
     fn view<'b>(
@@ -96,7 +124,10 @@ impl Keeper for MemoryKeeper {
         account: &AccountNumber,
         moment: Moment,
     ) -> Result<Option<Account<'b>>, StoreFault> {
-        Ok(view_entry(&self.accounts, book, account, moment)?)
+        match view_entry(&self.accounts, book, account, moment) {
+            Ok(found) => Ok(found),
+            Err(fault) => Err(told(&mut self.failures, fault)),
+        }
     }
 
     fn has_account(&mut self, account: &AccountNumber) -> Result<bool, StoreFault> {

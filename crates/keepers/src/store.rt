@@ -18,7 +18,7 @@ ghost use Rattle.keepers.specs.Replacing.{IsLeaving, KnowsMore, AreNoted, IsAppe
 use crate::whole::WholeAccount;
 use buckets::Bucket;
 use identifiers::SessionId;
-use reserving::{Account, Counter, Session, SessionGroup, SessionState, StoredAccount};
+use reserving::{Account, Counter, LoadFault, Session, SessionGroup, SessionState, StoredAccount};
 use std::alloc::{AllocError, Global};
 use std::collections::HashMap;
 use std::marker::Model;
@@ -96,7 +96,7 @@ impl Store {
         &self,
         book: &'b TariffBook,
         moment: Moment,
-    ) -> Result<Account<'b>, AllocError>
+    ) -> Result<Account<'b>, LoadFault>
         ensures { IfOk result (λ account. IsLoadedFrom book.now moment (rows_of self.now) account) }
     {
         let _kept = self.live.as_of();

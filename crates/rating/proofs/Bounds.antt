@@ -1,8 +1,7 @@
 -- The bounds of tiers, as a walk along them passes them.
-use Rattle.std.proofs.Common.{◌≡◌, ℕ, zero, suc, ◌+◌, ◌≤◌, ◌<◌, max, Bool, true, false, List, [], ◌∷◌, Option, Some, None, is_some, length, get_or, subst, refl, ap, sym, ◌∙◌, arith, inl, inr, if◌then◌else◌}
+use Rattle.std.proofs.Common.{◌≡◌, ℕ, zero, suc, ◌+◌, ◌≤◌, ◌<◌, max, Bool, true, false, List, [], ◌∷◌, Option, Some, None, is_some, length, subst, refl, ap, sym, ◌∙◌, arith, inl, inr, if◌then◌else◌}
 use Rattle.std.proofs.lemmas.Bool.{cases_lt, false≢true}
 use Rattle.std.proofs.lemmas.Bool.Decides.{nat_tests}
-use Rattle.std.specs.List.{AllByRecursion}
 use Rattle.tariffs.specs.declared.tiers.Tier.{Tier}
 use Rattle.tariffs.specs.Prices.{reaches, block_price, IsOpen, AreTiers}
 use Rattle.rating.specs.declared.runs.Run.{Run}
@@ -20,19 +19,9 @@ bound_count-le (t ∷ []) open_end = rw open_end (omega arith)
 bound_count-le (t ∷ u ∷ ts) open_end =
     omega (arith, one_bound t.upto, bound_count-le (u ∷ ts) open_end)
 
--- the tiers at a place of a tariff's prices are at most 8, with at most 7 bounds
-pub few_tiers : (prices : List (List Tier)) (period : ℕ) → AllByRecursion AreTiers prices →
-    length (get_or prices period []) ≤ 8
-few_tiers [] period all = omega arith
-few_tiers (ts ∷ prices) zero all = all.0.few
-few_tiers (ts ∷ prices) (suc period) all = few_tiers prices period all.1
-
-pub few_bounds : (prices : List (List Tier)) (period : ℕ) → AllByRecursion AreTiers prices →
-    bound_count (get_or prices period []) ≤ 7
-few_bounds [] period all = omega arith
-few_bounds (ts ∷ prices) zero all = let few = all.0.few in
-    omega (arith, few, bound_count-le ts all.0.open_end)
-few_bounds (ts ∷ prices) (suc period) all = few_bounds prices period all.1
+-- the tiers of a price are at most 8, with at most 7 bounds
+pub few_bounds : (ts : List Tier) → AreTiers ts → bound_count ts ≤ 7
+few_bounds ts are = omega (arith, are.few, bound_count-le ts are.open_end)
 
 -- a passed bound reaches no later place
 passed : (upto : Option ℕ) (place k : ℕ) → is_passed upto place ≡ true → place < k →

@@ -9,8 +9,7 @@ use Rattle.units.proofs.Started.{multiples_below, started_is}
 use Rattle.tariffs.specs.declared.tiers.Tier.{Tier}
 use Rattle.rating.specs.Granted.{dearer, greatest_covered, IsGreatest, IsGreatestGrant, block_start, granted_units, grant_of_blocks, grant_of}
 use Rattle.rating.specs.declared.grant.Grant.{Grant}
-use Rattle.rating.specs.declared.grant.Periods.{Periods}
-use Rattle.tariffs.specs.Tariffs.{GroupTariff, tiers_at}
+use Rattle.tariffs.specs.GroupPrices.{GroupPrices}
 
 -- the greatest number is the one that the definition finds
 pub greatest_is : (bs as' : List Tier) (place wanted funds n : ℕ) →
@@ -113,32 +112,32 @@ granted_some block used wanted n some =
     rw test refl
 
 -- the grant of the greatest number of blocks
-grant_is : (t : GroupTariff) (periods : Periods) (used place wanted funds n units amount : ℕ)
-    → IsGreatest (tiers_at t periods.before.0) (tiers_at t periods.after.0) place
-    (started used wanted t.block) funds n
-    → units ≡ granted_units t.block used wanted n →
-    amount ≡ dearer (tiers_at t periods.before.0) (tiers_at t periods.after.0) place n
+grant_is : (t : GroupPrices) (used place wanted funds n units amount : ℕ)
+    → IsGreatest t.before t.after place
+    (started used wanted t.tariff.block) funds n
+    → units ≡ granted_units t.tariff.block used wanted n →
+    amount ≡ dearer t.before t.after place n
     → ◌≡◌ {A = Grant}
     (record {
       blocks = record { 0 = n };
       units = record { 0 = units };
       amount = record { 0 = amount };
-    }) (grant_of t periods used place wanted funds)
-grant_is t periods used place wanted funds n units amount greatest u a =
+    }) (grant_of t used place wanted funds)
+grant_is t used place wanted funds n units amount greatest u a =
     let here : ◌≡◌ {A = Grant}
     (record {
       blocks = record { 0 = n };
       units = record { 0 = units };
       amount = record { 0 = amount };
-    }) (grant_of_blocks t periods used place wanted n) =
+    }) (grant_of_blocks t used place wanted n) =
     λ i. record {
       blocks = record { 0 = n };
       units = record { 0 = u i };
       amount = record { 0 = a i };
     } in
-    here ∙ ap (grant_of_blocks t periods used place wanted)
-    (sym (greatest_is (tiers_at t periods.before.0) (tiers_at t periods.after.0) place
-    (started used wanted t.block) funds n greatest))
+    here ∙ ap (grant_of_blocks t used place wanted)
+    (sym (greatest_is t.before t.after place
+    (started used wanted t.tariff.block) funds n greatest))
 
 -- a number that is no more than another and not the same is less
 pub fewer : (n starts wanted : ℕ) → starts ≡ wanted → n ≤ starts → n ≢ starts → n < wanted
@@ -154,15 +153,15 @@ grant_with n units amount =
     }
 
 -- the greatest number of blocks is all that are wanted
-pub whole_grant : (t : GroupTariff) (periods : Periods) (used place wanted funds n amount : ℕ)
-    → IsGreatest (tiers_at t periods.before.0) (tiers_at t periods.after.0) place
-    (started used wanted t.block) funds n
-    → n ≡ started used wanted t.block →
-    amount ≡ dearer (tiers_at t periods.before.0) (tiers_at t periods.after.0) place n
-    → IsGreatestGrant t periods used place wanted funds (grant_with n wanted amount)
-whole_grant t periods used place wanted funds n amount greatest all is = record {
-  value = grant_is t periods used place wanted funds n wanted amount greatest
-      (granted_all t.block used wanted n all) is;
+pub whole_grant : (t : GroupPrices) (used place wanted funds n amount : ℕ)
+    → IsGreatest t.before t.after place
+    (started used wanted t.tariff.block) funds n
+    → n ≡ started used wanted t.tariff.block →
+    amount ≡ dearer t.before t.after place n
+    → IsGreatestGrant t used place wanted funds (grant_with n wanted amount)
+whole_grant t used place wanted funds n amount greatest all is = record {
+  value = grant_is t used place wanted funds n wanted amount greatest
+      (granted_all t.tariff.block used wanted n all) is;
   greatest = greatest;
   starts = sym all;
   within = omega arith;
@@ -171,25 +170,25 @@ whole_grant t periods used place wanted funds n amount greatest all is = record 
 }
 
 -- the greatest number of blocks is less than all that are wanted
-pub cut_grant : (t : GroupTariff) (periods : Periods) (used place wanted funds n amount : ℕ) →
-    0 < t.block
-    → IsGreatest (tiers_at t periods.before.0) (tiers_at t periods.after.0) place
-    (started used wanted t.block) funds n
-    → n < started used wanted t.block →
-    amount ≡ dearer (tiers_at t periods.before.0) (tiers_at t periods.after.0) place n
-    → IsGreatestGrant t periods used place wanted funds
-    (grant_with n (block_start used t.block + n * t.block - used) amount)
-cut_grant t periods used place wanted funds n amount some greatest few is =
-    let apart : n ≢ started used wanted t.block = λ e. absurd (omega (arith, few, e)) in
-    let next : started used (block_start used t.block + n * t.block - used + 1) t.block ≡ n + 1 =
-    starts_next used n t.block some in
+pub cut_grant : (t : GroupPrices) (used place wanted funds n amount : ℕ) →
+    0 < t.tariff.block
+    → IsGreatest t.before t.after place
+    (started used wanted t.tariff.block) funds n
+    → n < started used wanted t.tariff.block →
+    amount ≡ dearer t.before t.after place n
+    → IsGreatestGrant t used place wanted funds
+    (grant_with n (block_start used t.tariff.block + n * t.tariff.block - used) amount)
+cut_grant t used place wanted funds n amount some greatest few is =
+    let apart : n ≢ started used wanted t.tariff.block = λ e. absurd (omega (arith, few, e)) in
+    let next : started used (block_start used t.tariff.block + n * t.tariff.block - used + 1) t.tariff.block ≡ n + 1 =
+    starts_next used n t.tariff.block some in
     record {
-      value = grant_is t periods used place wanted funds n
-          (block_start used t.block + n * t.block - used) amount greatest
-          (granted_some t.block used wanted n apart) is;
+      value = grant_is t used place wanted funds n
+          (block_start used t.tariff.block + n * t.tariff.block - used) amount greatest
+          (granted_some t.tariff.block used wanted n apart) is;
       greatest = greatest;
-      starts = starts_to_end used n t.block some;
-      within = less_to_end used wanted n t.block some few;
+      starts = starts_to_end used n t.tariff.block some;
+      within = less_to_end used wanted n t.tariff.block some few;
       next = λ less. next;
       most = λ less. rw next (greatest.next few);
     }

@@ -3,10 +3,11 @@ use Rattle.std.proofs.Common.{◌≡◌, ℕ, zero, suc, ◌+◌, ◌*◌, ◌/�
 use Rattle.std.proofs.Math.Nat.{add-mul-mod_self_left, mod-add-div}
 use Rattle.std.proofs.lemmas.List.{at_drop_more}
 use Rattle.std.proofs.lemmas.List.Sums.{sum_by-cons}
-use Rattle.calendar.specs.declared.week.Period.{Period}
 use Rattle.units.specs.Blocks.{started}
 use Rattle.units.proofs.Started.{started-add}
-use Rattle.tariffs.specs.Tariffs.{GroupTariff, tiers_at}
+use Rattle.tariffs.specs.declared.group_prices.Side.{Side}
+use Rattle.tariffs.specs.declared.group_prices.Side.TheVariants.{Before}
+use Rattle.tariffs.specs.GroupPrices.{GroupPrices, tiers_on}
 use Rattle.rating.specs.declared.report.Part.{Part}
 use Rattle.rating.specs.declared.report.Rated.{Rated}
 use Rattle.rating.specs.Rated.{rated_amount, report_blocks, report_amount, rated_report, units_of, FollowsAt, part_of, CutsAlike}
@@ -34,18 +35,18 @@ blocks_mod block a (part ∷ parts) =
     ∙ blocks_mod block (a + part.units.0) parts in
     rw (started_mod a part.units.0 block, rest) refl
 
-pub amount_mod : (t : GroupTariff) (a place : ℕ) (parts : List Part) →
-    report_amount t (a % t.block) place parts ≡ report_amount t a place parts
+pub amount_mod : (t : GroupPrices) (a place : ℕ) (parts : List Part) →
+    report_amount t (a % t.tariff.block) place parts ≡ report_amount t a place parts
 unfolding report_amount
 amount_mod t a place [] = refl
 amount_mod t a place (part ∷ parts) =
-    let next = place + started a part.units.0 t.block in
-    let rest : report_amount t (a % t.block + part.units.0) next parts
+    let next = place + started a part.units.0 t.tariff.block in
+    let rest : report_amount t (a % t.tariff.block + part.units.0) next parts
     ≡ report_amount t (a + part.units.0) next parts =
-    sym (amount_mod t (a % t.block + part.units.0) next parts)
-    ∙ ap (λ u. report_amount t u next parts) (mod_mod a part.units.0 t.block)
+    sym (amount_mod t (a % t.tariff.block + part.units.0) next parts)
+    ∙ ap (λ u. report_amount t u next parts) (mod_mod a part.units.0 t.tariff.block)
     ∙ amount_mod t (a + part.units.0) next parts in
-    rw (started_mod a part.units.0 t.block, rest) refl
+    rw (started_mod a part.units.0 t.tariff.block, rest) refl
 
 -- one more part of a report
 pub blocks_step : (block a i : ℕ) (parts : List Part) (d : Part) → i < length parts
@@ -59,24 +60,24 @@ blocks_step block a i parts d within =
     e ∙ ap (λ n. started a (get_or parts i d).units.0 block + n)
     (sym (blocks_mod block (a + (get_or parts i d).units.0) (drop (i + 1) parts)))
 
-pub amount_step : (t : GroupTariff) (a place i : ℕ) (parts : List Part) (d : Part) →
+pub amount_step : (t : GroupPrices) (a place i : ℕ) (parts : List Part) (d : Part) →
     i < length parts
     → report_amount t a place (drop i parts)
-    ≡ rated_amount (tiers_at t (get_or parts i d).period.0) place
-    (started a (get_or parts i d).units.0 t.block)
-    + report_amount t ((a + (get_or parts i d).units.0) % t.block)
-    (place + started a (get_or parts i d).units.0 t.block) (drop (i + 1) parts)
+    ≡ rated_amount (tiers_on t (get_or parts i d).side) place
+    (started a (get_or parts i d).units.0 t.tariff.block)
+    + report_amount t ((a + (get_or parts i d).units.0) % t.tariff.block)
+    (place + started a (get_or parts i d).units.0 t.tariff.block) (drop (i + 1) parts)
 unfolding report_amount
 amount_step t a place i parts d within =
     let e : report_amount t a place (drop i parts)
     ≡ report_amount t a place (get_or parts i d ∷ drop (i + 1) parts) =
     at_drop_more (report_amount t a place) parts i d within in
-    let n = started a (get_or parts i d).units.0 t.block in
-    e ∙ ap (λ m. rated_amount (tiers_at t (get_or parts i d).period.0) place n + m)
+    let n = started a (get_or parts i d).units.0 t.tariff.block in
+    e ∙ ap (λ m. rated_amount (tiers_on t (get_or parts i d).side) place n + m)
     (sym (amount_mod t (a + (get_or parts i d).units.0) (place + n) (drop (i + 1) parts)))
 
 abbrev pub no_part : Part
-no_part = record { period = record { 0 = 0 }; units = record { 0 = 0 } }
+no_part = record { side = Before; units = record { 0 = 0 } }
 
 -- what a turn of the loop over the parts keeps
 pub blocks_after : (block a i done n into total : ℕ) (parts : List Part) → i < length parts
@@ -91,81 +92,81 @@ blocks_after block a i done n into total parts within n_is into_is h =
     ap (λ u. report_blocks block u (drop (i + 1) parts)) into_is in
     omega (arith, blocks_step block a i parts no_part within, rest, n_is, h)
 
-pub amount_after : (t : GroupTariff) (a place i done sum n price into total : ℕ) (parts : List Part)
+pub amount_after : (t : GroupPrices) (a place i done sum n price into total : ℕ) (parts : List Part)
     → i < length parts
-    → n ≡ started a (get_or parts i no_part).units.0 t.block →
-    into ≡ (a + (get_or parts i no_part).units.0) % t.block
-    → price ≡ rated_amount (tiers_at t (get_or parts i no_part).period.0) (place + done) n
+    → n ≡ started a (get_or parts i no_part).units.0 t.tariff.block →
+    into ≡ (a + (get_or parts i no_part).units.0) % t.tariff.block
+    → price ≡ rated_amount (tiers_on t (get_or parts i no_part).side) (place + done) n
     → sum + report_amount t a (place + done) (drop i parts) ≡ total →
     sum + price + report_amount t into (place + (done + n)) (drop (i + 1) parts) ≡ total
 amount_after t a place i done sum n price into total parts within n_is into_is price_is h =
     let next : place + (done + n)
-    ≡ place + done + started a (get_or parts i no_part).units.0 t.block = omega (arith, n_is) in
+    ≡ place + done + started a (get_or parts i no_part).units.0 t.tariff.block = omega (arith, n_is) in
     let rest : report_amount t into (place + (done + n)) (drop (i + 1) parts)
-    ≡ report_amount t ((a + (get_or parts i no_part).units.0) % t.block)
-    (place + done + started a (get_or parts i no_part).units.0 t.block) (drop (i + 1) parts) =
+    ≡ report_amount t ((a + (get_or parts i no_part).units.0) % t.tariff.block)
+    (place + done + started a (get_or parts i no_part).units.0 t.tariff.block) (drop (i + 1) parts) =
     λ j. report_amount t (into_is j) (next j) (drop (i + 1) parts) in
     let here =
-    price_is ∙ ap (rated_amount (tiers_at t (get_or parts i no_part).period.0) (place + done))
+    price_is ∙ ap (rated_amount (tiers_on t (get_or parts i no_part).side) (place + done))
     n_is in
     omega (arith, amount_step t a (place + done) i parts no_part within, rest, here, h)
 
 -- two reports after each other
-pub follows : (t : GroupTariff) (used place : ℕ) (parts more : List Part) →
+pub follows : (t : GroupPrices) (used place : ℕ) (parts more : List Part) →
     FollowsAt t used place parts more
 unfolding report_blocks report_amount
 follows t used place [] more =
     let none : used + 0 ≡ used = add-zero used in
     let here : place + 0 ≡ place = add-zero place in
     record {
-      blocks = rw none (sym (zero-add (report_blocks t.block used more)));
+      blocks = rw none (sym (zero-add (report_blocks t.tariff.block used more)));
       amount = rw (none, here) (sym (zero-add (report_amount t used place more)));
     }
 follows t used place (part ∷ parts) more =
-    let n = started used part.units.0 t.block in
+    let n = started used part.units.0 t.tariff.block in
     let rest : FollowsAt t (used + part.units.0) (place + n) parts more =
     follows t (used + part.units.0) (place + n) parts more in
     let units : used + units_of (part ∷ parts) ≡ used + part.units.0 + units_of parts =
     omega (arith, sum_by-cons (λ (p : Part). p.units.0) part parts) in
-    let places : place + (n + report_blocks t.block (used + part.units.0) parts)
-    ≡ place + n + report_blocks t.block (used + part.units.0) parts = omega arith in
+    let places : place + (n + report_blocks t.tariff.block (used + part.units.0) parts)
+    ≡ place + n + report_blocks t.tariff.block (used + part.units.0) parts = omega arith in
     record {
       blocks = rw units (omega (arith, rest.blocks));
       amount = rw (units, places) (omega (arith, rest.amount));
     }
 
 -- a part in two
-cut_blocks : (t : GroupTariff) (used : ℕ) (period : Period) (one two : ℕ) (after : List Part) →
-    0 < t.block
-    → report_blocks t.block used (part_of period one ∷ part_of period two ∷ after)
-    ≡ report_blocks t.block used (part_of period (one + two) ∷ after)
+cut_blocks : (t : GroupPrices) (used : ℕ) (side : Side) (one two : ℕ) (after : List Part) →
+    0 < t.tariff.block
+    → report_blocks t.tariff.block used (part_of side one ∷ part_of side two ∷ after)
+    ≡ report_blocks t.tariff.block used (part_of side (one + two) ∷ after)
 unfolding report_blocks
-cut_blocks t used period one two after some =
+cut_blocks t used side one two after some =
     let units : used + (one + two) ≡ used + one + two = omega arith in
-    let cut = started-add used one two t.block some in
+    let cut = started-add used one two t.tariff.block some in
     rw units (omega (arith, cut))
 
-cut_amount : (t : GroupTariff) (used place : ℕ) (period : Period) (one two : ℕ) (after : List Part)
-    → 0 < t.block
-    → report_amount t used place (part_of period one ∷ part_of period two ∷ after)
-    ≡ report_amount t used place (part_of period (one + two) ∷ after)
+cut_amount : (t : GroupPrices) (used place : ℕ) (side : Side) (one two : ℕ) (after : List Part)
+    → 0 < t.tariff.block
+    → report_amount t used place (part_of side one ∷ part_of side two ∷ after)
+    ≡ report_amount t used place (part_of side (one + two) ∷ after)
 unfolding report_amount
-cut_amount t used place period one two after some =
+cut_amount t used place side one two after some =
     let units : used + (one + two) ≡ used + one + two = omega arith in
-    let cut : started used (one + two) t.block
-    ≡ started used one t.block + started (used + one) two t.block =
-    started-add used one two t.block some in
-    let places : place + (started used one t.block + started (used + one) two t.block)
-    ≡ place + started used one t.block + started (used + one) two t.block = omega arith in
+    let cut : started used (one + two) t.tariff.block
+    ≡ started used one t.tariff.block + started (used + one) two t.tariff.block =
+    started-add used one two t.tariff.block some in
+    let places : place + (started used one t.tariff.block + started (used + one) two t.tariff.block)
+    ≡ place + started used one t.tariff.block + started (used + one) two t.tariff.block = omega arith in
     rw (units, cut, places)
     (omega (
       arith,
-      rated_cut (tiers_at t period.0) place (started used one t.block)
-          (started (used + one) two t.block),
+      rated_cut (tiers_on t side) place (started used one t.tariff.block)
+          (started (used + one) two t.tariff.block),
     ))
 
-report_is : (t : GroupTariff) (used place : ℕ) (xs ys : List Part) →
-    report_blocks t.block used xs ≡ report_blocks t.block used ys
+report_is : (t : GroupPrices) (used place : ℕ) (xs ys : List Part) →
+    report_blocks t.tariff.block used xs ≡ report_blocks t.tariff.block used ys
     → report_amount t used place xs ≡ report_amount t used place ys →
     rated_report t used place xs ≡ rated_report t used place ys
 report_is t used place xs ys blocks amount =
@@ -173,9 +174,9 @@ report_is t used place xs ys blocks amount =
 
 -- anywhere in a report
 pub cuts_alike : CutsAlike
-cuts_alike t used place before after period one two some =
-    let xs = part_of period one ∷ part_of period two ∷ after in
-    let ys = part_of period (one + two) ∷ after in
+cuts_alike t used place before after side one two some =
+    let xs = part_of side one ∷ part_of side two ∷ after in
+    let ys = part_of side (one + two) ∷ after in
     let x : FollowsAt t used place before xs = follows t used place before xs in
     let y : FollowsAt t used place before ys = follows t used place before ys in
     report_is t used place (before ++ xs) (before ++ ys)
@@ -183,24 +184,24 @@ cuts_alike t used place before after period one two some =
       arith,
       x.blocks,
       y.blocks,
-      cut_blocks t (used + units_of before) period one two after some,
+      cut_blocks t (used + units_of before) side one two after some,
     ))
     (omega (
       arith,
       x.amount,
       y.amount,
-      cut_amount t (used + units_of before) (place + report_blocks t.block used before) period one
+      cut_amount t (used + units_of before) (place + report_blocks t.tariff.block used before) side one
           two after some,
     ))
 
 -- after the last part
-pub report_by : (t : GroupTariff) (used place : ℕ) (parts : List Part) (a p amount blocks : ℕ) →
-    blocks + report_blocks t.block a [] ≡ report_blocks t.block used parts
+pub report_by : (t : GroupPrices) (used place : ℕ) (parts : List Part) (a p amount blocks : ℕ) →
+    blocks + report_blocks t.tariff.block a [] ≡ report_blocks t.tariff.block used parts
     → amount + report_amount t a p [] ≡ report_amount t used place parts
     → ◌≡◌ {A = Rated} (record { amount = record { 0 = amount }; blocks = blocks })
     (rated_report t used place parts)
 unfolding report_blocks report_amount
 report_by t used place parts a p amount blocks hb ha =
-    let b : blocks ≡ report_blocks t.block used parts = omega (arith, hb) in
+    let b : blocks ≡ report_blocks t.tariff.block used parts = omega (arith, hb) in
     let m : amount ≡ report_amount t used place parts = omega (arith, ha) in
     λ i. record { amount = record { 0 = m i }; blocks = b i }

@@ -3,9 +3,8 @@ use Rattle.std.specs.Prelude.{◌≡◌, ℕ, zero, suc, ◌+◌, ◌-◌, ◌*�
 use Rattle.units.specs.Blocks.{started}
 use Rattle.tariffs.specs.Prices.{block_price}
 use Rattle.tariffs.specs.declared.tiers.Tier.{Tier}
-use Rattle.tariffs.specs.Tariffs.{GroupTariff, tiers_at}
+use Rattle.tariffs.specs.GroupPrices.{GroupPrices}
 use Rattle.rating.specs.declared.grant.Grant.{Grant}
-use Rattle.rating.specs.declared.grant.Periods.{Periods}
 
 -- the sum of the dearer of two prices of n blocks, at the places after one on the counter
 unfoldable pub dearer : List Tier → List Tier → ℕ → ℕ → ℕ
@@ -39,31 +38,31 @@ granted_units block used wanted n =
     if n == started used wanted block then wanted else block_start used block + n * block - used
 
 -- a grant of n covered blocks
-abbrev pub grant_of_blocks : GroupTariff → Periods → ℕ → ℕ → ℕ → ℕ → Grant
-grant_of_blocks t periods used place wanted n = record {
+abbrev pub grant_of_blocks : GroupPrices → ℕ → ℕ → ℕ → ℕ → Grant
+grant_of_blocks p used place wanted n = record {
   blocks = record { 0 = n };
-  units = record { 0 = granted_units t.block used wanted n };
-  amount = record { 0 = dearer (tiers_at t periods.before.0) (tiers_at t periods.after.0) place n };
+  units = record { 0 = granted_units p.tariff.block used wanted n };
+  amount = record { 0 = dearer p.before p.after place n };
 }
 
 -- the grant of the wanted units that the funds cover
-abbrev pub grant_of : GroupTariff → Periods → ℕ → ℕ → ℕ → ℕ → Grant
-grant_of t periods used place wanted funds =
-    grant_of_blocks t periods used place wanted
-    (greatest_covered (tiers_at t periods.before.0) (tiers_at t periods.after.0) place funds
-    (started used wanted t.block))
+abbrev pub grant_of : GroupPrices → ℕ → ℕ → ℕ → ℕ → Grant
+grant_of p used place wanted funds =
+    grant_of_blocks p used place wanted
+    (greatest_covered p.before p.after place funds
+    (started used wanted p.tariff.block))
 
 -- the grant of the wanted units: its number of blocks is the greatest that the funds cover, its
 -- units start just these blocks and are no more than wanted, and where they are fewer, one unit
 -- more starts a block that the funds don't cover
-pub record IsGreatestGrant (t : GroupTariff) (periods : Periods) (used place wanted funds : ℕ)
+pub record IsGreatestGrant (p : GroupPrices) (used place wanted funds : ℕ)
     (grant : Grant) : Type 0 where
-  pub value : grant ≡ grant_of t periods used place wanted funds
-  pub greatest : IsGreatest (tiers_at t periods.before.0) (tiers_at t periods.after.0) place
-      (started used wanted t.block) funds grant.blocks.0
-  pub starts : started used grant.units.0 t.block ≡ grant.blocks.0
+  pub value : grant ≡ grant_of p used place wanted funds
+  pub greatest : IsGreatest p.before p.after place
+      (started used wanted p.tariff.block) funds grant.blocks.0
+  pub starts : started used grant.units.0 p.tariff.block ≡ grant.blocks.0
   pub within : grant.units.0 ≤ wanted
-  pub next : grant.units.0 < wanted → started used (grant.units.0 + 1) t.block ≡ grant.blocks.0 + 1
+  pub next : grant.units.0 < wanted → started used (grant.units.0 + 1) p.tariff.block ≡ grant.blocks.0 + 1
   pub most : grant.units.0 < wanted
-      → funds < dearer (tiers_at t periods.before.0) (tiers_at t periods.after.0) place
-      (started used (grant.units.0 + 1) t.block)
+      → funds < dearer p.before p.after place
+      (started used (grant.units.0 + 1) p.tariff.block)

@@ -1,10 +1,10 @@
 -- Rated amounts (TS 32.296, rating), block by block.
 use Rattle.std.specs.Prelude.{◌≡◌, ℕ, zero, suc, ◌+◌, ◌<◌, List, [], ◌∷◌, ◌++◌, sum_by}
-use Rattle.calendar.specs.declared.week.Period.{Period}
 use Rattle.units.specs.Blocks.{started}
 use Rattle.tariffs.specs.Prices.{block_price}
 use Rattle.tariffs.specs.declared.tiers.Tier.{Tier}
-use Rattle.tariffs.specs.Tariffs.{GroupTariff, tiers_at}
+use Rattle.tariffs.specs.declared.group_prices.Side.{Side}
+use Rattle.tariffs.specs.GroupPrices.{GroupPrices, tiers_on}
 use Rattle.rating.specs.declared.report.Part.{Part}
 use Rattle.rating.specs.declared.report.Rated.{Rated}
 
@@ -19,46 +19,46 @@ report_blocks block used [] = 0
 report_blocks block used (part ∷ parts) =
     started used part.units.0 block + report_blocks block (used + part.units.0) parts
 
--- their rated amount: each part in its period, after the use and at the place that the one before
+-- their rated amount: each part on its side, after the use and at the place that the one before
 -- left
-unfoldable pub report_amount : GroupTariff → ℕ → ℕ → List Part → ℕ
-report_amount t used place [] = 0
-report_amount t used place (part ∷ parts) =
-    rated_amount (tiers_at t part.period.0) place (started used part.units.0 t.block)
-    + report_amount t (used + part.units.0) (place + started used part.units.0 t.block) parts
+unfoldable pub report_amount : GroupPrices → ℕ → ℕ → List Part → ℕ
+report_amount p used place [] = 0
+report_amount p used place (part ∷ parts) =
+    rated_amount (tiers_on p part.side) place (started used part.units.0 p.tariff.block)
+    + report_amount p (used + part.units.0) (place + started used part.units.0 p.tariff.block) parts
 
 -- a report's price: its rated amount and its blocks
-abbrev pub rated_report : GroupTariff → ℕ → ℕ → List Part → Rated
-rated_report t used place parts = record {
-  amount = record { 0 = report_amount t used place parts };
-  blocks = report_blocks t.block used parts;
+abbrev pub rated_report : GroupPrices → ℕ → ℕ → List Part → Rated
+rated_report p used place parts = record {
+  amount = record { 0 = report_amount p used place parts };
+  blocks = report_blocks p.tariff.block used parts;
 }
 
--- a part of some units in a period
-abbrev pub part_of : Period → ℕ → Part
-part_of period units = record { period = period; units = record { 0 = units } }
+-- a part of some units on a side
+abbrev pub part_of : Side → ℕ → Part
+part_of side units = record { side = side; units = record { 0 = units } }
 
--- the law of cutting: units used in two parts of one period, with nothing between, start and cost
+-- the law of cutting: units used in two parts on one side, with nothing between, start and cost
 -- what they do as one
 abbrev pub CutsAlike : Type 0
 CutsAlike =
-    (t : GroupTariff) (used place : ℕ) (before after : List Part) (period : Period) (one two : ℕ) →
-    0 < t.block
-    → rated_report t used place (before ++ part_of period one ∷ part_of period two ∷ after)
-    ≡ rated_report t used place (before ++ part_of period (one + two) ∷ after)
+    (p : GroupPrices) (used place : ℕ) (before after : List Part) (side : Side) (one two : ℕ) →
+    0 < p.tariff.block
+    → rated_report p used place (before ++ part_of side one ∷ part_of side two ∷ after)
+    ≡ rated_report p used place (before ++ part_of side (one + two) ∷ after)
 
 -- the units of a report
 abbrev pub units_of : List Part → ℕ
 units_of parts = sum_by (λ part. part.units.0) parts
 
 -- two reports after each other start and cost what their parts do as one report
-pub record FollowsAt (t : GroupTariff) (used place : ℕ) (parts more : List Part) : Type 0 where
-  pub blocks : report_blocks t.block used (parts ++ more)
-      ≡ report_blocks t.block used parts + report_blocks t.block (used + units_of parts) more
-  pub amount : report_amount t used place (parts ++ more)
-      ≡ report_amount t used place parts
-      + report_amount t (used + units_of parts) (place + report_blocks t.block used parts) more
+pub record FollowsAt (p : GroupPrices) (used place : ℕ) (parts more : List Part) : Type 0 where
+  pub blocks : report_blocks p.tariff.block used (parts ++ more)
+      ≡ report_blocks p.tariff.block used parts + report_blocks p.tariff.block (used + units_of parts) more
+  pub amount : report_amount p used place (parts ++ more)
+      ≡ report_amount p used place parts
+      + report_amount p (used + units_of parts) (place + report_blocks p.tariff.block used parts) more
 
 abbrev pub FollowsOn : Type 0
-FollowsOn = (t : GroupTariff) (used place : ℕ) (parts more : List Part) →
-    FollowsAt t used place parts more
+FollowsOn = (p : GroupPrices) (used place : ℕ) (parts more : List Part) →
+    FollowsAt p used place parts more

@@ -6,7 +6,7 @@ ghost use Rattle.rating.specs.Runs.{bound_count};
 
 use crate::runs::{Run, dearer_run, tiers_after};
 use calendar::Period;
-use tariffs::{Tariff, Tier};
+use tariffs::{Prices, Side, Tier};
 use units::{Amount, Blocks, Steps, Units, blocks_started};
 
 /// The periods of a grant: at the grant, and at its tariff switch (without a switch, the same).
@@ -96,8 +96,7 @@ fn units_to_end(used_before: Units, blocks: u64, block: u64) -> u64
 /// As `greatest_grant`, and counts its steps: one for each run of blocks of one price between the
 /// bounds of both periods' tiers, at most 16.
 pub fn greatest_grant_steps(
-    tariff: &Tariff,
-    periods: Periods,
+    prices: &Prices,
     used_before: Units,
     place: u64,
     wanted: Units,
@@ -105,14 +104,14 @@ pub fn greatest_grant_steps(
     steps: &mut Steps,
 ) -> Grant
     requires { steps.old ≤ 1_000_000_000 }
-    ensures grant { IsGreatestGrant tariff.now periods used_before.0 place wanted.0 funds.0 result }
+    ensures grant { IsGreatestGrant prices.now used_before.0 place wanted.0 funds.0 result }
     ensures steps { steps.new ≤ steps.old + 16 }
 {
-    let block = tariff.block();
+    let block = prices.block();
     let started = blocks_started(used_before, wanted, block);
     let (blocks, amount) = covered_blocks(
-        tariff.tiers(periods.before),
-        tariff.tiers(periods.after),
+        prices.tiers(Side::Before),
+        prices.tiers(Side::After),
         place,
         started.0,
         funds.0,
@@ -131,26 +130,17 @@ pub fn greatest_grant_steps(
 }
 
 /// The grant of the wanted units that the funds cover (unit reservation, TS 32.299): the greatest
-/// number of new blocks whose prices, each the dearer of the two periods', sum to at most the
+/// number of new blocks whose prices, each the dearer of the two sides', sum to at most the
 /// funds; all wanted units where all their blocks are covered, else the units up to the end of the
 /// last covered block, so that one unit more starts a block that the funds don't cover.
 pub fn greatest_grant(
-    tariff: &Tariff,
-    periods: Periods,
+    prices: &Prices,
     used_before: Units,
     place: u64,
     wanted: Units,
     funds: Amount,
 ) -> Grant
-    ensures { IsGreatestGrant tariff.now periods used_before.0 place wanted.0 funds.0 result }
+    ensures { IsGreatestGrant prices.now used_before.0 place wanted.0 funds.0 result }
 {
-    greatest_grant_steps(
-        tariff,
-        periods,
-        used_before,
-        place,
-        wanted,
-        funds,
-        &mut Steps::new(),
-    )
+    greatest_grant_steps(prices, used_before, place, wanted, funds, &mut Steps::new())
 }

@@ -2,12 +2,11 @@
 
 ghost use Rattle.std.specs.Prelude.{◌≡◌, ◌+◌, ◌≤◌, ◌<◌, ◌^◌, ◌*◌, length};
 ghost use Rattle.tariffs.specs.Prices.{ArePriced};
-ghost use Rattle.tariffs.specs.Tariffs.{tiers_at};
+ghost use Rattle.tariffs.specs.GroupPrices.{tiers_on};
 ghost use Rattle.rating.specs.Rated.{rated_amount};
 
 use crate::runs::blocks_within;
-use calendar::Period;
-use tariffs::{Tariff, Tier};
+use tariffs::{Prices, Side, Tier};
 use units::{Amount, Blocks, Steps};
 
 /// The rated amount of some blocks at the places after one on the counter, tier by tier: a step a
@@ -32,26 +31,26 @@ pub(crate) fn rated_amount(tiers: &[Tier], place: u128, blocks: u64, steps: &mut
     total
 }
 
-/// As `rate`, and counts its steps: one for each tier of the period, at most 8.
+/// As `rate`, and counts its steps: one for each tier of the side, at most 8.
 pub fn rate_steps(
-    tariff: &Tariff,
-    period: Period,
+    prices: &Prices,
+    side: Side,
     place: u64,
     blocks: Blocks,
     steps: &mut Steps,
 ) -> Amount
     requires { steps.old ≤ 1_000_000_000 }
-    ensures value { result.0 ≡ rated_amount (tiers_at tariff.now period.0) place blocks.0 }
+    ensures value { result.0 ≡ rated_amount (tiers_on prices.now side) place blocks.0 }
     ensures steps { steps.new ≤ steps.old + 8 }
 {
-    Amount(rated_amount(tariff.tiers(period), place as u128, blocks.0, steps))
+    Amount(rated_amount(prices.tiers(side), place as u128, blocks.0, steps))
 }
 
-/// The rated amount of some blocks in a period (TS 32.296, rating), in micro-units: each block at
+/// The rated amount of some blocks on a side of a switch (TS 32.296, rating), in micro-units: each block at
 /// the price of its place on the account's counter, which stands at `place` before the first of
 /// them.
-pub fn rate(tariff: &Tariff, period: Period, place: u64, blocks: Blocks) -> Amount
-    ensures { result.0 ≡ rated_amount (tiers_at tariff.now period.0) place blocks.0 }
+pub fn rate(prices: &Prices, side: Side, place: u64, blocks: Blocks) -> Amount
+    ensures { result.0 ≡ rated_amount (tiers_on prices.now side) place blocks.0 }
 {
-    rate_steps(tariff, period, place, blocks, &mut Steps::new())
+    rate_steps(prices, side, place, blocks, &mut Steps::new())
 }

@@ -4,16 +4,15 @@ ghost use Rattle.std.specs.Prelude.{◌≡◌, ◌≤◌, ◌+◌, ◌%◌};
 ghost use Rattle.rating.specs.Rated.{rated_report, CutsAlike, FollowsOn};
 
 use crate::price::rated_amount;
-use calendar::Period;
-use tariffs::Tariff;
+use tariffs::{Prices, Side};
 use units::{Amount, Steps, Units, blocks_started};
 
-/// A part of a report: units that are priced in one period (Used-Service-Unit, RFC 8506 section
+/// A part of a report: units that are priced on one side of a tariff switch (Used-Service-Unit, RFC 8506 section
 /// 8.19). A part of 0 units starts no block and costs nothing.
 #[derive(Clone, Copy, Debug, PartialEq, Eq)]
 pub struct Part {
-    /// The period that prices the blocks which the part starts.
-    pub period: Period,
+    /// The side that prices the blocks which the part starts.
+    pub side: Side,
     /// The units used.
     pub units: Units,
 }
@@ -41,10 +40,10 @@ fn place_in_block(into_block: u64, units: Units, block: u64) -> u64
 /// counter then stands (`place` at first). A report has at most four parts, one without a
 /// Tariff-Change-Usage and one for each of its values (RFC 8506 section 8.27); one that it doesn't
 /// have is a part of 0 units.
-pub fn rate_report(tariff: &Tariff, used_before: Units, place: u64, parts: &[Part; 4]) -> Rated
-    ensures { result ≡ rated_report tariff.now used_before.0 place parts.now }
+pub fn rate_report(prices: &Prices, used_before: Units, place: u64, parts: &[Part; 4]) -> Rated
+    ensures { result ≡ rated_report prices.now used_before.0 place parts.now }
 {
-    let block = tariff.block();
+    let block = prices.block();
     // How far the use stands into its block is all that decides which blocks are started.
     let mut into_block = used_before.0 % block;
     let mut blocks: u128 = 0;
@@ -52,7 +51,7 @@ pub fn rate_report(tariff: &Tariff, used_before: Units, place: u64, parts: &[Par
     for part in parts {
         let started = blocks_started(Units(into_block), part.units, block);
         amount += rated_amount(
-            tariff.tiers(part.period),
+            prices.tiers(part.side),
             u128::from(place) + blocks,
             started.0,
             &mut Steps::new(),
@@ -66,7 +65,7 @@ pub fn rate_report(tariff: &Tariff, used_before: Units, place: u64, parts: &[Par
     }
 }
 
-/// The law of cutting: units used in two parts of one period, with nothing between, start and cost
+/// The law of cutting: units used in two parts on one side, with nothing between, start and cost
 /// what they do as one part; and two reports after each other start and cost what their parts do as
 /// one report.
 pub fn cutting()

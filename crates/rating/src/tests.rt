@@ -2,11 +2,11 @@
 //! blocks of 60 at 50000 or 100000 micro-units a block; octets in blocks of 1048576, of which the first 100 of a
 //! month are free and the others cost 10000; and events at 90000. What tiers give is compared with a sum over blocks.
 
-use crate::{Grant, Part, Periods, Rated, greatest_grant, rate, rate_report};
+use crate::{Grant, Part, Rated, greatest_grant, rate, rate_report};
 use calendar::Period;
 use std::alloc::Global;
 use std::test::Fail;
-use tariffs::{Tariff, TariffBook, Tier};
+use tariffs::{Prices, Side, TariffBook, Tier};
 use units::{Amount, Blocks, Units};
 use worked_book::BOOK;
 
@@ -123,19 +123,10 @@ fn grants(rt: HostRuntime) -> Result<(), Fail> {
         ),
     ];
     for (group, before, used, place, wanted, funds, grant) in cases {
-        let tariff = book.tariff(group).ok_or("no such group")?;
-        let periods = Periods {
-            before,
-            after: PEAK,
+        let Some(prices) = book.prices(group, before, PEAK) else {
+            return Err(Fail::from("no such group"));
         };
-        let found = greatest_grant(
-            tariff,
-            periods,
-            Units(used),
-            place,
-            Units(wanted),
-            Amount(funds),
-        );
+        let found = greatest_grant(&prices, Units(used), place, Units(wanted), Amount(funds));
         assert_eq!(rt; found, grant, "{used} used, {funds}");
     }
     Ok(())
@@ -144,28 +135,35 @@ fn grants(rt: HostRuntime) -> Result<(), Fail> {
 #[test]
 fn blocks_are_rated(rt: HostRuntime) -> Result<(), Fail> {
     let book = TariffBook::read(rt.alloc(), BOOK.as_bytes())?;
-    let tariff = book.tariff(20).ok_or("no group 20")?;
-    assert_eq!(rt; rate(tariff, OFF, 99, Blocks(2)), Amount(10_000));
-    assert_eq!(rt; rate(tariff, OFF, u64::MAX, Blocks(2)), Amount(20_000));
+    let Some(prices) = book.prices(20, OFF, PEAK) else {
+        return Err(Fail::from("no group 20"));
+    };
+    assert_eq!(rt; rate(&prices, Side::Before, 99, Blocks(2)), Amount(10_000));
+    assert_eq!(rt;
+        rate(&prices, Side::Before, u64::MAX, Blocks(2)),
+        Amount(20_000)
+    );
     Ok(())
 }
 
-fn rated_in(tariff: &Tariff, period: Period, place: u64, blocks: u64) -> Amount {
-    rate(tariff, period, place, Blocks(blocks))
+fn rated_on(prices: &Prices, side: Side, place: u64, blocks: u64) -> Amount {
+    rate(prices, side, place, Blocks(blocks))
 }
 
 #[test]
 fn a_billion_blocks_are_rated(rt: HostRuntime) -> Result<(), Fail> {
     let book = book_of_tiers(rt.alloc())?;
-    let tariff = book.tariff(40).ok_or("no group 40")?;
+    let Some(prices) = book.prices(40, OFF, PEAK) else {
+        return Err(Fail::from("no group 40"));
+    };
     let cases = [
-        (OFF, 0, 1_000_000_000, 2_600_000_000),
-        (PEAK, 0, 1_000_000_000, 3_400_000_000),
-        (OFF, 399_999_999, 1_000_000_000, 2_999_999_999),
-        (PEAK, 600_000_000, 1_000_000_000, 7_000_000_000),
+        (Side::Before, 0, 1_000_000_000, 2_600_000_000),
+        (Side::After, 0, 1_000_000_000, 3_400_000_000),
+        (Side::Before, 399_999_999, 1_000_000_000, 2_999_999_999),
+        (Side::After, 600_000_000, 1_000_000_000, 7_000_000_000),
     ];
-    for (period, place, blocks, amount) in cases {
-        let found = rated_in(tariff, period, place, blocks);
+    for (side, place, blocks, amount) in cases {
+        let found = rated_on(&prices, side, place, blocks);
         assert_eq!(rt; found, Amount(amount), "{blocks} blocks after {place}");
     }
     Ok(())
@@ -174,33 +172,35 @@ fn a_billion_blocks_are_rated(rt: HostRuntime) -> Result<(), Fail> {
 #[test]
 fn a_billion_blocks_of_a_book_are_rated(rt: HostRuntime) -> Result<(), Fail> {
     let book = TariffBook::read(rt.alloc(), BOOK.as_bytes())?;
-    let octets = book.tariff(20).ok_or("no group 20")?;
-    let events = book.tariff(30).ok_or("no group 30")?;
+    let Some(octets) = book.prices(20, OFF, PEAK) else {
+        return Err(Fail::from("no group 20"));
+    };
+    let Some(events) = book.prices(30, OFF, PEAK) else {
+        return Err(Fail::from("no group 30"));
+    };
     // All but the first 100 at 10000; and all at 90000.
     assert_eq!(rt;
-        rated_in(octets, OFF, 0, 1_000_000_000),
+        rated_on(&octets, Side::Before, 0, 1_000_000_000),
         Amount(9_999_999_000_000)
     );
     assert_eq!(rt;
-        rated_in(events, PEAK, 0, 1_000_000_000),
+        rated_on(&events, Side::After, 0, 1_000_000_000),
         Amount(90_000_000_000_000)
     );
     Ok(())
 }
 
 /// The grant of a session's first units, with a switch to the dearer period.
-fn granted_over_switch(tariff: &Tariff, wanted: u64, funds: u128) -> Grant {
-    let periods = Periods {
-        before: OFF,
-        after: PEAK,
-    };
-    greatest_grant(tariff, periods, Units(0), 0, Units(wanted), Amount(funds))
+fn granted_over_switch(prices: &Prices, wanted: u64, funds: u128) -> Grant {
+    greatest_grant(prices, Units(0), 0, Units(wanted), Amount(funds))
 }
 
 #[test]
 fn a_billion_blocks_are_granted(rt: HostRuntime) -> Result<(), Fail> {
     let book = book_of_tiers(rt.alloc())?;
-    let tariff = book.tariff(40).ok_or("no group 40")?;
+    let Some(prices) = book.prices(40, OFF, PEAK) else {
+        return Err(Fail::from("no group 40"));
+    };
     // The dearer prices are 2 up to 400000000, 3 up to 600000000, and then 7.
     let cases = [
         (
@@ -214,27 +214,27 @@ fn a_billion_blocks_are_granted(rt: HostRuntime) -> Result<(), Fail> {
         (800_000_002, grant_of(400_000_000, 400_000_000, 800_000_000)),
     ];
     for (funds, grant) in cases {
-        let found = granted_over_switch(tariff, 1_000_000_000, funds);
+        let found = granted_over_switch(&prices, 1_000_000_000, funds);
         assert_eq!(rt; found, grant, "{funds}");
     }
     Ok(())
 }
 
 /// The rated amount and the blocks of a report of at most two parts.
-fn rated(tariff: &Tariff, used: u64, place: u64, first: Part, second: Part) -> (u128, u128) {
+fn rated(prices: &Prices, used: u64, place: u64, first: Part, second: Part) -> (u128, u128) {
     let parts = [first, second, NONE, NONE];
-    let Rated { amount, blocks } = rate_report(tariff, Units(used), place, &parts);
+    let Rated { amount, blocks } = rate_report(prices, Units(used), place, &parts);
     (amount.0, blocks)
 }
 
 const NONE: Part = Part {
-    period: PEAK,
+    side: Side::After,
     units: Units(0),
 };
 
-fn part(period: Period, units: u64) -> Part {
+fn part(side: Side, units: u64) -> Part {
     Part {
-        period,
+        side,
         units: Units(units),
     }
 }
@@ -242,20 +242,36 @@ fn part(period: Period, units: u64) -> Part {
 #[test]
 fn reports_are_rated(rt: HostRuntime) -> Result<(), Fail> {
     let book = TariffBook::read(rt.alloc(), BOOK.as_bytes())?;
-    let seconds = book.tariff(10).ok_or("no group 10")?;
-    let octets = book.tariff(20).ok_or("no group 20")?;
+    let Some(seconds) = book.prices(10, OFF, PEAK) else {
+        return Err(Fail::from("no group 10"));
+    };
+    let Some(octets) = book.prices(20, OFF, PEAK) else {
+        return Err(Fail::from("no group 20"));
+    };
     // 300 seconds before the dearer period and 90 in it.
     assert_eq!(rt;
-        rated(seconds, 0, 0, part(OFF, 300), part(PEAK, 90)),
+        rated(
+            &seconds,
+            0,
+            0,
+            part(Side::Before, 300),
+            part(Side::After, 90)
+        ),
         (450_000, 7)
     );
     // 61 seconds, and then the 59 that are left of the second block.
-    assert_eq!(rt; rated(seconds, 0, 0, part(PEAK, 61), NONE), (200_000, 2));
-    assert_eq!(rt; rated(seconds, 61, 2, part(PEAK, 59), NONE), (0, 0));
-    // The last free block and the first one that isn't.
-    assert_eq!(rt; rated(octets, 0, 0, part(PEAK, 103_809_024), NONE), (0, 99));
     assert_eq!(rt;
-        rated(octets, 103_809_024, 99, part(PEAK, 2_097_152), NONE),
+        rated(&seconds, 0, 0, part(Side::After, 61), NONE),
+        (200_000, 2)
+    );
+    assert_eq!(rt; rated(&seconds, 61, 2, part(Side::After, 59), NONE), (0, 0));
+    // The last free block and the first one that isn't.
+    assert_eq!(rt;
+        rated(&octets, 0, 0, part(Side::After, 103_809_024), NONE),
+        (0, 99)
+    );
+    assert_eq!(rt;
+        rated(&octets, 103_809_024, 99, part(Side::After, 2_097_152), NONE),
         (10_000, 2)
     );
     Ok(())
@@ -301,11 +317,11 @@ fn covered_by_blocks(before: &[Tier], after: &[Tier], place: u64, funds: u128) -
 }
 
 /// At how many places the rated amount of some blocks isn't the sum over them.
-fn rated_otherwise(tariff: &Tariff, period: Period, blocks: u64) -> u64 {
+fn rated_otherwise(prices: &Prices, side: Side, blocks: u64) -> u64 {
     let mut count: u64 = 0;
     for place in 0..20 {
-        let sum = sum_by_blocks(tariff.tiers(period), place, blocks);
-        if rated_in(tariff, period, place, blocks).0 != sum {
+        let sum = sum_by_blocks(prices.tiers(side), place, blocks);
+        if rated_on(prices, side, place, blocks).0 != sum {
             count = count.saturating_add(1);
         }
     }
@@ -313,12 +329,12 @@ fn rated_otherwise(tariff: &Tariff, period: Period, blocks: u64) -> u64 {
 }
 
 /// At how many places the grant of 20 blocks isn't what the funds cover one by one.
-fn granted_otherwise(tariff: &Tariff, periods: Periods, funds: u128) -> u64 {
+fn granted_otherwise(prices: &Prices, funds: u128) -> u64 {
     let mut count: u64 = 0;
     for place in 0..20 {
-        let (before, after) = (tariff.tiers(periods.before), tariff.tiers(periods.after));
+        let (before, after) = (prices.tiers(Side::Before), prices.tiers(Side::After));
         let (blocks, amount) = covered_by_blocks(before, after, place, funds);
-        let grant = greatest_grant(tariff, periods, Units(0), place, Units(20), Amount(funds));
+        let grant = greatest_grant(prices, Units(0), place, Units(20), Amount(funds));
         if grant != grant_of(blocks, blocks, amount) {
             count = count.saturating_add(1);
         }
@@ -326,18 +342,14 @@ fn granted_otherwise(tariff: &Tariff, periods: Periods, funds: u128) -> u64 {
     count
 }
 
-/// How often tiers and blocks tell otherwise, over places, numbers of blocks, periods and funds.
-fn told_otherwise(tariff: &Tariff) -> u64 {
+/// How often tiers and blocks tell otherwise, over places, numbers of blocks, sides and funds.
+fn told_otherwise(prices: &Prices) -> u64 {
     let mut count: u64 = 0;
     for n in 0..20 {
-        for period in [OFF, PEAK] {
-            count = count.saturating_add(rated_otherwise(tariff, period, n));
+        for side in [Side::Before, Side::After] {
+            count = count.saturating_add(rated_otherwise(prices, side, n));
         }
-        for (before, after) in [(OFF, OFF), (OFF, PEAK), (PEAK, OFF)] {
-            let periods = Periods { before, after };
-            let funds = u128::from(n) * 5;
-            count = count.saturating_add(granted_otherwise(tariff, periods, funds));
-        }
+        count = count.saturating_add(granted_otherwise(prices, u128::from(n) * 5));
     }
     count
 }
@@ -346,9 +358,13 @@ fn told_otherwise(tariff: &Tariff) -> u64 {
 fn tiers_tell_what_blocks_do(rt: HostRuntime) -> Result<(), Fail> {
     let book = book_of_tiers(rt.alloc())?;
     for group in [1, 2, 3] {
-        let tariff = book.tariff(group).ok_or("no such group")?;
-        let otherwise = told_otherwise(tariff);
-        assert_eq!(rt; otherwise, 0, "group {group}");
+        for (before, after) in [(OFF, OFF), (OFF, PEAK), (PEAK, OFF)] {
+            let Some(prices) = book.prices(group, before, after) else {
+                return Err(Fail::from("no such group"));
+            };
+            let otherwise = told_otherwise(&prices);
+            assert_eq!(rt; otherwise, 0, "group {group}");
+        }
     }
     Ok(())
 }

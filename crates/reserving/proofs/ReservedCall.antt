@@ -10,10 +10,12 @@ use Rattle.reserving.specs.declared.session.SessionGroup.{SessionGroup}
 use Rattle.reserving.specs.Ledger.{Ledger, used, counter, is_live}
 use Rattle.tariffs.specs.Books.{Book}
 use Rattle.tariffs.specs.Tariffs.{GroupTariff, tiers_at}
+use Rattle.tariffs.specs.GroupPrices.{GroupPrices}
+use Rattle.tariffs.specs.BookPrices.{ArePricesOf}
 use Rattle.rating.specs.declared.grant.Grant.{Grant}
 use Rattle.rating.specs.declared.grant.Periods.{Periods}
 use Rattle.rating.specs.Granted.{IsGreatest, dearer, grant_of}
-use Rattle.reserving.specs.Pricing.{tariff_of, cycle_at, switch_at, validity_at, periods_at, wanted_units, wanted_with, grant_with}
+use Rattle.reserving.specs.Pricing.{tariff_of, cycle_at, switch_at, validity_at, periods_at, prices_by, wanted_units, wanted_with, grant_with}
 use Rattle.reserving.specs.Quotas.{IsQuota, IsGreatestFor}
 use Rattle.reserving.specs.Keyed.{put}
 use Rattle.reserving.specs.Balance.{buckets_at}
@@ -23,6 +25,7 @@ use Rattle.reserving.specs.Changes.{lapse_group, lapsed_in, advanced, new_group,
 use Rattle.reserving.specs.Prepared.{with_group, with_group_row, reservation_in}
 use Rattle.reserving.specs.Rows.{AccountRows, IsAccount, IsRowsOf}
 use Rattle.reserving.specs.Results.{IsGrantOf, IsWithin}
+use Rattle.reserving.specs.Placed.{AreOfBook}
 use Rattle.reserving.proofs.Lists.{find-map, some_of, no_some}
 use Rattle.reserving.proofs.Advancing.{is_live_in-is, IsRowsOf-advanced}
 use Rattle.reserving.proofs.Advanced.{IsAccount-advanced}
@@ -165,14 +168,15 @@ quota_none b before g requested periods place money units grant none zero is =
 pub quota_some : (b : Book) (before g : ℕ) (requested : Option ℕ) (periods : Periods)
     (place money units : ℕ) (grant : Grant) (x : GroupTariff) → Some x ≡ tariff_of b g →
     units ≡ wanted_units x requested → units ≤ x.max_grant →
-    grant ≡ grant_of x periods before place units money →
+    grant ≡ grant_of (prices_by x periods) before place units money →
     IsGreatest (tiers_at x periods.before.0) (tiers_at x periods.after.0) place
     (started before units x.block) money grant.blocks.0 → grant.units.0 ≤ units →
     IsQuota b before g requested periods place money units grant
 quota_some b before g requested periods place money units grant x some wanted most is greatest
     within =
-    let reckoned : grant ≡ grant_of x periods before place (wanted_units x requested) money =
-    is ∙ ap (λ n. grant_of x periods before place n money) wanted in
+    let reckoned : grant
+    ≡ grant_of (prices_by x periods) before place (wanted_units x requested) money =
+    is ∙ ap (λ n. grant_of (prices_by x periods) before place n money) wanted in
     let price : grant.amount.0
     ≡ dearer (tiers_at x periods.before.0) (tiers_at x periods.after.0) place grant.blocks.0 =
     ap (λ (y : Grant). y.amount.0) is
@@ -193,6 +197,38 @@ quota_some b before g requested periods place money units grant x some wanted mo
           (λ (z : GroupTariff). IsGreatestFor z periods before place requested money grant)
           (some_of x y (some ∙ e)) found;
     }
+
+-- a group of which a book has no prices in periods of its own isn't the book's
+pub no_tariff : (b : Book) (g : ℕ) (p : Periods) → AreOfBook b p →
+    ((q : GroupPrices) → ArePricesOf b g p.before.0 p.after.0 q → ⊥) → None ≡ tariff_of b g
+no_tariff b g p of none = by_tariff (tariff_of b g) refl
+  where
+    by_tariff : (o : Option GroupTariff) → tariff_of b g ≡ o → None ≡ tariff_of b g
+    by_tariff None e = sym e
+    by_tariff (Some x) e = absurd (none (prices_by x p) (record {
+      tariff = x;
+      known = e;
+      before = of.before;
+      after = of.after;
+      are = refl;
+    }))
+
+-- the same by the prices that the book gives
+pub quota_by : (b : Book) (before g : ℕ) (requested : Option ℕ) (periods : Periods)
+    (place money units : ℕ) (grant : Grant) (q : GroupPrices) →
+    ArePricesOf b g periods.before.0 periods.after.0 q → units ≡ wanted_units q.tariff requested →
+    units ≤ q.tariff.max_grant → grant ≡ grant_of q before place units money →
+    IsGreatest q.before q.after place (started before units q.tariff.block) money grant.blocks.0 →
+    grant.units.0 ≤ units → IsQuota b before g requested periods place money units grant
+quota_by b before g requested periods place money units grant q f =
+    subst (λ (z : GroupPrices). units ≡ wanted_units z.tariff requested →
+    units ≤ z.tariff.max_grant → grant ≡ grant_of z before place units money →
+    IsGreatest z.before z.after place (started before units z.tariff.block) money grant.blocks.0 →
+    grant.units.0 ≤ units → IsQuota b before g requested periods place money units grant)
+    (sym f.are)
+    (λ wanted most is greatest within.
+    quota_some b before g requested periods place money units grant f.tariff (sym f.known) wanted
+    most is greatest within)
 
 -- ---- the greatest grant, told from the rows and from the ledger
 

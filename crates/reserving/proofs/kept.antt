@@ -3,3 +3,4 @@ pub mod Settled
 pub mod Debited
 pub mod LivePart
 pub mod Parts
+pub mod Placed

@@ -8,6 +8,8 @@ use Rattle.calendar.specs.Timetable.{Timetable, period_at, switch_within, validi
 use Rattle.calendar.specs.declared.week.Period.{Period}
 use Rattle.tariffs.specs.Books.{Book}
 use Rattle.tariffs.specs.Tariffs.{GroupTariff}
+use Rattle.tariffs.specs.GroupPrices.{GroupPrices, prices_in}
+use Rattle.tariffs.specs.declared.group_prices.Side.TheVariants.{Before, After}
 use Rattle.units.specs.declared.blocks.TariffChangeUsage.{TariffChangeUsage}
 use Rattle.units.specs.declared.blocks.TariffChangeUsage.TheVariants.{UnitBeforeTariffChange, UnitAfterTariffChange, UnitIndeterminate}
 use Rattle.units.specs.contracts.blocks.TariffChangeUsagePartialEq.TheImpl.{ghosts as usage}
@@ -69,23 +71,28 @@ is_change = option_eq usage.eq
 abbrev pub units_of : Option TariffChangeUsage → List UsedPart → ℕ
 units_of change parts = sum_by (λ p. if is_change p.change change then p.units.0 else 0) parts
 
-abbrev pub four_parts : Periods → ℕ → ℕ → ℕ → ℕ → List Part
-four_parts p untagged before indeterminate after =
-    part_of p.before untagged ∷ part_of p.before before ∷ part_of p.before indeterminate
-    ∷ part_of p.after after ∷ []
+abbrev pub four_parts : ℕ → ℕ → ℕ → ℕ → List Part
+four_parts untagged before indeterminate after =
+    part_of Before untagged ∷ part_of Before before ∷ part_of Before indeterminate
+    ∷ part_of After after ∷ []
 
 -- a report's parts as they are rated: those without a Tariff-Change-Usage, before the switch, and
 -- on both sides of it by the period at the grant; then those after the switch by the period there
-abbrev pub rated_parts : Periods → List UsedPart → List Part
-rated_parts p parts =
-    four_parts p (units_of None parts) (units_of (Some UnitBeforeTariffChange) parts)
+abbrev pub rated_parts : List UsedPart → List Part
+rated_parts parts =
+    four_parts (units_of None parts) (units_of (Some UnitBeforeTariffChange) parts)
     (units_of (Some UnitIndeterminate) parts) (units_of (Some UnitAfterTariffChange) parts)
+
+-- the prices of a tariff in the periods of a grant
+abbrev pub prices_by : GroupTariff → Periods → GroupPrices
+prices_by t periods = prices_in t periods.before.0 periods.after.0
 
 -- what a report costs after a use so far, from a place of the counter on; a group without a tariff
 -- costs nothing
 abbrev pub rated_with : Option GroupTariff → Periods → ℕ → ℕ → List UsedPart → Rated
 rated_with None periods used place parts = record { amount = record { 0 = 0 }; blocks = 0 }
-rated_with (Some t) periods used place parts = rated_report t used place (rated_parts periods parts)
+rated_with (Some t) periods used place parts =
+    rated_report (prices_by t periods) used place (rated_parts parts)
 
 -- ---- grants
 
@@ -103,4 +110,4 @@ abbrev pub grant_with : Option GroupTariff → Periods → ℕ → ℕ → Optio
 grant_with None periods used place requested funds =
     record { blocks = record { 0 = 0 }; units = record { 0 = 0 }; amount = record { 0 = 0 } }
 grant_with (Some t) periods used place requested funds =
-    grant_of t periods used place (wanted_units t requested) funds
+    grant_of (prices_by t periods) used place (wanted_units t requested) funds

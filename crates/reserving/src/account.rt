@@ -3,6 +3,7 @@ ghost use Rattle.reserving.specs.Ledger.{Ledger, is_barred, is_live as is_live_a
 ghost use Rattle.reserving.specs.Sessions.{is_live_in};
 ghost use Rattle.reserving.specs.Rows.{AccountRows, IsAccount, IsRowsOf};
 ghost use Rattle.reserving.specs.Left.{LeftRows, IsWith};
+ghost use Rattle.reserving.specs.Placed.{ArePlaced};
 
 use crate::advance::is_live;
 use crate::kept_rows::KeptRows;
@@ -23,7 +24,8 @@ pub struct Account<'b> {
 }
 
 impl<'b> Model for Account<'b> {
-    ghost use Rattle.reserving.specs.Rows.{AccountRows, IsAccount};
+    ghost use Rattle.reserving.specs.Rows.{AccountRows};
+    ghost use Rattle.reserving.specs.Placed.{IsPriced};
 
     ghost Value = { AccountRows };
 
@@ -31,7 +33,7 @@ impl<'b> Model for Account<'b> {
 
     ghost view = { rows_of };
 
-    ghost invariant = { λ a. IsAccount (rows_of a) };
+    ghost invariant = { λ a. IsPriced (rows_of a) };
 }
 
 impl<'b> Account<'b> {
@@ -119,6 +121,7 @@ impl<'b> Account<'b> {
     pub fn as_of(&self) -> Moment
         ensures value { result ≡ self.now.as_of }
         ensures kept { IsAccount self.now }
+        ensures placed { ArePlaced self.now.book self.now.groups }
     {
         self.rows.as_of
     }

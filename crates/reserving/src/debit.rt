@@ -16,7 +16,7 @@ use crate::pricing::{Tally, price};
 use crate::settle::{RatedUse, Settled};
 use buckets::{Charged, Holds};
 use identifiers::SessionId;
-use rating::{Periods, Rated};
+use rating::Rated;
 use units::{Amount, Moment, Units};
 
 impl<'b> Account<'b> {
@@ -38,16 +38,12 @@ impl<'b> Account<'b> {
     fn event_price(&self, group: u32, units: Units, moment: Moment) -> Rated
         ensures { result ≡ event_price_in group units.0 moment self.now }
     {
-        let Some(tariff) = self.book.tariff(group) else {
+        let period = self.book.period_at(moment);
+        let Some(prices) = self.book.prices(group, period, period) else {
             return Rated {
                 amount: Amount(0),
                 blocks: 0,
             };
-        };
-        let period = self.book.period_at(moment);
-        let periods = Periods {
-            before: period,
-            after: period,
         };
         let tally = Tally {
             untagged: units.0 as u128,
@@ -55,7 +51,7 @@ impl<'b> Account<'b> {
             indeterminate: 0,
             after: 0,
         };
-        price(tariff, periods, 0, self.place_at(group, moment), &tally)
+        price(&prices, 0, self.place_at(group, moment), &tally)
     }
 
     /// Charges the units of an event at once, where the eligible buckets cover their price whole

@@ -14,6 +14,7 @@ mod grouping;
 mod kept_rows;
 mod laws;
 mod live;
+mod placing;
 mod pricing;
 mod reserve;
 mod session;
@@ -23,7 +24,7 @@ mod stored;
 
 pub use crate::account::Account;
 pub use crate::charge::ChargeRow;
-pub use crate::fault::AccountFault;
+pub use crate::fault::{AccountFault, LoadFault};
 pub use crate::laws::{
     charges_go_on, dead_for_good, going_on, groups_have_sessions, two_advances_are_one,
 };

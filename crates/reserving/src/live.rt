@@ -1,16 +1,19 @@
 //! What of an account's rows may still change.
 
-ghost use Rattle.std.specs.Prelude.{◌≡◌, ◌≤◌, ◌==◌, ◌&&◌, ◌++◌, not, filter, IfOk, is_some};
+ghost use Rattle.std.specs.Prelude.{◌≡◌, ◌≤◌, ◌==◌, ◌&&◌, ◌++◌, not, filter, IfOk, is_some, Err};
 ghost use Rattle.reserving.specs.Pricing.{cycle_at};
 ghost use Rattle.reserving.specs.Sessions.{is_open, session_in, is_counter};
 ghost use Rattle.reserving.specs.Ledger.{Ledger};
 ghost use Rattle.reserving.specs.Rows.{EachIn, AreApart, IsRowsOf};
 ghost use Rattle.reserving.specs.Left.{is_open_row, left_of, IsWith};
 ghost use Rattle.reserving.specs.Live.{is_live_group, live_part, with_counters};
+ghost use Rattle.reserving.specs.Placed.{ArePlaced};
 
 use crate::account::Account;
 use crate::copy::{copy_of_groups, copy_of_purse, copy_of_sessions};
+use crate::fault::LoadFault;
 use crate::kept_rows::KeptRows;
+use crate::placing::are_placed;
 use crate::session::{Counter, Session, SessionGroup, SessionState};
 use crate::stored::StoredAccount;
 use identifiers::SessionId;
@@ -23,12 +26,15 @@ impl StoredAccount {
     /// what is left is dead buckets, sessions that aren't open with their groups, and counters of
     /// other cycles than those at the moment. Further counters, which a store keeps apart, stand
     /// before the account's own.
+    ///
+    /// # Errors
+    /// As of `load`.
     pub fn load_at<'b>(
         &self,
         book: &'b TariffBook,
         moment: Moment,
         others: &[Counter],
-    ) -> Result<Account<'b>, AllocError>
+    ) -> Result<Account<'b>, LoadFault>
         requires apart { AreApart (λ x y. is_counter x.group x.cycle y)
             (others.now ++ self.now.counters) }
         requires counted { EachIn (λ c. c.blocks ≤ 4_000_000_000_000_000_000) others.now }
@@ -38,8 +44,16 @@ impl StoredAccount {
             IsRowsOf ledger (with_counters book.now others.now self.now) →
             IsWith ledger (left_of moment (with_counters book.now others.now self.now)) moment
             account) }
+        ensures placed { IfOk result (λ account. ArePlaced book.now self.now.groups) }
+        ensures other { result ≡ Err LoadFault.OtherBook →
+            ArePlaced book.now self.now.groups → ⊥ }
+        ensures told { (ArePlaced book.now self.now.groups → ⊥) →
+            result ≡ Err LoadFault.OtherBook }
     {
         let _ranges = book.validity();
+        if !are_placed(book, &self.rows.groups) {
+            return Err(LoadFault::OtherBook);
+        }
         let mut purse = copy_of_purse(&self.rows.purse)?;
         purse.drop_dead();
         let rows = KeptRows {

@@ -5,12 +5,12 @@ ghost use Rattle.units.specs.declared.blocks.TariffChangeUsage.TheVariants.{Unit
 ghost use Rattle.calendar.specs.Timetable.{period_at};
 ghost use Rattle.rating.specs.Rated.{part_of, rated_report};
 ghost use Rattle.reserving.specs.Pricing.{reach, switch_at, validity_at, periods_at, is_change, units_of, four_parts, wanted_units};
+ghost use Rattle.reserving.specs.Placed.{AreOfBook};
 ghost use Rattle.reserving.specs.Settlement.{reported};
 ghost use Rattle.reserving.specs.Windows.{AreWindowsOfBooks};
 
-use calendar::Period;
 use rating::{Part, Periods, Rated, rate_report};
-use tariffs::{Tariff, TariffBook};
+use tariffs::{Prices, Side, Tariff, TariffBook};
 use units::{Moment, TariffChangeUsage, Units, UsedPart};
 
 /// The last moment that there is, 43,200 seconds past the last one of commands.
@@ -30,6 +30,7 @@ pub(crate) struct Window {
 /// The validity of a grant of this moment.
 pub(crate) fn window_at(book: &TariffBook, moment: Moment) -> Window
     ensures periods { result.periods ≡ periods_at book.now moment }
+    ensures of_book { AreOfBook book.now result.periods }
     ensures switch { result.switch ≡ switch_at book.now moment }
     ensures validity { result.validity ≡ validity_at book.now moment }
 {
@@ -151,39 +152,33 @@ fn units_in(part: &UsedPart, change: Option<TariffChangeUsage>) -> u64
 }
 
 /// A part of a report, of so many units.
-fn part(period: Period, units: u128) -> Part
+fn part(side: Side, units: u128) -> Part
     requires { units < 2 ^ 64 }
-    ensures { result ≡ part_of period units }
+    ensures { result ≡ part_of side units }
 {
     Part {
-        period,
+        side,
         units: Units(units as u64),
     }
 }
 
-/// What a report costs by its group's tariff, after a use so far and from a place of the counter
-/// on.
-pub(crate) fn price(
-    tariff: &Tariff,
-    periods: Periods,
-    used: u64,
-    place: u64,
-    tally: &Tally,
-) -> Rated
+/// What a report costs by the prices of its group, after a use so far and from a place of the
+/// counter on.
+pub(crate) fn price(prices: &Prices, used: u64, place: u64, tally: &Tally) -> Rated
     requires { tally.now.untagged + tally.now.before + tally.now.indeterminate + tally.now.after
         < 2 ^ 64 }
     ensures { result
-        ≡ rated_report tariff.now used place
-        (four_parts periods tally.now.untagged tally.now.before tally.now.indeterminate
+        ≡ rated_report prices.now used place
+        (four_parts tally.now.untagged tally.now.before tally.now.indeterminate
         tally.now.after) }
 {
     let parts = [
-        part(periods.before, tally.untagged),
-        part(periods.before, tally.before),
-        part(periods.before, tally.indeterminate),
-        part(periods.after, tally.after),
+        part(Side::Before, tally.untagged),
+        part(Side::Before, tally.before),
+        part(Side::Before, tally.indeterminate),
+        part(Side::After, tally.after),
     ];
-    rate_report(tariff, Units(used), place, &parts)
+    rate_report(prices, Units(used), place, &parts)
 }
 
 /// The units that are wanted of a group: what is requested, or its slice, and never more than its

@@ -8,6 +8,7 @@ ghost use Rattle.reserving.specs.Quotas.{IsQuota};
 ghost use Rattle.reserving.specs.Changes.{advanced, used_in, count_in, reserved_account};
 ghost use Rattle.reserving.specs.Prepared.{with_group_row, reservation_in};
 ghost use Rattle.reserving.specs.Rows.{IsAccount, IsRowsOf};
+ghost use Rattle.reserving.specs.Placed.{AreOfBook};
 ghost use Rattle.reserving.specs.Left.{LeftRows, joined, IsBeside, IsWith};
 ghost use Rattle.reserving.specs.Results.{GivesGrant, IsWithinGrant};
 
@@ -18,7 +19,6 @@ use crate::pricing::{wanted_of, window_at};
 use buckets::HoldRoom;
 use identifiers::SessionId;
 use rating::{Grant, Periods, greatest_grant};
-use tariffs::Tariff;
 use units::{Amount, Blocks, Moment, Units};
 
 /// What is granted of a wanted amount (Granted-Service-Unit, RFC 8506 section 8.17).
@@ -136,7 +136,8 @@ impl<'b> Account<'b> {
         periods: Periods,
         moment: Moment,
     ) -> Quota
-        requires { self.now.as_of ≤ moment }
+        requires moment { self.now.as_of ≤ moment }
+        requires of_book { AreOfBook self.now.book periods }
         ensures account { IsAccount self.now }
         ensures quota { IsQuota self.now.book (used_in session.now group self.now.groups) group
             (option_map (λ u. u.0) requested) periods
@@ -156,18 +157,19 @@ impl<'b> Account<'b> {
         periods: Periods,
         moment: Moment,
     ) -> Quota
-        requires { self.now.as_of ≤ moment }
+        requires moment { self.now.as_of ≤ moment }
+        requires of_book { AreOfBook self.now.book periods }
         ensures { IsQuota self.now.book used group (option_map (λ u. u.0) requested) periods
             (count_in group (cycle_at self.now.book group moment) self.now.counters)
             (funds group moment (advanced moment self.now).buckets) result.wanted result.grant }
     {
-        let Some(tariff) = self.book.tariff(group) else {
+        let Some(prices) = self.book.prices(group, periods.before, periods.after) else {
             return Quota::none();
         };
-        let wanted = wanted_of(tariff, requested);
+        let wanted = wanted_of(prices.tariff(), requested);
         let place = self.place_at(group, moment);
         let funds = self.funds(group, moment);
-        let grant = greatest_grant(tariff, periods, Units(used), place, Units(wanted), funds);
+        let grant = greatest_grant(&prices, Units(used), place, Units(wanted), funds);
         Quota { wanted, grant }
     }
 
@@ -199,6 +201,8 @@ impl<'b> Account<'b> {
         amount: Amount,
     )
         requires periods { periods ≡ periods_at self.old.book self.old.as_of }
+        requires of_book { AreOfBook self.old.book periods }
+        requires tariff { is_some (tariff_of self.old.book group) ≡ true }
         requires there { is_some (group_in session.now group self.old.groups) ≡ true }
         requires free { reservation_in session.now group self.old.groups ≡ None }
         requires room { length self.old.buckets ≤ room }

@@ -47,6 +47,7 @@ impl<'b> Account<'b> {
     ghost use Rattle.reserving.specs.Sessions.{is_live_in};
     ghost use Rattle.reserving.specs.Settlement.{reported, price_of, passes, passes_limit, passes_after, settled_by};
     ghost use Rattle.reserving.specs.Rows.{IsAccount, IsRowsOf};
+    ghost use Rattle.reserving.specs.Placed.{AreOfBook};
     ghost use Rattle.reserving.specs.Left.{LeftRows, IsWith};
     ghost use Rattle.reserving.specs.Results.{IsSettlementOf};
     ghost use Rattle.buckets.specs.Holding.{uncollected};
@@ -287,21 +288,22 @@ impl<'b> Account<'b> {
             result ≡ price_of self.now.book moment group
             (periods_in session.now group self.now.groups) used place parts }
     {
-        let Some(tariff) = self.book.tariff(group) else {
+        let periods = self.periods(session, group, moment);
+        let Some(prices) = self.book.prices(group, periods.before, periods.after) else {
             return Rated {
                 amount: Amount(0),
                 blocks: 0,
             };
         };
-        let periods = self.periods(session, group, moment);
-        price(tariff, periods, used, place, tally)
+        price(&prices, used, place, tally)
     }
 
     /// The periods that price a report: those of its grant, or the period at the moment.
     fn periods(&self, session: &SessionId, group: u32, moment: Moment) -> Periods
-        ensures { result
+        ensures value { result
             ≡ unwrap_or (periods_in session.now group self.now.groups)
             (one_period (period_at self.now.book.calendar moment)) }
+        ensures of_book { AreOfBook self.now.book result }
     {
         match grouping::periods_of(&self.rows.groups, session, group) {
             Some(periods) => periods,

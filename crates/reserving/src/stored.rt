@@ -1,11 +1,13 @@
-ghost use Rattle.std.specs.Prelude.{◌≡◌, IfOk};
+ghost use Rattle.std.specs.Prelude.{◌≡◌, IfOk, Err};
+ghost use Rattle.reserving.specs.Placed.{ArePlaced};
 ghost use Rattle.reserving.specs.Stored.{StoredRows, IsStored, priced, stored, advanced_stored};
 
 use crate::account::Account;
+use crate::fault::LoadFault;
 use crate::kept_rows::KeptRows;
+use crate::placing::are_placed;
 use crate::session::{Counter, Session, SessionGroup};
 use buckets::Purse;
-use std::alloc::AllocError;
 use std::marker::Model;
 use tariffs::TariffBook;
 use units::Moment;
@@ -89,10 +91,22 @@ impl StoredAccount {
     }
 
     /// A copy of the rows as an account that the book prices.
-    pub fn load<'b>(&self, book: &'b TariffBook) -> Result<Account<'b>, AllocError>
-        ensures { IfOk result (λ account. account ≡ priced book.now self.now) }
+    ///
+    /// # Errors
+    /// `OtherBook` exactly where a reservation has no prices in the book: its group or one of its
+    /// periods isn't the book's. Else `Memory`.
+    pub fn load<'b>(&self, book: &'b TariffBook) -> Result<Account<'b>, LoadFault>
+        ensures rows { IfOk result (λ account. account ≡ priced book.now self.now) }
+        ensures placed { IfOk result (λ account. ArePlaced book.now self.now.groups) }
+        ensures other { result ≡ Err LoadFault.OtherBook →
+            ArePlaced book.now self.now.groups → ⊥ }
+        ensures told { (ArePlaced book.now self.now.groups → ⊥) →
+            result ≡ Err LoadFault.OtherBook }
     {
         let _ranges = book.validity();
+        if !are_placed(book, &self.rows.groups) {
+            return Err(LoadFault::OtherBook);
+        }
         let rows = self.rows.copy()?;
         Ok(Account { book, rows })
     }

@@ -8,3 +8,6 @@ pub mod GroupFields
 pub mod Books
 pub mod TariffInside
 pub mod BookInside
+pub mod GroupPrices
+pub mod PricesInside
+pub mod BookPrices

@@ -1,4 +1,4 @@
-ghost use Rattle.std.specs.Prelude.{◌≡◌, ◌≢◌, ◌==◌, ℕ, ◌+◌, ◌*◌, ◌<◌, ◌≤◌, pos, ◌+ℤ◌, ◌*ℤ◌, length, find, slice_get, option_copied, IfOk, IfErr, IfSome, IfNone, Ok, Err};
+ghost use Rattle.std.specs.Prelude.{◌≡◌, ◌≢◌, ◌==◌, ℕ, ◌+◌, ◌*◌, ◌<◌, ◌≤◌, nat_lt, pos, ◌+ℤ◌, ◌*ℤ◌, length, find, slice_get, option_copied, IfOk, IfErr, IfSome, IfNone, Ok, Err};
 ghost use Rattle.toml.specs.Data.{Members};
 ghost use Rattle.toml.specs.View.{table_view};
 ghost use Rattle.calendar.specs.Timetable.{period_at, IsEntryAt, IsChange, switch_within, validity_from, cycle_of, day_end, IsDayEnd};
@@ -11,7 +11,10 @@ ghost use Rattle.book_fields.specs.Faults.{Gives};
 ghost use Rattle.tariffs.specs.Names.{period_named};
 ghost use Rattle.tariffs.specs.Tariffs.{IsTariff};
 ghost use Rattle.tariffs.specs.Books.{Book, IsBook, IsDocument, book_of};
+ghost use Rattle.tariffs.specs.GroupPrices.{GroupPrices};
+ghost use Rattle.tariffs.specs.BookPrices.{prices_at, ArePricesOf};
 
+use crate::group_prices::Prices;
 use crate::names::PeriodNames;
 use crate::tariff::Tariff;
 use crate::{group_fields, week_fields};
@@ -129,6 +132,29 @@ impl TariffBook {
             }
         }
         None
+    }
+
+    /// Whether a period is one of the book's.
+    pub fn has_period(&self, period: Period) -> bool
+        ensures { result ≡ nat_lt period.0 (length self.now.periods) }
+    {
+        usize::from(period.0) < self.periods.count()
+    }
+
+    /// The prices of a rating group in two periods, that before a tariff switch and that after it
+    /// (without a switch the same): the tiers of both, from this book's tariff of the group. None
+    /// for a group that the book doesn't have, and where a period isn't the book's.
+    pub fn prices(&self, group: u32, before: Period, after: Period) -> Option<Prices<'_>>
+        ensures value { result ≡ prices_at self.now group before.0 after.0 }
+        ensures found { IfSome result (ArePricesOf self.now group before.0 after.0) }
+        ensures none { IfNone result
+            ((p : GroupPrices) → ArePricesOf self.now group before.0 after.0 p → ⊥) }
+    {
+        if !self.has_period(before) || !self.has_period(after) {
+            return None;
+        }
+        let tariff = self.tariff(group)?;
+        Some(Prices::new(tariff, before, after))
     }
 
     /// The name of a period; None for one that the book doesn't have.

@@ -5,6 +5,7 @@
 mod book;
 mod final_action;
 mod group_fields;
+mod group_prices;
 mod names;
 mod price_fields;
 mod tariff;
@@ -13,6 +14,7 @@ mod week_fields;
 
 pub use crate::book::TariffBook;
 pub use crate::final_action::FinalAction;
+pub use crate::group_prices::{Prices, Side};
 pub use crate::price_fields::priced_once;
 pub use crate::tariff::Tariff;
 pub use crate::tiers::Tier;

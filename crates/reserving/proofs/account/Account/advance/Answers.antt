@@ -3,16 +3,17 @@ use Rattle.reserving.specs.Rows.{IsAccount, IsRowsOf}
 use Rattle.reserving.specs.Changes.{advanced}
 use Rattle.reserving.specs.Stored.{priced}
 use Rattle.reserving.proofs.Advancing.{IsRowsOf-advanced}
-use Rattle.reserving.proofs.Advanced.{IsAccount-advanced}
 use Rattle.reserving.specs.Left.{IsWith}
 use Rattle.reserving.proofs.LeftMore.{with_advanced}
 use Rattle.reserving.specs.Inside.{rows_of}
+use Rattle.reserving.specs.Placed.{IsPriced}
+use Rattle.reserving.proofs.kept.Placed.{IsPriced-advanced}
 use Rattle.reserving.proofs.account.Account.advance.Goals as goal
 
 pub invariant_of-self : goal.invariant_of-self
 invariant_of-self c =
-    subst IsAccount (sym (ap (priced c.self.inside.book.now) c.advance.ensures.rows))
-    (IsAccount-advanced (rows_of c.self.inside) c.args.moment c.self.invariant)
+    subst IsPriced (sym (ap (priced c.self.inside.book.now) c.advance.ensures.rows))
+    (IsPriced-advanced (rows_of c.self.inside) c.args.moment c.self.invariant)
 
 pub returns-clause-rows : goal.returns-clause-rows
 returns-clause-rows c =
@@ -21,7 +22,7 @@ returns-clause-rows c =
 
 pub returns-clause-ledger : goal.returns-clause-ledger
 returns-clause-ledger c = λ ledger rows.
-    let account : IsAccount c.args.self.now = subst IsAccount c.self.view_is c.self.invariant in
+    let account : IsAccount c.args.self.now = (subst IsPriced c.self.view_is c.self.invariant).account in
     subst (IsRowsOf ledger) (sym (returns-clause-rows c))
     (IsRowsOf-advanced ledger c.args.self.now c.args.moment account rows c.requires)
 

@@ -1,11 +1,13 @@
 use Rattle.std.proofs.Common.{◌≤◌, ◌+◌, sym, ap, subst, ◌∙◌}
 use Rattle.buckets.specs.Holding.{IsWithin}
 use Rattle.reserving.specs.Pricing.{cycle_at}
-use Rattle.reserving.specs.Rows.{AccountRows, IsAccount}
+use Rattle.reserving.specs.Rows.{AccountRows}
 use Rattle.reserving.specs.Changes.{count_in, debited_account}
-use Rattle.reserving.proofs.kept.Debited.{within_none, IsAccount-debited}
+use Rattle.reserving.proofs.kept.Debited.{within_none}
 use Rattle.reserving.proofs.calls.Debited.{debited_parts}
 use Rattle.reserving.specs.Inside.{rows_of}
+use Rattle.reserving.specs.Placed.{IsPriced}
+use Rattle.reserving.proofs.kept.Placed.{IsPriced-debited}
 use Rattle.reserving.proofs.account.Account.charge_use.Goals as goal
 
 pub settle-charged-requires : goal.settle-charged-requires
@@ -17,7 +19,7 @@ pub invariant_of-self : goal.invariant_of-self
 invariant_of-self c =
     let a : AccountRows = rows_of c.self.inside in
     let now : AccountRows = c.args.self.now in
-    subst IsAccount
+    subst IsPriced
     (sym (debited_parts a c.args.session.now c.args.group c.args.cycle c.args.rated.units.0
     c.args.rated.blocks.0 c.args.rated.amount.0 c.none-none_held.result
     c.settle-charged.new.self c.count_blocks.new.counters.items c.count_units.new.groups.items
@@ -27,8 +29,8 @@ invariant_of-self c =
     c.count_units.ensures
     ∙ ap (debited_account c.args.session.now c.args.group c.args.rated.units.0 c.args.rated.blocks.0
     c.args.rated.amount.0) c.self.view_is))
-    (IsAccount-debited now c.args.session.now c.args.group c.args.rated.units.0
+    (IsPriced-debited now c.args.session.now c.args.group c.args.rated.units.0
     c.args.rated.blocks.0 c.args.rated.amount.0 c.requires.used
     (subst (λ x. count_in c.args.group x now.counters + c.args.rated.blocks.0 ≤ 4000000000000000000)
     c.requires.cycle c.requires.counted) c.requires.charges
-    (subst IsAccount c.self.view_is c.self.invariant))
+    (subst IsPriced c.self.view_is c.self.invariant))

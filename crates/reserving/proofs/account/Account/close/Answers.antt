@@ -1,24 +1,26 @@
 use Rattle.std.proofs.Common.{◌≡◌, sym, ap, ◌∙◌, subst, true}
 use Rattle.std.specs.Prelude.{not}
 use Rattle.reserving.specs.Ledger.{is_live}
-use Rattle.reserving.specs.Rows.{AccountRows, IsAccount, IsRowsOf}
+use Rattle.reserving.specs.Rows.{AccountRows, IsRowsOf}
 use Rattle.reserving.specs.Requests.{closed}
 use Rattle.reserving.specs.Changes.{advanced, closed_account, is_other, lapsed_rows}
 use Rattle.reserving.proofs.Advancing.{is_live_in-is}
 use Rattle.reserving.proofs.rows.Lapsing.{lapsable_of}
 use Rattle.reserving.proofs.rows.Closing.{IsRowsOf-closed}
-use Rattle.reserving.proofs.kept.Sessions.{IsAccount-closed, closed-parts}
+use Rattle.reserving.proofs.kept.Sessions.{closed-parts}
 use Rattle.reserving.specs.Left.{IsWith}
 use Rattle.reserving.specs.Sessions.{is_live_in}
 use Rattle.reserving.proofs.left.Settled.{live_later}
 use Rattle.reserving.proofs.left.Sessions.{with_closed}
 use Rattle.reserving.specs.Inside.{rows_of}
+use Rattle.reserving.specs.Placed.{IsPriced}
+use Rattle.reserving.proofs.kept.Placed.{IsPriced-closed}
 use Rattle.reserving.proofs.account.Account.close.Goals as goal
 
 pub close_groups-requires : goal.close_groups-requires
 close_groups-requires c =
     lapsable_of (λ s. not (is_other c.args.session.now s)) c.self.inside.rows.groups.items
-    c.self.inside.rows.purse c.self.invariant.held
+    c.self.inside.rows.purse c.self.invariant.account.held
 
 -- the account after time went on
 advanced_is : (c : goal.After-close_session) →
@@ -44,13 +46,13 @@ after_is c =
     moment : c.args.moment ≡ c.self.inside.rows.as_of
     moment = sym (ap (λ (a : AccountRows). a.as_of) (advanced_is c))
 
-account_of : (c : goal.After-close_session) → IsAccount (advanced c.args.moment c.args.self.now)
-account_of c = subst IsAccount (advanced_is c) c.self.invariant
+account_of : (c : goal.After-close_session) → IsPriced (advanced c.args.moment c.args.self.now)
+account_of c = subst IsPriced (advanced_is c) c.self.invariant
 
 pub invariant_of-self : goal.invariant_of-self
 invariant_of-self c =
-    subst IsAccount (sym (after_is c))
-    (IsAccount-closed (advanced c.args.moment c.args.self.now) c.args.session.now (account_of c))
+    subst IsPriced (sym (after_is c))
+    (IsPriced-closed (advanced c.args.moment c.args.self.now) c.args.session.now (account_of c))
 
 pub returns-clause-rows : goal.returns-clause-rows
 returns-clause-rows c = after_is c
@@ -65,7 +67,7 @@ returns-clause-ledger c = λ ledger rows.
     c.requires.later) ∙ c.requires.live in
     subst (IsRowsOf (closed c.args.moment c.args.session.now ledger)) (sym (after_is c))
     (IsRowsOf-closed ledger (advanced c.args.moment c.args.self.now) c.args.session.now
-    (account_of c) later live)
+    (account_of c).account later live)
 
 pub returns-clause-left : goal.returns-clause-left
 returns-clause-left c = λ ledger left h.

@@ -1,10 +1,11 @@
 use Rattle.std.proofs.Common.{◌≡◌, ◌≤◌, ◌+◌, sym, ap, ◌∙◌, subst, arith}
 use Rattle.buckets.specs.Row.{new_row}
 use Rattle.buckets.specs.Spend.{inserted}
-use Rattle.reserving.specs.Rows.{AccountRows, IsAccount}
+use Rattle.reserving.specs.Rows.{AccountRows}
 use Rattle.reserving.specs.Changes.{credited_account}
-use Rattle.reserving.proofs.Crediting.{IsAccount-credited}
 use Rattle.reserving.specs.Inside.{rows_of}
+use Rattle.reserving.specs.Placed.{IsPriced}
+use Rattle.reserving.proofs.kept.Placed.{IsPriced-credited}
 use Rattle.reserving.proofs.account.Account.credit_now.Goals as goal
 
 after_is : (c : goal.After-self-1) →
@@ -30,8 +31,8 @@ invariant_of-self-2 c =
     let le : c.self.inside.rows.next_bucket ≤ 4294967295 = omega (arith, c.in-Ok.ensures.0) in
     let most : c.args.amount ≤ 1000000000000000 =
     omega (arith, c.micros-in_range.ensures.value, c.micros-in_range.ensures.in_range) in
-    subst IsAccount (sym (after_is c))
-    (IsAccount-credited (rows_of c.self.inside) c.args.from c.args.until c.args.scope
+    subst IsPriced (sym (after_is c))
+    (IsPriced-credited (rows_of c.self.inside) c.args.from c.args.until c.args.scope
     c.args.amount le most c.self.invariant)
 
 pub returns-clause-rows : goal.returns-clause-rows
@@ -40,4 +41,4 @@ returns-clause-rows c =
     ∙ ap (credited_account c.args.from c.args.until c.args.scope c.args.amount) c.self.view_is
 
 pub returns-clause-account : goal.returns-clause-account
-returns-clause-account c = subst IsAccount c.self.view_is c.self.invariant
+returns-clause-account c = (subst IsPriced c.self.view_is c.self.invariant).account

@@ -8,6 +8,7 @@ use Rattle.reserving.specs.Changes.{advanced, lapsed_in, funds_later}
 use Rattle.reserving.proofs.rows.LaterFunds.{funds_later-is}
 use Rattle.reserving.proofs.Advancing.{IsRowsOf-advanced}
 use Rattle.reserving.proofs.LeftReadings.{funds_told}
+use Rattle.reserving.specs.Placed.{IsPriced}
 use Rattle.reserving.proofs.account.Account.funds.Goals as goal
 
 pub returns-clause-rows : goal.returns-clause-rows
@@ -31,7 +32,7 @@ returns-clause-rows c =
 
 pub returns-clause-ledger : goal.returns-clause-ledger
 returns-clause-ledger c = λ ledger rows.
-    let account : IsAccount c.args.self.now = subst IsAccount c.self.view_is c.self.invariant in
+    let account : IsAccount c.args.self.now = (subst IsPriced c.self.view_is c.self.invariant).account in
     returns-clause-rows c
     ∙ ap (funds c.args.group c.args.moment)
     (IsRowsOf-advanced ledger c.args.self.now c.args.moment account rows c.requires).buckets

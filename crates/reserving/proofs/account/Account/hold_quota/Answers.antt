@@ -1,11 +1,13 @@
-use Rattle.std.proofs.Common.{◌≡◌, None, sym, ap, subst, ◌∙◌}
-use Rattle.reserving.specs.Pricing.{periods_at}
-use Rattle.reserving.specs.Rows.{AccountRows, IsAccount}
+use Rattle.std.proofs.Common.{◌≡◌, true, None, sym, ap, subst, ◌∙◌}
+use Rattle.std.specs.Prelude.{is_some}
+use Rattle.reserving.specs.Pricing.{tariff_of, periods_at}
+use Rattle.reserving.specs.Rows.{AccountRows}
 use Rattle.reserving.specs.Changes.{reserved_account}
 use Rattle.reserving.specs.Prepared.{reservation_in}
-use Rattle.reserving.proofs.rows.Reserved.{IsAccount-reserved}
 use Rattle.reserving.proofs.ReservedCall.{reserved_parts}
 use Rattle.reserving.specs.Inside.{rows_of}
+use Rattle.reserving.specs.Placed.{AreOfBook, IsPriced}
+use Rattle.reserving.proofs.kept.Placed.{IsPriced-reserved}
 use Rattle.reserving.proofs.account.Account.hold_quota.Goals as goal
 
 pub invariant_of-self : goal.invariant_of-self
@@ -17,11 +19,18 @@ invariant_of-self c =
     let periods : c.args.periods ≡ periods_at a.book a.as_of =
     subst (λ (x : AccountRows). c.args.periods ≡ periods_at x.book x.as_of) (sym c.self.view_is)
     c.requires.periods in
-    subst IsAccount
+    let same : AreOfBook a.book c.args.periods =
+    subst (λ (x : AccountRows). AreOfBook x.book c.args.periods) (sym c.self.view_is)
+    c.requires.of_book in
+    let some : is_some (tariff_of a.book c.args.group) ≡ true =
+    subst (λ (x : AccountRows). is_some (tariff_of x.book c.args.group) ≡ true)
+    (sym c.self.view_is) c.requires.tariff in
+    subst IsPriced
     (sym (reserved_parts a c.args.session.now c.args.group c.args.amount.0 c.args.periods
     c.hold_in-holds.result c.hold_in-holds.new.self c.reserve_group.new.groups.items periods
     c.hold_in-holds.ensures.rows c.hold_in-holds.ensures.holds c.reserve_group.ensures))
-    (IsAccount-reserved a c.args.session.now c.args.group c.args.amount.0 none c.self.invariant)
+    (IsPriced-reserved a c.args.session.now c.args.group c.args.amount.0 none
+    (subst (AreOfBook a.book) periods same) some c.self.invariant)
 
 pub returns : goal.returns
 returns c =

@@ -1,8 +1,9 @@
 use Rattle.std.proofs.Common.{◌≡◌, sym, ap, subst, ◌∙◌}
-use Rattle.reserving.specs.Rows.{AccountRows, IsAccount}
+use Rattle.reserving.specs.Rows.{AccountRows}
 use Rattle.reserving.specs.Prepared.{with_counter}
-use Rattle.reserving.proofs.kept.Settled.{IsAccount-with_rows}
 use Rattle.reserving.specs.Inside.{rows_of}
+use Rattle.reserving.specs.Placed.{IsPriced}
+use Rattle.reserving.proofs.kept.Placed.{IsPriced-with_rows}
 use Rattle.reserving.proofs.account.Account.make_rows.Goals as goal
 
 pub invariant_of-self-2 : goal.invariant_of-self-2
@@ -12,6 +13,6 @@ invariant_of-self-2 c =
     ≡ with_counter c.args.group c.args.cycle a.counters =
     c.add_counter.ensures
     ∙ ap (with_counter c.args.group c.args.cycle) c.in_ok-reserve.ensures.items in
-    subst IsAccount
+    subst IsPriced
     (λ i. record a { counters = sym counters i; groups = sym c.in_ok-add_group.ensures.ok i })
-    (IsAccount-with_rows a c.args.session.now c.args.group c.args.cycle c.self.invariant)
+    (IsPriced-with_rows a c.args.session.now c.args.group c.args.cycle c.self.invariant)

@@ -4,11 +4,12 @@ use Rattle.reserving.specs.Requests.{touched}
 use Rattle.reserving.proofs.rows.Touching.{IsRowsOf-opened}
 use Rattle.reserving.specs.Left.{IsWith}
 use Rattle.reserving.proofs.left.Sessions.{with_opened}
+use Rattle.reserving.specs.Placed.{IsPriced}
 use Rattle.reserving.proofs.account.Account.open.Goals as goal
 
 pub returns-clause-ledger : goal.returns-clause-ledger
 returns-clause-ledger c = λ ledger rows.
-    let account : IsAccount c.args.self.now = subst IsAccount c.self.view_is c.self.invariant in
+    let account : IsAccount c.args.self.now = (subst IsPriced c.self.view_is c.self.invariant).account in
     let some : 0 < c.args.self.now.book.validity = omega (arith, account.book.some_validity) in
     c.advance.ensures.ledger (touched c.args.moment c.args.session.now c.args.number ledger)
     (subst (IsRowsOf (touched c.args.moment c.args.session.now c.args.number ledger))
@@ -18,7 +19,7 @@ returns-clause-ledger c = λ ledger rows.
 
 pub returns-clause-left : goal.returns-clause-left
 returns-clause-left c = λ ledger left gone h.
-    let account : IsAccount c.args.self.now = subst IsAccount c.self.view_is c.self.invariant in
+    let account : IsAccount c.args.self.now = (subst IsPriced c.self.view_is c.self.invariant).account in
     let some : 0 < c.args.self.now.book.validity = omega (arith, account.book.some_validity) in
     c.advance.ensures.left (touched c.args.moment c.args.session.now c.args.number ledger) left
     (subst (IsWith (touched c.args.moment c.args.session.now c.args.number ledger) left

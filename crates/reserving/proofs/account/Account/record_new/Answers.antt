@@ -1,10 +1,12 @@
 use Rattle.std.proofs.Common.{◌≡◌, ◌∷◌, ◌++◌, [], sym, ap, ◌∙◌, subst, None}
 use Rattle.reserving.specs.declared.session.Session.{Session}
 use Rattle.reserving.specs.Sessions.{is_session, session_in}
-use Rattle.reserving.specs.Rows.{AccountRows, IsAccount}
+use Rattle.reserving.specs.Rows.{AccountRows}
 use Rattle.reserving.specs.Changes.{with_session}
-use Rattle.reserving.proofs.kept.Sessions.{put_new, IsAccount-with_session}
+use Rattle.reserving.proofs.kept.Sessions.{put_new}
 use Rattle.reserving.specs.Inside.{rows_of}
+use Rattle.reserving.specs.Placed.{IsPriced}
+use Rattle.reserving.proofs.kept.Placed.{IsPriced-with_session}
 use Rattle.reserving.proofs.account.Account.record_new.Goals as goal
 
 abbrev new_row : (c : goal.After-push_reserved) → Session
@@ -53,8 +55,8 @@ after_is c = λ i. record (rows_of c.self.inside) { sessions = sessions_are c i 
 
 pub invariant_of-self-2 : goal.invariant_of-self-2
 invariant_of-self-2 c =
-    subst IsAccount (sym (after_is c))
-    (IsAccount-with_session (rows_of c.self.inside) c.args.session.now c.args.number
+    subst IsPriced (sym (after_is c))
+    (IsPriced-with_session (rows_of c.self.inside) c.args.session.now c.args.number
     c.args.moment c.args.state (is_new c) c.self.invariant)
 
 pub returns-clause-rows : goal.returns-clause-rows

@@ -1,24 +1,26 @@
 use Rattle.std.proofs.Common.{◌≤◌, ◌+◌, sym, ap, subst, ◌∙◌}
 use Rattle.buckets.specs.Holding.{IsWithin}
 use Rattle.reserving.specs.Pricing.{cycle_at}
-use Rattle.reserving.specs.Rows.{AccountRows, IsAccount}
+use Rattle.reserving.specs.Rows.{AccountRows}
 use Rattle.reserving.specs.Changes.{count_in, settled_account}
-use Rattle.reserving.proofs.kept.Settled.{within_of, IsAccount-settled}
+use Rattle.reserving.proofs.kept.Settled.{within_of}
 use Rattle.reserving.proofs.calls.RowParts.{settled_parts}
 use Rattle.reserving.specs.Inside.{rows_of}
+use Rattle.reserving.specs.Placed.{IsPriced}
+use Rattle.reserving.proofs.kept.Placed.{IsPriced-settled}
 use Rattle.reserving.proofs.account.Account.settle_use.Goals as goal
 
 pub settle-charged-requires : goal.settle-charged-requires
 settle-charged-requires c =
     subst (λ h. IsWithin h c.self.inside.rows.purse) (sym c.use_group-holds.ensures.holds)
     (within_of c.args.session.now c.args.group c.self.inside.rows.groups.items
-    c.self.inside.rows.purse c.self.invariant.held)
+    c.self.inside.rows.purse c.self.invariant.account.held)
 
 pub invariant_of-self : goal.invariant_of-self
 invariant_of-self c =
     let a : AccountRows = rows_of c.self.inside in
     let now : AccountRows = c.args.self.now in
-    subst IsAccount
+    subst IsPriced
     (sym (settled_parts a c.args.session.now c.args.group c.args.cycle c.args.rated.units.0
     c.args.rated.blocks.0 c.args.rated.amount.0 c.use_group-holds.result
     c.settle-charged.new.self c.count_blocks.new.counters.items
@@ -29,8 +31,8 @@ invariant_of-self c =
     c.use_group-holds.ensures.groups
     ∙ ap (settled_account c.args.session.now c.args.group c.args.rated.units.0 c.args.rated.blocks.0
     c.args.rated.amount.0) c.self.view_is))
-    (IsAccount-settled now c.args.session.now c.args.group c.args.rated.units.0
+    (IsPriced-settled now c.args.session.now c.args.group c.args.rated.units.0
     c.args.rated.blocks.0 c.args.rated.amount.0 c.requires.used
     (subst (λ x. count_in c.args.group x now.counters + c.args.rated.blocks.0 ≤ 4000000000000000000)
     c.requires.cycle c.requires.counted) c.requires.charges
-    (subst IsAccount c.self.view_is c.self.invariant))
+    (subst IsPriced c.self.view_is c.self.invariant))

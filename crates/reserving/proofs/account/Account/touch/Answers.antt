@@ -1,16 +1,17 @@
 use Rattle.std.proofs.Common.{◌≡◌, map, sym, ap, ◌∙◌, subst, arith, ◌<◌, true}
 use Rattle.reserving.specs.Ledger.{is_live}
-use Rattle.reserving.specs.Rows.{AccountRows, IsAccount, IsRowsOf}
+use Rattle.reserving.specs.Rows.{AccountRows, IsRowsOf}
 use Rattle.reserving.specs.Requests.{touched}
 use Rattle.reserving.specs.Changes.{advanced, touched_account, touched_session}
 use Rattle.reserving.proofs.Advancing.{is_live_in-is}
 use Rattle.reserving.proofs.rows.Closing.{IsRowsOf-touched}
-use Rattle.reserving.proofs.kept.Sessions.{IsAccount-touched}
 use Rattle.reserving.specs.Left.{IsWith}
 use Rattle.reserving.specs.Sessions.{is_live_in}
 use Rattle.reserving.proofs.left.Settled.{live_later}
 use Rattle.reserving.proofs.left.Sessions.{with_touched}
 use Rattle.reserving.specs.Inside.{rows_of}
+use Rattle.reserving.specs.Placed.{IsPriced}
+use Rattle.reserving.proofs.kept.Placed.{IsPriced-touched}
 use Rattle.reserving.proofs.account.Account.touch.Goals as goal
 
 -- the account after time went on
@@ -35,10 +36,10 @@ after_is c =
 
 pub invariant_of-self : goal.invariant_of-self
 invariant_of-self c =
-    let account : IsAccount (advanced c.args.moment c.args.self.now) =
-    subst IsAccount (advanced_is c) c.self.invariant in
-    subst IsAccount (sym (after_is c))
-    (IsAccount-touched (advanced c.args.moment c.args.self.now) c.args.session.now c.args.number
+    let account : IsPriced (advanced c.args.moment c.args.self.now) =
+    subst IsPriced (advanced_is c) c.self.invariant in
+    subst IsPriced (sym (after_is c))
+    (IsPriced-touched (advanced c.args.moment c.args.self.now) c.args.session.now c.args.number
     account)
 
 pub returns-clause-rows : goal.returns-clause-rows
@@ -46,9 +47,9 @@ returns-clause-rows c = after_is c
 
 positive : (c : goal.After-touch_session) → 0 < c.args.self.now.book.validity
 positive c =
-    let account : IsAccount (advanced c.args.moment c.args.self.now) =
-    subst IsAccount (advanced_is c) c.self.invariant in
-    omega (arith, account.book.some_validity)
+    let account : IsPriced (advanced c.args.moment c.args.self.now) =
+    subst IsPriced (advanced_is c) c.self.invariant in
+    omega (arith, account.account.book.some_validity)
 
 pub returns-clause-ledger : goal.returns-clause-ledger
 returns-clause-ledger c = λ ledger rows.

@@ -7,9 +7,10 @@ use Rattle.buckets.specs.Spend.{funds}
 use Rattle.reserving.specs.Pricing.{periods_at, cycle_at}
 use Rattle.reserving.specs.Quotas.{IsQuota}
 use Rattle.reserving.specs.Changes.{advanced, count_in}
-use Rattle.reserving.specs.Rows.{AccountRows, IsAccount}
+use Rattle.reserving.specs.Rows.{AccountRows}
 use Rattle.reserving.proofs.ReservedCall.{new_told}
 use Rattle.reserving.proofs.LeftReadings.{new_told_beside}
+use Rattle.reserving.specs.Placed.{IsPriced}
 use Rattle.reserving.proofs.account.Account.would_grant.Goals as goal
 
 -- the quota that was reckoned with the window's periods
@@ -33,7 +34,7 @@ returns-clause-ledger c = λ ledger rows.
     ∙ ap (λ (x : AccountRows). periods_at x.book c.args.moment) c.self.view_is in
     ap (λ (x : Grant). nat_lt 0 x.units.0)
     (new_told ledger a c.args.group c.args.moment requested c.quota_after-quota.result.wanted grant
-    (subst IsAccount c.self.view_is c.self.invariant) rows c.requires
+    (subst IsPriced c.self.view_is c.self.invariant).account rows c.requires
     (quota_is a c.args.group c.args.moment requested c.quota_after-quota.result.wanted grant
     c.window_at.result.periods periods c.quota_after-quota.ensures))
 

@@ -1,0 +1,292 @@
+-- The periods of each reservation stay the book's, whatever a call makes of the rows.
+use Rattle.std.proofs.Common.{◌≡◌, ℕ, ◌+◌, ◌≤◌, ◌<◌, Bool, true, false, cond, List, [], ◌∷◌, ◌++◌, map, refl, sym, ap, subst, ◌∙◌, arith, Option, Some, None}
+use Rattle.std.specs.Prelude.{if◌then◌else◌, ◌&&◌, filter, is_some, length, nat_lt, option_map, unwrap_or}
+use Rattle.std.specs.List.{find, list_all}
+use Rattle.std.proofs.lemmas.Bool.{false≢true}
+use Rattle.std.proofs.lemmas.Bool.Decides.{nat_tests}
+use Rattle.tariffs.specs.Books.{Book, IsBook}
+use Rattle.tariffs.specs.Tariffs.{GroupTariff}
+use Rattle.tariffs.specs.GroupPrices.{GroupPrices, prices_in}
+use Rattle.tariffs.specs.BookPrices.{prices_at}
+use Rattle.rating.specs.declared.grant.Periods.{Periods}
+use Rattle.reserving.specs.declared.session.Session.{Session}
+use Rattle.reserving.specs.declared.session.SessionState.{SessionState}
+use Rattle.reserving.specs.declared.session.SessionGroup.{SessionGroup}
+use Rattle.reserving.specs.declared.session.Reservation.{Reservation}
+use Rattle.reserving.specs.declared.session.Counter.{Counter}
+use Rattle.reserving.specs.Pricing.{tariff_of, cycle_at, periods_at}
+use Rattle.reserving.specs.Sessions.{session_in, is_of, group_in, is_counter, is_live_in}
+use Rattle.buckets.specs.Holding.{holds_of}
+use Rattle.reserving.specs.Keyed.{put}
+use Rattle.reserving.specs.Changes.{advanced, with_session, touched_account, closed_account, lapse_group, is_other, new_group, group_or_new, ended_group, ended_rows, settled_account, debited_account, reserved_account, credited_account, used_in, count_in, periods_in}
+use Rattle.reserving.specs.Prepared.{with_group_row, with_rows, reservation_in}
+use Rattle.reserving.specs.Rows.{AccountRows, EachIn, AreApart, IsAccount}
+use Rattle.reserving.specs.Placed.{AreOfBook, is_placed, ArePlaced, IsPriced}
+use Rattle.reserving.specs.Stored.{StoredRows, IsStored, priced}
+use Rattle.reserving.specs.Live.{is_live_group, live_part}
+use Rattle.reserving.proofs.Lists.{EachIn-map, EachIn-put}
+use Rattle.reserving.proofs.LeftTests.{each_filter}
+use Rattle.reserving.proofs.Keys.{key_group}
+use Rattle.reserving.proofs.StoredRows.{IsAccount-priced}
+use Rattle.reserving.proofs.Advanced.{IsAccount-advanced}
+use Rattle.reserving.proofs.Crediting.{IsAccount-credited}
+use Rattle.reserving.proofs.kept.Sessions.{IsAccount-with_session, IsAccount-touched, IsAccount-closed}
+use Rattle.reserving.proofs.kept.Settled.{IsAccount-settled, IsAccount-ended, IsAccount-with_group_row, IsAccount-with_rows}
+use Rattle.reserving.proofs.kept.Debited.{IsAccount-debited}
+use Rattle.reserving.proofs.kept.LivePart.{IsAccount-live}
+use Rattle.reserving.proofs.rows.Reserved.{IsAccount-reserved}
+
+-- ---- the prices of a group in two periods
+
+prices_known : (b : Book) (g : ℕ) (p : Periods) →
+    is_some (prices_at b g p.before.0 p.after.0) ≡ true → AreOfBook b p
+prices_known b g p h =
+    by_tests (nat_lt p.before.0 (length b.periods)) (nat_lt p.after.0 (length b.periods)) refl refl h
+  where
+    by_tests : (x y : Bool) → nat_lt p.before.0 (length b.periods) ≡ x →
+        nat_lt p.after.0 (length b.periods) ≡ y →
+        is_some
+        (if x && y then option_map (λ t. prices_in t p.before.0 p.after.0) (tariff_of b g) else None)
+        ≡ true → AreOfBook b p
+    by_tests true true ex ey h =
+        record { before = grind (arith, nat_tests); after = grind (arith, nat_tests) }
+    by_tests true false ex ey h = absurd (false≢true h)
+    by_tests false y ex ey h = absurd (false≢true h)
+
+pub prices_there : (b : Book) (g : ℕ) (p : Periods) → AreOfBook b p →
+    is_some (tariff_of b g) ≡ true → is_some (prices_at b g p.before.0 p.after.0) ≡ true
+prices_there b g p of some =
+    let lower = of.before in
+    let upper = of.after in
+    let x : nat_lt p.before.0 (length b.periods) ≡ true = grind (arith, nat_tests) in
+    let y : nat_lt p.after.0 (length b.periods) ≡ true = grind (arith, nat_tests) in
+    (λ i. is_some
+    (if x i && y i then option_map (λ t. prices_in t p.before.0 p.after.0) (tariff_of b g) else None))
+    ∙ by_tariff (tariff_of b g) some
+  where
+    by_tariff : (o : Option GroupTariff) → is_some o ≡ true →
+        is_some (option_map (λ t. prices_in t p.before.0 p.after.0) o) ≡ true
+    by_tariff None e = absurd (false≢true e)
+    by_tariff (Some t) e = refl
+
+-- ---- the periods of a row's reservation
+
+of_placed : (b : Book) (g : ℕ) (o : Option Reservation) (p : Periods) → is_placed b g o ≡ true →
+    option_map (λ (r : Reservation). r.periods) o ≡ Some p → AreOfBook b p
+of_placed b g None p h e = cc
+of_placed b g (Some r) p h e =
+    subst (AreOfBook b) (ap (λ (o : Option Periods). unwrap_or o p) e)
+    (prices_known b g r.periods h)
+
+placed_at : (b : Book) (s : List ℕ) (g : ℕ) (rows : List SessionGroup) → ArePlaced b rows →
+    is_placed b g (reservation_in s g rows) ≡ true
+placed_at b s g [] h = refl
+placed_at b s g (y ∷ ys) h = by_test (is_of s g y) refl (placed_at b s g ys h.1)
+  where
+    by_test : (t : Bool) → is_of s g y ≡ t → is_placed b g (reservation_in s g ys) ≡ true →
+        is_placed b g (unwrap_or (cond t (Some y) (group_in s g ys)) (new_group s g)).reservation
+        ≡ true
+    by_test true e rest = subst (λ n. is_placed b n y.reservation ≡ true)
+        (key_group y.session y.group s g e) h.0
+    by_test false e rest = rest
+
+placed_or_new : (b : Book) (s : List ℕ) (g : ℕ) (rows : List SessionGroup) → ArePlaced b rows →
+    is_placed b (group_or_new s g rows).group (group_or_new s g rows).reservation ≡ true
+placed_or_new b s g [] h = refl
+placed_or_new b s g (y ∷ ys) h = by_test (is_of s g y) (placed_or_new b s g ys h.1)
+  where
+    by_test : (t : Bool) →
+        is_placed b (group_or_new s g ys).group (group_or_new s g ys).reservation ≡ true →
+        is_placed b (unwrap_or (cond t (Some y) (group_in s g ys)) (new_group s g)).group
+        (unwrap_or (cond t (Some y) (group_in s g ys)) (new_group s g)).reservation ≡ true
+    by_test true rest = h.0
+    by_test false rest = rest
+
+-- a reservation's periods are the book's
+pub periods_of_book : (b : Book) (s : List ℕ) (g : ℕ) (rows : List SessionGroup) (p : Periods) →
+    ArePlaced b rows → periods_in s g rows ≡ Some p → AreOfBook b p
+periods_of_book b s g rows p h e =
+    of_placed b g (reservation_in s g rows) p (placed_at b s g rows h) e
+
+-- ---- rows that are written
+
+kept_or_over : (b : Book) (t : Bool) (r : SessionGroup) →
+    is_placed b r.group r.reservation ≡ true →
+    is_placed b (if t then r else record r { reservation = None }).group
+    (if t then r else record r { reservation = None }).reservation ≡ true
+kept_or_over b true r h = h
+kept_or_over b false r h = refl
+
+over_or_kept : (b : Book) (t : Bool) (r : SessionGroup) →
+    is_placed b r.group r.reservation ≡ true →
+    is_placed b (if t then record r { reservation = None } else r).group
+    (if t then record r { reservation = None } else r).reservation ≡ true
+over_or_kept b true r h = refl
+over_or_kept b false r h = h
+
+placed_lapsed : (b : Book) (keeps : List ℕ → Bool) (rows : List SessionGroup) → ArePlaced b rows →
+    ArePlaced b (map (lapse_group keeps) rows)
+placed_lapsed b keeps rows h =
+    EachIn-map (λ r. is_placed b r.group r.reservation ≡ true)
+    (λ r. is_placed b r.group r.reservation ≡ true) (lapse_group keeps) rows
+    (λ r k. kept_or_over b (keeps r.session) r k) h
+
+placed_put : (b : Book) (s : List ℕ) (g : ℕ) (x : SessionGroup) (rows : List SessionGroup) →
+    is_placed b x.group x.reservation ≡ true → ArePlaced b rows →
+    ArePlaced b (put (is_of s g) x rows)
+placed_put b s g x rows k h =
+    EachIn-put (λ r. is_placed b r.group r.reservation ≡ true) (is_of s g) x rows k h
+
+-- ---- what each call keeps
+
+pub IsPriced-advanced : (a : AccountRows) (t : ℕ) → IsPriced a → IsPriced (advanced t a)
+IsPriced-advanced a t is = record {
+  account = IsAccount-advanced a t is.account;
+  placed = placed_lapsed a.book (is_live_in a.book.validity t a.sessions) a.groups is.placed;
+}
+
+pub IsPriced-with_session : (a : AccountRows) (s : List ℕ) (n t : ℕ) (state : SessionState) →
+    session_in s a.sessions ≡ None → IsPriced a → IsPriced (with_session s n t state a)
+IsPriced-with_session a s n t state new is = record {
+  account = IsAccount-with_session a s n t state new is.account;
+  placed = is.placed;
+}
+
+pub IsPriced-touched : (a : AccountRows) (s : List ℕ) (n : ℕ) → IsPriced a →
+    IsPriced (touched_account s n a)
+IsPriced-touched a s n is =
+    record { account = IsAccount-touched a s n is.account; placed = is.placed }
+
+pub IsPriced-closed : (a : AccountRows) (s : List ℕ) → IsPriced a → IsPriced (closed_account s a)
+IsPriced-closed a s is = record {
+  account = IsAccount-closed a s is.account;
+  placed = placed_lapsed a.book (is_other s) a.groups is.placed;
+}
+
+pub IsPriced-settled : (a : AccountRows) (session : List ℕ) (group units blocks rated : ℕ) →
+    used_in session group a.groups + units ≤ 1000000000000000000 →
+    count_in group (cycle_at a.book group a.as_of) a.counters + blocks ≤ 4000000000000000000 →
+    a.next_charge < 4294967296 →
+    IsPriced a → IsPriced (settled_account session group units blocks rated a)
+IsPriced-settled a session group units blocks rated used_fits count_fits charge_fits is = record {
+  account = IsAccount-settled a session group units blocks rated used_fits count_fits charge_fits
+      is.account;
+  placed = placed_put a.book session group
+      (record {
+        session = session;
+        group = group;
+        used = used_in session group a.groups + units;
+        reservation = None;
+      }) a.groups refl is.placed;
+}
+
+pub IsPriced-debited : (a : AccountRows) (session : List ℕ) (group units blocks rated : ℕ) →
+    used_in session group a.groups + units ≤ 1000000000000000000 →
+    count_in group (cycle_at a.book group a.as_of) a.counters + blocks ≤ 4000000000000000000 →
+    a.next_charge < 4294967296 →
+    IsPriced a → IsPriced (debited_account session group units blocks rated a)
+IsPriced-debited a session group units blocks rated used_fits count_fits charge_fits is = record {
+  account = IsAccount-debited a session group units blocks rated used_fits count_fits charge_fits
+      is.account;
+  placed = placed_put a.book session group
+      (record {
+        session = session;
+        group = group;
+        used = used_in session group a.groups + units;
+        reservation = (group_or_new session group a.groups).reservation;
+      }) a.groups (placed_at a.book session group a.groups is.placed) is.placed;
+}
+
+pub IsPriced-ended : (a : AccountRows) (session : List ℕ) (group : ℕ) → IsPriced a →
+    IsPriced (ended_rows session group a)
+IsPriced-ended a session group is = record {
+  account = IsAccount-ended a session group is.account;
+  placed = EachIn-map (λ r. is_placed a.book r.group r.reservation ≡ true)
+      (λ r. is_placed a.book r.group r.reservation ≡ true) (ended_group session group) a.groups
+      (λ r k. over_or_kept a.book (is_of session group r) r k) is.placed;
+}
+
+pub IsPriced-with_group_row : (a : AccountRows) (session : List ℕ) (group : ℕ) → IsPriced a →
+    IsPriced (with_group_row session group a)
+IsPriced-with_group_row a session group is = record {
+  account = IsAccount-with_group_row a session group is.account;
+  placed = placed_put a.book session group (group_or_new session group a.groups) a.groups
+      (placed_or_new a.book session group a.groups is.placed) is.placed;
+}
+
+pub IsPriced-with_rows : (a : AccountRows) (session : List ℕ) (group cycle : ℕ) → IsPriced a →
+    IsPriced (with_rows session group cycle a)
+IsPriced-with_rows a session group cycle is = record {
+  account = IsAccount-with_rows a session group cycle is.account;
+  placed = placed_put a.book session group (group_or_new session group a.groups) a.groups
+      (placed_or_new a.book session group a.groups is.placed) is.placed;
+}
+
+pub IsPriced-credited : (a : AccountRows) (from until : ℕ) (scope : Option ℕ) (amount : ℕ) →
+    a.next_bucket ≤ 4294967295 → amount ≤ 1000000000000000 → IsPriced a →
+    IsPriced (credited_account from until scope amount a)
+IsPriced-credited a from until scope amount le most is = record {
+  account = IsAccount-credited a from until scope amount le most is.account;
+  placed = is.placed;
+}
+
+pub IsPriced-reserved : (a : AccountRows) (session : List ℕ) (group amount : ℕ) →
+    reservation_in session group a.groups ≡ None →
+    AreOfBook a.book (periods_at a.book a.as_of) → is_some (tariff_of a.book group) ≡ true →
+    IsPriced a → IsPriced (reserved_account session group amount a)
+IsPriced-reserved a session group amount none of some is = record {
+  account = IsAccount-reserved a session group amount none is.account;
+  placed = placed_put a.book session group
+      (record {
+        session = session;
+        group = group;
+        used = used_in session group a.groups;
+        reservation = Some (record {
+          periods = periods_at a.book a.as_of;
+          holds = holds_of group a.as_of amount a.buckets;
+        });
+      }) a.groups (prices_there a.book group (periods_at a.book a.as_of) of some) is.placed;
+}
+
+-- ---- what is loaded
+
+-- the test of a load, and what it says
+pub all_placed : (b : Book) (rows : List SessionGroup) →
+    list_all (λ r. is_placed b r.group r.reservation) rows ≡ true → ArePlaced b rows
+all_placed b [] h = tt
+all_placed b (y ∷ ys) h = by_test (is_placed b y.group y.reservation) refl h (all_placed b ys)
+  where
+    by_test : (t : Bool) → is_placed b y.group y.reservation ≡ t →
+        (t && list_all (λ r. is_placed b r.group r.reservation) ys) ≡ true →
+        (list_all (λ r. is_placed b r.group r.reservation) ys ≡ true → ArePlaced b ys) →
+        ArePlaced b (y ∷ ys)
+    by_test true e all rest = (e, rest all)
+    by_test false e all rest = absurd (false≢true all)
+
+pub each_placed : (b : Book) (rows : List SessionGroup) → ArePlaced b rows →
+    list_all (λ r. is_placed b r.group r.reservation) rows ≡ true
+each_placed b [] h = refl
+each_placed b (y ∷ ys) h = rw h.0 (each_placed b ys h.1)
+
+-- as the code makes the test
+pub placed_by : (b : Book) (given rows : List SessionGroup) (t : Bool) → given ≡ rows →
+    t ≡ list_all (λ r. is_placed b r.group r.reservation) given → t ≡ true → ArePlaced b rows
+placed_by b given rows t same is all =
+    all_placed b rows
+    (sym (ap (list_all (λ (r : SessionGroup). is_placed b r.group r.reservation)) same)
+    ∙ sym is ∙ all)
+
+pub IsPriced-priced : (book : Book) (r : StoredRows) → IsBook book → IsStored r →
+    ArePlaced book r.groups → IsPriced (priced book r)
+IsPriced-priced book r ranges is placed =
+    record { account = IsAccount-priced book r ranges is; placed = placed }
+
+pub IsPriced-live : (book : Book) (t : ℕ) (others : List Counter) (w : StoredRows) → IsBook book →
+    IsStored w → ArePlaced book w.groups →
+    AreApart (λ x y. is_counter x.group x.cycle y) (others ++ w.counters) →
+    EachIn (λ c. c.blocks ≤ 4000000000000000000) others → IsPriced (live_part book t others w)
+IsPriced-live book t others w ranges is placed apart counted = record {
+  account = IsAccount-live book t others w ranges is apart counted;
+  placed = each_filter (λ r. is_placed book r.group r.reservation ≡ true)
+      (is_live_group w.sessions) w.groups placed;
+}
