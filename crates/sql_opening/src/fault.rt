@@ -1,0 +1,39 @@
+ghost use Rattle.std.specs.Prelude.{◌≡◌};
+ghost use Rattle.sql_opening.specs.Faults.{number_of};
+
+use thiserror::Error;
+
+/// Why a database isn't opened, in the order in which it is looked for (profile).
+#[derive(Clone, Copy, Debug, Drop, Error, PartialEq, Eq)]
+pub enum OpenFault {
+    /// The database hasn't this system's tables, or has others.
+    #[error("the database is not one of this system")]
+    Foreign,
+    /// The version of its tables isn't known.
+    #[error("the version of the tables is unknown")]
+    Version,
+    /// A row is out of its rules.
+    #[error("a row is out of its rules")]
+    Rules,
+    /// The store failed.
+    #[error("the store failed")]
+    Store,
+    /// Memory was refused.
+    #[error("out of memory")]
+    Memory,
+}
+
+impl OpenFault {
+    /// Its number, 1 to 5, as programs print it: `open fault 1`.
+    pub fn number(self) -> u8
+        ensures { result ≡ number_of self }
+    {
+        match self {
+            OpenFault::Foreign => 1,
+            OpenFault::Version => 2,
+            OpenFault::Rules => 3,
+            OpenFault::Store => 4,
+            OpenFault::Memory => 5,
+        }
+    }
+}

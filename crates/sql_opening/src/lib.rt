@@ -1,0 +1,12 @@
+//! Tests of a database that was made elsewhere: whether it has this system's tables and no other,
+//! and whether a rowid of one of them stands twice.
+#![tactic(auto)]
+
+mod fault;
+
+mod rising;
+mod same;
+
+pub use crate::fault::OpenFault;
+
+pub use crate::same::same_schema;

@@ -1,0 +1,72 @@
+//! Whether a rowid of a table stands twice: rowids that rise don't.
+
+ghost use Rattle.std.specs.Prelude.{◌≡◌, ◌<ℤ◌, [], List, IsTrue, IfOk, IfSome, OnOk};
+ghost use Rattle.sqlite_value.specs.declared.value.Value.TheVariants.{Int};
+ghost use Rattle.sqlite_value.specs.Order.{Row as Values, column};
+ghost use Rattle.sqlite.specs.Given.{IsPlain};
+ghost use Rattle.sqlite.specs.Held.{Held, state};
+ghost use Rattle.sqlite.specs.Listing.{understood};
+ghost use Rattle.sqlite.specs.State.{HasCleanDisk, IsUnchanged, Shown, Survives};
+ghost use Rattle.sql_tables.specs.Keyed.{IsStored};
+
+use crate::fault::OpenFault;
+use sqlite::{Alter, Connection, Error, ErrorCode, Row};
+
+/// The fault of a call of the store.
+pub(crate) fn fault_of(error: Error) -> OpenFault {
+    match error {
+        Error::SqliteFailure(ErrorCode::OutOfMemory) => OpenFault::Memory,
+        _ => OpenFault::Store,
+    }
+}
+
+/// The first value of the row, if it is an integer above the last.
+fn next_id(row: &Row, last: Option<i64>) -> Option<i64>
+    ensures { IfSome result (λ id. (column row.now 0 ≡ Int id) × IfSome last (λ before. before <ℤ id)) }
+{
+    let Ok(id) = row.get::<i64>(0) else {
+        return None;
+    };
+    match last {
+        Some(before) if before >= id => None,
+        _ => Some(id),
+    }
+}
+
+/// Whether the first value of each row of a selection is an integer above that of the row before.
+fn are_rising<S: Alter>(conn: &mut Connection<S>, sql: &str) -> Result<bool, Error>
+    requires { HasCleanDisk (state S.Store conn.old) → IsPlain (understood conn.old.schema sql.now) }
+    ensures rise { HasCleanDisk (state S.Store conn.new) → IfOk result (λ rises. IsTrue rises → (was : Held S) × (rows : List Values)
+        × IsUnchanged (state S.Store conn.old) (state S.Store was) × Shown sql.now [] (state S.Store was) (state S.Store conn.new) rows × IsStored rows) }
+    ensures same { HasCleanDisk (state S.Store conn.new) → OnOk result (IsUnchanged (state S.Store conn.old) (state S.Store conn.new)) }
+    ensures crash { Survives (state S.Store conn.old) (state S.Store conn.new) (λ _. ⊥) }
+{
+    let mut last = None;
+    let mut rows = conn.query(sql, &[])?;
+    'rows: for _ in 0..u64::MAX {
+        let Some(row) = rows.next()? else {
+            return Ok(true);
+        };
+        let next = next_id(row, last);
+        if next.is_none() {
+            return Ok(false);
+        }
+        last = next;
+    }
+    Ok(false)
+}
+
+/// Tests that no rowid of the table stands twice; `sql` selects its rowids in order.
+fn rowids_differ<S: Alter>(conn: &mut Connection<S>, sql: &str) -> Result<(), OpenFault>
+    requires { HasCleanDisk (state S.Store conn.old) → IsPlain (understood conn.old.schema sql.now) }
+    ensures rise { HasCleanDisk (state S.Store conn.new) → OnOk result ((was : Held S) × (rows : List Values)
+        × IsUnchanged (state S.Store conn.old) (state S.Store was) × Shown sql.now [] (state S.Store was) (state S.Store conn.new) rows × IsStored rows) }
+    ensures same { HasCleanDisk (state S.Store conn.new) → OnOk result (IsUnchanged (state S.Store conn.old) (state S.Store conn.new)) }
+    ensures crash { Survives (state S.Store conn.old) (state S.Store conn.new) (λ _. ⊥) }
+{
+    match are_rising(conn, sql) {
+        Ok(true) => Ok(()),
+        Ok(false) => Err(OpenFault::Rules),
+        Err(error) => Err(fault_of(error)),
+    }
+}
