@@ -1,2 +1,4 @@
 pub mod Ascents
 pub mod Standing
+pub mod Steps
+pub mod Texts

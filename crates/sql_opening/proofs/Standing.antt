@@ -23,28 +23,9 @@ use Rattle.sqlite.specs.Listing.{understood, reads_listing}
 use Rattle.sqlite.specs.State.{State, Shown, IsUnchanged}
 use Rattle.sqlite.proofs.Callers.{IsPlain, command_of, reads_as}
 use Rattle.sql_tables.specs.Keyed.{IsStored}
+use Rattle.sqlite_schema.specs.declared.schema.Table.{Table}
 use Rattle.sql_tables.specs.Schema.{book_schema}
-
--- the rowids of a table, in order
-abbrev pub rowids_of : ℕ → Query
-rowids_of tree = record {
-  from = inner tree end;
-  filter = [];
-  group = None;
-  project = col 1 0 ∷ [];
-  distinct = false;
-  collations = [];
-  order = (col 1 0, record { collation = Binary; descending = false }) ∷ [];
-  limit = lit (Int (negsuc 0));
-  offset = lit (Int (pos 0));
-}
-
--- the text selects the rowids of this table, in order
-pub record IsRowids (text : List ℕ) (tree : ℕ) : Type 0 where
-  pub command : command_of (understood book_schema text)
-      ≡ Select (record { lets = []; body = rowids_of tree }) (codes "rowid" ∷ [])
-  pub listing : reads_listing book_schema text ≡ false
-  pub plain : IsPlain (understood book_schema text)
+use Rattle.sql_opening.specs.Opens.{rowids_of, IsRowids}
 
 bare : (db : Trees) (t : ℕ) → overlay db [] t ≡ db t
 bare db t = elim (cases_Bool (nat_le (2 ^ 31) t)) [
@@ -94,11 +75,11 @@ stored_permuted xs ys p h = (from_distinct ys (IsDistinct-IsPermutation same_id 
 stored_ids : (rows : List Row) → IsStored (map (λ r. rowid r ∷ []) rows) → IsStored rows
 stored_ids rows h = (ascending_from_map (λ a b. same_id a b ≡ false) (λ (r : Row). rowid r ∷ []) rows h.0, all_from_map (λ r. IsTrue (is_int (rowid r))) (λ (r : Row). rowid r ∷ []) rows h.1)
 
-pub rows_stand : (text : List ℕ) (tree : ℕ) → IsRowids text tree → (old new : State) (rows : List Row)
-    → old.now.schema ≡ book_schema → Shown text [] old new rows → IsStored rows → IsStored (old.now.trees tree)
-rows_stand text tree is old new rows has h stored =
+pub rows_stand : (text : List ℕ) (table : Table) → IsRowids text table → (old new : State) (rows : List Row)
+    → old.now.schema ≡ book_schema → Shown text [] old new rows → IsStored rows → IsStored (old.now.trees table.tree)
+rows_stand text table is old new rows has h stored =
     let read = reads_as text [] old new book_schema has
-      (Select (record { lets = []; body = rowids_of tree }) (codes "rowid" ∷ []))
+      (Select (record { lets = []; body = rowids_of table.tree }) (codes "rowid" ∷ []))
       is.command is.plain is.listing rows h in
-    let p = shown_ids tree old.now.trees rows (read.answer Null) in
-    stored_ids (old.now.trees tree) (stored_permuted rows _ (IsPermutation-sym _ _ p) stored)
+    let p = shown_ids table.tree old.now.trees rows (read.answer Null) in
+    stored_ids (old.now.trees table.tree) (stored_permuted rows _ (IsPermutation-sym _ _ p) stored)

@@ -1,3 +1,3 @@
 pub mod Faults
+pub mod Opens
 pub mod Rises
-

@@ -1,6 +1,6 @@
 //! Whether a rowid of a table stands twice: rowids that rise don't.
 
-ghost use Rattle.std.specs.Prelude.{◌≡◌, ◌<ℤ◌, [], List, IsTrue, IfOk, IfSome, OnOk};
+ghost use Rattle.std.specs.Prelude.{◌≡◌, ◌<ℤ◌, ◌+◌, ℕ, [], List, IsTrue, IfOk, IfSome, OnOk};
 ghost use Rattle.sqlite_value.specs.declared.value.Value.TheVariants.{Int};
 ghost use Rattle.sqlite_value.specs.Order.{Row as Values, column};
 ghost use Rattle.sqlite.specs.Given.{IsPlain};
@@ -8,6 +8,8 @@ ghost use Rattle.sqlite.specs.Held.{Held, state};
 ghost use Rattle.sqlite.specs.Listing.{understood};
 ghost use Rattle.sqlite.specs.State.{HasCleanDisk, IsUnchanged, Shown, Survives};
 ghost use Rattle.sql_tables.specs.Keyed.{IsStored};
+ghost use Rattle.sql_tables.specs.Schema.{book_schema};
+ghost use Rattle.sql_opening.specs.Opens.{Finds, HasStoredTo, IsNext};
 
 use crate::fault::OpenFault;
 use sqlite::{Alter, Connection, Error, ErrorCode, Row};
@@ -56,13 +58,15 @@ fn are_rising<S: Alter>(conn: &mut Connection<S>, sql: &str) -> Result<bool, Err
     Ok(false)
 }
 
-/// Tests that no rowid of the table stands twice; `sql` selects its rowids in order.
-fn rowids_differ<S: Alter>(conn: &mut Connection<S>, sql: &str) -> Result<(), OpenFault>
-    requires { HasCleanDisk (state S.Store conn.old) → IsPlain (understood conn.old.schema sql.now) }
-    ensures rise { HasCleanDisk (state S.Store conn.new) → OnOk result ((was : Held S) × (rows : List Values)
-        × IsUnchanged (state S.Store conn.old) (state S.Store was) × Shown sql.now [] (state S.Store was) (state S.Store conn.new) rows × IsStored rows) }
-    ensures same { HasCleanDisk (state S.Store conn.new) → OnOk result (IsUnchanged (state S.Store conn.old) (state S.Store conn.new)) }
-    ensures crash { Survives (state S.Store conn.old) (state S.Store conn.new) (λ _. ⊥) }
+/// Tests that no rowid of one more table stands twice; `sql` selects its rowids in order.
+pub(crate) fn rowids_differ<S: Alter>(
+    conn: &mut Connection<S>,
+    sql: &str,
+) -> Result<(), OpenFault>
+    requires plain { IsPlain (understood book_schema sql.now) }
+    requires ours { HasCleanDisk (state S.Store conn.old) → conn.old.schema ≡ book_schema }
+    ensures { (k : ℕ) → IsNext sql.now k → HasStoredTo k (state S.Store conn.old)
+        → Finds (k + 1) (state S.Store conn.old) (state S.Store conn.new) result }
 {
     match are_rising(conn, sql) {
         Ok(true) => Ok(()),
