@@ -4,6 +4,3 @@
 mod opening;
 
 pub use crate::opening::{DatabaseFiles, open_database};
-
-#[cfg(test)]
-mod tests;

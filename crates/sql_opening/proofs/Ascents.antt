@@ -18,6 +18,7 @@ lower last id x m h = go m
   where
     less : value_cmp (Int last) (Int id) ≡ Less
     less = value_cmp-Int last id ∙ sym (int_cmp_is last id Less h)
+
     go : IsAtMost last x → value_cmp (column x 0) (Int id) ≡ Less
     go (inl e) = ap (λ v. value_cmp v (Int id)) e ∙ less
     go (inr l) = value_cmp_total.trans (column x 0) (Int last) (Int id) l less
@@ -26,10 +27,13 @@ pub rises_on : (last : Option ℤ) (given : List Row) (row : Row) (id : ℤ) →
 rises_on None given row id none e h = subst (λ g. RisesTo (Some id) (g ++ row ∷ [])) (sym none) (((tt, tt), (ap is_int e, tt)), (inl e, tt))
 rises_on (Some last) given row id so e h =
     let under : (x : Row) → IsAtMost last x → AllByRecursion (apart x) (row ∷ []) = λ x m. (ap is_eq (ap (value_cmp (column x 0)) e ∙ lower last id x m h), tt) in
-    let later : (x : Row) → IsAtMost last x → IsAtMost id x = λ x m. inr (lower last id x m h) in
-    ((ascending-append apart given (row ∷ []) so.0.0 (tt, tt) (all_weaker (IsAtMost last) (λ x. AllByRecursion (apart x) (row ∷ [])) under given so.1),
-    all-append (λ r. IsTrue (is_int (column r 0))) given (row ∷ []) so.0.1 (ap is_int e, tt)),
-    all-append (IsAtMost id) given (row ∷ []) (all_weaker (IsAtMost last) (IsAtMost id) later given so.1) (inl e, tt))
+    let later : (x : Row) → IsAtMost last x → IsAtMost id x = λ x m. inr (lower last id x m h) in (
+      (
+        ascending-append apart given (row ∷ []) so.0.0 (tt, tt) (all_weaker (IsAtMost last) (λ x. AllByRecursion (apart x) (row ∷ [])) under given so.1),
+        all-append (λ r. IsTrue (is_int (column r 0))) given (row ∷ []) so.0.1 (ap is_int e, tt),
+      ),
+      all-append (IsAtMost id) given (row ∷ []) (all_weaker (IsAtMost last) (IsAtMost id) later given so.1) (inl e, tt),
+    )
 
 pub risen : (last : Option ℤ) (given : List Row) → RisesTo last given → IsStored given
 risen None given none = subst IsStored (sym none) (tt, tt)

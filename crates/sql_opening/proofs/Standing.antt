@@ -36,7 +36,7 @@ bare db t = elim (cases_Bool (nat_le (2 ^ 31) t)) [
 shown_ids : (tree : ℕ) (db : Trees) (rows : List Row) → IsAnswer (rowids_of tree) (overlay db []) [] rows → IsPermutation (map (λ r. rowid r ∷ []) (db tree)) rows
 shown_ids tree db rows a =
     let kept : a.kept ≡ map (λ r. (rowid r ∷ [], rowid r ∷ [])) (db tree) =
-        a.distinct ∙ ap (map (output (rowids_of tree))) (a.grouped ∙ ap (λ rs. flat_map (λ r. ([] ∷ r ∷ []) ∷ []) rs) (bare db tree)) ∙ all (db tree) in
+    a.distinct ∙ ap (map (output (rowids_of tree))) (a.grouped ∙ ap (λ rs. flat_map (λ r. ([] ∷ r ∷ []) ∷ []) rs) (bare db tree)) ∙ all (db tree) in
     let shuffled = IsPermutation-map (λ (o : Output). o.1) a.kept a.ordered a.same in
     subst (λ ys. IsPermutation (map (λ r. rowid r ∷ []) (db tree)) ys) (sym a.shown)
     (subst (λ xs. IsPermutation xs (map (λ (o : Output). o.1) a.ordered)) (ap (map (λ (o : Output). o.1)) kept ∙ twice (db tree)) shuffled)
@@ -44,6 +44,7 @@ shown_ids tree db rows a =
     all : (rs : List Row) → map (output (rowids_of tree)) (flat_map (λ r. ([] ∷ r ∷ []) ∷ []) rs) ≡ map (λ r. (rowid r ∷ [], rowid r ∷ [])) rs
     all [] = refl
     all (r ∷ rs) = ap (λ xs. (rowid r ∷ [], rowid r ∷ []) ∷ xs) (all rs)
+
     twice : (rs : List Row) → map (λ (o : Output). o.1) (map (λ r. (rowid r ∷ [], rowid r ∷ [])) rs) ≡ map (λ r. rowid r ∷ []) rs
     twice [] = refl
     twice (r ∷ rs) = ap (λ xs. (rowid r ∷ []) ∷ xs) (twice rs)
@@ -79,7 +80,7 @@ pub rows_stand : (text : List ℕ) (table : Table) → IsRowids text table → (
     → old.now.schema ≡ book_schema → Shown text [] old new rows → IsStored rows → IsStored (old.now.trees table.tree)
 rows_stand text table is old new rows has h stored =
     let read = reads_as text [] old new book_schema has
-      (Select (record { lets = []; body = rowids_of table.tree }) (codes "rowid" ∷ []))
-      is.command is.plain is.listing rows h in
+    (Select (record { lets = []; body = rowids_of table.tree }) (codes "rowid" ∷ []))
+    is.command is.plain is.listing rows h in
     let p = shown_ids table.tree old.now.trees rows (read.answer Null) in
     stored_ids (old.now.trees table.tree) (stored_permuted rows _ (IsPermutation-sym _ _ p) stored)

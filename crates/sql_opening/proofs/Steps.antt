@@ -21,10 +21,10 @@ stored_next g text k is old was new rows then' shown stored same so =
     let at : (state g was).now ≡ (state g old).now = then'.0.now_is in
     let has : (state g was).now.schema ≡ book_schema = ap (λ (d : Database). d.schema) at ∙ so.schema in
     let here : IsStored ((state g was).now.trees is.table.tree) =
-        rows_stand text is.table is.rowids (state g was) new rows has shown stored in
+    rows_stand text is.table is.rowids (state g was) new rows has shown stored in
     let one : IsStored ((state g old).now.trees is.table.tree) = subst (λ (d : Database). IsStored (d.trees is.table.tree)) at here in
     let all = subst (AllByRecursion (λ (t : Table). IsStored ((state g old).now.trees t.tree))) (sym is.next)
-      (all-append (λ (t : Table). IsStored ((state g old).now.trees t.tree)) (take k book_schema.tables) (is.table ∷ []) so.stored (one, tt)) in
+    (all-append (λ (t : Table). IsStored ((state g old).now.trees t.tree)) (take k book_schema.tables) (is.table ∷ []) so.stored (one, tt)) in
     let moved : (state g old).now ≡ new.now = sym same.0.now_is in
     record {
       schema = subst (λ (d : Database). d.schema ≡ book_schema) moved so.schema;

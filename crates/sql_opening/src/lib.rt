@@ -4,11 +4,9 @@
 
 mod fault;
 mod finding;
-
 mod rising;
 mod same;
 
 pub use crate::fault::OpenFault;
 pub use crate::finding::find_tables;
-
 pub use crate::same::same_schema;

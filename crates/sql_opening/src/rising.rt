@@ -59,10 +59,7 @@ fn are_rising<S: Alter>(conn: &mut Connection<S>, sql: &str) -> Result<bool, Err
 }
 
 /// Tests that no rowid of one more table stands twice; `sql` selects its rowids in order.
-pub(crate) fn rowids_differ<S: Alter>(
-    conn: &mut Connection<S>,
-    sql: &str,
-) -> Result<(), OpenFault>
+pub(crate) fn rowids_differ<S: Alter>(conn: &mut Connection<S>, sql: &str) -> Result<(), OpenFault>
     requires plain { IsPlain (understood book_schema sql.now) }
     requires ours { HasCleanDisk (state S.Store conn.old) → conn.old.schema ≡ book_schema }
     ensures { (k : ℕ) → IsNext sql.now k → HasStoredTo k (state S.Store conn.old)

@@ -4,9 +4,7 @@ ghost use Rattle.std.specs.Prelude.{◌≡◌, IsTrue};
 
 use sqlite_items::Items;
 use sqlite_schema::code::{Op, Terms};
-use sqlite_schema::schema::{
-    Action, Column, Index, Kind, Reference, Schema, Stamps, Table, View,
-};
+use sqlite_schema::schema::{Action, Column, Index, Kind, Reference, Schema, Stamps, Table, View};
 use sqlite_value::keys::{Collation, Order};
 use sqlite_value::value::{Bytes, Value};
 

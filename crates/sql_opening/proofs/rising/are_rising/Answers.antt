@@ -42,9 +42,11 @@ rows-preserved g c =
     let old = state g.S.Store c.args.conn.now in
     let mid = state g.S.Store c.rows.rows.conn.now in
     let moved = c.next.follows.holds-at-none in
-    let now = c.next.follows.lender-at-none.conn.now in
-    (search rules, survives_then old mid (state g.S.Store now) _ _ (λ _. ⊥) (λ _ db none. none) (λ _ db none. none) c.rows.invariant.1 moved.survives,
-    λ clean.
-    let was = c.rows.invariant.2 (omega (arith, moved.survives.clean)) in
-    let on : HasGiven g.S.Store c.args.sql.now [] now (was.0 ++ c.in-Some.row.now ∷ []) = (rw (c.in_ok-row.was, c.in-Some.is) at (moved.ok clean)) c.args.sql.now [] was.0 was.1 in
-    (was.0 ++ c.in-Some.row.now ∷ [], on, unchanged_then old mid (state g.S.Store now) was.2 (search (rules, moved.same)), rises_next c.rows.last c.next_id-next.result was.0 c.in-Some.row.now was.3 (c.is_none.ensures ∙ ap not c.if-is_none.false) c.next_id-next.ensures))
+    let now = c.next.follows.lender-at-none.conn.now in (
+      search rules,
+      survives_then old mid (state g.S.Store now) _ _ (λ _. ⊥) (λ _ db none. none) (λ _ db none. none) c.rows.invariant.1 moved.survives,
+      λ clean.
+          let was = c.rows.invariant.2 (omega (arith, moved.survives.clean)) in
+          let on : HasGiven g.S.Store c.args.sql.now [] now (was.0 ++ c.in-Some.row.now ∷ []) = (rw (c.in_ok-row.was, c.in-Some.is) at (moved.ok clean)) c.args.sql.now [] was.0 was.1 in
+          (was.0 ++ c.in-Some.row.now ∷ [], on, unchanged_then old mid (state g.S.Store now) was.2 (search (rules, moved.same)), rises_next c.rows.last c.next_id-next.result was.0 c.in-Some.row.now was.3 (c.is_none.ensures ∙ ap not c.if-is_none.false) c.next_id-next.ensures),
+    )
