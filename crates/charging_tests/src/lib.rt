@@ -4,26 +4,4 @@
 #![tactic(auto)]
 
 #[cfg(test)]
-mod book;
-#[cfg(test)]
-mod denials;
-#[cfg(test)]
-mod ends;
-#[cfg(test)]
-mod events;
-#[cfg(test)]
-mod failures;
-#[cfg(test)]
-mod lines;
-#[cfg(test)]
-mod operators;
-#[cfg(test)]
-mod repeats;
-#[cfg(test)]
-mod rows;
-#[cfg(test)]
-mod scenarios;
-#[cfg(test)]
-mod sessions;
-#[cfg(test)]
-mod spent;
+mod tests;

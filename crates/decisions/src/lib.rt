@@ -20,6 +20,3 @@ mod settling;
 
 pub use crate::asking::begins_session;
 pub use crate::deciding::{Decided, decide, read};
-
-#[cfg(test)]
-mod tests;

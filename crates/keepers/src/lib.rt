@@ -26,6 +26,3 @@ pub use crate::laws::{only_what_differs, taken_and_left};
 pub use crate::loaded::{Change, Loaded};
 pub use crate::memory::MemoryKeeper;
 pub use crate::whole::WholeAccount;
-
-#[cfg(test)]
-mod tests;

@@ -1,7 +1,7 @@
 //! Operators' commands over two accounts, and a request that would pass the limit of a stored
 //! number.
 
-use crate::scenarios::{try_all, try_with};
+use crate::tests::scenarios::{try_all, try_with};
 use std::test::Fail;
 
 /// Before it is opened an account can only be opened, which is refused the second time. Each

@@ -1,8 +1,8 @@
 //! Credits that are used up: what a further command loads and writes is no more than after the first.
 
-use crate::book::book;
-use crate::lines::{account, dated_commands};
-use crate::scenarios::whole_lines;
+use crate::tests::book::book;
+use crate::tests::lines::{account, dated_commands};
+use crate::tests::scenarios::whole_lines;
 use charging::run;
 use commands::{Answer, Command, Content, Request};
 use decisions::decide;

@@ -1,11 +1,10 @@
 //! Ends of buckets and of sessions, and sweeps.
 
-use crate::scenarios::try_all;
+use crate::tests::scenarios::{try_all, try_in_turn};
 use std::test::Fail;
 
-/// A grant is held by two buckets. The first ends; what a session holds of it pays, and the rest of
-/// it is expired.
-const ENDED: &str = r##"1767571200 open 49151
+/// A grant is held by two buckets.
+const HELD_BY_TWO: &str = r##"1767571200 open 49151
 = {"Result-Code":2001}
 1767571200 credit 49151 {"Amount":150000,"Reference":"c1","Until":1767607800}
 = {"Bucket":1,"Result-Code":2001}
@@ -17,9 +16,10 @@ const ENDED: &str = r##"1767571200 open 49151
 = {"CC-Request-Number":0,"CC-Request-Type":1,
   "Multiple-Services-Credit-Control":[{"Granted-Service-Unit":{"CC-Time":180},"Rating-Group":10,
   "Result-Code":2001,"Validity-Time":3600}],"Result-Code":2001,"Session-Id":"s6"}
-buckets: (150000; 0, 150000, 0, 0) (300000; 150000, 150000, 0, 0)
+buckets: (150000; 0, 150000, 0, 0) (300000; 150000, 150000, 0, 0)"##;
 
-1767608100 {"Session-Id":"s6","CC-Request-Type":2,"CC-Request-Number":1,
+/// The first ends; what a session holds of it pays, and the rest of it is expired.
+const ENDED: &str = r##"1767608100 {"Session-Id":"s6","CC-Request-Type":2,"CC-Request-Number":1,
   "Subscription-Id":{"Subscription-Id-Type":0,"Subscription-Id-Data":"49151"},
   "Multiple-Services-Credit-Control":[{"Rating-Group":10,"Used-Service-Unit":[{"CC-Time":60}]}]}
 = {"CC-Request-Number":1,"CC-Request-Type":2,"Multiple-Services-Credit-Control":[{"Rating-Group":10,
@@ -29,25 +29,11 @@ charges: 1 at 1767608100 of s6 10 1 100000 100000 0;"##;
 
 #[test]
 fn a_bucket_that_ends_within_a_grant(rt: HostRuntime) -> Result<(), Fail> {
-    try_all(&rt, rt.alloc(), ENDED)
+    try_in_turn(&rt, rt.alloc(), &[HELD_BY_TWO, ENDED])
 }
 
-/// The same with a sweep at every minute: nobody sees them.
-const SWEPT: &str = r##"1767571200 open 49151
-= {"Result-Code":2001}
-1767571200 credit 49151 {"Amount":150000,"Reference":"c1","Until":1767607800}
-= {"Bucket":1,"Result-Code":2001}
-1767571200 credit 49151 {"Amount":300000,"Reference":"c2"}
-= {"Bucket":2,"Result-Code":2001}
-1767607200 {"Session-Id":"s6","CC-Request-Type":1,"CC-Request-Number":0,
-  "Subscription-Id":{"Subscription-Id-Type":0,"Subscription-Id-Data":"49151"},
-  "Multiple-Services-Credit-Control":[{"Rating-Group":10,"Requested-Service-Unit":{"CC-Time":180}}]}
-= {"CC-Request-Number":0,"CC-Request-Type":1,
-  "Multiple-Services-Credit-Control":[{"Granted-Service-Unit":{"CC-Time":180},"Rating-Group":10,
-  "Result-Code":2001,"Validity-Time":3600}],"Result-Code":2001,"Session-Id":"s6"}
-buckets: (150000; 0, 150000, 0, 0) (300000; 150000, 150000, 0, 0)
-
-1767607260 sweep
+/// A sweep at every minute before it: nobody sees them.
+const SWEPT: &str = r##"1767607260 sweep
 = {"Accounts":1,"Result-Code":2001}
 1767607320 sweep
 = {"Accounts":1,"Result-Code":2001}
@@ -79,23 +65,15 @@ buckets: (150000; 0, 150000, 0, 0) (300000; 150000, 150000, 0, 0)
 1767608040 sweep
 = {"Accounts":1,"Result-Code":2001}
 1767608100 sweep
-= {"Accounts":1,"Result-Code":2001}
-
-1767608100 {"Session-Id":"s6","CC-Request-Type":2,"CC-Request-Number":1,
-  "Subscription-Id":{"Subscription-Id-Type":0,"Subscription-Id-Data":"49151"},
-  "Multiple-Services-Credit-Control":[{"Rating-Group":10,"Used-Service-Unit":[{"CC-Time":60}]}]}
-= {"CC-Request-Number":1,"CC-Request-Type":2,"Multiple-Services-Credit-Control":[{"Rating-Group":10,
-  "Result-Code":2001}],"Result-Code":2001,"Session-Id":"s6"}
-buckets: (150000; 0, 0, 100000, 50000) (300000; 300000, 0, 0, 0)
-charges: 1 at 1767608100 of s6 10 1 100000 100000 0;"##;
+= {"Accounts":1,"Result-Code":2001}"##;
 
 #[test]
 fn sweeps_that_nobody_sees(rt: HostRuntime) -> Result<(), Fail> {
-    try_all(&rt, rt.alloc(), SWEPT)
+    try_in_turn(&rt, rt.alloc(), &[HELD_BY_TWO, SWEPT, ENDED])
 }
 
-/// A session is left alone for a second less than twice the validity, 7200 seconds.
-const ALMOST: &str = r##"1767571200 open 49151
+/// A session holds ten minutes.
+const TEN_MINUTES: &str = r##"1767571200 open 49151
 = {"Result-Code":2001}
 1767571200 credit 49151 {"Amount":1000000,"Reference":"c1"}
 = {"Bucket":1,"Result-Code":2001}
@@ -105,9 +83,10 @@ const ALMOST: &str = r##"1767571200 open 49151
 = {"CC-Request-Number":0,"CC-Request-Type":1,
   "Multiple-Services-Credit-Control":[{"Granted-Service-Unit":{"CC-Time":600},"Rating-Group":10,
   "Result-Code":2001,"Validity-Time":3600}],"Result-Code":2001,"Session-Id":"s13"}
-buckets: (1000000; 0, 1000000, 0, 0)
+buckets: (1000000; 0, 1000000, 0, 0)"##;
 
-1767614399 {"Session-Id":"s13","CC-Request-Type":2,"CC-Request-Number":1,
+/// It is left alone for a second less than twice the validity, 7200 seconds.
+const ALMOST: &str = r##"1767614399 {"Session-Id":"s13","CC-Request-Type":2,"CC-Request-Number":1,
   "Subscription-Id":{"Subscription-Id-Type":0,"Subscription-Id-Data":"49151"},
   "Multiple-Services-Credit-Control":[{"Rating-Group":10,"Requested-Service-Unit":{"CC-Time":600}}]}
 = {"CC-Request-Number":1,"CC-Request-Type":2,
@@ -119,24 +98,12 @@ sessions: s13 1 1767614399 Open;"##;
 
 #[test]
 fn the_last_second_of_a_session(rt: HostRuntime) -> Result<(), Fail> {
-    try_all(&rt, rt.alloc(), ALMOST)
+    try_in_turn(&rt, rt.alloc(), &[TEN_MINUTES, ALMOST])
 }
 
 /// A second later its request is of no open session and changes nothing. A sweep releases what it
 /// held.
-const LEFT: &str = r##"1767571200 open 49151
-= {"Result-Code":2001}
-1767571200 credit 49151 {"Amount":1000000,"Reference":"c1"}
-= {"Bucket":1,"Result-Code":2001}
-1767607200 {"Session-Id":"s13","CC-Request-Type":1,"CC-Request-Number":0,
-  "Subscription-Id":{"Subscription-Id-Type":0,"Subscription-Id-Data":"49151"},
-  "Multiple-Services-Credit-Control":[{"Rating-Group":10,"Requested-Service-Unit":{"CC-Time":600}}]}
-= {"CC-Request-Number":0,"CC-Request-Type":1,
-  "Multiple-Services-Credit-Control":[{"Granted-Service-Unit":{"CC-Time":600},"Rating-Group":10,
-  "Result-Code":2001,"Validity-Time":3600}],"Result-Code":2001,"Session-Id":"s13"}
-buckets: (1000000; 0, 1000000, 0, 0)
-
-1767614400 {"Session-Id":"s13","CC-Request-Type":2,"CC-Request-Number":1,
+const LEFT: &str = r##"1767614400 {"Session-Id":"s13","CC-Request-Type":2,"CC-Request-Number":1,
   "Subscription-Id":{"Subscription-Id-Type":0,"Subscription-Id-Data":"49151"},
   "Multiple-Services-Credit-Control":[{"Rating-Group":10,"Requested-Service-Unit":{"CC-Time":600}}]}
 = {"CC-Request-Number":1,"CC-Request-Type":2,"Result-Code":5002,"Session-Id":"s13"}
@@ -151,7 +118,7 @@ sessions: s13 0 1767607200 Ended;"##;
 
 #[test]
 fn a_session_left_alone(rt: HostRuntime) -> Result<(), Fail> {
-    try_all(&rt, rt.alloc(), LEFT)
+    try_in_turn(&rt, rt.alloc(), &[TEN_MINUTES, LEFT])
 }
 
 /// A moment before the last accepted one is taken as that: money that has ended stays so.

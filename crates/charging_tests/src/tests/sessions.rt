@@ -1,6 +1,6 @@
 //! Sessions: grants, reports and their settlement.
 
-use crate::scenarios::try_all;
+use crate::tests::scenarios::try_all;
 use std::test::Fail;
 
 /// A grant at 07:30 is held at the price from 08:00 on. Five minutes are used before the switch,

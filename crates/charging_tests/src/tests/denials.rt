@@ -1,6 +1,6 @@
 //! Unknown rating groups and a barred account.
 
-use crate::scenarios::try_all;
+use crate::tests::scenarios::try_all;
 use std::test::Fail;
 
 /// A group that the book has not is told beside one that is granted, and alone denies the session;

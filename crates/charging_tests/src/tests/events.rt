@@ -1,6 +1,6 @@
 //! Events: debits, a refund, checks and an enquiry.
 
-use crate::scenarios::try_all;
+use crate::tests::scenarios::try_all;
 use std::test::Fail;
 
 /// An event's price is covered or it isn't charged.

@@ -1,9 +1,9 @@
 //! A store that fails at a call: what was accepted is a beginning of the list of commands.
 
-use crate::book::book;
-use crate::lines::dated_commands;
-use crate::rows::rows;
-use crate::scenarios::{answered, try_all, whole_lines};
+use crate::tests::book::book;
+use crate::tests::lines::dated_commands;
+use crate::tests::rows::rows;
+use crate::tests::scenarios::{answered, try_all, whole_lines};
 use charging::run;
 use keepers::{Failing, Keeper, MemoryKeeper, StoreFault};
 use std::alloc::Global;

@@ -1,10 +1,12 @@
-//! Scenarios of a keeper: what each call gives, a line a call. An account has a credit of 150,000
+//! Scenarios of a keeper alone: what each call gives, a line a call. An account has a credit of 150,000
 //! micro-units until 1767607800, 10:10 on a day in January 2026.
 
-use crate::{Change, Failing, Keeper, KeptAnswer, Key, MemoryKeeper, StoreFault, copy_credit};
+use crate::tests::book::book;
+use crate::tests::lines::account;
 use buckets::Bucket;
 use commands::{Answer, Content, Credit, CreditEnd, KeptCredit};
 use identifiers::{AccountNumber, Reference, SessionId};
+use keepers::{Change, Failing, Keeper, KeptAnswer, Key, MemoryKeeper, StoreFault, copy_credit};
 use reserving::{Account, ChargeRow};
 use std::alloc::Global;
 use std::process::Abort;
@@ -23,16 +25,8 @@ struct Seen {
     expired: u64,
 }
 
-fn book(alloc: Global) -> Result<TariffBook, Fail> {
-    Ok(TariffBook::read(alloc, worked_book::BOOK.as_bytes())?)
-}
-
 fn moment(seconds: u64) -> Result<Moment, Fail> {
     Ok(Moment::new(seconds).ok_or("a moment")?)
-}
-
-fn account(alloc: Global, text: &str) -> Result<AccountNumber, Fail> {
-    Ok(AccountNumber::new(alloc, text)?.ok_or("an account")?)
 }
 
 fn reference(alloc: Global, text: &str) -> Result<Reference, Fail> {
@@ -319,6 +313,22 @@ fn last<K: Keeper>(alloc: Global, keeper: &mut K) -> Result<String, Fail> {
     }
 }
 
+/// `sweep MOMENT`.
+fn swept<K: Keeper>(
+    alloc: Global,
+    keeper: &mut K,
+    book: &TariffBook,
+    word: &str,
+) -> Result<String, Fail> {
+    let at = moment(word.parse::<u64>()?)?;
+    counted(alloc, keeper.sweep(book, at))
+}
+
+/// `failures of all`.
+fn failures<K: Keeper>(alloc: Global, keeper: &K) -> Result<String, Fail> {
+    Ok(format!(in alloc; "{}", keeper.failures())?)
+}
+
 /// What a call gives.
 fn outcome<K: Keeper>(
     alloc: Global,
@@ -334,8 +344,8 @@ fn outcome<K: Keeper>(
         "charge" => charged(alloc, keeper, book, words),
         "see" => told(alloc, keeper, book, words),
         "kept" => kept(alloc, keeper, words),
-        "sweep" => counted(alloc, keeper.sweep(book, moment(words.parse::<u64>()?)?)),
-        "failures" => Ok(format!(in alloc; "{}", keeper.failures())?),
+        "sweep" => swept(alloc, keeper, book, words),
+        "failures" => failures(alloc, keeper),
         _ => last(alloc, keeper),
     }
 }

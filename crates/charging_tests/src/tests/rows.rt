@@ -1,6 +1,6 @@
 //! The rows of accounts as text, a line a table.
 
-use crate::lines::account;
+use crate::tests::lines::account;
 use buckets::Bucket;
 use identifiers::AccountNumber;
 use keepers::{Keeper, MemoryKeeper, StoreFault, WholeAccount};
@@ -11,8 +11,8 @@ use tariffs::TariffBook;
 
 /// Each bucket in the order of use: what was credited; what of it is available, reserved, charged
 /// and expired.
-fn buckets(alloc: Global, rows: &[Bucket]) -> Result<String, AllocError> {
-    let mut text = String::from_str(alloc, "buckets:")?;
+pub(crate) fn bucket_amounts(alloc: Global, rows: &[Bucket]) -> Result<String, AllocError> {
+    let mut text = String::new(alloc);
     for bucket in rows {
         let (credited, available) = (bucket.credited(), bucket.available());
         let first = format!(in alloc; " ({}; {}", credited, available)?;
@@ -22,6 +22,11 @@ fn buckets(alloc: Global, rows: &[Bucket]) -> Result<String, AllocError> {
         text.push_str(rest.as_str())?;
     }
     Ok(text)
+}
+
+fn buckets(alloc: Global, rows: &[Bucket]) -> Result<String, AllocError> {
+    let amounts = bucket_amounts(alloc, rows)?;
+    format!(in alloc; "buckets:{}", amounts.as_str())
 }
 
 /// Each counter's group, cycle and blocks.

@@ -5,9 +5,9 @@
 //! `unchanged` says that no row is another than before them. The commands of a part are run as one
 //! list. A line that begins with two spaces goes on with the one before it.
 
-use crate::book::book;
-use crate::lines::{dated_commands, is_command};
-use crate::rows::rows;
+use crate::tests::book::book;
+use crate::tests::lines::{dated_commands, is_command};
+use crate::tests::rows::rows;
 use charging::run;
 use commands::Answer;
 use keepers::MemoryKeeper;
@@ -118,4 +118,14 @@ pub(crate) fn try_with(
 ) -> Result<(), Fail> {
     let book = TariffBook::read(alloc, book.as_bytes())?;
     try_parts(rt, alloc, &book, scenario)
+}
+
+/// Tries the parts of a scenario that is told by texts, each going on after the one before it.
+pub(crate) fn try_in_turn(rt: &impl Abort, alloc: Global, texts: &[&str]) -> Result<(), Fail> {
+    let mut scenario = String::new(alloc);
+    for text in texts {
+        scenario.push_str(text)?;
+        scenario.push_str("\n\n")?;
+    }
+    try_all(rt, alloc, scenario.as_str().trim_end())
 }

@@ -1,6 +1,6 @@
 //! Requests that come again.
 
-use crate::scenarios::try_all;
+use crate::tests::scenarios::try_all;
 use std::test::Fail;
 
 /// An update that comes again gets its first answer; with another use it is refused. Neither

@@ -1,4 +1,4 @@
-//! Scenarios of requests on an account over a tariff book: what each is answered, its charges, and
+//! Scenarios of requests on an account alone, over a tariff book: what each is answered, its charges, and
 //! the account's buckets after it. They are reckoned by hand from the book's prices: seconds in
 //! blocks of 60 at 100000 micro-units on weekdays from 08:00 to 20:00, else at 50000; events at
 //! 90000. 1767607200 is 10:00 of a Monday.
@@ -11,17 +11,19 @@ ghost use Rattle.std.specs.Prelude.{◌≡◌, true, Some, None, IsTrue};
 ghost use Rattle.commands.specs.Refunds.{is_refund};
 ghost use Rattle.commands.specs.declared.service.Requested.TheVariants.{Slice};
 
-use crate::{Decided, begins_session, decide, read};
+use crate::tests::book::book;
+use crate::tests::lines::account as account_number;
+use crate::tests::rows::bucket_amounts;
 use commands::{
     Ask, Event, EventAction, Failure, InitialServices, Outcome, Refund, Request, Requested,
     Service, ServiceAnswer, ServiceOutcome,
 };
-use identifiers::{AccountNumber, SessionId};
+use decisions::{Decided, begins_session, decide, read};
+use identifiers::SessionId;
 use reserving::Account;
 use std::alloc::Global;
 use std::process::Abort;
 use std::test::Fail;
-use tariffs::TariffBook;
 use units::{Moment, Money};
 
 fn service(group: u32) -> Service
@@ -89,7 +91,7 @@ fn request(rt: &impl Abort, alloc: Global, call: &str, words: &str) -> Result<Re
     Ok(Request {
         session: SessionId::new(alloc, name)?.ok_or("a session")?,
         number: 0,
-        account: AccountNumber::new(alloc, "49151")?.ok_or("an account")?,
+        account: account_number(alloc, "49151")?,
         ask: ask(rt, alloc, call, words)?,
     })
 }
@@ -222,20 +224,6 @@ fn outcome(
     }
 }
 
-/// The account's buckets.
-fn buckets(alloc: Global, account: &Account) -> Result<String, Fail> {
-    let mut text = String::new(alloc);
-    for bucket in account.purse().buckets() {
-        let (credited, available) = (bucket.credited(), bucket.available());
-        let first = format!(in alloc; " ({}; {}", credited, available)?;
-        let (reserved, charged) = (bucket.reserved(), bucket.charged());
-        let rest = format!(in alloc; ", {}, {}, {})", reserved, charged, bucket.expired())?;
-        text.push_str(first.as_str())?;
-        text.push_str(rest.as_str())?;
-    }
-    Ok(text)
-}
-
 /// What a line's call gives, and the account's buckets after it.
 fn given(
     rt: &impl Abort,
@@ -247,13 +235,13 @@ fn given(
     let (call, words) = line.split_once(" ").ok_or("a call and its words")?;
     let at = Moment::new(at.parse::<u64>()?).ok_or("a moment")?;
     let outcome = outcome(rt, alloc, account, call, words, at)?;
-    let buckets = buckets(alloc, account)?;
+    let buckets = bucket_amounts(alloc, account.purse().buckets())?;
     Ok(format!(in alloc; "{}{}", outcome.as_str(), buckets.as_str())?)
 }
 
 /// Tries the lines of a scenario on an account that begins empty.
 fn try_all(rt: &impl Abort, alloc: Global, lines: &str) -> Result<(), Fail> {
-    let book = TariffBook::read(alloc, worked_book::BOOK.as_bytes())?;
+    let book = book(alloc)?;
     let mut account = Account::new(alloc, &book);
     for line in lines.lines() {
         let (call, expected) = line.split_once(" -> ").ok_or("a line")?;

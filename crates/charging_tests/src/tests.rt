@@ -1,0 +1,14 @@
+mod book;
+mod deciding;
+mod denials;
+mod ends;
+mod events;
+mod failures;
+mod keeping;
+mod lines;
+mod operators;
+mod repeats;
+mod rows;
+mod scenarios;
+mod sessions;
+mod spent;
