@@ -240,25 +240,3 @@ pub fn write_whole<W: Write>(writer: &mut W, text: &[u8]) -> Result<(), StreamFa
     }
     Ok(())
 }
-
-#[cfg(test)]
-mod tests {
-    use super::*;
-    use std::test::Fail;
-
-    #[test]
-    fn lines_and_texts(rt: HostRuntime) -> Result<(), Fail> {
-        let alloc = rt.alloc();
-        let mut reader = b"one\n\nlast".as_slice();
-        let mut written = Vec::new(alloc);
-        for _ in 0..4 {
-            match next_line(alloc, &mut reader)? {
-                Some(line) => write_whole(&mut written, &line)?,
-                None => write_whole(&mut written, b".")?,
-            }
-            write_whole(&mut written, b"|")?;
-        }
-        assert_eq!(rt; written.as_slice(), b"one||last|.|".as_slice());
-        Ok(())
-    }
-}

@@ -4,26 +4,4 @@
 #![tactic(auto)]
 
 #[cfg(test)]
-mod clocks;
-#[cfg(test)]
-mod connections;
-#[cfg(test)]
-mod failures;
-#[cfg(test)]
-mod heads;
-#[cfg(test)]
-mod lengths;
-#[cfg(test)]
-mod limits;
-#[cfg(test)]
-mod lines;
-#[cfg(test)]
-mod pieces;
-#[cfg(test)]
-mod routes;
-#[cfg(test)]
-mod sessions;
-#[cfg(test)]
-mod sockets;
-#[cfg(test)]
-mod streams;
+mod tests;

@@ -2,8 +2,8 @@
 
 ghost use Rattle.std.specs.Prelude.{◌≡◌};
 
-use crate::connections::{ten, told_by};
-use crate::streams::{EXISTS, NOT_FOUND, OPEN, OPENED, UNABLE, UNKNOWN, post, response};
+use crate::tests::connections::{ten, told_by};
+use crate::tests::streams::{EXISTS, NOT_FOUND, OPEN, OPENED, UNABLE, UNKNOWN, post, response};
 use http_api::{Clock, FixedClock};
 use keepers::MemoryKeeper;
 use std::alloc::Global;

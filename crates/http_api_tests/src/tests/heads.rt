@@ -1,6 +1,6 @@
 //! What is a head, and which head ends the connection.
 
-use crate::lines::try_lines;
+use crate::tests::lines::try_lines;
 use std::test::Fail;
 
 /// Heads, parts that are none, and heads after which the connection ends.

@@ -3,8 +3,8 @@
 //! end, CR and LF. Behind each stream comes a request for a path that there isn't: it is answered
 //! where the connection goes on.
 
-use crate::connections::told;
-use crate::streams::{NOT_FOUND, UNKNOWN, response};
+use crate::tests::connections::told;
+use crate::tests::streams::{NOT_FOUND, UNKNOWN, response};
 use keepers::MemoryKeeper;
 use std::alloc::Global;
 use std::process::Abort;

@@ -1,7 +1,7 @@
 //! The greatest heads and bodies, and the most fields and requests; each is met, and passed by one.
 
-use crate::connections::try_stream;
-use crate::streams::{ENQUIRY, NOT_FOUND, UNKNOWN, post, response};
+use crate::tests::connections::try_stream;
+use crate::tests::streams::{ENQUIRY, NOT_FOUND, UNKNOWN, post, response};
 use std::alloc::{AllocError, Global};
 use std::test::Fail;
 

@@ -1,6 +1,6 @@
 //! The length of a body.
 
-use crate::lines::try_lines;
+use crate::tests::lines::try_lines;
 use std::test::Fail;
 
 /// Fields that tell a length, none or more; and Transfer-Encoding, which is told first.

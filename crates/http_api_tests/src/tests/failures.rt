@@ -1,7 +1,7 @@
 //! A writer that fails at a call, and a store that does.
 
-use crate::connections::{book, ending, ten, told};
-use crate::streams::{EXISTS, OPEN, OPENED, UNABLE};
+use crate::tests::connections::{book, ending, ten, told};
+use crate::tests::streams::{EXISTS, OPEN, OPENED, UNABLE};
 use http_api::serve;
 use keepers::{Failing, Keeper, MemoryKeeper};
 use std::alloc::{AllocError, Global};

@@ -1,7 +1,7 @@
 //! A connection over the loopback address in one process.
 
-use crate::connections::{book, ending, ten};
-use crate::streams::{EXISTS, OPEN, OPENED};
+use crate::tests::connections::{book, ending, ten};
+use crate::tests::streams::{EXISTS, OPEN, OPENED};
 use http_api::serve_socket;
 use keepers::MemoryKeeper;
 use std::alloc::Global;

@@ -1,6 +1,6 @@
 //! What a path, a method and a body are answered.
 
-use crate::lines::try_lines;
+use crate::tests::lines::try_lines;
 use std::test::Fail;
 
 /// Paths with a row in the table of routes and without, methods that they have and haven't, and

@@ -1,8 +1,8 @@
 //! An account is opened twice: the bytes come in pieces, end early, or come from a reader that
 //! fails at a call.
 
-use crate::connections::{ending, told};
-use crate::streams::{EXISTS, OPEN, OPENED, post, response};
+use crate::tests::connections::{ending, told};
+use crate::tests::streams::{EXISTS, OPEN, OPENED, post, response};
 use keepers::MemoryKeeper;
 use std::alloc::{AllocError, Global};
 use std::io;

@@ -1,8 +1,8 @@
 //! Sessions over one connection, and a body that ends early. A line is `METHOD PATH BODY => STATUS:
 //! BODY`.
 
-use crate::connections::{told, try_stream};
-use crate::streams::response;
+use crate::tests::connections::{told, try_stream};
+use crate::tests::streams::response;
 use keepers::MemoryKeeper;
 use std::alloc::Global;
 use std::test::Fail;

@@ -1,0 +1,13 @@
+mod bytes;
+mod clocks;
+mod connections;
+mod failures;
+mod heads;
+mod lengths;
+mod limits;
+mod lines;
+mod pieces;
+mod routes;
+mod sessions;
+mod sockets;
+mod streams;
