@@ -1,20 +1,28 @@
 -- New tables hold nothing.
-use Rattle.std.proofs.Common.{◌≡◌, ℕ, List, [], Option, None, refl, ap, ◌∙◌}
-use Rattle.std.specs.Prelude.{option_map}
-use Rattle.std.specs.FinMap.{get-empty}
+use Rattle.std.proofs.Common.{◌≡◌, ℕ, List, [], None, refl, ap, ◌∙◌, subst, Ok, arith}
+use Rattle.std.specs.Prelude.{length, option_map}
+use Rattle.std.specs.FinMap.{get, get-empty}
 use Rattle.sqlite_value.specs.Order.{Row, row_cmp}
 use Rattle.sqlite_schema.specs.declared.schema.Table.{Table}
 use Rattle.keepers.specs.declared.key.Key.{Key}
 use Rattle.keepers.specs.declared.key.Key.TheVariants.{Request, Reference}
-use Rattle.sql_tables.specs.Keyed.{look}
+use Rattle.sqlite.specs.State.{State}
+use Rattle.sqlite.proofs.StateLemmas.{survives_then}
+use Rattle.sqlite_trees.specs.Tree.{Trees}
+use Rattle.sql_tables.specs.Keyed.{look, table_of}
+use Rattle.sql_tables.specs.Schema.{book_schema}
+use Rattle.sql_tables.specs.Stages.{AreEmpty, BuildsAll}
+use Rattle.sql_tables.specs.Statements.{Attempts}
 use Rattle.sql_tables.specs.Schema as table
 use Rattle.sql_rows.specs.Values as values
-use Rattle.sql_rows.specs.Content.{Rows as Stored, Content, content_of}
+use Rattle.sql_rows.specs.Content.{Rows as Stored, Content, content_of, with_meta}
+use Rattle.sql_rows.specs.Makes.{Makes, Turns}
 use Rattle.sql_keeper.specs.Content.{answer_in, tables_of}
+use Rattle.sql_keeper.specs.Creates.{first_meta, BuildsBook, IsNewBook}
 use Rattle.sql_keeper.specs.Laws.{AreNewTablesEmpty}
 
-none_stored : (t : Table) (key : Row) → look t (λ n. []) key ≡ None
-none_stored t key = get-empty row_cmp key
+none_stored : (t : Table) (trees : Trees) → trees t.tree ≡ [] → (key : Row) → look t trees key ≡ None
+none_stored t trees e key = ap (λ rows. get (table_of t.primary rows) key) e ∙ get-empty row_cmp key
 
 abbrev nothing : Stored
 nothing = record {
@@ -31,30 +39,41 @@ nothing = record {
 abbrev no_content : Content
 no_content = record { meta = None; rows = λ a. nothing; vouchers = λ code. None; count = 0 }
 
-no_rows : content_of (λ t. []) ≡ no_content
-no_rows = λ i. record {
-  meta = option_map values.meta_in (none_stored table.meta values.meta_key i);
-  rows = λ a. record {
-    head = option_map values.head_in (none_stored table.accounts (values.head_key a) i);
-    buckets = λ n. option_map values.bucket_in
-        (none_stored table.buckets (values.bucket_key a n) i);
-    counters = λ g c. option_map values.counter_in
-        (none_stored table.counters (values.counter_key a g c) i);
-    sessions = λ s. option_map values.session_in
-        (none_stored table.sessions (values.session_key a s) i);
-    groups = λ s g. option_map values.group_in
-        (none_stored table.session_groups (values.group_key a s g) i);
-    holds = λ s g n. option_map values.hold_in
-        (none_stored table.holds (values.hold_key a s g n) i);
-    answers = λ kind name number. option_map values.answer_in
-        (none_stored table.answers (values.answer_key a kind name number) i);
-    charges = λ n. option_map values.charge_in
-        (none_stored table.charges (values.charge_key a n) i);
-  };
-  vouchers = λ code. option_map values.voucher_in
-      (none_stored table.vouchers (values.voucher_key code) i);
-  count = 0;
-}
+empty_content : (trees : Trees) → AreEmpty book_schema.tables trees → content_of trees ≡ no_content
+empty_content trees e =
+    let at_meta = e.0 in
+    let at_accounts = e.1.0 in
+    let at_buckets = e.1.1.0 in
+    let at_counters = e.1.1.1.0 in
+    let at_sessions = e.1.1.1.1.0 in
+    let at_groups = e.1.1.1.1.1.0 in
+    let at_holds = e.1.1.1.1.1.1.0 in
+    let at_answers = e.1.1.1.1.1.1.1.0 in
+    let at_vouchers = e.1.1.1.1.1.1.1.1.0 in
+    let at_charges = e.1.1.1.1.1.1.1.1.1.0 in
+    λ i. record {
+      meta = option_map values.meta_in (none_stored table.meta trees at_meta values.meta_key i);
+      rows = λ a. record {
+        head = option_map values.head_in (none_stored table.accounts trees at_accounts (values.head_key a) i);
+        buckets = λ n. option_map values.bucket_in
+            (none_stored table.buckets trees at_buckets (values.bucket_key a n) i);
+        counters = λ g c. option_map values.counter_in
+            (none_stored table.counters trees at_counters (values.counter_key a g c) i);
+        sessions = λ s. option_map values.session_in
+            (none_stored table.sessions trees at_sessions (values.session_key a s) i);
+        groups = λ s g. option_map values.group_in
+            (none_stored table.session_groups trees at_groups (values.group_key a s g) i);
+        holds = λ s g n. option_map values.hold_in
+            (none_stored table.holds trees at_holds (values.hold_key a s g n) i);
+        answers = λ kind name number. option_map values.answer_in
+            (none_stored table.answers trees at_answers (values.answer_key a kind name number) i);
+        charges = λ n. option_map values.charge_in
+            (none_stored table.charges trees at_charges (values.charge_key a n) i);
+      };
+      vouchers = λ code. option_map values.voucher_in
+          (none_stored table.vouchers trees at_vouchers (values.voucher_key code) i);
+      count = length (at_accounts i);
+    }
 
 none_kept : (a : List ℕ) (k : Key) → answer_in a k nothing ≡ None
 none_kept a (Request s n) = refl
@@ -62,5 +81,42 @@ none_kept a (Reference x) = refl
 
 pub new_empty : AreNewTablesEmpty
 new_empty names =
-    ap (tables_of names) no_rows
+    ap (tables_of names) (empty_content (λ t. [])
+    (refl, (refl, (refl, (refl, (refl, (refl, (refl, (refl, (refl, (refl, tt)))))))))))
     ∙ (λ i. record (tables_of names no_content) { answers = λ a k. none_kept a k i })
+
+-- the row of meta in tables without rows
+new_book : (text : List ℕ) (old new : Trees) → AreEmpty book_schema.tables old
+    → Turns (with_meta (first_meta text)) old new → IsNewBook text new
+new_book text old new e turns = record {
+  meta = ap (λ (c : Content). c.meta) turns.content;
+  tables = λ names.
+      ap (tables_of names) (turns.content ∙ ap (with_meta (first_meta text)) (empty_content old e))
+      ∙ (λ i. record (tables_of names (with_meta (first_meta text) no_content)) { answers = λ a k. none_kept a k i });
+}
+
+pub builds_book : {A B D E : Type 0} (text : List ℕ) (first : ℕ) → first ≡ 0 → (a b c : State) (u : A) (v : B)
+    (w : D)
+    → Attempts {A = A} {E = E} BuildsAll a b (Ok u)
+    → Attempts {A = B} {E = E} (Makes (with_meta (record { version = 1; book = text; last = first }))) b c (Ok v)
+    → Attempts {A = D} {E = E} (BuildsBook text) a c (Ok w)
+builds_book text first is a b c u v w one two = record {
+  done = λ clean.
+      let built : BuildsAll a b = one.done (omega (arith, two.survives.clean, clean)) in
+      let put : Makes (with_meta (first_meta text)) b c =
+      subst (λ n. Makes (with_meta (record { version = 1; book = text; last = n })) b c) is (two.done clean) in
+      record {
+        made = new_book text b.now.trees c.now.trees built.empty put.turns;
+        book = put.book;
+        shows = record {
+          was_open = built.shows.was_open;
+          is_open = put.shows.is_open;
+          now_is = refl;
+          committed_is = put.shows.committed_is ∙ built.shows.committed_is;
+          mode = put.shows.mode;
+        };
+      };
+  kept = λ clean. tt;
+  survives = survives_then a b c (λ _. ⊥) (λ _. ⊥) (λ _. ⊥) (λ clean db no. no) (λ clean db no. no) one.survives
+      two.survives;
+}

@@ -5,3 +5,5 @@ pub mod Asked
 pub mod DeadRows
 pub mod Changed
 pub mod Empty
+pub mod Puts
+pub mod Commits

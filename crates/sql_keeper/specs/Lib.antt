@@ -1,5 +1,7 @@
 pub mod Asks
+pub mod Commits
 pub mod Content
+pub mod Creates
 pub mod Dead
 pub mod Inside
 pub mod Laws

@@ -3,11 +3,15 @@
 #![tactic(auto)]
 
 mod asking;
+mod committing;
+mod creating;
 mod dead;
 mod faults;
 mod finding;
+mod held_groups;
 mod keeper;
 mod laws;
+mod putting;
 mod rebuilding;
 mod testing;
 mod texts;

@@ -1,0 +1,73 @@
+-- Puts one after another.
+use Rattle.std.proofs.Common.{◌≡◌, ◌∙◌, ap, refl, subst, ℕ, List, arith, Ok, Err, Result, OnOk, OnErr}
+use Rattle.sqlite.specs.State.{State, KeepsCommit}
+use Rattle.sqlite.proofs.StateLemmas.{survives_then}
+use Rattle.sql_tables.specs.Statements.{Attempts}
+use Rattle.reserving.specs.declared.charge.ChargeRow.{ChargeRow}
+use Rattle.sql_rows.specs.Content.{Content}
+use Rattle.sql_rows.specs.Each.{with_charges}
+use Rattle.sql_rows.specs.Makes.{Makes, MakesIfOpen}
+
+made_then : (f g : Content → Content) (a b c : State) → Makes f a b → Makes g b c → Makes (λ x. g (f x)) a c
+made_then f g a b c one two = record {
+  turns = record {
+    content = two.turns.content ∙ ap g one.turns.content;
+    catalog = two.turns.catalog ∙ one.turns.catalog;
+  };
+  book = two.book;
+  shows = record {
+    was_open = one.shows.was_open;
+    is_open = two.shows.is_open;
+    now_is = refl;
+    committed_is = two.shows.committed_is ∙ one.shows.committed_is;
+    mode = two.shows.mode;
+  };
+}
+
+-- an error after what was made keeps what was committed
+kept_then : (f : Content → Content) (a b c : State) → Makes f a b → KeepsCommit b c → KeepsCommit a c
+kept_then f a b c one two = record {
+  was_open = λ on. one.shows.was_open;
+  committed = λ on. two.committed on ∙ one.shows.committed_is;
+}
+
+on_err_then : {A E : Type 0} (f : Content → Content) (a b c : State) (r : Result A E) → Makes f a b
+    → OnErr r (KeepsCommit b c) → OnErr r (KeepsCommit a c)
+on_err_then f a b c (Ok x) one two = tt
+on_err_then f a b c (Err e) one two = kept_then f a b c one two
+
+on_ok_then : {A E : Type 0} (P Q : Type 0) (r : Result A E) → (P → Q) → OnOk r P → OnOk r Q
+on_ok_then P Q (Ok x) f h = f h
+on_ok_then P Q (Err e) f h = tt
+
+module _ {A B E : Type 0} (f g : Content → Content) (a b c : State) (u : A) (r : Result B E) where
+  -- one statement, then another
+  pub makes_then : Attempts {A = A} {E = E} (Makes f) a b (Ok u) → Attempts {A = B} {E = E} (Makes g) b c r
+      → Attempts {A = B} {E = E} (Makes (λ x. g (f x))) a c r
+  makes_then one two = record {
+    done = λ clean. on_ok_then (Makes g b c) (Makes (λ x. g (f x)) a c) r
+        (made_then f g a b c (one.done (omega (arith, two.survives.clean, clean)))) (two.done clean);
+    kept = λ clean. on_err_then f a b c r (one.done (omega (arith, two.survives.clean, clean))) (two.kept clean);
+    survives = survives_then a b c (λ _. ⊥) (λ _. ⊥) (λ _. ⊥) (λ clean db no. no) (λ clean db no. no) one.survives
+        two.survives;
+  }
+
+  -- one statement, then those of a list
+  pub makes_all_then : Attempts {A = A} {E = E} (Makes f) a b (Ok u)
+      → Attempts {A = B} {E = E} (MakesIfOpen g) b c r → Attempts {A = B} {E = E} (Makes (λ x. g (f x))) a c r
+  makes_all_then one two = record {
+    done = λ clean.
+        let m = one.done (omega (arith, two.survives.clean, clean)) in
+        on_ok_then (MakesIfOpen g b c) (Makes (λ x. g (f x)) a c) r
+        (λ h. made_then f g a b c m (h.made m.shows.is_open)) (two.done clean);
+    kept = λ clean. on_err_then f a b c r (one.done (omega (arith, two.survives.clean, clean))) (two.kept clean);
+    survives = survives_then a b c (λ _. ⊥) (λ _. ⊥) (λ _. ⊥) (λ clean db no. no) (λ clean db no. no) one.survives
+        two.survives;
+  }
+
+-- the charges of the same list
+pub puts_charges : {A E : Type 0} (a : List ℕ) (xs ys : List ChargeRow) → ys ≡ xs → (old new : State) (r : Result A E)
+    → Attempts {A = A} {E = E} (MakesIfOpen (with_charges a ys)) old new r
+    → Attempts {A = A} {E = E} (MakesIfOpen (with_charges a xs)) old new r
+puts_charges {A} {E} a xs ys is old new r =
+    subst (λ zs. Attempts {A = A} {E = E} (MakesIfOpen (with_charges a zs)) old new r) is

@@ -1,0 +1,52 @@
+-- A change, committed whole or not at all.
+-- Source: profile.
+use Rattle.std.specs.Prelude.{◌≡◌, ℕ, List, Some, IsTrue, OnOk, OnErr, Result}
+use Rattle.sqlite_trees.specs.Tree.{Trees}
+use Rattle.sqlite_trees.specs.Objects.{catalog_tree}
+use Rattle.sqlite.specs.State.{State, HasCleanDisk, Survives}
+use Rattle.reserving.specs.Stored.{StoredRows}
+use Rattle.keepers.specs.declared.loaded.Change.{Change}
+use Rattle.keepers.specs.Change.{IsMadeFrom, changed}
+use Rattle.sql_tables.specs.Statements.{HasIdleBook, IsStill}
+use Rattle.sql_rows.specs.Content.{Content, content_of, with_account}
+use Rattle.sql_rows.specs.Each.{with_buckets, with_counters}
+use Rattle.sql_rows.specs.Makes.{Commits, Turns}
+use Rattle.sql_keeper.specs.Content.{tables_of}
+use Rattle.sql_keeper.specs.Writes.{head_of, meta_with}
+
+-- a connection that is open is in a transaction
+abbrev pub IsInside : State → Type 0
+IsInside s = HasCleanDisk s → IsTrue s.is_open → IsTrue s.in_transaction
+
+-- an account, its buckets and its counters as they become
+abbrev pub with_money : List ℕ → StoredRows → Content → Content
+with_money a w c = with_counters a w.counters (with_buckets a w.buckets (with_account a (head_of w) c))
+
+-- outside a transaction: the change is committed, or nothing is changed, and a stop leaves what was
+-- left before or the change
+pub record Transacts {A E : Type 0} (change : Content → Content) (old new : State) (result : Result A E) : Type 0
+  where
+    pub done : HasCleanDisk new → OnOk result (IsTrue old.is_open × IsTrue new.is_open × Commits change old new)
+    pub kept : HasCleanDisk new → IsTrue new.is_open → OnErr result (IsStill old new)
+    pub idle : HasIdleBook new
+    pub survives : Survives old new (λ db. IsTrue old.is_open × Turns change old.now.trees db)
+
+-- the tables hold the change, if it is one of the rows that were there; they would be found again:
+-- the catalog is the same, and so are the version and the text of the book
+pub record Becomes (names : List (List ℕ)) (text : List ℕ) (change : Change) (old new : Trees) : Type 0
+  where
+    pub tables : IsMadeFrom change.before change.after
+        ((tables_of names (content_of old)).rows change.number)
+        → tables_of names (content_of new) ≡ changed change (tables_of names (content_of old))
+    pub meta : (content_of new).meta ≡ Some (meta_with text change)
+    pub catalog : new catalog_tree ≡ old catalog_tree
+
+-- a change is committed whole, or the tables are as before; a stop leaves one or the other
+pub record CommitsChange {A E : Type 0} (names : List (List ℕ)) (text : List ℕ) (change : Change)
+    (old new : State) (result : Result A E) : Type 0 where
+  pub done : HasCleanDisk new
+      → OnOk result (IsTrue old.is_open × IsTrue new.is_open × Becomes names text change old.now.trees new.now.trees)
+  pub err : HasCleanDisk new → IsTrue new.is_open → OnErr result (IsStill old new)
+  pub idle : HasIdleBook new
+  -- only a fault of the disk shuts the connection
+  pub survives : Survives old new (λ db. IsTrue old.is_open → Becomes names text change old.now.trees db)

@@ -1,0 +1,33 @@
+-- The tables of a book, made whole or not at all.
+-- Source: profile.
+use Rattle.std.specs.Prelude.{◌≡◌, ℕ, List, Some, true, IsTrue, OnOk, OnErr, Result}
+use Rattle.sqlite_trees.specs.Tree.{Trees}
+use Rattle.sqlite.specs.State.{State, HasCleanDisk, Shows, Survives}
+use Rattle.keepers.specs.Tables.{no_tables}
+use Rattle.sql_tables.specs.Statements.{HasIdleBook, IsBook, IsStill}
+use Rattle.sql_rows.specs.Values.{Meta}
+use Rattle.sql_rows.specs.Content.{content_of}
+use Rattle.sql_keeper.specs.Content.{tables_of}
+
+-- what is kept once of new tables: their first version, the text of the book, and the first moment
+abbrev pub first_meta : List ℕ → Meta
+first_meta text = record { version = 1; book = text; last = 0 }
+
+-- the tables of this book before any command
+pub record IsNewBook (text : List ℕ) (trees : Trees) : Type 0 where
+  pub meta : (content_of trees).meta ≡ Some (first_meta text)
+  pub tables : (names : List (List ℕ)) → tables_of names (content_of trees) ≡ no_tables
+
+-- inside a transaction
+pub record BuildsBook (text : List ℕ) (old new : State) : Type 0 where
+  pub made : IsNewBook text new.now.trees
+  pub book : IsBook new
+  pub shows : Shows old new new.now old.committed true
+
+-- outside a transaction: the tables are made, or nothing is changed, and a stop leaves what was left
+-- before or the tables
+pub record CreatesBook {A E : Type 0} (text : List ℕ) (old new : State) (result : Result A E) : Type 0
+  where
+    pub done : HasCleanDisk new → OnOk result (IsTrue new.is_open × HasIdleBook new × IsNewBook text new.now.trees)
+    pub kept : HasCleanDisk new → IsTrue new.is_open → OnErr result (IsStill old new)
+    pub survives : Survives old new (IsNewBook text)

@@ -1,0 +1,99 @@
+//! A change in one transaction: all of it or nothing, also over a stop.
+
+ghost use Rattle.std.specs.Prelude.{◌≡◌, ◌≤◌, ◌⊎◌, false, option_map, IsTrue};
+ghost use Rattle.keepers.specs.Faults.{HasCause, max_failures};
+ghost use Rattle.sql_rows.specs.Texts.{kept_of};
+ghost use Rattle.sql_tables.specs.Statements.{HasIdleBook};
+ghost use Rattle.sql_keeper.specs.Commits.{Becomes, CommitsChange, Transacts};
+ghost use Rattle.sql_keeper.specs.Writes.{meta_with, with_change};
+ghost use Rattle.sqlite.specs.Held.{state};
+ghost use Rattle.sqlite.specs.State.{HasCleanDisk};
+ghost use Rattle.sqlite_trees.specs.Tree.{Trees};
+
+use crate::faults::counted;
+use crate::putting::put_change;
+use crate::testing::may_be_written;
+use crate::texts::kept_texts;
+use keepers::{Change, StoreFault};
+use sql_rows::{Kept, read_account};
+use sql_tables::ReadFault;
+use sqlite::{Alter, Connection, Error};
+use std::alloc::Global;
+use tariffs::TariffBook;
+
+/// Writes a change in one transaction.
+fn write_change<S: Alter>(
+    conn: &mut Connection<S>,
+    book: &TariffBook,
+    text: &str,
+    change: &Change,
+    texts: &Option<Kept>,
+) -> Result<(), Error>
+    requires plain { conn.old.in_transaction ≡ false }
+    requires idle { HasIdleBook (state S.Store conn.old) }
+    ensures plain { conn.new.in_transaction ≡ false }
+    ensures transacts { Transacts (with_change book.now.periods (meta_with text.now change.now)
+        change.now (option_map kept_of texts.now))
+        (state S.Store conn.old) (state S.Store conn.new) result }
+{
+    let mut tx = conn.transaction();
+    put_change(&mut tx, book, text, change, texts)?;
+    tx.commit()
+}
+
+/// Tests a change, and writes it if it may be written.
+#[tactic(auto, using(crate::proofs::Commits::refused))]
+fn make_change<S: Alter>(
+    conn: &mut Connection<S>,
+    alloc: Global,
+    book: &TariffBook,
+    text: &str,
+    change: &Change,
+) -> Result<(), ReadFault>
+    requires plain { conn.old.in_transaction ≡ false }
+    requires idle { HasIdleBook (state S.Store conn.old) }
+    ensures plain { conn.new.in_transaction ≡ false }
+    ensures commits { CommitsChange book.now.periods text.now change.now
+        (state S.Store conn.old) (state S.Store conn.new) result }
+{
+    let _stored = change.after.as_of();
+    let head = read_account(conn, &change.number)?;
+    if !may_be_written(book, &head, change) {
+        return Err(ReadFault::Rules);
+    }
+    let texts = kept_texts(alloc, &change.number, &change.kept)?;
+    write_change(conn, book, text, change, &texts)?;
+    Ok(())
+}
+
+/// Commits a change, in one transaction: the tables become those with the change, or at a fault they
+/// are as before. Whatever a stop leaves is one of the two.
+///
+/// # Errors
+/// Out of memory. The store failed, or the change isn't one that may be written: these are counted.
+pub(crate) fn commit_change<S: Alter>(
+    conn: &mut Connection<S>,
+    failures: &mut u64,
+    alloc: Global,
+    book: &TariffBook,
+    text: &str,
+    change: &Change,
+) -> Result<(), StoreFault>
+    requires plain { conn.old.in_transaction ≡ false }
+    requires idle { HasIdleBook (state S.Store conn.old) }
+    requires bounded { failures.old ≤ max_failures }
+    ensures plain { conn.new.in_transaction ≡ false }
+    ensures bounded { failures.new ≤ max_failures }
+    ensures commits { CommitsChange book.now.periods text.now change.now
+        (state S.Store conn.old) (state S.Store conn.new) result }
+    ensures stop { HasCleanDisk (state S.Store conn.new) → IsTrue (state S.Store conn.old).is_open →
+        (db : Trees) → (state S.Store conn.new).may_leave db →
+        (db ≡ (state S.Store conn.old).now.trees) ⊎
+        Becomes book.now.periods text.now change.now (state S.Store conn.old).now.trees db }
+    ensures settled { HasCleanDisk (state S.Store conn.new) → IsTrue (state S.Store conn.new).is_open →
+        (db : Trees) → (state S.Store conn.new).may_leave db → db ≡ (state S.Store conn.new).now.trees }
+    ensures cause { HasCause failures.old failures.new result }
+{
+    let made = make_change(conn, alloc, book, text, change);
+    counted(failures, made)
+}

@@ -1,0 +1,143 @@
+//! The rows of a change, put one after another.
+
+ghost use Rattle.std.specs.Prelude.{◌≡◌, option_map};
+ghost use Rattle.keepers.specs.Keys.{key_of};
+ghost use Rattle.sql_tables.specs.Statements.{Attempts, HasBook};
+ghost use Rattle.sql_rows.specs.Content.{with_account};
+ghost use Rattle.sql_rows.specs.Makes.{Makes, MakesIfOpen};
+ghost use Rattle.sql_rows.specs.Texts.{kept_of};
+ghost use Rattle.sql_keeper.specs.Commits.{IsInside, with_money};
+ghost use Rattle.sql_keeper.specs.Writes.{head_of, meta_with, with_change, with_kept, with_stored, with_texts};
+ghost use Rattle.sqlite.specs.Held.{state};
+
+use crate::held_groups::put_groups;
+use commands::Content;
+use identifiers::AccountNumber;
+use keepers::{Change, KeptAnswer};
+use reserving::StoredAccount;
+use sql_rows::{
+    Head, Kept, put_account, put_answer_reference, put_answer_request, put_buckets, put_charges,
+    put_counters, put_meta, put_sessions,
+};
+use sqlite::{Alter, Error, Transaction};
+use tariffs::TariffBook;
+
+/// What is kept of an account once.
+fn head_of(rows: &StoredAccount) -> Head
+    ensures { result ≡ head_of rows.now }
+{
+    Head {
+        barred: rows.is_barred(),
+        as_of: rows.as_of(),
+        next_bucket: rows.next_bucket(),
+        next_charge: rows.next_charge(),
+    }
+}
+
+/// Puts an account, its buckets and its counters.
+fn put_money<S: Alter>(
+    tx: &mut Transaction<'_, S>,
+    account: &AccountNumber,
+    rows: &StoredAccount,
+) -> Result<(), Error>
+    requires book { HasBook (state S.Store tx.old.conn.now) }
+    ensures same_reference { tx.new.conn.ghost_name ≡ tx.old.conn.ghost_name }
+    ensures makes { Attempts (Makes (with_money account.now rows.now))
+        (state S.Store tx.old.conn.now) (state S.Store tx.new.conn.now) result }
+{
+    let head = head_of(rows);
+    put_account(tx, account, &head)?;
+    put_buckets(tx, account, rows.purse().buckets())?;
+    put_counters(tx, account, rows.counters())
+}
+
+/// Puts the rows of an account.
+fn put_stored<S: Alter>(
+    tx: &mut Transaction<'_, S>,
+    account: &AccountNumber,
+    book: &TariffBook,
+    rows: &StoredAccount,
+) -> Result<(), Error>
+    requires book { HasBook (state S.Store tx.old.conn.now) }
+    ensures same_reference { tx.new.conn.ghost_name ≡ tx.old.conn.ghost_name }
+    ensures makes { Attempts (Makes (with_stored account.now book.now.periods rows.now))
+        (state S.Store tx.old.conn.now) (state S.Store tx.new.conn.now) result }
+{
+    put_money(tx, account, rows)?;
+    put_sessions(tx, account, rows.sessions())?;
+    put_groups(tx, account, book, rows.groups())
+}
+
+/// Puts the texts that are kept of a command under its key.
+fn put_texts<S: Alter>(
+    tx: &mut Transaction<'_, S>,
+    account: &AccountNumber,
+    content: &Content,
+    texts: &Kept,
+) -> Result<usize, Error>
+    requires book { HasBook (state S.Store tx.old.conn.now) }
+    ensures same_reference { tx.new.conn.ghost_name ≡ tx.old.conn.ghost_name }
+    ensures makes { Attempts (Makes (with_texts account.now (key_of content.now) (kept_of texts.now)))
+        (state S.Store tx.old.conn.now) (state S.Store tx.new.conn.now) result }
+{
+    let of_content = texts.content.as_str();
+    let of_answer = texts.answer.as_str();
+    match content {
+        Content::Request(request) => {
+            let session = &request.session;
+            put_answer_request(tx, account, session, request.number, of_content, of_answer)
+        }
+        Content::Credit(kept) => {
+            let reference = &kept.credit().reference;
+            put_answer_reference(tx, account, reference, of_content, of_answer)
+        }
+    }
+}
+
+/// Puts what is kept of a command, if anything is.
+fn put_kept<S: Alter>(
+    tx: &mut Transaction<'_, S>,
+    account: &AccountNumber,
+    kept: &Option<KeptAnswer>,
+    texts: &Option<Kept>,
+) -> Result<(), Error>
+    requires open { IsInside (state S.Store tx.old.conn.now) }
+    requires book { HasBook (state S.Store tx.old.conn.now) }
+    ensures same_reference { tx.new.conn.ghost_name ≡ tx.old.conn.ghost_name }
+    ensures makes { Attempts (MakesIfOpen
+        (with_kept account.now kept.now (option_map kept_of texts.now)))
+        (state S.Store tx.old.conn.now) (state S.Store tx.new.conn.now) result }
+{
+    match kept {
+        None => Ok(()),
+        Some(kept) => match texts {
+            None => Ok(()),
+            Some(texts) => {
+                put_texts(tx, account, &kept.content, texts)?;
+                Ok(())
+            }
+        },
+    }
+}
+
+/// Puts all that a change writes: the moment, the account's rows, the charges, and the texts of what
+/// is kept.
+pub(crate) fn put_change<S: Alter>(
+    tx: &mut Transaction<'_, S>,
+    book: &TariffBook,
+    text: &str,
+    change: &Change,
+    texts: &Option<Kept>,
+) -> Result<(), Error>
+    requires book { HasBook (state S.Store tx.old.conn.now) }
+    ensures same_reference { tx.new.conn.ghost_name ≡ tx.old.conn.ghost_name }
+    ensures makes { Attempts (Makes (with_change book.now.periods (meta_with text.now change.now)
+        change.now (option_map kept_of texts.now)))
+        (state S.Store tx.old.conn.now) (state S.Store tx.new.conn.now) result }
+{
+    let account = &change.number;
+    put_meta(tx, 1, text, change.moment)?;
+    put_stored(tx, account, book, &change.after)?;
+    put_charges(tx, account, &change.charges)?;
+    put_kept(tx, account, &change.kept, texts)
+}
