@@ -1,3 +1,11 @@
 pub mod Numbers
 pub mod Lines
 pub mod Words
+pub mod Paths
+pub mod Months
+pub mod Faults
+pub mod Commands
+pub mod Program
+pub mod Said
+pub mod Read
+pub mod Office

@@ -1,0 +1,91 @@
+-- The program as `clap` knows it: its commands, each with its operands and options. What the words
+-- of a command line are to them is clap's own statement (`subcommand_of`, `fault_of`).
+-- Source: profile.
+use Rattle.std.specs.Prelude.{true, Some, codes}
+use Rattle.clap.specs.Words.{App, Rule, Text, new_app, new_rule, with_rule, with_subcommand}
+use Rattle.clap.specs.declared.builder.action.ArgAction.TheVariants.{Set, SetTrue}
+
+-- a word in its place, which must be there
+abbrev pub operand : Text → Rule
+operand id = record (new_rule id) { required = true; action = Some Set }
+
+-- a word after `--id`, or joined to it by `=`
+abbrev pub option : Text → Rule
+option id = record (new_rule id) { long = Some id; value_names = 1; action = Some Set }
+
+-- an option that must be there
+abbrev pub needed : Text → Rule
+needed id = record (option id) { required = true }
+
+-- `--id` alone
+abbrev pub flag : Text → Rule
+flag id = record (new_rule id) { long = Some id; action = Some SetTrue }
+
+-- the moment of a command
+abbrev pub at : Rule
+at = option (codes "at")
+
+abbrev pub once_app : App
+once_app = with_rule (with_rule (with_rule (new_app (codes "once"))
+    (needed (codes "credit"))) (needed (codes "price"))) (needed (codes "block"))
+
+abbrev pub init_app : App
+init_app = with_rule (with_rule (new_app (codes "init"))
+    (operand (codes "DB"))) (operand (codes "BOOK"))
+
+abbrev pub serve_app : App
+serve_app = with_rule (with_rule (with_rule (with_rule (new_app (codes "serve"))
+    (operand (codes "DB"))) (needed (codes "port"))) (needed (codes "connections"))) at
+
+abbrev pub import_app : App
+import_app = with_rule (with_rule (with_rule (new_app (codes "import"))
+    (operand (codes "DB"))) (operand (codes "FILE"))) at
+
+-- a command on an account
+abbrev pub account_app : Text → App
+account_app name = with_rule (with_rule (with_rule (new_app name)
+    (operand (codes "DB"))) (operand (codes "ACCOUNT"))) at
+
+abbrev pub sweep_app : App
+sweep_app = with_rule (with_rule (new_app (codes "sweep")) (operand (codes "DB"))) at
+
+abbrev pub credit_operands_app : App
+credit_operands_app = with_rule (with_rule (with_rule (with_rule (new_app (codes "credit"))
+    (operand (codes "DB"))) (operand (codes "ACCOUNT"))) (operand (codes "AMOUNT")))
+    (operand (codes "REFERENCE"))
+
+abbrev pub credit_app : App
+credit_app = with_rule (with_rule (with_rule credit_operands_app
+    (option (codes "until"))) (option (codes "scope"))) at
+
+abbrev pub statement_app : App
+statement_app = with_rule (with_rule (with_rule (with_rule (with_rule (new_app (codes "statement"))
+    (operand (codes "DB"))) (operand (codes "ACCOUNT"))) (operand (codes "YYYYMM")))
+    (flag (codes "csv"))) at
+
+abbrev pub replay_app : App
+replay_app = with_rule (with_rule (new_app (codes "replay"))
+    (operand (codes "DB"))) (operand (codes "FILE"))
+
+-- the program's name and version; one of its commands must be there
+abbrev pub top_app : App
+top_app = let empty = new_app (codes "ocs") in
+    record empty { top = record (empty.top) { has_version = true; subcommand_required = true } }
+
+-- with its first commands, then more of them
+abbrev pub first_app : App
+first_app = with_subcommand (with_subcommand top_app once_app.top) init_app.top
+
+abbrev pub files_app : App
+files_app = with_subcommand (with_subcommand first_app serve_app.top) import_app.top
+
+abbrev pub accounts_app : App
+accounts_app = with_subcommand (with_subcommand (with_subcommand files_app
+    (account_app (codes "open")).top) (account_app (codes "bar")).top)
+    (account_app (codes "unbar")).top
+
+abbrev pub office_app : App
+office_app = with_subcommand (with_subcommand accounts_app sweep_app.top) credit_app.top
+
+abbrev pub program_app : App
+program_app = with_subcommand (with_subcommand office_app statement_app.top) replay_app.top

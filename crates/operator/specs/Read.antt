@@ -1,0 +1,91 @@
+-- What the program's words come to, by what `clap` says of them, and the ranges of what they say.
+-- Source: profile.
+use Rattle.std.specs.Prelude.{◌≡◌, ◌≢◌, ℕ, ◌≤◌, List, [], map, Option, IfSome, Ok, Err}
+use Rattle.std.specs.Borrow.{Bor}
+use Rattle.clap.specs.Values.{kind_of}
+use Rattle.clap.specs.Words.{IsAmong, Kinds, Text, fault_of, subcommand_of}
+use Rattle.operator.specs.Program.{program_app}
+use Rattle.operator.specs.Said.{said_by}
+use Rattle.operator.specs.Words as once_range
+use Rattle.clap.specs.declared.error.Error.{Error}
+use Rattle.clap.specs.declared.error.kind.ErrorKind.TheVariants.{OutOfMemory}
+use Rattle.operator.specs.declared.fault.ValueFault.TheVariants as value
+use Rattle.operator.specs.declared.fault.WordsFault.{WordsFault}
+use Rattle.operator.specs.declared.fault.WordsFault.TheVariants.{Unread, Invalid, Memory}
+use Rattle.operator.specs.declared.parsed.ImportWords.{ImportWords}
+use Rattle.operator.specs.declared.parsed.OfficeCommand.{OfficeCommand}
+use Rattle.operator.specs.declared.parsed.OfficeCommand.TheVariants as office
+use Rattle.operator.specs.declared.parsed.OfficeWords.{OfficeWords}
+use Rattle.operator.specs.declared.parsed.ProgramWords.{ProgramWords}
+use Rattle.operator.specs.declared.parsed.ProgramWords.TheVariants as words
+use Rattle.operator.specs.declared.parsed.ServeWords.{ServeWords}
+use Rattle.operator.specs.declared.parsed.StatementWords.{StatementWords}
+
+abbrev pub texts_of : List (Bor (List ℕ)) → List Text
+texts_of words = map (λ w. w.now) words
+
+-- `clap` takes the words, and they say this
+pub record IsSaid (words : List Text) (said : ProgramWords) : Type 0 where
+  pub taken : fault_of program_app words ≡ []
+  pub means : said_by (subcommand_of program_app words) ≡ Ok said
+
+-- `clap` takes the words, and one isn't what its place takes
+pub record IsInvalid (words : List Text) : Type 0 where
+  pub taken : fault_of program_app words ≡ []
+  pub means : said_by (subcommand_of program_app words) ≡ Err value.Invalid
+
+-- an error of `clap`, of a kind that it tells of the words; or one isn't what its place takes
+abbrev pub IsUnread : List Text → WordsFault → Type 0
+IsUnread words (Unread error) = IsAmong (kind_of error) (fault_of program_app words)
+IsUnread words Invalid = IsInvalid words
+IsUnread words Memory = Unit {0}
+
+-- the fault is this error of `clap`, or want of memory where the error is that
+abbrev pub IsRefusal : Error → WordsFault → Type 0
+IsRefusal error (Unread same) = (same ≡ error) × (kind_of error ≢ OutOfMemory)
+IsRefusal error Invalid = ⊥
+IsRefusal error Memory = kind_of error ≡ OutOfMemory
+
+-- an error of `clap` of one of these kinds, or want of memory
+abbrev pub IsRefused : Kinds → WordsFault → Type 0
+IsRefused kinds (Unread error) = IsAmong (kind_of error) kinds
+IsRefused kinds Invalid = ⊥
+IsRefused kinds Memory = Unit {0}
+
+-- ---- ranges
+
+-- the moment of a command, where it is told
+abbrev pub IsAtInRange : Option ℕ → Type 0
+IsAtInRange at = IfSome at (λ t. t ≤ 4_102_444_799)
+
+pub record IsServeInRange (serve : ServeWords) : Type 0 where
+  pub port : (1 ≤ serve.port) × (serve.port ≤ 65_535)
+  pub connections : (1 ≤ serve.connections) × (serve.connections ≤ 1_000_000)
+  pub at : IsAtInRange serve.at
+
+abbrev pub IsImportInRange : ImportWords → Type 0
+IsImportInRange import = IsAtInRange import.at
+
+-- a credit is of 1 micro-unit or more
+abbrev pub IsOfficeCommandInRange : OfficeCommand → Type 0
+IsOfficeCommandInRange (office.Credit credit) = 1 ≤ credit.amount
+IsOfficeCommandInRange (office.Open account) = Unit {0}
+IsOfficeCommandInRange (office.Bar account) = Unit {0}
+IsOfficeCommandInRange (office.Unbar account) = Unit {0}
+IsOfficeCommandInRange office.Sweep = Unit {0}
+
+pub record IsOfficeInRange (words : OfficeWords) : Type 0 where
+  pub command : IsOfficeCommandInRange words.command
+  pub at : IsAtInRange words.at
+
+abbrev pub IsStatementInRange : StatementWords → Type 0
+IsStatementInRange statement = IsAtInRange statement.at
+
+abbrev pub IsInRange : ProgramWords → Type 0
+IsInRange (words.Once once) = once_range.IsInRange once
+IsInRange (words.Init init) = Unit {0}
+IsInRange (words.Serve serve) = IsServeInRange serve
+IsInRange (words.Import import) = IsImportInRange import
+IsInRange (words.Office office) = IsOfficeInRange office
+IsInRange (words.Statement statement) = IsStatementInRange statement
+IsInRange (words.Replay replay) = Unit {0}

@@ -1,0 +1,36 @@
+use std::alloc::AllocError;
+use thiserror::Error;
+
+/// Why words aren't the program's.
+#[derive(Debug, Drop, Error)]
+pub enum WordsFault {
+    /// `clap` doesn't take them, or they ask for the help or the version: its text tells.
+    #[error("{0}")]
+    Unread(clap::Error),
+    /// A word isn't one that its place takes: no number, out of range, or no name.
+    #[error("a word is not one that its place takes")]
+    Invalid,
+    /// Memory was refused.
+    #[error("out of memory")]
+    Memory,
+}
+
+/// Why a word isn't what its place takes.
+#[derive(Clone, Copy, Debug, Drop)]
+pub(crate) enum ValueFault {
+    /// It is no number, out of range, or no name.
+    Invalid,
+    /// Memory was refused.
+    Memory,
+}
+
+impl From<AllocError> for ValueFault {
+    ghost use Rattle.std.specs.Prelude.{◌≡◌};
+    ghost use Rattle.operator.specs.Faults.{out_of_memory};
+
+    ghost from_gives = { λ _ e. e ≡ out_of_memory };
+
+    fn from(_error: AllocError) -> ValueFault {
+        ValueFault::Memory
+    }
+}

@@ -1,0 +1,113 @@
+ghost use Rattle.std.specs.Prelude.{◌≡◌};
+ghost use Rattle.operator.specs.Office.{command_of};
+
+use crate::month::Month;
+use crate::path::FilePath;
+use crate::words::OnceWords;
+use commands::{Command, Credit};
+use identifiers::AccountNumber;
+use units::Moment;
+
+/// What the words of `init` say: a new database for this tariff book.
+#[derive(Debug, Drop)]
+pub struct InitWords {
+    pub database: FilePath,
+    /// The book's TOML.
+    pub book: FilePath,
+}
+
+/// What the words of `serve` say: connections on a port of 127.0.0.1.
+#[derive(Debug, Drop)]
+pub struct ServeWords {
+    pub database: FilePath,
+    /// 1 to 65,535.
+    pub port: u16,
+    /// How many are served, 1 to 1,000,000.
+    pub connections: u32,
+    /// The moment of every request, 0 to 4,102,444,799; None: the clock's.
+    pub at: Option<Moment>,
+}
+
+/// What the words of `import` say: a file of vouchers for a database.
+#[derive(Debug, Drop)]
+pub struct ImportWords {
+    pub database: FilePath,
+    /// The vouchers' CSV.
+    pub file: FilePath,
+    /// The moment of each command, 0 to 4,102,444,799; None: the clock's.
+    pub at: Option<Moment>,
+}
+
+/// A command that an operator types.
+#[derive(Debug, Drop)]
+pub enum OfficeCommand {
+    /// Opens an account.
+    Open(AccountNumber),
+    /// Bars an account.
+    Bar(AccountNumber),
+    /// Ends that.
+    Unbar(AccountNumber),
+    /// Gives an account money, from the moment of the command on.
+    Credit(Credit),
+    /// Brings each account to the moment of the command.
+    Sweep,
+}
+
+impl OfficeCommand {
+    /// The command of the charging system that it is.
+    pub fn into_command(self) -> Command
+        ensures { result ≡ command_of self }
+    {
+        match self {
+            OfficeCommand::Open(account) => Command::OpenAccount(account),
+            OfficeCommand::Bar(account) => Command::Bar(account),
+            OfficeCommand::Unbar(account) => Command::Unbar(account),
+            OfficeCommand::Credit(credit) => Command::Credit(credit),
+            OfficeCommand::Sweep => Command::Sweep,
+        }
+    }
+}
+
+/// What the words of an operator's command say.
+#[derive(Debug, Drop)]
+pub struct OfficeWords {
+    pub database: FilePath,
+    pub command: OfficeCommand,
+    /// Its moment, 0 to 4,102,444,799; None: the clock's.
+    pub at: Option<Moment>,
+}
+
+/// What the words of `statement` say: the charges of an account in a month.
+#[derive(Debug, Drop)]
+pub struct StatementWords {
+    pub database: FilePath,
+    pub account: AccountNumber,
+    /// The civil month in the book's zone.
+    pub month: Month,
+    /// Whether they are written as CSV.
+    pub csv: bool,
+    /// The moment of the buckets, 0 to 4,102,444,799; None: the clock's.
+    pub at: Option<Moment>,
+}
+
+/// What the words of `replay` say: a file of dated requests for a database.
+#[derive(Debug, Drop)]
+pub struct ReplayWords {
+    pub database: FilePath,
+    /// Lines of a moment, one space and a request as JSON.
+    pub file: FilePath,
+}
+
+/// What the program's words say.
+#[derive(Debug, Drop)]
+pub enum ProgramWords {
+    /// `once`: requests from standard input, over one account and one price.
+    Once(OnceWords),
+    Init(InitWords),
+    Serve(ServeWords),
+    Import(ImportWords),
+    /// `open`, `bar`, `unbar`, `sweep` and `credit`.
+    Office(OfficeWords),
+    Statement(StatementWords),
+    Replay(ReplayWords),
+}

@@ -1,0 +1,218 @@
+ghost use Rattle.std.specs.Prelude.{◌≡◌, IfOk, false};
+ghost use Rattle.clap.specs.Words.{app_of, with_rule, with_subcommand};
+ghost use Rattle.clap.specs.declared.builder.command.Command.TheViews.{out-Command as fields_of};
+ghost use Rattle.operator.specs.Program.{account_app, accounts_app, at, credit_app, credit_operands_app, files_app, first_app, import_app, init_app, office_app, once_app, program_app, replay_app, serve_app, statement_app, sweep_app, top_app};
+
+use crate::arguments::{with_flag, with_needed, with_operand, with_option};
+use clap::Command;
+use std::alloc::{AllocError, Global};
+
+const DATABASE: &str = "The database's file";
+
+const ACCOUNT: &str = "The account's number, 1 to 15 digits";
+
+/// A command with the option `--at`.
+fn with_at<'a>(alloc: Global, command: Command<'a>) -> Result<Command<'a>, AllocError>
+    requires { (fields_of command).has_globals ≡ false }
+    ensures app { IfOk result (λ c. app_of c ≡ with_rule (app_of command.entry) at) }
+    ensures local { IfOk result (λ c. (fields_of c).has_globals ≡ false) }
+{
+    let help = "The moment, in seconds since 1970; without it the machine's clock is asked";
+    with_option(alloc, command, "at", "T", help)
+}
+
+fn once_command<'a>(alloc: Global) -> Result<Command<'a>, AllocError>
+    ensures app { IfOk result (λ c. app_of c ≡ once_app) }
+    ensures local { IfOk result (λ c. (fields_of c).has_globals ≡ false) }
+{
+    let command = Command::new(alloc, "once").about(
+        "Answers requests from standard input, without a database",
+    );
+    let credit = "What the account is opened with, 1 to 10^15 micro-units";
+    let command = with_needed(alloc, command, "credit", "A", credit)?;
+    let price = "The price of a block, 0 to 10^9 micro-units";
+    let command = with_needed(alloc, command, "price", "P", price)?;
+    let block = "The size of a block, 1 to 10^15 seconds";
+    with_needed(alloc, command, "block", "B", block)
+}
+
+fn init_command<'a>(alloc: Global) -> Result<Command<'a>, AllocError>
+    ensures app { IfOk result (λ c. app_of c ≡ init_app) }
+    ensures local { IfOk result (λ c. (fields_of c).has_globals ≡ false) }
+{
+    let command = Command::new(alloc, "init").about("Creates a database for a tariff book");
+    let command = with_operand(alloc, command, "DB", DATABASE)?;
+    with_operand(alloc, command, "BOOK", "The tariff book, as TOML")
+}
+
+fn serve_command<'a>(alloc: Global) -> Result<Command<'a>, AllocError>
+    ensures app { IfOk result (λ c. app_of c ≡ serve_app) }
+    ensures local { IfOk result (λ c. (fields_of c).has_globals ≡ false) }
+{
+    let command = Command::new(alloc, "serve").about("Serves connections of HTTP on 127.0.0.1");
+    let command = with_operand(alloc, command, "DB", DATABASE)?;
+    let command = with_needed(alloc, command, "port", "P", "The port, 1 to 65535")?;
+    let connections = "How many connections are served, 1 to 1000000";
+    let command = with_needed(alloc, command, "connections", "N", connections)?;
+    with_at(alloc, command)
+}
+
+fn import_command<'a>(alloc: Global) -> Result<Command<'a>, AllocError>
+    ensures app { IfOk result (λ c. app_of c ≡ import_app) }
+    ensures local { IfOk result (λ c. (fields_of c).has_globals ≡ false) }
+{
+    let command = Command::new(alloc, "import").about("Adds the vouchers of a file");
+    let command = with_operand(alloc, command, "DB", DATABASE)?;
+    let command = with_operand(alloc, command, "FILE", "The vouchers, as CSV")?;
+    with_at(alloc, command)
+}
+
+/// A command of this name on an account.
+fn account_command<'a>(
+    alloc: Global,
+    name: &'a str,
+    about: &'a str,
+) -> Result<Command<'a>, AllocError>
+    ensures app { IfOk result (λ c. app_of c ≡ account_app name.entry.now) }
+    ensures local { IfOk result (λ c. (fields_of c).has_globals ≡ false) }
+{
+    let command = Command::new(alloc, name).about(about);
+    let command = with_operand(alloc, command, "DB", DATABASE)?;
+    let command = with_operand(alloc, command, "ACCOUNT", ACCOUNT)?;
+    with_at(alloc, command)
+}
+
+fn sweep_command<'a>(alloc: Global) -> Result<Command<'a>, AllocError>
+    ensures app { IfOk result (λ c. app_of c ≡ sweep_app) }
+    ensures local { IfOk result (λ c. (fields_of c).has_globals ≡ false) }
+{
+    let command = Command::new(alloc, "sweep").about("Brings each account to the moment");
+    let command = with_operand(alloc, command, "DB", DATABASE)?;
+    with_at(alloc, command)
+}
+
+/// The command `credit` with its operands.
+fn credit_operands<'a>(alloc: Global) -> Result<Command<'a>, AllocError>
+    ensures app { IfOk result (λ c. app_of c ≡ credit_operands_app) }
+    ensures local { IfOk result (λ c. (fields_of c).has_globals ≡ false) }
+{
+    let command = Command::new(alloc, "credit").about("Gives an account money");
+    let command = with_operand(alloc, command, "DB", DATABASE)?;
+    let command = with_operand(alloc, command, "ACCOUNT", ACCOUNT)?;
+    let command = with_operand(alloc, command, "AMOUNT", "1 to 10^15 micro-units")?;
+    let reference = "Names the credit, so that it isn't given twice, 1 to 64 bytes";
+    with_operand(alloc, command, "REFERENCE", reference)
+}
+
+fn credit_command<'a>(alloc: Global) -> Result<Command<'a>, AllocError>
+    ensures app { IfOk result (λ c. app_of c ≡ credit_app) }
+    ensures local { IfOk result (λ c. (fields_of c).has_globals ≡ false) }
+{
+    let command = credit_operands(alloc)?;
+    let until = "Until when it can be used, in seconds since 1970; without it there is no end";
+    let command = with_option(alloc, command, "until", "T", until)?;
+    let scope = "The rating group that it pays for; without it all";
+    let command = with_option(alloc, command, "scope", "G", scope)?;
+    with_at(alloc, command)
+}
+
+fn statement_command<'a>(alloc: Global) -> Result<Command<'a>, AllocError>
+    ensures app { IfOk result (λ c. app_of c ≡ statement_app) }
+    ensures local { IfOk result (λ c. (fields_of c).has_globals ≡ false) }
+{
+    let command = Command::new(alloc, "statement").about("Writes an account's charges of a month");
+    let command = with_operand(alloc, command, "DB", DATABASE)?;
+    let command = with_operand(alloc, command, "ACCOUNT", ACCOUNT)?;
+    let command = with_operand(alloc, command, "YYYYMM", "The month, 197001 to 209912")?;
+    let command = with_flag(alloc, command, "csv", "Writes the charges as CSV")?;
+    with_at(alloc, command)
+}
+
+fn replay_command<'a>(alloc: Global) -> Result<Command<'a>, AllocError>
+    ensures app { IfOk result (λ c. app_of c ≡ replay_app) }
+    ensures local { IfOk result (λ c. (fields_of c).has_globals ≡ false) }
+{
+    let command = Command::new(alloc, "replay").about("Answers dated requests from a file");
+    let command = with_operand(alloc, command, "DB", DATABASE)?;
+    with_operand(
+        alloc,
+        command,
+        "FILE",
+        "Lines of a moment, one space and a request as JSON",
+    )
+}
+
+/// A program with one more command.
+fn with_command<'a>(program: Command<'a>, command: Command<'a>) -> Result<Command<'a>, AllocError>
+    requires program { (fields_of program).has_globals ≡ false }
+    requires command { (fields_of command).has_globals ≡ false }
+    ensures app { IfOk result
+        (λ c. app_of c ≡ with_subcommand (app_of program.entry) (app_of command.entry).top) }
+    ensures local { IfOk result (λ c. (fields_of c).has_globals ≡ false) }
+{
+    program.subcommand(command)
+}
+
+/// The program, before its commands.
+fn top_command<'a>(alloc: Global) -> Command<'a>
+    ensures app { app_of result ≡ top_app }
+    ensures local { (fields_of result).has_globals ≡ false }
+{
+    Command::new(alloc, "ocs")
+        .about("Online charging for prepaid subscribers")
+        .version("0.1.0")
+        .subcommand_required(true)
+}
+
+/// The program with `once` and `init`.
+fn first_program<'a>(alloc: Global) -> Result<Command<'a>, AllocError>
+    ensures app { IfOk result (λ c. app_of c ≡ first_app) }
+    ensures local { IfOk result (λ c. (fields_of c).has_globals ≡ false) }
+{
+    let program = with_command(top_command(alloc), once_command(alloc)?)?;
+    with_command(program, init_command(alloc)?)
+}
+
+/// The same with `serve` and `import`.
+fn files_program<'a>(alloc: Global) -> Result<Command<'a>, AllocError>
+    ensures app { IfOk result (λ c. app_of c ≡ files_app) }
+    ensures local { IfOk result (λ c. (fields_of c).has_globals ≡ false) }
+{
+    let program = first_program(alloc)?;
+    let program = with_command(program, serve_command(alloc)?)?;
+    with_command(program, import_command(alloc)?)
+}
+
+/// The same with `open`, `bar` and `unbar`.
+fn account_program<'a>(alloc: Global) -> Result<Command<'a>, AllocError>
+    ensures app { IfOk result (λ c. app_of c ≡ accounts_app) }
+    ensures local { IfOk result (λ c. (fields_of c).has_globals ≡ false) }
+{
+    let program = files_program(alloc)?;
+    let open = account_command(alloc, "open", "Opens an account")?;
+    let program = with_command(program, open)?;
+    let bar = account_command(alloc, "bar", "Bars an account: it is charged nothing more")?;
+    let program = with_command(program, bar)?;
+    let unbar = account_command(alloc, "unbar", "Ends that an account is barred")?;
+    with_command(program, unbar)
+}
+
+/// The same with `sweep` and `credit`.
+fn office_program<'a>(alloc: Global) -> Result<Command<'a>, AllocError>
+    ensures app { IfOk result (λ c. app_of c ≡ office_app) }
+    ensures local { IfOk result (λ c. (fields_of c).has_globals ≡ false) }
+{
+    let program = account_program(alloc)?;
+    let program = with_command(program, sweep_command(alloc)?)?;
+    with_command(program, credit_command(alloc)?)
+}
+
+/// The program with all its commands.
+pub(crate) fn program<'a>(alloc: Global) -> Result<Command<'a>, AllocError>
+    ensures app { IfOk result (λ c. app_of c ≡ program_app) }
+    ensures local { IfOk result (λ c. (fields_of c).has_globals ≡ false) }
+{
+    let program = office_program(alloc)?;
+    let program = with_command(program, statement_command(alloc)?)?;
+    with_command(program, replay_command(alloc)?)
+}

@@ -1,0 +1,121 @@
+ghost use Rattle.std.specs.Prelude.{◌≡◌, [], IfErr, IfOk, option_map};
+ghost use Rattle.clap.specs.Words.{FailsBy, fault_of, found_of, rows_of, subcommand_of, subcommand_rows_of};
+ghost use Rattle.first_fault.specs.Steps.{GivesUnless};
+ghost use Rattle.operator.specs.Program.{program_app};
+ghost use Rattle.operator.specs.Read.{IsInRange, IsRefusal, IsRefused, IsSaid, IsUnread, texts_of};
+ghost use Rattle.operator.specs.Said.{command_said, said_by};
+ghost use Rattle.operator.specs.declared.fault.ValueFault.TheVariants.{Memory};
+
+use crate::command_name::CommandName;
+use crate::fault::{ValueFault, WordsFault};
+use crate::parsed::ProgramWords;
+use crate::program::program;
+use crate::saying::{
+    import_words, init_words, office_words, once_said, replay_words, serve_words, statement_words,
+};
+use clap::error::ErrorKind;
+use clap::{ArgMatches, Error};
+use std::alloc::Global;
+
+/// Reads all words of the program, of which the first is its name, by `clap`. Numbers are 1 to 16
+/// digits without a sign (profile).
+///
+/// # Errors
+/// `Unread` where `clap` doesn't take the words, with its error, also where they ask for the help
+/// or the version. `Invalid` where it takes them and one isn't what its place takes. `Memory`
+/// where memory was refused.
+#[tactic(auto, using(crate::proofs::ProgramLemmas::is_said_from, crate::proofs::ProgramLemmas::is_invalid_from, crate::proofs::ProgramLemmas::refused_unread))]
+pub fn program_words<'a>(alloc: Global, words: &'a [&'a str]) -> Result<ProgramWords, WordsFault>
+    ensures read { IfOk result (IsSaid (texts_of words.entry.now)) }
+    ensures unread { IfErr result (IsUnread (texts_of words.entry.now)) }
+    ensures in_range { IfOk result IsInRange }
+{
+    let matches = match found_in(alloc, words) {
+        Ok(matches) => matches,
+        Err(fault) => return Err(fault),
+    };
+    match said_in(alloc, &matches) {
+        Ok(said) => Ok(said),
+        Err(ValueFault::Invalid) => Err(WordsFault::Invalid),
+        Err(ValueFault::Memory) => Err(WordsFault::Memory),
+    }
+}
+
+/// What `clap` finds in the words.
+#[tactic(auto, using(crate::proofs::ProgramLemmas::refused_from))]
+fn found_in<'a>(alloc: Global, words: &'a [&'a str]) -> Result<ArgMatches<'a>, WordsFault>
+    ensures taken { IfOk result (λ _. fault_of program_app (texts_of words.entry.now) ≡ []) }
+    ensures rows { IfOk result
+        (λ m. subcommand_rows_of m ≡ subcommand_of program_app (texts_of words.entry.now)) }
+    ensures refused { IfErr result
+        (IsRefused (fault_of program_app (texts_of words.entry.now))) }
+{
+    match matches_in(alloc, words) {
+        Ok(matches) => Ok(matches),
+        Err(error) => Err(refusal(error)),
+    }
+}
+
+fn matches_in<'a>(alloc: Global, words: &'a [&'a str]) -> Result<ArgMatches<'a>, Error>
+    ensures rows { IfOk result
+        (λ m. subcommand_rows_of m ≡ subcommand_of program_app (texts_of words.entry.now)) }
+    ensures kinds { FailsBy (fault_of program_app (texts_of words.entry.now)) result }
+{
+    let program = program(alloc)?;
+    program.try_get_matches_from(words)
+}
+
+/// The fault of an error of `clap`.
+fn refusal(error: Error) -> WordsFault
+    ensures { IsRefusal error result }
+{
+    match error.kind() {
+        ErrorKind::OutOfMemory => WordsFault::Memory,
+        _ => WordsFault::Unread(error),
+    }
+}
+
+/// What the words say, by the command that they name.
+fn said_in(alloc: Global, matches: &ArgMatches<'_>) -> Result<ProgramWords, ValueFault>
+    ensures value { GivesUnless Memory (λ w. w) result (said_by (subcommand_rows_of matches.now)) }
+    ensures in_range { IfOk result IsInRange }
+{
+    let Some((name, inner)) = entered(matches) else {
+        return Err(ValueFault::Invalid);
+    };
+    let Some(command) = CommandName::named(name) else {
+        return Err(ValueFault::Invalid);
+    };
+    said_of(alloc, command, inner)
+}
+
+/// The command that the words name, with what it finds.
+fn entered<'m, 'a>(matches: &'m ArgMatches<'a>) -> Option<(&'a str, &'m ArgMatches<'a>)>
+    ensures { option_map (λ p. (p.0.now, rows_of (found_of p.1.now))) result
+        ≡ subcommand_rows_of matches.now }
+{
+    matches.subcommand()
+}
+
+/// What the words of a command say.
+fn said_of(
+    alloc: Global,
+    command: CommandName,
+    matches: &ArgMatches<'_>,
+) -> Result<ProgramWords, ValueFault>
+    ensures value { GivesUnless Memory (λ w. w) result
+        (command_said command (rows_of (found_of matches.now))) }
+    ensures in_range { IfOk result IsInRange }
+{
+    match command {
+        CommandName::Once => Ok(ProgramWords::Once(once_said(matches)?)),
+        CommandName::Init => Ok(ProgramWords::Init(init_words(alloc, matches)?)),
+        CommandName::Serve => Ok(ProgramWords::Serve(serve_words(alloc, matches)?)),
+        CommandName::Import => Ok(ProgramWords::Import(import_words(alloc, matches)?)),
+        CommandName::Office(name) => {
+            Ok(ProgramWords::Office(office_words(alloc, name, matches)?))
+        }
+        CommandName::Statement => Ok(ProgramWords::Statement(statement_words(alloc, matches)?)),
+        CommandName::Replay => Ok(ProgramWords::Replay(replay_words(alloc, matches)?)),
+    }
+}

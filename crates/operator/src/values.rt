@@ -1,0 +1,183 @@
+ghost use Rattle.std.specs.Prelude.{◌≡◌, ◌≤◌, IfOk, IfSome, codes, option_map};
+ghost use Rattle.clap.specs.Words.{found_of, first_of, rows_of};
+ghost use Rattle.first_fault.specs.Steps.{GivesUnless, Says};
+ghost use Rattle.operator.specs.Said.{account_of, at_of, database_of, has_flag, month_at, number_at, number_in, optional_in, path_at, reference_of, scope_of, until_of, word};
+ghost use Rattle.operator.specs.declared.fault.ValueFault.TheVariants.{Memory};
+
+use crate::fault::ValueFault;
+use crate::month::Month;
+use crate::numbers::number;
+use crate::path::FilePath;
+use clap::ArgMatches;
+use commands::CreditEnd;
+use identifiers::{AccountNumber, Reference};
+use std::alloc::Global;
+use units::{Moment, Money};
+
+/// The first word of an operand or an option, where it is there.
+fn found<'a>(matches: &ArgMatches<'a>, id: &str) -> Option<&'a str>
+    ensures { option_map (λ s. s.now) result ≡ first_of id.now (rows_of (found_of matches.now)) }
+{
+    matches.get_str(id)
+}
+
+/// The word of an operand or an option.
+fn word<'a>(matches: &ArgMatches<'a>, id: &str) -> Result<&'a str, ValueFault>
+    ensures { Says (λ s. s.now) result (word id.now (rows_of (found_of matches.now))) }
+{
+    found(matches, id).ok_or(ValueFault::Invalid)
+}
+
+/// The number of this range that a word says.
+#[tactic(auto, unfolding(crate::specs::Said::number_in))]
+fn number_in(low: u64, high: u64, word: &str) -> Result<u64, ValueFault>
+    ensures value { Says (λ n. n) result (number_in low high word.now) }
+    ensures in_range { IfOk result (λ n. (low ≤ n) × (n ≤ high)) }
+{
+    let Some(number) = number(word) else {
+        return Err(ValueFault::Invalid);
+    };
+    if low <= number && number <= high {
+        Ok(number)
+    } else {
+        Err(ValueFault::Invalid)
+    }
+}
+
+/// The number of this range that an operand or an option says.
+#[tactic(auto, unfolding(crate::specs::Said::number_at))]
+pub(crate) fn number_at(
+    matches: &ArgMatches<'_>,
+    low: u64,
+    high: u64,
+    id: &str,
+) -> Result<u64, ValueFault>
+    ensures value { Says (λ n. n) result
+        (number_at low high id.now (rows_of (found_of matches.now))) }
+    ensures in_range { IfOk result (λ n. (low ≤ n) × (n ≤ high)) }
+{
+    number_in(low, high, word(matches, id)?)
+}
+
+/// The number of this range that an option says, where it is there.
+#[tactic(auto, unfolding(crate::specs::Said::optional_in))]
+fn optional_at(
+    matches: &ArgMatches<'_>,
+    low: u64,
+    high: u64,
+    id: &str,
+) -> Result<Option<u64>, ValueFault>
+    ensures value { Says (λ n. n) result
+        (optional_in low high (first_of id.now (rows_of (found_of matches.now)))) }
+    ensures in_range { IfOk result (λ o. IfSome o (λ n. (low ≤ n) × (n ≤ high))) }
+{
+    match found(matches, id) {
+        Some(word) => Ok(Some(number_in(low, high, word)?)),
+        None => Ok(None),
+    }
+}
+
+/// An amount of money, 1 to 10^15 micro-units.
+pub(crate) fn amount_at(matches: &ArgMatches<'_>, id: &str) -> Result<Money, ValueFault>
+    ensures value { Says (λ m. m) result
+        (number_at 1 1_000_000_000_000_000 id.now (rows_of (found_of matches.now))) }
+    ensures in_range { IfOk result (λ m. (1 ≤ m) × (m ≤ 1_000_000_000_000_000)) }
+{
+    let micros = number_at(matches, 1, 1_000_000_000_000_000, id)?;
+    Money::new(micros).ok_or(ValueFault::Invalid)
+}
+
+/// The moment of `--at`, where it is there.
+pub(crate) fn at(matches: &ArgMatches<'_>) -> Result<Option<Moment>, ValueFault>
+    ensures value { Says (λ t. t) result (at_of (rows_of (found_of matches.now))) }
+    ensures in_range { IfOk result (λ o. IfSome o (λ t. t ≤ 4_102_444_799)) }
+{
+    match optional_at(matches, 0, 4_102_444_799, "at")? {
+        None => Ok(None),
+        Some(seconds) => Ok(Moment::of_command(seconds)),
+    }
+}
+
+/// The end of `--until`, where it is there.
+pub(crate) fn until(matches: &ArgMatches<'_>) -> Result<Option<CreditEnd>, ValueFault>
+    ensures { Says (λ e. e) result (until_of (rows_of (found_of matches.now))) }
+{
+    match optional_at(matches, 1, 4_102_444_800, "until")? {
+        None => Ok(None),
+        Some(seconds) => match Moment::new(seconds) {
+            Some(moment) => Ok(CreditEnd::new(moment)),
+            None => Ok(None),
+        },
+    }
+}
+
+/// The rating group of `--scope`, where it is there.
+pub(crate) fn scope(matches: &ArgMatches<'_>) -> Result<Option<u32>, ValueFault>
+    ensures { Says (λ g. g) result (scope_of (rows_of (found_of matches.now))) }
+{
+    match optional_at(matches, 0, 4_294_967_295, "scope")? {
+        None => Ok(None),
+        Some(group) => Ok(Some(group as u32)),
+    }
+}
+
+/// The path that an operand says.
+#[tactic(auto, unfolding(crate::specs::Said::path_at))]
+pub(crate) fn path_at(
+    alloc: Global,
+    matches: &ArgMatches<'_>,
+    id: &str,
+) -> Result<FilePath, ValueFault>
+    ensures { GivesUnless Memory (λ p. p) result
+        (path_at id.now (rows_of (found_of matches.now))) }
+{
+    let text = word(matches, id)?;
+    FilePath::new(alloc, text)?.ok_or(ValueFault::Invalid)
+}
+
+/// The path of the database.
+pub(crate) fn database(alloc: Global, matches: &ArgMatches<'_>) -> Result<FilePath, ValueFault>
+    ensures { GivesUnless Memory (λ p. p) result
+        (database_of (rows_of (found_of matches.now))) }
+{
+    path_at(alloc, matches, "DB")
+}
+
+/// The account's number.
+#[tactic(auto, unfolding(crate::specs::Said::account_of))]
+pub(crate) fn account(alloc: Global, matches: &ArgMatches<'_>) -> Result<AccountNumber, ValueFault>
+    ensures { GivesUnless Memory (λ a. a) result
+        (account_of (rows_of (found_of matches.now))) }
+{
+    let text = word(matches, "ACCOUNT")?;
+    AccountNumber::new(alloc, text)?.ok_or(ValueFault::Invalid)
+}
+
+/// The credit's reference.
+#[tactic(auto, unfolding(crate::specs::Said::reference_of))]
+pub(crate) fn reference(alloc: Global, matches: &ArgMatches<'_>) -> Result<Reference, ValueFault>
+    ensures { GivesUnless Memory (λ r. r) result
+        (reference_of (rows_of (found_of matches.now))) }
+{
+    let text = word(matches, "REFERENCE")?;
+    Reference::new(alloc, text)?.ok_or(ValueFault::Invalid)
+}
+
+/// The month.
+#[tactic(auto, unfolding(crate::specs::Said::month_at))]
+pub(crate) fn month(matches: &ArgMatches<'_>) -> Result<Month, ValueFault>
+    ensures { Says (λ m. m) result (month_at (rows_of (found_of matches.now))) }
+{
+    let text = word(matches, "YYYYMM")?;
+    Month::from_word(text).ok_or(ValueFault::Invalid)
+}
+
+/// Whether a flag stands.
+pub(crate) fn has_flag(matches: &ArgMatches<'_>, id: &str) -> bool
+    ensures { result ≡ has_flag id.now (rows_of (found_of matches.now)) }
+{
+    match found(matches, id) {
+        Some(word) => word == "true",
+        None => false,
+    }
+}
