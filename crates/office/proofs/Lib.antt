@@ -1,0 +1,2 @@
+pub mod CarriedLemmas
+pub mod Beginnings

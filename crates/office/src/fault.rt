@@ -1,0 +1,48 @@
+ghost use Rattle.std.specs.Prelude.{◌≡◌};
+ghost use Rattle.office.specs.Told.{fault_line, store_line, stream_line};
+
+use byte_streams::StreamFault;
+use keepers::StoreFault;
+use thiserror::Error;
+
+/// Why an operator's command wasn't done, or its answer not told.
+#[derive(Clone, Copy, Debug, Drop, Error, PartialEq, Eq)]
+pub enum OfficeFault {
+    /// The keeper didn't do what it was asked: nothing has changed.
+    #[error("store fault {}", .0.number())]
+    Store(StoreFault),
+    /// The command was carried out, and its answer isn't written to its end.
+    #[error("the answer was not written: {0}")]
+    Write(StreamFault),
+}
+
+impl OfficeFault {
+    /// The line that tells it on standard error, without its line feed.
+    pub fn line(self) -> &'static str
+        ensures { result.now ≡ fault_line self }
+    {
+        match self {
+            OfficeFault::Store(fault) => store_line(fault),
+            OfficeFault::Write(fault) => stream_line(fault),
+        }
+    }
+}
+
+fn store_line(fault: StoreFault) -> &'static str
+    ensures { result.now ≡ store_line fault }
+{
+    match fault {
+        StoreFault::Memory => "ocs: store fault 1",
+        StoreFault::Store => "ocs: store fault 2",
+    }
+}
+
+fn stream_line(fault: StreamFault) -> &'static str
+    ensures { result.now ≡ stream_line fault }
+{
+    match fault {
+        StreamFault::Memory => "ocs: memory fault",
+        StreamFault::Read => "ocs: file fault",
+        StreamFault::Write => "ocs: file fault",
+    }
+}

@@ -1,0 +1,63 @@
+ghost use Rattle.std.specs.Prelude.{◌≡◌, ◌≤◌, ◌+◌, Err, IfOk, min};
+ghost use Rattle.std.specs.Io.KnownBytes.{Appends};
+ghost use Rattle.byte_streams.specs.declared.StreamFault.{StreamFault};
+ghost use Rattle.keepers.specs.Faults.{max_failures};
+ghost use Rattle.keepers.specs.declared.fault.StoreFault.{StoreFault};
+ghost use Rattle.keepers.specs.declared.fault.StoreFault.TheVariants.{Store as StoreFailed};
+ghost use Rattle.office.specs.Carried.{IsCarriedOut};
+ghost use Rattle.office.specs.Told.{answer_line, status_of};
+ghost use Rattle.office.specs.Written.{WritesBeginning};
+ghost use Rattle.office.specs.declared.fault.OfficeFault.TheVariants.{Store, Write};
+ghost use Rattle.operator.specs.Office.{command_of};
+
+use crate::fault::OfficeFault;
+use crate::status::{Status, status_of};
+use crate::writing::write_answer_line;
+use charging::step;
+use keepers::Keeper;
+use operator::OfficeCommand;
+use std::alloc::Global;
+use std::io::Write;
+use tariffs::TariffBook;
+use units::Moment;
+
+/// Carries out an operator's command at the later of this moment and that of the last accepted
+/// command, and writes its answer as a line. The status is `Failed` at a refusal, which changes
+/// nothing (profile).
+///
+/// # Errors
+/// `Store` where the keeper failed: then nothing has changed, and nothing is written. `Write` where
+/// memory ran out for the answer's text or the writer failed: then the command was carried out, and
+/// a beginning of its line is written.
+#[tactic(auto, using(crate::proofs::CarriedLemmas::done_from, crate::proofs::CarriedLemmas::untold_from))]
+pub fn serve_office<K: Keeper, W: Write>(
+    alloc: Global,
+    keeper: &mut K,
+    book: &TariffBook,
+    command: OfficeCommand,
+    moment: Moment,
+    writer: &mut W,
+) -> Result<Status, OfficeFault>
+    ensures done { K.clean keeper.new → IfOk result (λ status.
+        IsCarriedOut book.now (command_of command) moment (K.content keeper.old) (K.content keeper.new)
+        (λ answer. (status ≡ status_of answer)
+        × Appends (W.contents writer.old) (W.contents writer.new) (answer_line answer))) }
+    ensures untold { (fault : StreamFault) → result ≡ Err (Write fault) → K.clean keeper.new →
+        IsCarriedOut book.now (command_of command) moment (K.content keeper.old) (K.content keeper.new)
+        (λ answer. WritesBeginning (W.contents writer.old) (W.contents writer.new) (answer_line answer)) }
+    ensures unserved { (fault : StoreFault) → result ≡ Err (Store fault) → K.clean keeper.new →
+        K.content keeper.new ≡ K.content keeper.old }
+    ensures unwritten { (fault : StoreFault) → result ≡ Err (Store fault) → writer.new ≡ writer.old }
+    ensures cleanness { K.clean keeper.new → K.clean keeper.old }
+    ensures failures { K.failed keeper.old ≤ K.failed keeper.new }
+    ensures cause { result ≡ Err (Store StoreFailed) → min (K.failed keeper.old + 1) max_failures ≤ K.failed keeper.new }
+{
+    let answer = match step(alloc, keeper, book, command.into_command(), moment) {
+        Ok(answer) => answer,
+        Err(fault) => return Err(OfficeFault::Store(fault)),
+    };
+    match write_answer_line(alloc, writer, &answer) {
+        Ok(()) => Ok(status_of(&answer)),
+        Err(fault) => Err(OfficeFault::Write(fault)),
+    }
+}
