@@ -5,3 +5,4 @@ pub mod Parts
 pub mod Short
 pub mod Filtered
 pub mod Paid
+pub mod Tests

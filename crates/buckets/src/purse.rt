@@ -3,6 +3,8 @@ ghost use Rattle.buckets.specs.Row.{Row, with_end, new_row};
 ghost use Rattle.buckets.specs.Spend.{funds, held_rows, IsBelow, inserted, IsSound};
 ghost use Rattle.buckets.specs.Holding.{holds_of, IsWithin, charged_rows, released_rows, uncollected, rest_of_holds, settled_rows};
 
+mod tested;
+
 use crate::along;
 use crate::bucket::Bucket;
 use crate::holds::{HoldRoom, Holds};

@@ -39,6 +39,13 @@ impl Columns {
 }
 
 impl Bucket {
+    /// That what became of its amount sums to it, which it keeps: for proofs alone.
+    pub(crate) fn keeps_balance(&self)
+        ensures { IsBalanced self.now }
+    {
+        let _credited = self.credited;
+    }
+
     /// The bucket of these columns (TS 32.296, account balance management function). None where
     /// what became of its amount doesn't sum to it, or it is more than 10^15 micro-units.
     pub fn from_columns(columns: &Columns) -> Option<Self>
