@@ -17,6 +17,7 @@ pub mod ReadAnswer
 pub mod ReadBuckets
 pub mod ReadCharges
 pub mod ReadCounter
+pub mod ReadCounters
 pub mod ReadGroups
 pub mod ReadHolds
 pub mod ReadMeta

@@ -5,6 +5,7 @@ use Rattle.std.specs.List.{find}
 use Rattle.sqlite_value.specs.Order.{Row as Values}
 use Rattle.buckets.specs.Row.{Row as Bucket}
 use Rattle.reserving.specs.declared.session.Session.{Session}
+use Rattle.reserving.specs.declared.session.Counter.{Counter}
 use Rattle.reserving.specs.declared.charge.ChargeRow.{ChargeRow}
 use Rattle.sql_tables.specs.Keyed.{same_name}
 use Rattle.sql_tables.specs.Selects.{only}
@@ -72,3 +73,8 @@ NumbersRise xs = Rises (λ x. x.number) xs
 
 abbrev pub BucketsRise : List Bucket → Type 0
 BucketsRise bs = Rises (λ b. b.number) bs
+
+-- all counters of the account
+abbrev pub AreCounters : Rows → List Counter → Type 0
+AreCounters rows xs = (g c : ℕ) →
+    find (λ x. nat_eq x.group g && nat_eq x.cycle c) xs ≡ rows.counters g c
