@@ -62,6 +62,24 @@ impl Zone {
         }
     }
 
+    /// The civil date at a moment.
+    fn date_at(&self, seconds: u64) -> Date
+        requires { seconds ≤ 4_102_488_000 }
+        ensures day { epoch_day result +ℤ pos 1 ≡ pos (day self.now seconds) }
+        ensures bound { day self.now seconds ≤ 50_000 }
+    {
+        self.shown(seconds).date()
+    }
+
+    /// How many seconds its clock is ahead of UTC: at every moment the same.
+    fn ahead_at(&self, instant: Timestamp) -> i64
+        ensures ahead { (t : ℕ) → result ≡ offset self.now t }
+        ensures within { IsWithin 50_400 result }
+        ensures zone { IsZone self.now }
+    {
+        i64::from(self.time_zone.to_offset(instant).seconds())
+    }
+
     /// What its clock shows at a moment, in seconds since 1969-12-31 00:00 on that clock.
     pub(crate) fn clock_at(&self, seconds: u64) -> u64
         requires { seconds < 2 ^ 33 }
@@ -70,8 +88,8 @@ impl Zone {
     {
         match Timestamp::from_second(seconds as i64) {
             Ok(instant) => {
-                let ahead = self.time_zone.to_offset(instant).seconds();
-                (seconds as i64 + 86_400 + i64::from(ahead)) as u64
+                let ahead = self.ahead_at(instant);
+                (seconds as i64 + 86_400 + ahead) as u64
             }
             Err(_) => unreachable!(),
         }
@@ -89,7 +107,7 @@ impl Zone {
         requires { seconds ≤ 4_102_488_000 }
         ensures { result ≡ day self.now seconds }
     {
-        let date = self.shown(seconds).date();
+        let date = self.date_at(seconds);
         (date.to_plain().to_unix_epoch_day() + 1) as u32
     }
 
@@ -100,7 +118,7 @@ impl Zone {
         ensures date { (d : Date) → epoch_day d +ℤ pos 1 ≡ pos (day self.now seconds) →
             pos (result + 1 + 12 * 1969) ≡ pos 12 *ℤ d.year +ℤ pos d.month }
     {
-        let date = self.shown(seconds).date();
+        let date = self.date_at(seconds);
         let year = date.year();
         let years = (year - 1969) as u32;
         let month = date.month() as u32;

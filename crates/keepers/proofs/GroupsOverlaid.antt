@@ -12,7 +12,7 @@ use Rattle.keepers.specs.Tables.{group_row, held_of}
 use Rattle.keepers.specs.Change.{held_over}
 use Rattle.keepers.specs.Differing.{equal_group, AreGroupsOverlaid, AreHoldsOverlaid}
 use Rattle.keepers.proofs.Equal.{group_from}
-use Rattle.keepers.proofs.Overlaid.{differing_over}
+use Rattle.reserving.proofs.LeftTests.{differing_over}
 use Rattle.keepers.proofs.GroupRows.{row_over, held_over_is}
 
 alone : (o : Option SessionGroup) → first_of o None ≡ o

@@ -1,10 +1,5 @@
 -- What a store in memory keeps while its rows are put in the place of others.
-use Rattle.std.proofs.Common.{◌≡◌, ℕ, true, false, List, ◌++◌, sym, ap, subst, ◌∙◌}
-use Rattle.std.specs.Prelude.{filter}
-use Rattle.buckets.specs.Row.{Row}
-use Rattle.reserving.specs.declared.session.Session.{Session}
-use Rattle.reserving.specs.declared.session.SessionGroup.{SessionGroup}
-use Rattle.reserving.specs.Rows.{EachIn}
+use Rattle.std.proofs.Common.{◌≡◌, true, false, sym, subst}
 use Rattle.reserving.specs.Stored.{StoredRows, IsStored}
 use Rattle.reserving.proofs.LeftTests.{each_filter}
 use Rattle.reserving.proofs.LeftJoined.{each_in_map}
@@ -13,12 +8,12 @@ use Rattle.reserving.specs.Left.{is_dead}
 use Rattle.std.specs.Prelude.{is_some}
 use Rattle.keepers.specs.declared.store.LeftStore.{LeftStore}
 use Rattle.keepers.specs.declared.store.Known.{Known}
-use Rattle.keepers.specs.Parts.{Parts, AreParts, rows_of, with_live, leaves_bucket, leaves_counter, leaves_session, leaves_group}
-use Rattle.keepers.specs.Named.{is_numbered, is_named, AreLeftBuckets, AreLeftSessions, AreLeftGroups}
+use Rattle.keepers.specs.Parts.{AreParts, with_live, leaves_bucket, leaves_counter, leaves_session, leaves_group}
+use Rattle.keepers.specs.Named.{is_numbered, is_named, AreLeftBuckets, AreLeftCounters, AreLeftSessions, AreLeftGroups}
 use Rattle.keepers.specs.Inside.{parts_by, AreKeptBy, AreSameRows}
 use Rattle.keepers.specs.Replacing.{IsLeaving, KnowsMore, AreNoted, IsAppended, AreKnown, IsFiltered}
 use Rattle.keepers.proofs.PartsKept.{parts_replaced}
-use Rattle.keepers.proofs.Replaced.{left_is, buckets_known, sessions_known, groups_known}
+use Rattle.keepers.proofs.Replaced.{left_is, buckets_known, counters_known, sessions_known, groups_known}
 
 pub same_parts : (live : StoredRows) (old new : LeftStore) → AreSameRows old new →
     parts_by live new ≡ parts_by live old
@@ -41,6 +36,9 @@ kept_known live left was is h more = record {
   buckets = each_in_map (λ b. (is_dead b ≡ true) × (is_numbered was.numbers b.number ≡ true))
       (λ b. (is_dead b ≡ true) × (is_numbered is.numbers b.number ≡ true)) left.buckets.items
       (λ b r. (r.0, more.numbers b.number r.1)) h.buckets;
+  counters = each_in_map (λ c. is_numbered was.cycles c.cycle ≡ true)
+      (λ c. is_numbered is.cycles c.cycle ≡ true) left.counters.items
+      (λ c r. more.cycles c.cycle r) h.counters;
   sessions = each_in_map (λ r. (is_open r.state ≡ false) × (is_named was.names r.id ≡ true))
       (λ r. (is_open r.state ≡ false) × (is_named is.names r.id ≡ true)) left.sessions.items
       (λ r x. (x.0, more.names r.id x.1)) h.sessions;
@@ -56,6 +54,7 @@ pub kept_roomy : (live : StoredRows) (old new : LeftStore) (known : Known) →
 kept_roomy live old new known h e = record {
   parts = subst AreParts (sym (same_parts live old new e)) h.parts;
   buckets = subst (AreLeftBuckets known.numbers) (sym e.buckets) h.buckets;
+  counters = subst (AreLeftCounters known.cycles) (sym e.counters) h.counters;
   sessions = subst (AreLeftSessions known.names) (sym e.sessions) h.sessions;
   groups = subst (AreLeftGroups known.names) (sym e.groups) h.groups;
 }
@@ -71,6 +70,9 @@ module _ (w live : StoredRows) (old roomy back new rows : LeftStore) (was is : K
     buckets = buckets_known w was.numbers is.numbers old.buckets.items live.buckets
         roomy.buckets.items rows.buckets.items back.buckets.items more.numbers h.buckets
         noted.buckets room.buckets leaving.buckets behind.buckets;
+    counters = counters_known was.cycles is.cycles old.counters.items roomy.counters.items
+        rows.counters.items back.counters.items more.cycles h.counters noted.counters
+        room.counters behind.counters;
     sessions = sessions_known w was.names is.names old.sessions.items live.sessions
         roomy.sessions.items rows.sessions.items back.sessions.items more.names h.sessions
         noted.sessions room.sessions leaving.sessions behind.sessions;
@@ -106,6 +108,9 @@ module _ (w live : StoredRows) (old roomy back new rows : LeftStore) (was is : K
     buckets = subst (AreLeftBuckets is.numbers) (sym e.buckets)
         (each_filter (λ b. (is_dead b ≡ true) × (is_numbered is.numbers b.number ≡ true))
         (leaves_bucket w) back.buckets.items known_behind.buckets);
+    counters = subst (AreLeftCounters is.cycles) (sym e.counters)
+        (each_filter (λ c. is_numbered is.cycles c.cycle ≡ true) (leaves_counter w)
+        back.counters.items known_behind.counters);
     sessions = subst (AreLeftSessions is.names) (sym e.sessions)
         (each_filter (λ r. (is_open r.state ≡ false) × (is_named is.names r.id ≡ true))
         (leaves_session w) back.sessions.items known_behind.sessions);

@@ -1,7 +1,6 @@
 pub mod GroupRows
 pub mod GroupsOverlaid
 pub mod Grows
-pub mod Overlaid
 pub mod Told
 pub mod Equal
 pub mod Cursor
@@ -22,3 +21,4 @@ pub mod PartsKept
 pub mod PartsLoaded
 pub mod PartsWritten
 pub mod PartsSwept
+pub mod PastCounters

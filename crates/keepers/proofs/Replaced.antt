@@ -1,20 +1,21 @@
 -- What is left once the rows are others, by what a store in memory does: those that leave stand
 -- behind, and what there are rows of again goes.
 use Rattle.std.proofs.Common.{◌≡◌, ℕ, zero, suc, ◌+◌, ◌<◌, ◌≤◌, Bool, true, false, List, [], ◌∷◌, ◌++◌, length, take, get_or, refl, sym, ap, subst, ◌∙◌, arith}
-use Rattle.std.specs.Prelude.{not, filter, is_some, ◌&&◌, ◌||◌}
+use Rattle.std.specs.Prelude.{not, filter, is_some, ◌||◌}
 use Rattle.buckets.specs.Row.{Row}
 use Rattle.reserving.specs.declared.session.Session.{Session}
 use Rattle.reserving.specs.declared.session.SessionGroup.{SessionGroup}
+use Rattle.reserving.specs.declared.session.Counter.{Counter}
 use Rattle.reserving.specs.Rows.{EachIn}
 use Rattle.reserving.specs.Stored.{StoredRows}
-use Rattle.reserving.specs.Sessions.{is_open, session_in}
+use Rattle.reserving.specs.Sessions.{is_open}
 use Rattle.reserving.specs.Left.{is_dead}
 use Rattle.reserving.proofs.Keys.{first_true}
 use Rattle.reserving.proofs.Lists.{not_both}
 use Rattle.reserving.proofs.LeftJoined.{each_in_map}
 use Rattle.reserving.proofs.LeftTests.{each_append, each_passes, each_with}
 use Rattle.keepers.specs.Parts.{leaves_bucket, leaves_session, leaves_group}
-use Rattle.keepers.specs.Named.{Numbers, Names, is_numbered, is_named, AreLeftBuckets, AreLeftSessions, AreLeftGroups}
+use Rattle.keepers.specs.Named.{Numbers, Names, is_numbered, is_named, AreLeftBuckets, AreLeftCounters, AreLeftSessions, AreLeftGroups}
 use Rattle.keepers.proofs.Unchanged.{filter_both}
 
 pub left_is : {A : Type 0} (p : A → Bool) (old live mid more back new : List A) → mid ≡ old →
@@ -54,6 +55,15 @@ buckets_known w was is old live mid more back stay h k e f g =
     (λ b. (is_dead b ≡ true) × (is_numbered is b.number ≡ true))
     (leaves_bucket w) old live mid more back
     (λ b d n. (first_true (is_dead b) _ d, n)) (λ b r. (r.0, stay b.number r.1)) h k e f g
+
+pub counters_known : (was is : Numbers) (old mid more back : List Counter) →
+    ((n : ℕ) → is_numbered was n ≡ true → is_numbered is n ≡ true) → AreLeftCounters was old →
+    AreLeftCounters is more → mid ≡ old → back ≡ mid ++ more → AreLeftCounters is back
+counters_known was is old mid more back stay h k e g =
+    subst (AreLeftCounters is) (sym (g ∙ (λ i. e i ++ more)))
+    (each_append (λ c. is_numbered is c.cycle ≡ true) old more
+    (each_in_map (λ c. is_numbered was c.cycle ≡ true) (λ c. is_numbered is c.cycle ≡ true) old
+    (λ c r. stay c.cycle r) h) k)
 
 pub sessions_known : (w : StoredRows) (was is : Names) (old live mid more back : List Session) →
     ((s : List ℕ) → is_named was s ≡ true → is_named is s ≡ true) → AreLeftSessions was old →

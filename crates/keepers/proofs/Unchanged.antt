@@ -1,21 +1,22 @@
 -- What was left stays as it is where no row has a key of its.
-use Rattle.std.proofs.Common.{◌≡◌, ℕ, Bool, true, false, cond, List, [], ◌∷◌, ◌++◌, refl, sym, ap, subst, ◌∙◌, Option, Some, None}
-use Rattle.std.specs.Prelude.{if◌then◌else◌, ◌==◌, ◌&&◌, ◌||◌, not, filter, is_some}
+use Rattle.std.proofs.Common.{◌≡◌, ℕ, Bool, true, false, cond, List, [], ◌∷◌, ◌++◌, refl, sym, ap, ◌∙◌, Option, Some, None}
+use Rattle.std.specs.Prelude.{◌==◌, ◌||◌, not, filter, is_some}
 use Rattle.std.specs.List.{find, list_any}
 use Rattle.buckets.specs.Row.{Row}
 use Rattle.reserving.specs.declared.session.Session.{Session}
 use Rattle.reserving.specs.declared.session.SessionGroup.{SessionGroup}
+use Rattle.reserving.specs.declared.session.Counter.{Counter}
 use Rattle.reserving.specs.Ledger.{is_same}
 use Rattle.reserving.specs.Rows.{EachIn}
 use Rattle.reserving.specs.Stored.{StoredRows}
-use Rattle.reserving.specs.Sessions.{is_session, is_of, is_open, session_in, group_in}
+use Rattle.reserving.specs.Sessions.{is_session, is_of, is_counter, is_open, session_in, group_in, counter_in}
 use Rattle.reserving.specs.Left.{is_dead, bucket_in}
 use Rattle.reserving.proofs.Lists.{not_both, some_of, no_some, find-passes}
 use Rattle.reserving.proofs.Keys.{first_true, second_true, both_true, same_number}
 use Rattle.reserving.proofs.Holds.{same_from}
 use Rattle.reserving.proofs.LeftJoined.{each_in_map}
-use Rattle.keepers.specs.Parts.{leaves_bucket, leaves_session, leaves_group}
-use Rattle.keepers.specs.Named.{Numbers, Names, is_numbered, is_named, AreLeftBuckets, AreLeftSessions, AreLeftGroups}
+use Rattle.keepers.specs.Parts.{leaves_bucket, leaves_counter, leaves_session, leaves_group}
+use Rattle.keepers.specs.Named.{Numbers, Names, is_numbered, is_named, AreLeftBuckets, AreLeftCounters, AreLeftSessions, AreLeftGroups}
 
 -- all pass: nothing is filtered out
 all_pass : {A : Type 0} (p : A → Bool) (xs : List A) → EachIn (λ x. p x ≡ true) xs →
@@ -63,6 +64,20 @@ buckets_stay w numbers rows h none =
     (λ x f. ap (is_numbered numbers)
     (same_number x.number b.number (find-passes (λ y. y.number == b.number) w.buckets x f))
     ∙ e.1)))) h)
+
+pub counters_stay : (w : StoredRows) (cycles : Numbers) (rows : List Counter) →
+    AreLeftCounters cycles rows →
+    list_any (λ (c : Counter). is_numbered cycles c.cycle) w.counters ≡ false →
+    rows ≡ filter (leaves_counter w) rows
+counters_stay w cycles rows h none =
+    all_pass (leaves_counter w) rows
+    (each_in_map (λ c. is_numbered cycles c.cycle ≡ true) (λ c. leaves_counter w c ≡ true) rows
+    (λ c e. not_true_is (is_some (counter_in c.group c.cycle w.counters))
+    (none_found (is_counter c.group c.cycle) (λ x. is_numbered cycles x.cycle) w.counters none
+    (λ x f. ap (is_numbered cycles)
+    (same_number x.cycle c.cycle
+    (second_true (x.group == c.group) (x.cycle == c.cycle)
+    (find-passes (is_counter c.group c.cycle) w.counters x f))) ∙ e))) h)
 
 session_away : (w : StoredRows) (names : Names) (s : List ℕ) → is_named names s ≡ true →
     list_any (λ (r : Session). is_named names r.id) w.sessions ≡ false →

@@ -1,7 +1,7 @@
 -- The rows that the fields of a store in memory are, and what it keeps.
 use Rattle.std.specs.Prelude.{◌≡◌, ◌+◌, ◌≤◌, vec_len, vec_capacity}
 use Rattle.keepers.specs.Parts.{Parts, AreParts}
-use Rattle.keepers.specs.Named.{AreLeftBuckets, AreLeftSessions, AreLeftGroups}
+use Rattle.keepers.specs.Named.{AreLeftBuckets, AreLeftCounters, AreLeftSessions, AreLeftGroups}
 use Rattle.reserving.specs.Stored.{StoredRows}
 use Rattle.keepers.specs.declared.store.LeftStore.{LeftStore}
 use Rattle.keepers.specs.declared.store.Known.{Known}
@@ -25,6 +25,7 @@ parts_of s = parts_by s.live s.left
 pub record AreKeptBy (live : StoredRows) (left : LeftStore) (known : Known) : Type 0 where
   pub parts : AreParts (parts_by live left)
   pub buckets : AreLeftBuckets known.numbers left.buckets.items
+  pub counters : AreLeftCounters known.cycles left.counters.items
   pub sessions : AreLeftSessions known.names left.sessions.items
   pub groups : AreLeftGroups known.names left.groups.items
 

@@ -1,13 +1,18 @@
 -- What the keeper in memory knows of the rows that were left without a search: the numbers and
 -- names that they have.
-use Rattle.std.specs.Prelude.{◌≡◌, ℕ, Bool, true, false, List, nat_eq, is_some}
+use Rattle.std.specs.Prelude.{◌≡◌, ℕ, Bool, true, false, ◌||◌, List, nat_eq, is_some}
 use Rattle.std.specs.HashMap.{HashMap, get}
 use Rattle.std.specs.declared.hash.FoldHasher.{FoldHasher}
 use Rattle.std.specs.declared.hash.BuildHasherDefault.{BuildHasherDefault}
 use Rattle.buckets.specs.Row.{Row}
+use Rattle.calendar.specs.declared.cycle.Cycle.{Cycle}
+use Rattle.calendar.specs.declared.cycle.Cycle.TheVariants as Each
+use Rattle.calendar.specs.Timetable.{cycle_of}
+use Rattle.tariffs.specs.Books.{Book}
 use Rattle.identifiers.specs.Texts.{same_name}
 use Rattle.reserving.specs.declared.session.Session.{Session}
 use Rattle.reserving.specs.declared.session.SessionGroup.{SessionGroup}
+use Rattle.reserving.specs.declared.session.Counter.{Counter}
 use Rattle.reserving.specs.Rows.{EachIn}
 use Rattle.reserving.specs.Sessions.{is_open}
 use Rattle.reserving.specs.Left.{is_dead}
@@ -37,3 +42,16 @@ AreLeftSessions names rows =
 abbrev pub AreLeftGroups : Names → List SessionGroup → Type 0
 AreLeftGroups names rows =
     EachIn (λ r. (is_some r.reservation ≡ false) × (is_named names r.session ≡ true)) rows
+
+-- a counter that was left is known by its cycle
+abbrev pub AreLeftCounters : Numbers → List Counter → Type 0
+AreLeftCounters cycles rows = EachIn (λ c. is_numbered cycles c.cycle ≡ true) rows
+
+-- one that was left may be of a cycle at the moment: of none, of the day, or of the month
+abbrev pub is_left_now : Book → ℕ → Numbers → Cycle → Bool
+is_left_now book t cycles cycle = is_numbered cycles (cycle_of book.calendar.zone cycle t)
+
+abbrev pub may_go_on : Book → ℕ → Numbers → Bool
+may_go_on book t cycles =
+    (is_left_now book t cycles Each.None || is_left_now book t cycles Each.Day)
+    || is_left_now book t cycles Each.Month

@@ -6,7 +6,7 @@ use Rattle.reserving.specs.Stored.{StoredRows}
 use Rattle.keepers.specs.declared.store.LeftStore.{LeftStore}
 use Rattle.keepers.specs.declared.store.Known.{Known}
 use Rattle.keepers.specs.Parts.{leaves_bucket, leaves_counter, leaves_session, leaves_group}
-use Rattle.keepers.specs.Named.{is_numbered, is_named, AreLeftBuckets, AreLeftSessions, AreLeftGroups}
+use Rattle.keepers.specs.Named.{is_numbered, is_named, AreLeftBuckets, AreLeftCounters, AreLeftSessions, AreLeftGroups}
 
 -- those of the live rows that leave, by the rows after
 pub record IsLeaving (after live : StoredRows) (rows : LeftStore) : Type 0 where
@@ -19,10 +19,12 @@ pub record IsLeaving (after live : StoredRows) (rows : LeftStore) : Type 0 where
 pub record KnowsMore (old new : Known) : Type 0 where
   pub numbers : (n : ℕ) → is_numbered old.numbers n ≡ true → is_numbered new.numbers n ≡ true
   pub names : (s : List ℕ) → is_named old.names s ≡ true → is_named new.names s ≡ true
+  pub cycles : (n : ℕ) → is_numbered old.cycles n ≡ true → is_numbered new.cycles n ≡ true
 
 -- so is what these rows name
 pub record AreNoted (rows : LeftStore) (known : Known) : Type 0 where
   pub buckets : EachIn (λ b. is_numbered known.numbers b.number ≡ true) rows.buckets.items
+  pub counters : AreLeftCounters known.cycles rows.counters.items
   pub sessions : EachIn (λ r. is_named known.names r.id ≡ true) rows.sessions.items
   pub groups : EachIn (λ r. is_named known.names r.session ≡ true) rows.groups.items
 
@@ -36,6 +38,7 @@ pub record IsAppended (old rows new : LeftStore) : Type 0 where
 -- each row that was left can't change, and is known
 pub record AreKnown (known : Known) (left : LeftStore) : Type 0 where
   pub buckets : AreLeftBuckets known.numbers left.buckets.items
+  pub counters : AreLeftCounters known.cycles left.counters.items
   pub sessions : AreLeftSessions known.names left.sessions.items
   pub groups : AreLeftGroups known.names left.groups.items
 

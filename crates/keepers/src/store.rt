@@ -1,7 +1,7 @@
 //! The rows of an account in memory.
 
 ghost use Rattle.std.specs.List.{list_any};
-ghost use Rattle.std.specs.Prelude.{◌≡◌, ℕ, List, true, IsOk, ◌≤◌, ◌++◌, ◌&&◌, ◌||◌, ◌==◌, [], filter, is_some, IfOk, OnOk, OnErr, position};
+ghost use Rattle.std.specs.Prelude.{◌≡◌, ℕ, List, true, IsOk, ◌≤◌, ◌++◌, ◌&&◌, ◌||◌, ◌==◌, if◌then◌else◌, [], filter, is_some, IfOk, OnOk, OnErr, position};
 ghost use Rattle.reserving.specs.Sessions.{session_in, group_in, counter_in, is_session, is_of, is_counter};
 ghost use Rattle.reserving.specs.Left.{bucket_in, is_dead};
 ghost use Rattle.keepers.specs.Change.{IsLoadedFrom, IsMadeFrom, over, AreRowsAt, AreDeadOf};
@@ -11,12 +11,13 @@ ghost use Rattle.keepers.specs.Tables.{no_rows};
 ghost use Rattle.keepers.specs.Whole.{AreWhole};
 ghost use Rattle.reserving.specs.Rows.{EachIn};
 ghost use Rattle.keepers.specs.Parts.{rows_of, with_live, advanced_parts, leaves_bucket, leaves_counter, leaves_session, leaves_group};
-ghost use Rattle.keepers.specs.Named.{is_numbered, is_named, AreLeftBuckets, AreLeftSessions, AreLeftGroups};
+ghost use Rattle.keepers.specs.Named.{is_numbered, is_named, is_left_now, may_go_on, AreLeftBuckets, AreLeftCounters, AreLeftSessions, AreLeftGroups};
 ghost use Rattle.keepers.specs.Inside.{AreSameRows, HasRoom};
 ghost use Rattle.keepers.specs.Replacing.{IsLeaving, KnowsMore, AreNoted, IsAppended, AreKnown, IsFiltered};
 
 use crate::whole::WholeAccount;
 use buckets::Bucket;
+use calendar::Cycle;
 use identifiers::SessionId;
 use reserving::{Account, Counter, LoadFault, Session, SessionGroup, SessionState, StoredAccount};
 use std::alloc::{AllocError, Global};
@@ -34,12 +35,13 @@ pub(crate) struct LeftStore {
     groups: Vec<SessionGroup>,
 }
 
-/// What the rows that were left name: the numbers of the buckets, and the names of the sessions and
-/// of the groups' sessions.
+/// What the rows that were left name: the numbers of the buckets, the cycles of the counters, and the
+/// names of the sessions and of the groups' sessions.
 #[derive(Drop)]
 pub(crate) struct Known {
     numbers: HashMap<u32, bool>,
     names: HashMap<SessionId, bool>,
+    cycles: HashMap<u32, bool>,
 }
 
 /// The rows of an account: those that were live after its last command, and those that were left.
@@ -82,6 +84,7 @@ impl Store {
         let known = Known {
             numbers: HashMap::new(alloc),
             names: HashMap::new(alloc),
+            cycles: HashMap::new(alloc),
         };
         Store {
             live,
@@ -100,7 +103,8 @@ impl Store {
         ensures { IfOk result (λ account. IsLoadedFrom book.now moment (rows_of self.now) account) }
     {
         let _kept = self.live.as_of();
-        self.live.load_at(book, moment, &self.left.counters)
+        let others = going_on(&self.known.cycles, &self.left.counters, book, moment);
+        self.live.load_at(book, moment, others)
     }
 
     /// A copy of the buckets that can't be used any more.
@@ -223,6 +227,41 @@ fn dead_rows(left: &Vec<Bucket>, live: &StoredAccount) -> Result<Vec<Bucket>, Al
     Ok(rows)
 }
 
+// ---- counters that were left, and may be of a cycle at the moment
+
+/// Whether a counter that was left is of this cycle at the moment.
+fn is_left_now(cycles: &HashMap<u32, bool>, book: &TariffBook, cycle: Cycle, moment: Moment) -> bool
+    ensures { result ≡ is_left_now book.now moment cycles.now cycle }
+{
+    cycles.contains_key(&book.cycle_of(cycle, moment))
+}
+
+/// Whether a counter that was left may be of a cycle at the moment, whatever its group.
+fn may_go_on(cycles: &HashMap<u32, bool>, book: &TariffBook, moment: Moment) -> bool
+    ensures { result ≡ may_go_on book.now moment cycles.now }
+{
+    is_left_now(cycles, book, Cycle::None, moment)
+        || is_left_now(cycles, book, Cycle::Day, moment)
+        || is_left_now(cycles, book, Cycle::Month, moment)
+}
+
+/// The counters that were left, where one of them may be of a cycle at the moment; else none, so
+/// that past cycles are neither searched nor copied.
+fn going_on<'s>(
+    cycles: &HashMap<u32, bool>,
+    rows: &'s [Counter],
+    book: &TariffBook,
+    moment: Moment,
+) -> &'s [Counter]
+    ensures { result.now ≡ if may_go_on book.now moment cycles.now then rows.now else [] }
+{
+    if may_go_on(cycles, book, moment) {
+        rows
+    } else {
+        &[]
+    }
+}
+
 // ---- what is left of the rows that were live
 
 fn leaving_rows(
@@ -246,6 +285,7 @@ fn note(known: &mut Known, rows: &LeftStore) -> Result<(), AllocError>
     ensures noted { OnOk result (AreNoted rows.now known.new) }
 {
     note_buckets(&mut known.numbers, &rows.buckets)?;
+    note_counters(&mut known.cycles, &rows.counters)?;
     note_sessions(&mut known.names, &rows.sessions)?;
     note_groups(&mut known.names, &rows.groups)?;
     Ok(())
@@ -282,8 +322,7 @@ fn keep(left: &mut LeftStore, known: &Known, after: &StoredAccount)
     ensures { IsFiltered after.now left.old left.new }
 {
     keep_buckets(&mut left.buckets, &known.numbers, after);
-    left.counters
-        .retain(|row| !has_counter(after.counters(), row.group, row.cycle));
+    keep_counters(&mut left.counters, &known.cycles, after);
     keep_sessions(&mut left.sessions, &known.names, after);
     keep_groups(&mut left.groups, &known.names, after);
 }
@@ -394,6 +433,16 @@ fn keep_buckets(rows: &mut Vec<Bucket>, numbers: &HashMap<u32, bool>, after: &St
     rows.retain(|row| row.is_dead() && !has_bucket(after.purse().buckets(), row.number()));
 }
 
+fn keep_counters(rows: &mut Vec<Counter>, cycles: &HashMap<u32, bool>, after: &StoredAccount)
+    requires { AreLeftCounters cycles.now rows.old.items }
+    ensures { rows.new.items ≡ filter (leaves_counter after.now) rows.old.items }
+{
+    if !any_of_cycles(cycles, after.counters()) {
+        return;
+    }
+    rows.retain(|row| !has_counter(after.counters(), row.group, row.cycle));
+}
+
 fn keep_sessions(rows: &mut Vec<Session>, names: &HashMap<SessionId, bool>, after: &StoredAccount)
     requires { AreLeftSessions names.now rows.old.items }
     ensures { rows.new.items ≡ filter (leaves_session after.now) rows.old.items }
@@ -426,6 +475,12 @@ fn any_numbered(numbers: &HashMap<u32, bool>, rows: &[Bucket]) -> bool
     ensures { result ≡ list_any (λ b. is_numbered numbers.now b.number) rows.now }
 {
     rows.iter().any(|row| numbers.contains_key(&row.number()))
+}
+
+fn any_of_cycles(cycles: &HashMap<u32, bool>, rows: &[Counter]) -> bool
+    ensures { result ≡ list_any (λ c. is_numbered cycles.now c.cycle) rows.now }
+{
+    rows.iter().any(|row| cycles.contains_key(&row.cycle))
 }
 
 fn any_named(names: &HashMap<SessionId, bool>, rows: &[Session]) -> bool
@@ -471,6 +526,16 @@ fn note_buckets(numbers: &mut HashMap<u32, bool>, rows: &[Bucket]) -> Result<(),
 {
     for row in rows {
         note_number(numbers, row.number())?;
+    }
+    Ok(())
+}
+
+fn note_counters(cycles: &mut HashMap<u32, bool>, rows: &[Counter]) -> Result<(), AllocError>
+    ensures stay { (n : ℕ) → is_numbered cycles.old n ≡ true → is_numbered cycles.new n ≡ true }
+    ensures noted { OnOk result (AreLeftCounters cycles.new rows.now) }
+{
+    for row in rows {
+        note_number(cycles, row.cycle)?;
     }
     Ok(())
 }

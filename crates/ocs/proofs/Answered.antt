@@ -21,8 +21,8 @@ use Rattle.ocs.specs.declared.input.Input.{Input}
 use Rattle.ocs.specs.Lines.{line_request}
 use Rattle.ocs.specs.Served.{requests_in, opening_for, opening_in, commands_of, faults_in, texts_of, text_of, text_to, once_text, ForEachList, IsContinued, IsAnswered, IsStopped, IsBegun, IsRunOpened}
 use Rattle.ocs.specs.Input.{told_fault, IsInput}
-use Rattle.ocs.specs.Written.{WritesBeginning}
-use Rattle.ocs.proofs.Beginnings.{nothing_written, beginning_before}
+use Rattle.office.specs.Written.{WritesBeginning}
+use Rattle.office.proofs.Beginnings.{nothing_written, beginning_before}
 use Rattle.ocs.proofs.Texts.{texts_taken}
 
 -- ---- commands one after another

@@ -1,5 +1,6 @@
 pub mod Parts
-pub mod Beginnings
+pub mod SoFar
 pub mod Streams
 pub mod Texts
 pub mod Answered
+pub mod EndLemmas

@@ -15,7 +15,7 @@ use Rattle.charging.specs.declared.running.DatedCommand.{DatedCommand}
 use Rattle.charging.specs.Served.{AreTables}
 use Rattle.charging.specs.Runs.{answers_to, after_commands}
 use Rattle.ocs.specs.Lines.{line_request}
-use Rattle.ocs.specs.Written.{WritesBeginning}
+use Rattle.office.specs.Written.{WritesBeginning}
 
 -- ---- commands
 

@@ -1,39 +1,84 @@
 -- What the program tells on standard error.
 -- Source: profile.
-use Rattle.std.specs.Prelude.{◌++◌, ◌∷◌, ◌≡◌, ◌≢◌, ℕ, List, [], Option, codes}
+use Rattle.std.specs.Prelude.{◌++◌, ◌∷◌, ℕ, List, [], Option, codes}
 use Rattle.std.specs.Io.KnownBytes.{Keeps}
-use Rattle.byte_streams.specs.declared.StreamFault.{StreamFault}
-use Rattle.byte_streams.specs.declared.StreamFault.TheVariants as stream
+use Rattle.clap.specs.Words.{Text}
 use Rattle.keepers.specs.declared.fault.StoreFault.TheVariants as store
+use Rattle.office.specs.Told.{store_line, stream_line}
+use Rattle.office.specs.Written.{WritesBeginning}
+use Rattle.office.specs.declared.status.Status.{Status}
+use Rattle.office.specs.declared.status.Status.TheVariants.{Done, Failed, Unread}
+use Rattle.operator.specs.Read.{IsInvalid}
+use Rattle.operator.specs.declared.fault.WordsFault.{WordsFault}
+use Rattle.operator.specs.declared.fault.WordsFault.TheVariants as fault
+use Rattle.operator.specs.declared.parsed.ProgramWords.{ProgramWords}
+use Rattle.ocs.specs.Ends.{Runs, SaysWhatDoesNot}
 use Rattle.ocs.specs.declared.fault.LinesFault.{LinesFault}
 use Rattle.ocs.specs.declared.fault.LinesFault.TheVariants.{Read, Store, Write}
-use Rattle.ocs.specs.Written.{WritesBeginning}
+use Rattle.ocs.specs.declared.fault.ProgramFault.{ProgramFault}
+use Rattle.ocs.specs.declared.fault.ProgramFault.TheVariants as program
 
--- the words that are read
-abbrev pub usage_line : List ℕ
-usage_line = codes "usage: ocs once --credit A --price P --block B" ++ 10 ∷ []
+-- ---- lines, without their line feeds
 
--- a fault is one line: of a stream
-abbrev pub stream_line : StreamFault → List ℕ
-stream_line stream.Memory = codes "ocs: memory fault" ++ 10 ∷ []
-stream_line stream.Read = codes "ocs: file fault" ++ 10 ∷ []
-stream_line stream.Write = codes "ocs: file fault" ++ 10 ∷ []
+-- a fault of lines
+abbrev pub lines_line : LinesFault → List ℕ
+lines_line (Read fault) = stream_line fault
+lines_line (Store fault) = store_line fault
+lines_line (Write fault) = stream_line fault
 
--- and of lines
-abbrev pub fault_line : LinesFault → List ℕ
-fault_line (Read fault) = stream_line fault
-fault_line (Store store.Memory) = codes "ocs: store fault 1" ++ 10 ∷ []
-fault_line (Store store.Store) = codes "ocs: store fault 2" ++ 10 ∷ []
-fault_line (Write fault) = stream_line fault
+-- and of the program
+abbrev pub fault_line : ProgramFault → List ℕ
+fault_line (program.Lines fault) = lines_line fault
+fault_line (program.Stream fault) = stream_line fault
+fault_line program.NotYet = codes "ocs: this command does not run yet"
 
--- a fault is told by its line, as far as it can be written; memory is a store that never fails
-pub record TellsFault (old new : Option (List ℕ)) : Type 0 where
-  pub fault : LinesFault
-  pub reached : fault ≢ Store store.Store
-  pub written : WritesBeginning old new (fault_line fault)
+-- a word isn't what its place takes
+abbrev pub invalid_line : List ℕ
+invalid_line = codes "ocs: a word is not one that its place takes"
 
--- by the status: nothing where all was done, a fault, or the usage where the words weren't read
-pub record IsTold (status : ℕ) (old new : Option (List ℕ)) : Type 0 where
-  pub done : status ≡ 0 → Keeps old new
-  pub fault : status ≡ 1 → TellsFault old new
-  pub usage : status ≡ 2 → WritesBeginning old new usage_line
+-- ---- what is told
+
+-- memory is a store that never fails
+abbrev pub IsReachedByLines : LinesFault → Type 0
+IsReachedByLines (Read fault) = Unit {0}
+IsReachedByLines (Store store.Memory) = Unit {0}
+IsReachedByLines (Store store.Store) = ⊥
+IsReachedByLines (Write fault) = Unit {0}
+
+-- a fault comes only so; that a command doesn't run yet, where this is so
+abbrev pub IsReached : Type 0 → ProgramFault → Type 0
+IsReached Rests (program.Lines fault) = IsReachedByLines fault
+IsReached Rests (program.Stream fault) = Unit {0}
+IsReached Rests program.NotYet = Rests
+
+-- a fault is told by its line, as far as it can be written
+pub record TellsFault (Rests : Type 0) (old new : Option (List ℕ)) : Type 0 where
+  pub fault : ProgramFault
+  pub reached : IsReached Rests fault
+  pub written : WritesBeginning old new (fault_line fault ++ 10 ∷ [])
+
+-- nothing where all is done, a fault by its line; of words that aren't read the text is `clap`'s,
+-- and where `clap` takes them a line
+abbrev pub IsTold : List Text → Status → Option (List ℕ) → Option (List ℕ) → Type 0
+IsTold texts Done old new = Keeps old new
+IsTold texts Failed old new = TellsFault (SaysWhatDoesNot texts) old new
+IsTold texts Unread old new = IsInvalid texts → WritesBeginning old new (invalid_line ++ 10 ∷ [])
+
+-- ---- the same by the fault of the words
+
+abbrev pub IsTextTold : Status → Option (List ℕ) → Option (List ℕ) → Type 0
+IsTextTold Done old new = Keeps old new
+IsTextTold Failed old new = TellsFault ⊥ old new
+IsTextTold Unread old new = Unit {0}
+
+abbrev pub IsToldOf : WordsFault → Status → Option (List ℕ) → Option (List ℕ) → Type 0
+IsToldOf (fault.Unread error) status old new = IsTextTold status old new
+IsToldOf fault.Invalid status old new = WritesBeginning old new (invalid_line ++ 10 ∷ [])
+IsToldOf fault.Memory status old new = TellsFault ⊥ old new
+
+-- ---- the same by what the words say
+
+abbrev pub IsToldBy : ProgramWords → Status → Option (List ℕ) → Option (List ℕ) → Type 0
+IsToldBy said Done old new = Keeps old new
+IsToldBy said Failed old new = TellsFault (Runs said → ⊥) old new
+IsToldBy said Unread old new = ⊥

@@ -1,5 +1,9 @@
+ghost use Rattle.std.specs.Prelude.{◌≡◌};
+ghost use Rattle.ocs.specs.Told.{fault_line, lines_line};
+
 use byte_streams::StreamFault;
 use keepers::StoreFault;
+use office::{store_line, stream_line};
 use std::alloc::AllocError;
 use thiserror::Error;
 
@@ -17,6 +21,19 @@ pub enum LinesFault {
     Write(StreamFault),
 }
 
+impl LinesFault {
+    /// The line that tells it on standard error, without its line feed.
+    pub fn line(self) -> &'static str
+        ensures { result.now ≡ lines_line self }
+    {
+        match self {
+            LinesFault::Read(fault) => stream_line(fault),
+            LinesFault::Store(fault) => store_line(fault),
+            LinesFault::Write(fault) => stream_line(fault),
+        }
+    }
+}
+
 impl From<AllocError> for LinesFault {
     ghost use Rattle.std.specs.Prelude.{◌≡◌};
     ghost use Rattle.ocs.specs.Faults.{before_reading};
@@ -25,5 +42,32 @@ impl From<AllocError> for LinesFault {
 
     fn from(_error: AllocError) -> LinesFault {
         LinesFault::Read(StreamFault::Memory)
+    }
+}
+
+/// Why the program ends with status 1.
+#[derive(Clone, Copy, Debug, Drop, Error, PartialEq, Eq)]
+pub enum ProgramFault {
+    /// Lines of requests weren't answered to their end.
+    #[error("{0}")]
+    Lines(LinesFault),
+    /// Memory was refused, or a standard stream failed.
+    #[error("{0}")]
+    Stream(StreamFault),
+    /// The words are the program's, and their command doesn't run yet.
+    #[error("the command does not run yet")]
+    NotYet,
+}
+
+impl ProgramFault {
+    /// The line that tells it on standard error, without its line feed.
+    pub fn line(self) -> &'static str
+        ensures { result.now ≡ fault_line self }
+    {
+        match self {
+            ProgramFault::Lines(fault) => fault.line(),
+            ProgramFault::Stream(fault) => stream_line(fault),
+            ProgramFault::NotYet => "ocs: this command does not run yet",
+        }
     }
 }

@@ -1,129 +1,109 @@
 //! `ocs`: online charging for prepaid subscribers, from lines of requests to lines of answers.
 #![tactic(auto)]
 
+mod doing;
 mod fault;
 mod input;
 mod lines;
 mod opening;
 mod output;
 mod reading;
+mod telling;
 
-ghost use Rattle.std.specs.Prelude.{◌≡◌, ◌≢◌, ◌≤◌, IfSome, OnOk, OnErr, Some, None, Err};
+ghost use Rattle.std.specs.Prelude.{◌≡◌, IfSome};
 ghost use Rattle.std.specs.Io.KnownBytes.{Appends};
-ghost use Rattle.keepers.specs.declared.fault.StoreFault.TheVariants.{Store as StoreFailed};
+ghost use Rattle.office.specs.Written.{WritesBeginning};
+ghost use Rattle.office.specs.declared.status.Status.TheVariants.{Done, Failed, Unread};
 ghost use Rattle.one_price.specs.OnceBook.{once_book};
-ghost use Rattle.operator.specs.declared.words.OnceWords.{OnceWords};
-ghost use Rattle.ocs.specs.declared.fault.LinesFault.{LinesFault};
-ghost use Rattle.operator.specs.Words.{IsOnce, IsInRange, once_of};
-ghost use Rattle.ocs.specs.Told.{usage_line, stream_line, fault_line, IsTold};
-ghost use Rattle.ocs.specs.declared.fault.LinesFault.TheVariants.{Store};
+ghost use Rattle.operator.specs.Read.{IsInRange, IsSaid, texts_of};
+ghost use Rattle.operator.specs.declared.parsed.OnceWords.{OnceWords};
+ghost use Rattle.operator.specs.declared.parsed.ProgramWords.TheVariants.{Once};
+ghost use Rattle.ocs.specs.Ends.{IfOnce, IsEnd, IsEndBy};
 ghost use Rattle.ocs.specs.Served.{once_text};
-ghost use Rattle.ocs.specs.Written.{WritesBeginning};
+ghost use Rattle.ocs.specs.Told.{IsTold, IsToldBy};
 
-use crate::fault::LinesFault;
-use crate::lines::lines;
-use byte_streams::{StreamFault, write_whole};
-use keepers::{MemoryKeeper, StoreFault};
-use one_price::once_book;
-use operator::{OnceWords, once_words};
+use crate::doing::do_said;
+use crate::telling::{tell_fault, tell_start, tell_unread};
+use office::Status;
+use operator::{ProgramWords, program_words};
 use std::alloc::Global;
 use std::io::{BufReader, Read, Write};
 use std::process::ExitCode;
 use std::{env, io};
 
-fn main(rt: HostRuntime) -> io::Result<ExitCode> {
-    let alloc = rt.alloc();
-    let owned: Vec<String> = env::args(&rt)?.collect(alloc)?;
-    let words: Vec<&str> = owned.iter().map(|word| word.as_str()).collect(alloc)?;
-    let mut reader = BufReader::new(alloc, rt.reader())?;
-    let status = run_words(
-        &rt,
-        words.as_slice(),
-        &mut reader,
-        &mut io::writer(&rt),
-        &mut rt.stderr(),
-    );
-    Ok(ExitCode::from(status))
+fn main(rt: HostRuntime) -> ExitCode {
+    let status = match run_own_words(&rt) {
+        Ok(status) => status,
+        Err(error) => tell_start(&mut rt.stderr(), error.kind()),
+    };
+    ExitCode::from(status.number())
 }
 
-/// Runs the program's words. The status is 0 where they were done; 1 at a fault, which is one line on `errors`; and 2
-/// where they aren't words of the program: then `output` gets nothing, and `errors` the line that says how it is used.
-pub fn run_words<R: AllocGlobal, I: Read, O: Write, E: Write>(
+/// Runs the words that the program is started with, over its standard streams.
+fn run_own_words(rt: &HostRuntime) -> io::Result<Status> {
+    let alloc = rt.alloc();
+    let owned: Vec<String> = env::args(rt)?.collect(alloc)?;
+    let words: Vec<&str> = owned.iter().map(|word| word.as_str()).collect(alloc)?;
+    let mut reader = BufReader::new(alloc, rt.reader())?;
+    let mut writer = io::writer(rt);
+    let mut errors = rt.stderr();
+    Ok(run_words(rt, words.as_slice(), &mut reader, &mut writer, &mut errors))
+}
+
+/// Runs the program's words. `Done` where what they say was done, or a text that they ask for was
+/// written: the help or the version. `Failed` at a fault, which is one line on `errors`. `Unread`
+/// where they aren't words of the program: then `output` gets nothing, and `errors` a text that
+/// says why.
+pub fn run_words<'a, R: AllocGlobal, I: Read, O: Write, E: Write>(
     rt: &R,
-    words: &[&str],
+    words: &'a [&'a str],
     input: &mut I,
     output: &mut O,
     errors: &mut E,
-) -> u8
-    ensures other { (IsOnce words.now → once_of words.now ≡ None) → result ≡ 2 }
-    ensures unread { result ≡ 2 → input.new ≡ input.old }
-    ensures unwritten { result ≡ 2 → output.new ≡ output.old }
-    ensures once { (once : OnceWords) → IsOnce words.now → once_of words.now ≡ Some once → result ≤ 1 }
-    ensures done { (once : OnceWords) → IsOnce words.now → once_of words.now ≡ Some once → result ≡ 0 →
-        IfSome (I.remaining input.old) (λ stream. Appends (O.contents output.old) (O.contents output.new) (once_text (once_book once.price once.block) once.credit stream)) }
-    ensures fault { (once : OnceWords) → IsOnce words.now → once_of words.now ≡ Some once → result ≡ 1 →
-        IfSome (I.remaining input.old) (λ stream. WritesBeginning (O.contents output.old) (O.contents output.new) (once_text (once_book once.price once.block) once.credit stream)) }
-    ensures told { IsTold result (E.contents errors.old) (E.contents errors.new) }
+) -> Status
+    ensures end { IsEnd (texts_of words.entry.now) result }
+    ensures told { IsTold (texts_of words.entry.now) result (E.contents errors.old)
+        (E.contents errors.new) }
+    ensures unread { ((once : OnceWords) → IsSaid (texts_of words.entry.now) (Once once) → ⊥) →
+        input.new ≡ input.old }
+    ensures unwritten { result ≡ Unread → output.new ≡ output.old }
+    ensures done { (once : OnceWords) → IsSaid (texts_of words.entry.now) (Once once) →
+        result ≡ Done → IfSome (I.remaining input.old) (λ stream.
+        Appends (O.contents output.old) (O.contents output.new)
+        (once_text (once_book once.price once.block) once.credit stream)) }
+    ensures fault { (once : OnceWords) → IsSaid (texts_of words.entry.now) (Once once) →
+        result ≡ Failed → IfSome (I.remaining input.old) (λ stream.
+        WritesBeginning (O.contents output.old) (O.contents output.new)
+        (once_text (once_book once.price once.block) once.credit stream)) }
 {
-    let Some(once) = once_words(words) else {
-        tell_usage(errors);
-        return 2;
-    };
-    match answer_lines(rt.alloc(), once, input, output) {
-        Ok(()) => 0,
-        Err(fault) => {
-            let _ = write_whole(errors, fault_line(fault));
-            1
-        }
+    match program_words(rt.alloc(), words) {
+        Ok(said) => run_said(rt.alloc(), said, input, output, errors),
+        Err(fault) => tell_unread(rt.alloc(), fault, output, errors),
     }
 }
 
-/// Answers the lines of the input, priced by the book of the words.
-fn answer_lines<I: Read, O: Write>(
+/// Does what the words say, and tells a fault.
+fn run_said<I: Read, O: Write, E: Write>(
     alloc: Global,
-    once: OnceWords,
+    said: ProgramWords,
     input: &mut I,
     output: &mut O,
-) -> Result<(), LinesFault>
-    requires { IsInRange once }
-    ensures store { result ≢ Err (Store StoreFailed) }
-    ensures done { OnOk result (IfSome (I.remaining input.old) (λ stream.
-        Appends (O.contents output.old) (O.contents output.new) (once_text (once_book once.price once.block) once.credit stream))) }
-    ensures fault { OnErr result (IfSome (I.remaining input.old) (λ stream.
-        WritesBeginning (O.contents output.old) (O.contents output.new) (once_text (once_book once.price once.block) once.credit stream))) }
+    errors: &mut E,
+) -> Status
+    requires { IsInRange said }
+    ensures end { IsEndBy said result }
+    ensures told { IsToldBy said result (E.contents errors.old) (E.contents errors.new) }
+    ensures unread { IfOnce said (λ _. ⊥) → input.new ≡ input.old }
+    ensures done { IfOnce said (λ once. result ≡ Done → IfSome (I.remaining input.old) (λ stream.
+        Appends (O.contents output.old) (O.contents output.new)
+        (once_text (once_book once.price once.block) once.credit stream))) }
+    ensures fault { IfOnce said (λ once. result ≡ Failed → IfSome (I.remaining input.old) (λ stream.
+        WritesBeginning (O.contents output.old) (O.contents output.new)
+        (once_text (once_book once.price once.block) once.credit stream))) }
 {
-    let book = once_book(alloc, once.price, once.block)?;
-    let mut keeper = MemoryKeeper::new(alloc);
-    lines(alloc, &mut keeper, &book, Some(once.credit), input, output)
-}
-
-/// Tells how the program is used, as far as it can be written.
-fn tell_usage<E: Write>(errors: &mut E)
-    ensures { WritesBeginning (E.contents errors.old) (E.contents errors.new) usage_line }
-{
-    let _ = write_whole(errors, b"usage: ocs once --credit A --price P --block B\n");
-}
-
-/// The line of a fault of lines.
-fn fault_line(fault: LinesFault) -> &'static [u8]
-    ensures { result.now ≡ fault_line fault }
-{
-    match fault {
-        LinesFault::Read(fault) => stream_line(fault),
-        LinesFault::Store(StoreFault::Memory) => b"ocs: store fault 1\n",
-        LinesFault::Store(StoreFault::Store) => b"ocs: store fault 2\n",
-        LinesFault::Write(fault) => stream_line(fault),
-    }
-}
-
-/// The line of a fault of a stream.
-fn stream_line(fault: StreamFault) -> &'static [u8]
-    ensures { result.now ≡ stream_line fault }
-{
-    match fault {
-        StreamFault::Memory => b"ocs: memory fault\n",
-        StreamFault::Read => b"ocs: file fault\n",
-        StreamFault::Write => b"ocs: file fault\n",
+    match do_said(alloc, said, input, output) {
+        Ok(()) => Status::Done,
+        Err(fault) => tell_fault(errors, fault),
     }
 }
 

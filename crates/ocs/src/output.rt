@@ -1,13 +1,14 @@
-ghost use Rattle.std.specs.Prelude.{◌≡◌, ◌++◌, ◌∷◌, [], map, option_map, string_bytes, OnOk, OnErr, IfOk};
+ghost use Rattle.std.specs.Prelude.{◌≡◌, map, option_map, string_bytes, OnOk, OnErr, IfOk};
 ghost use Rattle.std.specs.Io.KnownBytes.{Appends};
 ghost use Rattle.ocs.specs.Served.{texts_of};
 ghost use Rattle.ocs.specs.Input.{told_fault};
 ghost use Rattle.ocs.specs.Output.{line_text};
-ghost use Rattle.ocs.specs.Written.{WritesBeginning};
+ghost use Rattle.office.specs.Written.{WritesBeginning};
 
 use crate::input::Line;
-use byte_streams::{StreamFault, write_whole};
+use byte_streams::StreamFault;
 use commands::Answer;
+use office::write_line;
 use std::alloc::{AllocError, Global};
 use std::io::Write;
 use wire::{write_answer, write_fault};
@@ -50,15 +51,4 @@ fn line_text(
         (Line::Request, Some(answer)) => Ok(Some(write_answer(alloc, answer)?)),
         (Line::Request, None) => Ok(None),
     }
-}
-
-/// Writes a text and a line feed.
-fn write_line<W: Write>(writer: &mut W, text: String) -> Result<(), StreamFault>
-    ensures written { OnOk result (Appends (W.contents writer.old) (W.contents writer.new) (string_bytes text ++ 10 ∷ [])) }
-    ensures err { OnErr result (WritesBeginning (W.contents writer.old) (W.contents writer.new) (string_bytes text ++ 10 ∷ [])) }
-{
-    let mut line = text;
-    line.push('\n')?;
-    write_whole(writer, line.as_bytes())?;
-    Ok(())
 }

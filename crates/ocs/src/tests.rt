@@ -4,20 +4,49 @@ use std::test::Fail;
 
 const LINES: &[u8] = b"not a line\n";
 
-/// Other words write nothing but the usage.
-#[test]
-fn other_words(rt: HostRuntime) -> Result<(), Fail> {
+/// What a line of words comes to: the status, what is written, and what is told on the errors.
+fn told(rt: &HostRuntime, line: &str) -> Result<String, Fail> {
     let alloc = rt.alloc();
+    let words: Vec<&str> = line.split(' ').collect(alloc)?;
     let mut input = LINES;
     let mut output = Vec::new(alloc);
     let mut errors = Vec::new(alloc);
-    let status = run_words(&rt, &["ocs", "twice"], &mut input, &mut output, &mut errors);
-    assert_eq!(rt; status, 2);
-    assert_eq!(rt; output.len(), 0);
-    assert_eq!(rt;
-        errors.as_slice(),
-        b"usage: ocs once --credit A --price P --block B\n".as_slice()
-    );
+    let status = run_words(rt, words.as_slice(), &mut input, &mut output, &mut errors);
+    let written = str::from_utf8(output.as_slice())?;
+    let told = str::from_utf8(errors.as_slice())?;
+    Ok(format!(in alloc; "{}|{}|{}", status.number(), written, told)?)
+}
+
+/// Lines of words, and what they come to.
+const TOLD: [(&str, &str); 6] = [
+    (
+        "ocs once --block 1 --price 0 --credit 1",
+        "0|{\"Result-Code\":5012}\n|",
+    ),
+    (
+        "ocs once --block 1 --price 0 --credit 0",
+        "2||ocs: a word is not one that its place takes\n",
+    ),
+    (
+        "ocs twice",
+        "2||error: unrecognized subcommand 'twice'\n\n\
+         Usage: ocs <COMMAND>\n\nFor more information, try '--help'.\n",
+    ),
+    ("ocs --version", "0|ocs 0.1.0\n|"),
+    ("ocs sweep db", "1||ocs: this command does not run yet\n"),
+    (
+        "ocs replay db file",
+        "1||ocs: this command does not run yet\n",
+    ),
+];
+
+/// Words that are run, that ask for a text, and that aren't read.
+#[test]
+fn lines_of_words(rt: HostRuntime) -> Result<(), Fail> {
+    for (line, expected) in TOLD {
+        let told = told(&rt, line)?;
+        assert_eq!(rt; told.as_str(), expected);
+    }
     Ok(())
 }
 
@@ -32,7 +61,7 @@ fn a_full_writer(rt: HostRuntime) -> Result<(), Fail> {
         "ocs", "once", "--credit", "1", "--price", "0", "--block", "1",
     ];
     let status = run_words(&rt, &words, &mut input, &mut output, &mut errors);
-    assert_eq!(rt; status, 1);
+    assert_eq!(rt; status, Status::Failed);
     assert_eq!(rt; errors.as_slice(), b"ocs: file fault\n".as_slice());
     Ok(())
 }

@@ -28,7 +28,8 @@ impl OfficeFault {
     }
 }
 
-fn store_line(fault: StoreFault) -> &'static str
+/// The line that tells a fault of a store, without its line feed.
+pub fn store_line(fault: StoreFault) -> &'static str
     ensures { result.now ≡ store_line fault }
 {
     match fault {
@@ -37,7 +38,8 @@ fn store_line(fault: StoreFault) -> &'static str
     }
 }
 
-fn stream_line(fault: StreamFault) -> &'static str
+/// The line that tells a fault of a stream, without its line feed.
+pub fn stream_line(fault: StreamFault) -> &'static str
     ensures { result.now ≡ stream_line fault }
 {
     match fault {

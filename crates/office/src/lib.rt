@@ -7,7 +7,7 @@ mod serving;
 mod status;
 mod writing;
 
-pub use crate::fault::OfficeFault;
+pub use crate::fault::{OfficeFault, store_line, stream_line};
 pub use crate::serving::serve_office;
 pub use crate::status::Status;
 pub use crate::writing::write_line;

@@ -1,6 +1,5 @@
 pub mod Numbers
 pub mod Lines
-pub mod Words
 pub mod Paths
 pub mod Months
 pub mod Faults

@@ -6,7 +6,6 @@ use Rattle.clap.specs.Values.{kind_of}
 use Rattle.clap.specs.Words.{IsAmong, Kinds, Text, fault_of, subcommand_of}
 use Rattle.operator.specs.Program.{program_app}
 use Rattle.operator.specs.Said.{said_by}
-use Rattle.operator.specs.Words as once_range
 use Rattle.clap.specs.declared.error.Error.{Error}
 use Rattle.clap.specs.declared.error.kind.ErrorKind.TheVariants.{OutOfMemory}
 use Rattle.operator.specs.declared.fault.ValueFault.TheVariants as value
@@ -16,6 +15,7 @@ use Rattle.operator.specs.declared.parsed.ImportWords.{ImportWords}
 use Rattle.operator.specs.declared.parsed.OfficeCommand.{OfficeCommand}
 use Rattle.operator.specs.declared.parsed.OfficeCommand.TheVariants as office
 use Rattle.operator.specs.declared.parsed.OfficeWords.{OfficeWords}
+use Rattle.operator.specs.declared.parsed.OnceWords.{OnceWords}
 use Rattle.operator.specs.declared.parsed.ProgramWords.{ProgramWords}
 use Rattle.operator.specs.declared.parsed.ProgramWords.TheVariants as words
 use Rattle.operator.specs.declared.parsed.ServeWords.{ServeWords}
@@ -58,6 +58,13 @@ IsRefused kinds Memory = Unit {0}
 abbrev pub IsAtInRange : Option ℕ → Type 0
 IsAtInRange at = IfSome at (λ t. t ≤ 4_102_444_799)
 
+-- 1 micro-unit or more, a price up to 10^9 micro-units a block, and 1 to 10^15 seconds a block
+pub record IsOnceInRange (once : OnceWords) : Type 0 where
+  pub some_credit : 1 ≤ once.credit
+  pub price : once.price ≤ 1_000_000_000
+  pub some_block : 1 ≤ once.block
+  pub block : once.block ≤ 1_000_000_000_000_000
+
 pub record IsServeInRange (serve : ServeWords) : Type 0 where
   pub port : (1 ≤ serve.port) × (serve.port ≤ 65_535)
   pub connections : (1 ≤ serve.connections) × (serve.connections ≤ 1_000_000)
@@ -82,7 +89,7 @@ abbrev pub IsStatementInRange : StatementWords → Type 0
 IsStatementInRange statement = IsAtInRange statement.at
 
 abbrev pub IsInRange : ProgramWords → Type 0
-IsInRange (words.Once once) = once_range.IsInRange once
+IsInRange (words.Once once) = IsOnceInRange once
 IsInRange (words.Init init) = Unit {0}
 IsInRange (words.Serve serve) = IsServeInRange serve
 IsInRange (words.Import import) = IsImportInRange import

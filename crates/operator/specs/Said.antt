@@ -26,7 +26,7 @@ use Rattle.operator.specs.declared.parsed.ServeWords.{ServeWords}
 use Rattle.operator.specs.declared.parsed.ImportWords.{ImportWords}
 use Rattle.operator.specs.declared.parsed.StatementWords.{StatementWords}
 use Rattle.operator.specs.declared.parsed.ReplayWords.{ReplayWords}
-use Rattle.operator.specs.declared.words.OnceWords.{OnceWords}
+use Rattle.operator.specs.declared.parsed.OnceWords.{OnceWords}
 
 -- ---- values
 

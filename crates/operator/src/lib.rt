@@ -13,16 +13,14 @@ mod program;
 mod reading;
 mod saying;
 mod values;
-mod words;
 
 pub use crate::dated::{DatedLine, dated_line};
 pub use crate::fault::WordsFault;
 pub use crate::month::Month;
 pub use crate::numbers::number;
 pub use crate::parsed::{
-    ImportWords, InitWords, OfficeCommand, OfficeWords, ProgramWords, ReplayWords, ServeWords,
-    StatementWords,
+    ImportWords, InitWords, OfficeCommand, OfficeWords, OnceWords, ProgramWords, ReplayWords,
+    ServeWords, StatementWords,
 };
 pub use crate::path::FilePath;
 pub use crate::reading::program_words;
-pub use crate::words::{OnceWords, once_words};

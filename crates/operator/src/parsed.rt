@@ -3,10 +3,20 @@ ghost use Rattle.operator.specs.Office.{command_of};
 
 use crate::month::Month;
 use crate::path::FilePath;
-use crate::words::OnceWords;
 use commands::{Command, Credit};
 use identifiers::AccountNumber;
-use units::Moment;
+use units::{Moment, Money};
+
+/// What the words of `once` say: an account's opening credit, and the one price of its tariff book.
+#[derive(Clone, Copy, Debug)]
+pub struct OnceWords {
+    /// What the account's bucket is opened with, 1 to 10^15 micro-units.
+    pub credit: Money,
+    /// The price of a block, 0 to 10^9 micro-units.
+    pub price: u64,
+    /// The size of a block, 1 to 10^15 seconds.
+    pub block: u64,
+}
 
 /// What the words of `init` say: a new database for this tariff book.
 #[derive(Debug, Drop)]

@@ -1,20 +1,19 @@
 ghost use Rattle.std.specs.Prelude.{◌≡◌, ◌≤◌, IfOk};
 ghost use Rattle.clap.specs.Words.{found_of, rows_of};
 ghost use Rattle.first_fault.specs.Steps.{GivesUnless};
-ghost use Rattle.operator.specs.Read.{IsImportInRange, IsOfficeCommandInRange, IsOfficeInRange, IsServeInRange, IsStatementInRange};
+ghost use Rattle.operator.specs.Read.{IsImportInRange, IsOfficeCommandInRange, IsOfficeInRange, IsOnceInRange, IsServeInRange, IsStatementInRange};
 ghost use Rattle.operator.specs.Said.{credit_said, import_said, init_said, office_command_said, office_said, once_said, replay_said, serve_said, statement_said};
-ghost use Rattle.operator.specs.Words.{IsInRange};
 ghost use Rattle.operator.specs.declared.fault.ValueFault.TheVariants.{Memory};
 
 use crate::command_name::OfficeName;
 use crate::fault::ValueFault;
 use crate::parsed::{
-    ImportWords, InitWords, OfficeCommand, OfficeWords, ReplayWords, ServeWords, StatementWords,
+    ImportWords, InitWords, OfficeCommand, OfficeWords, OnceWords, ReplayWords, ServeWords,
+    StatementWords,
 };
 use crate::values::{
     account, amount_at, at, database, has_flag, month, number_at, path_at, reference, scope, until,
 };
-use crate::words::OnceWords;
 use clap::ArgMatches;
 use commands::Credit;
 use std::alloc::Global;
@@ -24,7 +23,7 @@ use std::alloc::Global;
 pub(crate) fn once_said(matches: &ArgMatches<'_>) -> Result<OnceWords, ValueFault>
     ensures value { GivesUnless Memory (λ w. w) result
         (once_said (rows_of (found_of matches.now))) }
-    ensures in_range { IfOk result IsInRange }
+    ensures in_range { IfOk result IsOnceInRange }
 {
     let credit = amount_at(matches, "credit")?;
     let price = number_at(matches, 0, 1_000_000_000, "price")?;

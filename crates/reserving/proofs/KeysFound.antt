@@ -3,6 +3,7 @@ use Rattle.std.proofs.Common.{◌≡◌, ℕ, Bool, true, false, cond, List, [],
 use Rattle.std.specs.Prelude.{if◌then◌else◌, is_some, unwrap_or, option_map, position}
 use Rattle.std.specs.List.{find}
 use Rattle.std.proofs.lemmas.Iterator.Adapters.{position_from-zero}
+use Rattle.buckets.specs.declared.holds.Hold.{Hold}
 use Rattle.reserving.specs.declared.session.SessionGroup.{SessionGroup}
 use Rattle.reserving.specs.declared.session.Reservation.{Reservation}
 use Rattle.reserving.specs.declared.session.Counter.{Counter}
@@ -55,6 +56,12 @@ is_none_is None h = refl
 is_none_is (Some x) h = cc
 
 -- ---- a session's group
+
+-- where a search through a list that was read for the rows found one
+pub place_is : (s : List ℕ) (g : ℕ) {rows read : List SessionGroup} {told place : Option ℕ} →
+    read ≡ rows → told ≡ position (is_of s g) read → told ≡ place →
+    position (is_of s g) rows ≡ place
+place_is s g r e is = ap (position (is_of s g)) (sym r) ∙ sym e ∙ is
 
 pub found_group : (s : List ℕ) (g place : ℕ) (rows : List SessionGroup) (d : SessionGroup) →
     position (is_of s g) rows ≡ Some place → group_in s g rows ≡ Some (get_or rows place d)
@@ -138,6 +145,20 @@ pub not_there : (s : List ℕ) (g : ℕ) (rows : List SessionGroup) → position
     is_some (group_in s g rows) ≡ true → ⊥
 not_there s g rows h e = let none : is_some (group_in s g rows) ≡ false =
     ap is_some (unplaced (is_of s g) rows h) in cc
+
+pub found_none : (s : List ℕ) (g : ℕ) {rows read : List SessionGroup} {told : Option ℕ} →
+    read ≡ rows → told ≡ position (is_of s g) read → told ≡ None →
+    is_some (group_in s g rows) ≡ true → ⊥
+found_none s g {rows} r e is = not_there s g rows (place_is s g r e is)
+
+-- what was reserved in a row, where the row's reservation is taken
+pub taken_is : (s : List ℕ) (g place : ℕ) (rows : List SessionGroup) (now : SessionGroup)
+    (taken : Option Reservation) (holds : List Hold) →
+    position (is_of s g) rows ≡ Some place → now ≡ get_or rows place now →
+    taken ≡ now.reservation → holds ≡ holds_in taken → holds ≡ reserved_in s g rows
+taken_is s g place rows now taken holds at is t h =
+    h ∙ ap holds_in (t ∙ ap (λ (x : SessionGroup). x.reservation) is)
+    ∙ reserved_at s g place rows now at
 
 -- a row is made where there is none
 pub made_group : (s : List ℕ) (g : ℕ) (rows : List SessionGroup) →

@@ -7,6 +7,7 @@ use Rattle.std.proofs.lemmas.Bool.Decides.{nat_tests}
 use Rattle.buckets.specs.Row.{Row, precedes}
 use Rattle.buckets.specs.Spend.{Each, IsSound, IsBelow, IsInOrder, PrecedesAll}
 use Rattle.buckets.specs.Holding.{held_in}
+use Rattle.buckets.proofs.Filtered.{each_filter as each_among}
 use Rattle.reserving.specs.declared.session.Session.{Session}
 use Rattle.reserving.specs.declared.session.SessionGroup.{SessionGroup}
 use Rattle.reserving.specs.declared.session.Counter.{Counter}
@@ -62,12 +63,6 @@ parted p (x ∷ xs) h = at (p x) (parted p xs h.1)
     at false rest =
         first_merged x (filter p xs) (filter (λ b. not (p b)) xs) (all_filter x p xs h.0)
         ∙ ap (λ ys. x ∷ ys) rest
-
-each_among : (P : Row → Type 0) (p : Row → Bool) (xs : List Row) → Each P xs → Each P (filter p xs)
-each_among P p [] h = tt
-each_among P p (x ∷ xs) h =
-    elim (p x) as (λ t. Each P (cond t (x ∷ filter p xs) (filter p xs)))
-    [ true ↦ (h.0, each_among P p xs h.1) | false ↦ each_among P p xs h.1 ]
 
 pub dead_parts : (b : Row) → is_dead b ≡ true → IsDead b
 dead_parts b e =

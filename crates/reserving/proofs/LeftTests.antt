@@ -99,22 +99,35 @@ module _ {A : Type 0} (same : A → A → Bool) (q : A → Bool) (one : (x y : A
       at false true d f k rest = absurd (no_some r (sym (none_more y ys f h.0) ∙ rest k))
       at false false d f k rest = rest k
 
+  -- writing only the rows that differ leaves what writing them all leaves
+  pub differing_over : (eq : A → A → Bool) → ((x y : A) → eq x y ≡ true → x ≡ y) →
+      (before after : List A) (r : Option A) → AreApart same before → AreApart same after →
+      ((y : A) → find q before ≡ Some y → r ≡ Some y) →
+      first_of (find q (differing eq before after)) r ≡ first_of (find q after) r
+  differing_over eq sound before after r hb ha there =
+      ap (λ o. first_of o r) (find_filter (λ x. not (list_any (eq x) before)) after ha)
+      ∙ at (find q after) refl
+    where
+      by_test : (y : A) (t : Bool) → find q after ≡ Some y → list_any (eq y) before ≡ t →
+          first_of (if not t then Some y else None) r ≡ Some y
+      by_test y true e k =
+          there y (found_among eq sound y before (find-passes q after y e) hb k)
+      by_test y false e k = refl
+
+      at : (o : Option A) → find q after ≡ o →
+          first_of (only (λ x. not (list_any (eq x) before)) o) r ≡ first_of o r
+      at None e = refl
+      at (Some y) e = by_test y (list_any (eq y) before) e refl
+
   -- the rows that differ, written over those before
   pub written : (eq : A → A → Bool) → ((x y : A) → eq x y ≡ true → x ≡ y) →
       (before after : List A) → AreApart same before → AreApart same after →
       (find q after ≡ None → find q before ≡ None) →
       first_of (find q (differing eq before after)) (find q before) ≡ find q after
   written eq sound before after hb ha kept =
-      ap (λ o. first_of o (find q before))
-      (find_filter (λ r. not (list_any (eq r) before)) after ha)
+      differing_over eq sound before after (find q before) hb ha (λ y e. e)
       ∙ at (find q after) refl
     where
-      by_test : (r : A) (t : Bool) → find q after ≡ Some r → list_any (eq r) before ≡ t →
-          first_of (if not t then Some r else None) (find q before) ≡ Some r
-      by_test r true e k = found_among eq sound r before (find-passes q after r e) hb k
-      by_test r false e k = refl
-
-      at : (o : Option A) → find q after ≡ o →
-          first_of (only (λ r. not (list_any (eq r) before)) o) (find q before) ≡ o
+      at : (o : Option A) → find q after ≡ o → first_of o (find q before) ≡ o
       at None e = kept e
-      at (Some r) e = by_test r (list_any (eq r) before) e refl
+      at (Some y) e = refl

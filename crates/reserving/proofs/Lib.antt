@@ -25,3 +25,4 @@ pub mod rows
 pub mod kept
 pub mod left
 pub mod calls
+pub mod Restored

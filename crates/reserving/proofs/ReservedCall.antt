@@ -237,6 +237,24 @@ QuotaOf a s g t requested units grant =
     IsQuota a.book (used_in s g a.groups) g requested (periods_at a.book t)
     (count_in g (cycle_at a.book g t) a.counters) (funds g t (advanced t a).buckets) units grant
 
+-- a quota that was reckoned with periods that are those of the moment
+pub quota_with : (a : AccountRows) (used g t : ℕ) (requested : Option ℕ) (units : ℕ) (grant : Grant)
+    (periods : Periods) → periods ≡ periods_at a.book t →
+    IsQuota a.book used g requested periods (count_in g (cycle_at a.book g t) a.counters)
+    (funds g t (advanced t a).buckets) units grant →
+    IsQuota a.book used g requested (periods_at a.book t)
+    (count_in g (cycle_at a.book g t) a.counters) (funds g t (advanced t a).buckets) units grant
+quota_with a used g t requested units grant periods is q =
+    subst (λ p. IsQuota a.book used g requested p (count_in g (cycle_at a.book g t) a.counters)
+    (funds g t (advanced t a).buckets) units grant) is q
+
+pub quota_of : (a : AccountRows) (s : List ℕ) (g t : ℕ) (requested : Option ℕ) (units : ℕ)
+    (grant : Grant) (periods : Periods) → periods ≡ periods_at a.book t →
+    IsQuota a.book (used_in s g a.groups) g requested periods
+    (count_in g (cycle_at a.book g t) a.counters) (funds g t (advanced t a).buckets) units grant →
+    QuotaOf a s g t requested units grant
+quota_of a s g t = quota_with a (used_in s g a.groups) g t
+
 pub grant_told : (ledger : Ledger) (a : AccountRows) (s : List ℕ) (g t : ℕ) (requested : Option ℕ)
     (units : ℕ) (grant : Grant) → IsAccount a → IsRowsOf ledger a → a.as_of ≤ t →
     QuotaOf a s g t requested units grant →

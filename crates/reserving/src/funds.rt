@@ -110,7 +110,7 @@ fn lapsed_of(
 }
 
 /// What a group's reservation holds of a bucket.
-fn held_of(bucket: &Bucket, group: &SessionGroup) -> u128
+pub(crate) fn held_of(bucket: &Bucket, group: &SessionGroup) -> u128
     ensures { result ≡ held_in (holds_in group.now.reservation) bucket.now }
 {
     match &group.reservation {

@@ -17,6 +17,7 @@ mod live;
 mod placing;
 mod pricing;
 mod reserve;
+mod restoring;
 mod session;
 mod sessions;
 mod settle;
@@ -30,6 +31,7 @@ pub use crate::laws::{
 };
 pub use crate::pricing::window_of_book;
 pub use crate::reserve::Granted;
+pub use crate::restoring::GivenRows;
 pub use crate::session::{Counter, Reservation, Session, SessionGroup, SessionState};
 pub use crate::settle::Settled;
 pub use crate::stored::StoredAccount;

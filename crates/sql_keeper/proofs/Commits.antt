@@ -29,7 +29,7 @@ use Rattle.sql_keeper.specs.Writes.{AreTexts, columns_of, head_of, meta_with, wi
 use Rattle.sql_keeper.specs.Writes.{with_kept, with_stored, with_texts}
 use Rattle.sql_keeper.proofs.Changed.{changes_read}
 
-not_shut : (b : Bool) → IsTrue b → b ≡ false → ⊥
+pub not_shut : (b : Bool) → IsTrue b → b ≡ false → ⊥
 not_shut true on e = true≢false e
 not_shut false on e = absurd (let no : false ≡ true = on in cc)
 

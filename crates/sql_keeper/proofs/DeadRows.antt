@@ -1,13 +1,11 @@
 -- The dead buckets of an account, as rows that rise tell them.
-use Rattle.std.proofs.Common.{◌≡◌, ◌<◌, ℕ, ◌==◌, List, [], ◌∷◌, Bool, true, false, not, ◌||◌, ◌&&◌, Option, Some, None, Result, Ok, Err, IfOk, map, refl, sym, ap, ◌∙◌, subst, arith, nat_eq, nat_lt, ltb-true, ltb-false, eqb-true}
+use Rattle.std.proofs.Common.{◌≡◌, ◌<◌, ℕ, ◌==◌, List, [], ◌∷◌, Bool, true, false, not, ◌||◌, ◌&&◌, Option, Some, None, Result, Ok, Err, IfOk, refl, sym, ap, ◌∙◌, subst, arith, nat_eq, nat_lt, ltb-true, ltb-false, eqb-true}
 use Rattle.std.proofs.lemmas.Bool.{eqb-false}
 use Rattle.std.specs.List.{find}
 use Rattle.std.specs.Prelude.{if◌then◌else◌}
-use Rattle.sqlite_trees.specs.Tree.{Trees}
-use Rattle.sqlite.specs.State.{State, HasCleanDisk}
 use Rattle.buckets.specs.Row.{Row}
 use Rattle.reserving.specs.Rows.{AreApart, EachIn}
-use Rattle.reserving.specs.Left.{is_dead, only, bucket_in}
+use Rattle.reserving.specs.Left.{is_dead, only}
 use Rattle.keepers.specs.Keyed.{same_bucket}
 use Rattle.sql_tables.specs.Selects.{only as those}
 use Rattle.sql_rows.specs.Lists.{BucketsRise, is_dead as is_spent}

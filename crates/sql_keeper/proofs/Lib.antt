@@ -2,8 +2,14 @@ pub mod Overlays
 pub mod Groups
 pub mod Numbers
 pub mod Asked
+pub mod BookTexts
 pub mod DeadRows
+pub mod HeldAlong
+pub mod GroupRows
+pub mod LiveGroups
 pub mod Changed
 pub mod Empty
+pub mod Opens
 pub mod Puts
 pub mod Commits
+pub mod Committed

@@ -1,9 +1,16 @@
 pub mod Asks
+pub mod Books
 pub mod Commits
 pub mod Content
 pub mod Creates
 pub mod Dead
+pub mod Faults
+pub mod Finds
+pub mod GroupRows
 pub mod Inside
 pub mod Laws
+pub mod LiveGroups
+pub mod Opened
+pub mod Stops
 pub mod Tests
 pub mod Writes

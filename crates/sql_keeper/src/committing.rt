@@ -1,16 +1,21 @@
 //! A change in one transaction: all of it or nothing, also over a stop.
 
-ghost use Rattle.std.specs.Prelude.{◌≡◌, ◌≤◌, ◌⊎◌, false, option_map, IsTrue};
+ghost use Rattle.std.specs.Prelude.{◌≡◌, ◌≤◌, ◌⊎◌, false, option_map, IsTrue, OnOk};
+ghost use Rattle.keepers.specs.Change.{IsMadeFrom, changed};
 ghost use Rattle.keepers.specs.Faults.{HasCause, max_failures};
+ghost use Rattle.keepers.specs.Keeping.{Keeps};
 ghost use Rattle.sql_rows.specs.Texts.{kept_of};
 ghost use Rattle.sql_tables.specs.Statements.{HasIdleBook};
 ghost use Rattle.sql_keeper.specs.Commits.{Becomes, CommitsChange, Transacts};
+ghost use Rattle.sql_keeper.specs.Inside.{clean_in, failed_in, tables_in};
+ghost use Rattle.sql_keeper.specs.Stops.{IsWhole, trees_in};
 ghost use Rattle.sql_keeper.specs.Writes.{meta_with, with_change};
 ghost use Rattle.sqlite.specs.Held.{state};
 ghost use Rattle.sqlite.specs.State.{HasCleanDisk};
 ghost use Rattle.sqlite_trees.specs.Tree.{Trees};
 
 use crate::faults::counted;
+use crate::keeper::SqlKeeper;
 use crate::putting::put_change;
 use crate::testing::may_be_written;
 use crate::texts::kept_texts;
@@ -96,4 +101,33 @@ pub(crate) fn commit_change<S: Alter>(
 {
     let made = make_change(conn, alloc, book, text, change);
     counted(failures, made)
+}
+
+impl<S: Alter> SqlKeeper<S> {
+    /// Makes the change, in one transaction: the account's rows, the charges, the kept answer and the
+    /// moment together. At a fault nothing has changed, and whatever a stop leaves is the rows before
+    /// the change or with it.
+    ///
+    /// # Errors
+    /// Want of memory; a fault of the store, which is counted, as is a change that may not be
+    /// written.
+    pub fn commit(&mut self, change: Change) -> Result<(), StoreFault>
+        ensures done { clean_in S.Store self.new →
+            OnOk result (IsMadeFrom change.before change.after
+            ((tables_in S.Store self.old).rows change.number) →
+            tables_in S.Store self.new ≡ changed change (tables_in S.Store self.old)) }
+        ensures kept { Keeps (tables_in S.Store) failed_in (clean_in S.Store) self.old self.new
+            result }
+        ensures whole { IsWhole S.Store self.old self.new
+            (Becomes self.old.names self.old.text change (trees_in S.Store self.old)) }
+    {
+        commit_change(
+            &mut self.connection,
+            &mut self.failures,
+            self.alloc,
+            &self.book,
+            self.text.as_str(),
+            &change,
+        )
+    }
 }

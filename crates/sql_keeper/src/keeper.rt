@@ -43,11 +43,38 @@ impl<S: Alter> Model for SqlKeeper<S> {
     }) };
 }
 
+// It is written out, so that a caller doesn't prove again how each part is dropped.
+impl<S: Alter + Drop> Drop for SqlKeeper<S> {
+    fn drop(self) {
+        let SqlKeeper {
+            connection: _,
+            book: _,
+            text: _,
+            failures: _,
+            alloc: _,
+        } = self;
+    }
+}
+
 impl<S: Alter> SqlKeeper<S> {
     /// How many calls met a failure of the store; at 10^18 it stays.
     pub fn failures(&self) -> u64
         ensures { result ≡ self.now.failures }
     {
         self.failures
+    }
+
+    /// Gives the keeper up, and its connection back.
+    pub fn into_connection(self) -> Connection<S>
+        ensures { result ≡ self.connection }
+    {
+        let SqlKeeper {
+            connection,
+            book: _,
+            text: _,
+            failures: _,
+            alloc: _,
+        } = self;
+        connection
     }
 }

@@ -1,4 +1,5 @@
 ghost use Rattle.sql_keeper.specs.Laws.{AreChangesRead, AreNewTablesEmpty};
+ghost use Rattle.sql_keeper.specs.LiveGroups.{AreOpenGroupsLoaded};
 
 /// The rows that a change writes read as the change.
 #[tactic(auto, using(crate::proofs::Changed::changes_read))]
@@ -9,4 +10,10 @@ pub fn changes_are_read()
 /// Tables without rows hold nothing.
 pub fn new_tables_are_empty()
     ensures { AreNewTablesEmpty }
+{}
+
+/// What the open sessions have of rating groups is what is loaded of an account's rows.
+#[tactic(auto, using(crate::proofs::LiveGroups::open_loaded))]
+pub fn open_groups_are_loaded()
+    ensures { AreOpenGroupsLoaded }
 {}

@@ -3,7 +3,9 @@
 #![tactic(auto)]
 
 mod asking;
+mod books;
 mod committing;
+mod create_fault;
 mod creating;
 mod dead;
 mod faults;
@@ -11,16 +13,21 @@ mod finding;
 mod held_groups;
 mod keeper;
 mod laws;
+mod live_groups;
+mod opening;
 mod putting;
 mod rebuilding;
+mod rebuilding_groups;
 mod testing;
 mod texts;
 
+pub use crate::create_fault::CreateFault;
 pub use crate::faults::counted;
 pub use crate::keeper::SqlKeeper;
-pub use crate::laws::{changes_are_read, new_tables_are_empty};
+pub use crate::laws::{changes_are_read, new_tables_are_empty, open_groups_are_loaded};
 pub use crate::testing::may_be_written;
 pub use crate::texts::kept_texts;
+pub use sql_opening::OpenFault;
 
 #[cfg(test)]
 mod tests;

@@ -1,6 +1,6 @@
 -- What is tested of a database that was made elsewhere.
 -- Source: profile.
-use Rattle.std.specs.Prelude.{◌≡◌, ℕ, ◌+◌, List, take, codes, None, [], ◌∷◌, pos, negsuc, false, Result, OnOk, ◌++◌}
+use Rattle.std.specs.Prelude.{◌≡◌, ℕ, ◌+◌, List, take, codes, None, [], ◌∷◌, pos, negsuc, false, Result, IfErr, OnOk, ◌++◌}
 use Rattle.std.specs.List.{AllByRecursion}
 use Rattle.sqlite_value.specs.declared.value.Value.TheVariants.{Int}
 use Rattle.sqlite_value.specs.declared.keys.Collation.TheVariants.{Binary}
@@ -16,6 +16,8 @@ use Rattle.sqlite.specs.State.{State, HasCleanDisk, IsUnchanged, Survives}
 use Rattle.sql_tables.specs.Keyed.{IsStored}
 use Rattle.sql_tables.specs.Schema.{book_schema}
 use Rattle.sql_tables.specs.Statements.{IsIdle}
+use Rattle.sql_opening.specs.declared.fault.OpenFault.{OpenFault}
+use Rattle.sql_opening.specs.declared.fault.OpenFault.TheVariants.{Version}
 
 -- the schema is ours, and the first tables have no rowid twice
 pub record IsStoredTo (k : ℕ) (s : State) : Type 0 where
@@ -25,9 +27,14 @@ pub record IsStoredTo (k : ℕ) (s : State) : Type 0 where
 abbrev pub HasStoredTo : ℕ → State → Type 0
 HasStoredTo k s = HasCleanDisk s → IsStoredTo k s
 
+-- the version is read by whoever opens, not with the tables
+abbrev pub IsNoVersion : OpenFault → Type 0
+IsNoVersion fault = ¬ (fault ≡ Version)
+
 -- where it answers, the first tables have no rowid twice; whatever it answers, nothing is changed
-pub record Finds {A E : Type 0} (k : ℕ) (old new : State) (result : Result A E) : Type 0 where
+pub record Finds {A : Type 0} (k : ℕ) (old new : State) (result : Result A OpenFault) : Type 0 where
   pub found : HasCleanDisk new → OnOk result (IsUnchanged old new × IsStoredTo k new)
+  pub told : IfErr result IsNoVersion
   pub survives : Survives old new (λ _. ⊥)
 
 -- the rowids of a table, in order

@@ -1,10 +1,10 @@
 //! Whether a database is one of this system.
 
-ghost use Rattle.std.specs.Prelude.{◌≡◌, false, true, IsTrue, OnOk};
+ghost use Rattle.std.specs.Prelude.{◌≡◌, false, true, IfErr, IsTrue, OnOk};
 ghost use Rattle.sqlite.specs.Held.{state};
 ghost use Rattle.sqlite.specs.State.{HasCleanDisk, Survives};
 ghost use Rattle.sql_tables.specs.Schema.{book_schema};
-ghost use Rattle.sql_opening.specs.Opens.{Finds, HasStoredTo, IsFound};
+ghost use Rattle.sql_opening.specs.Opens.{Finds, HasStoredTo, IsFound, IsNoVersion};
 
 use crate::fault::OpenFault;
 use crate::rising::{fault_of, rowids_differ};
@@ -15,7 +15,8 @@ use std::alloc::Global;
 
 /// Tests that the tables of the database are ours, and no others.
 fn has_our_tables<S: Alter>(conn: &Connection<S>, alloc: Global) -> Result<(), OpenFault>
-    ensures { OnOk result (conn.now.schema ≡ book_schema) }
+    ensures ours { OnOk result (conn.now.schema ≡ book_schema) }
+    ensures told { IfErr result IsNoVersion }
 {
     let ours = match create_in_memory(alloc) {
         Ok(ours) => ours,
@@ -151,6 +152,7 @@ fn other_tables_differ<S: Alter>(conn: &mut Connection<S>) -> Result<(), OpenFau
 pub fn find_tables<S: Alter>(conn: &mut Connection<S>, alloc: Global) -> Result<(), OpenFault>
     ensures found { HasCleanDisk (state S.Store conn.new) → OnOk result (IsFound (state S.Store conn.old) (state S.Store conn.new)) }
     ensures idle { OnOk result (conn.new.in_transaction ≡ false) }
+    ensures told { IfErr result IsNoVersion }
     ensures survives { Survives (state S.Store conn.old) (state S.Store conn.new) (λ _. ⊥) }
 {
     if !conn.is_autocommit() {

@@ -9,13 +9,15 @@ ghost use Rattle.sqlite.specs.Listing.{understood};
 ghost use Rattle.sqlite.specs.State.{HasCleanDisk, IsUnchanged, Shown, Survives};
 ghost use Rattle.sql_tables.specs.Keyed.{IsStored};
 ghost use Rattle.sql_tables.specs.Schema.{book_schema};
-ghost use Rattle.sql_opening.specs.Opens.{Finds, HasStoredTo, IsNext};
+ghost use Rattle.sql_opening.specs.Opens.{Finds, HasStoredTo, IsNext, IsNoVersion};
 
 use crate::fault::OpenFault;
 use sqlite::{Alter, Connection, Error, ErrorCode, Row};
 
 /// The fault of a call of the store.
-pub(crate) fn fault_of(error: Error) -> OpenFault {
+pub(crate) fn fault_of(error: Error) -> OpenFault
+    ensures { IsNoVersion result }
+{
     match error {
         Error::SqliteFailure(ErrorCode::OutOfMemory) => OpenFault::Memory,
         _ => OpenFault::Store,

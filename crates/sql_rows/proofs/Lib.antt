@@ -1,3 +1,4 @@
+pub mod AccountsApart
 pub mod Dead
 pub mod Each
 pub mod Periods
@@ -17,6 +18,7 @@ pub mod ReadAnswer
 pub mod ReadBuckets
 pub mod ReadCharges
 pub mod ReadCounter
+pub mod ReadCounters
 pub mod ReadGroups
 pub mod ReadHolds
 pub mod ReadMeta

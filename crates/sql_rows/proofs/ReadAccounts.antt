@@ -38,6 +38,7 @@ use Rattle.sql_tables.proofs.Found.{is_some_map}
 use Rattle.sql_rows.specs.Values.{head_key, head_in, text_in}
 use Rattle.sql_rows.specs.Content.{content_of}
 use Rattle.sql_rows.specs.Lists.{AreAccounts}
+use Rattle.sql_rows.proofs.AccountsApart.{columns, all_kept, accounts_apart}
 
 abbrev pub read_accounts_text : List ℕ
 read_accounts_text = codes "SELECT account FROM accounts ORDER BY account"
@@ -61,9 +62,6 @@ pub read_accounts_plain : IsPlain (understood book_schema read_accounts_text)
 unfolding understood everything
 read_accounts_plain = (refl, refl)
 
-abbrev columns : Row → Row
-columns r = column r 1 ∷ []
-
 abbrev number_in : Row → List ℕ
 number_in v = text_in (column v 0)
 
@@ -83,10 +81,6 @@ splits a r = keys_split (Text a) (column r 1) [] [] ∙ and_true _
 wanted : (a x : List ℕ) (r : Row) → head_key x ≡ columns r → rest a r ≡ same_name x a
 wanted a x r is = ap (λ (w : Row). is_eq (value_cmp (Text a) (column w 0))) (sym is) ∙ text_tie x a
 
-all_kept : (rows : List Row) → filter (λ r. true) rows ≡ rows
-all_kept [] = refl
-all_kept (r ∷ rows) = ap (λ rs. r ∷ rs) (all_kept rows)
-
 pub accounts_read : (old new : State) (rows : List Row) (xs : List (List ℕ)) → Answers read_accounts_text [] old new rows
     → map head_key xs ≡ rows → AreAccounts (content_of old.now.trees) xs
 accounts_read old new rows xs got is = record {
@@ -99,6 +93,7 @@ accounts_read old new rows xs got is = record {
   count =
       sym (length-map xs head_key) ∙ length_permutation _ (map head_key xs) selects.same
       ∙ length-map _ columns ∙ ap length (all_kept (old.now.trees 2));
+  apart = accounts_apart old.now.trees got.fits got.book.stored.1.0 xs selects;
 }
   where
     selects : Selects (λ r. true) columns (old.now.trees 2) (map head_key xs)

@@ -1,18 +1,14 @@
 -- What the text of `read_sessions_open` answers.
-use Rattle.std.specs.Prelude.{codes, option_map}
-use Rattle.std.proofs.Common.{◌≡◌, inl, inr, ℕ, pos, List, [], ◌∷◌, ◌++◌, map, drop, Bool, true, false, ◌&&◌, ◌||◌}
-use Rattle.std.proofs.Common.{Some, None, Option, is_eq, refl, sym, ap, ap₂, subst, ◌∙◌, nat_eq, nat_lt}
-use Rattle.std.proofs.lemmas.Bool.{and_parts, and_from}
-use Rattle.std.specs.List.{list_all, find}
-use Rattle.std.specs.Ordering.{eq_by_cmp}
-use Rattle.sqlite_value.specs.declared.value.Value.TheVariants.{Null, Int, Text}
+use Rattle.std.specs.Prelude.{codes}
+use Rattle.std.proofs.Common.{◌≡◌, inl, inr, ℕ, pos, List, [], ◌∷◌, ◌++◌, map, drop, Bool, true, false, ◌&&◌}
+use Rattle.std.proofs.Common.{is_eq, refl, sym, ap, ap₂, subst, ◌∙◌}
+use Rattle.sqlite_value.specs.declared.value.Value.TheVariants.{Int, Text}
 use Rattle.sqlite_value.specs.declared.keys.Collation.TheVariants.{Binary}
 use Rattle.sqlite_value.specs.declared.keys.Key.{Key}
-use Rattle.sqlite_value.specs.Order.{Row, column, row_cmp, value_cmp}
-use Rattle.sqlite_trees.specs.Tree.{Trees}
-use Rattle.sqlite_sql.specs.declared.ops.BinaryOp.TheVariants.{Compare, Or}
-use Rattle.sqlite_sql.specs.declared.ops.CompareOp.TheVariants.{Eq, Gt}
-use Rattle.sqlite_sql.specs.Term.{Term, lit, col, op2, holds as holds_in}
+use Rattle.sqlite_value.specs.Order.{Row, column, value_cmp}
+use Rattle.sqlite_sql.specs.declared.ops.BinaryOp.TheVariants.{Compare}
+use Rattle.sqlite_sql.specs.declared.ops.CompareOp.TheVariants.{Eq}
+use Rattle.sqlite_sql.specs.Term.{Term, lit, col, op2}
 use Rattle.sqlite_schema.specs.declared.command.Command.TheVariants.{Select}
 use Rattle.sqlite_schema.specs.Rules.{equal}
 use Rattle.sqlite_tied.specs.Compute.{everything}
@@ -20,39 +16,23 @@ use Rattle.sqlite.specs.Given.{IsPlain}
 use Rattle.sqlite.specs.Listing.{understood, reads_listing}
 use Rattle.sqlite.specs.State.{State}
 use Rattle.sqlite.proofs.Callers.{command_of}
-use Rattle.sql_tables.specs.Keyed.{key_of, same_name}
+use Rattle.sql_tables.specs.Keyed.{same_name}
 use Rattle.sql_tables.specs.Schema.{sessions, book_schema}
-use Rattle.sql_tables.specs.Selects.{Selects, only}
+use Rattle.sql_tables.specs.Selects.{Selects}
 use Rattle.sql_tables.specs.Statements.{Answers}
-use Rattle.sql_tables.proofs.ByKey.{listed_told, only_all}
+use Rattle.sql_tables.proofs.ByKey.{listed_told}
 use Rattle.sql_tables.proofs.Columns.{equal_turned}
-use Rattle.sql_tables.proofs.Keys.{keys_split, int_tie, text_tie}
+use Rattle.sql_tables.proofs.Keys.{keys_split, text_tie}
 use Rattle.sql_tables.proofs.Selected.{select_from, told}
 use Rattle.sql_tables.proofs.Selections.{meets}
-use Rattle.sql_tables.proofs.Steps.{and_apart, and_last, and_true}
+use Rattle.sql_tables.proofs.Steps.{and_last, and_true}
 use Rattle.reserving.specs.declared.session.Session.{Session}
 use Rattle.reserving.specs.Sessions.{is_open}
-use Rattle.sql_rows.specs.Values.{nat, nat_in, session_key, session_in, session_cells, state_number}
+use Rattle.sql_rows.specs.Values.{nat, session_key, session_in, session_cells}
 use Rattle.sql_rows.specs.Content.{rows_in}
 use Rattle.sql_rows.specs.Lists.{AreSessions}
-use Rattle.sql_rows.proofs.PutSession.{session_told}
+use Rattle.sql_rows.proofs.ReadSession.{project, names, columns, back}
 use Rattle.sql_rows.proofs.Tests.{open_tested, tested_open}
-
-abbrev project : List Term
-project = col 1 2 ∷ col 1 3 ∷ col 1 4 ∷ col 1 5 ∷ []
-
-abbrev names : List (List ℕ)
-names = codes "session" ∷ codes "last_number" ∷ codes "touched" ∷ codes "state" ∷ []
-
-abbrev columns : Row → Row
-columns r = column r 2 ∷ column r 3 ∷ column r 4 ∷ column r 5 ∷ []
-
-same_columns : (r : Row) → session_in (drop 1 r) ≡ session_in (Null ∷ columns r)
-same_columns [] = refl
-same_columns (v ∷ vs) = refl
-
-back : (x : Session) (r : Row) → session_cells x ≡ columns r → session_in (drop 1 r) ≡ x
-back x r is = same_columns r ∙ ap (λ w. session_in (Null ∷ w)) (sym is) ∙ session_told Null x
 
 abbrev pub read_sessions_open_text : List ℕ
 read_sessions_open_text = codes "SELECT session, last_number, touched, state "

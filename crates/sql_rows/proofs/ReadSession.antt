@@ -1,18 +1,17 @@
 -- What the text of `read_session` answers.
 use Rattle.std.specs.Prelude.{codes}
-use Rattle.std.proofs.Common.{◌≡◌, inl, inr, ℕ, pos, List, [], ◌∷◌, ◌++◌, map, drop, Bool, true, false, ◌&&◌, Some}
-use Rattle.std.proofs.Common.{None, Option, Equal, refl, sym, ap, subst, ◌∙◌}
+use Rattle.std.proofs.Common.{◌≡◌, inl, inr, ℕ, List, [], ◌∷◌, ◌++◌, map, drop, false}
+use Rattle.std.proofs.Common.{Option, refl, sym, ap, subst, ◌∙◌}
 use Rattle.std.specs.List.{list_all}
 use Rattle.std.specs.Ordering.{eq_by_cmp}
-use Rattle.sqlite_value.specs.declared.value.Value.TheVariants.{Null, Int, Text}
+use Rattle.sqlite_value.specs.declared.value.Value.TheVariants.{Null}
 use Rattle.sqlite_value.specs.declared.keys.Collation.TheVariants.{Binary}
 use Rattle.sqlite_value.specs.Keys.{first_key}
-use Rattle.sqlite_value.specs.Order.{Row, column, row_cmp, value_cmp}
+use Rattle.sqlite_value.specs.Order.{Row, column, row_cmp}
 use Rattle.sqlite_sql.specs.declared.ops.BinaryOp.TheVariants.{Compare}
 use Rattle.sqlite_sql.specs.declared.ops.CompareOp.TheVariants.{Eq}
-use Rattle.sqlite_sql.specs.Term.{Term, lit, col, op2, holds as holds_in}
+use Rattle.sqlite_sql.specs.Term.{Term, col, op2, holds as holds_in}
 use Rattle.sqlite_schema.specs.declared.command.Command.TheVariants.{Select}
-use Rattle.sqlite_schema.specs.Rules.{equal}
 use Rattle.sqlite_tied.specs.Compute.{everything}
 use Rattle.sqlite.specs.Given.{IsPlain}
 use Rattle.sqlite.specs.Listing.{understood, reads_listing}
@@ -24,11 +23,10 @@ use Rattle.sql_tables.specs.Selects.{Selects, one_or_none}
 use Rattle.sql_tables.specs.Statements.{Answers}
 use Rattle.sql_tables.proofs.ByKey.{one_told}
 use Rattle.sql_tables.proofs.Selected.{select_from, told}
-use Rattle.sql_tables.proofs.Steps.{and_true}
-use Rattle.sql_tables.proofs.Ties.{agree_ties_at, equal_present, tie_parts}
+use Rattle.sql_tables.proofs.Ties.{agree_ties_at}
 use Rattle.reserving.specs.declared.session.Session.{Session}
 use Rattle.sql_rows.proofs.PutSession.{session_told}
-use Rattle.sql_rows.specs.Values.{nat, session_key, session_in, session_cells}
+use Rattle.sql_rows.specs.Values.{session_key, session_in, session_cells}
 use Rattle.sql_rows.specs.Content.{rows_in}
 
 abbrev pub read_session_text : List ℕ
@@ -40,10 +38,10 @@ terms =
     op2 (Compare Eq Binary) (col 1 1) (col 0 0)
     ∷ op2 (Compare Eq Binary) (col 1 2) (col 0 1) ∷ []
 
-abbrev project : List Term
+abbrev pub project : List Term
 project = col 1 2 ∷ col 1 3 ∷ col 1 4 ∷ col 1 5 ∷ []
 
-abbrev names : List (List ℕ)
+abbrev pub names : List (List ℕ)
 names = codes "session" ∷ codes "last_number" ∷ codes "touched" ∷ codes "state" ∷ []
 
 abbrev places : List ℕ
@@ -59,14 +57,14 @@ pub read_session_plain : IsPlain (understood book_schema read_session_text)
 unfolding understood everything
 read_session_plain = (refl, refl)
 
-abbrev columns : Row → Row
+abbrev pub columns : Row → Row
 columns r = column r 2 ∷ column r 3 ∷ column r 4 ∷ column r 5 ∷ []
 
 same_columns : (r : Row) → session_in (drop 1 r) ≡ session_in (Null ∷ columns r)
 same_columns [] = refl
 same_columns (v ∷ vs) = refl
 
-back : (x : Session) (r : Row) → session_cells x ≡ columns r → session_in (drop 1 r) ≡ x
+pub back : (x : Session) (r : Row) → session_cells x ≡ columns r → session_in (drop 1 r) ≡ x
 back x r is = same_columns r ∙ ap (λ w. session_in (Null ∷ w)) (sym is) ∙ session_told Null x
 
 module _ (a s : List ℕ) where

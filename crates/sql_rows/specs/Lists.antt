@@ -5,7 +5,9 @@ use Rattle.std.specs.List.{find}
 use Rattle.sqlite_value.specs.Order.{Row as Values}
 use Rattle.buckets.specs.Row.{Row as Bucket}
 use Rattle.reserving.specs.declared.session.Session.{Session}
+use Rattle.reserving.specs.declared.session.Counter.{Counter}
 use Rattle.reserving.specs.declared.charge.ChargeRow.{ChargeRow}
+use Rattle.reserving.specs.Rows.{AreApart}
 use Rattle.sql_tables.specs.Keyed.{same_name}
 use Rattle.sql_tables.specs.Selects.{only}
 use Rattle.sql_rows.specs.Values.{Group, group_cells, nat}
@@ -27,6 +29,7 @@ Rises number (x ∷ y ∷ zs) = (number x < number y) × Rises number (y ∷ zs)
 pub record AreAccounts (content : Content) (xs : List (List ℕ)) : Type 0 where
   pub found : (a : List ℕ) → is_some (find (λ x. same_name x a) xs) ≡ is_some (content.rows a).head
   pub count : length xs ≡ content.count
+  pub apart : AreApart (λ x y. same_name y x) xs
 
 -- the buckets that pass the test: each by its number, and no other
 abbrev pub AreBuckets : (Bucket → Bool) → Rows → List Bucket → Type 0
@@ -72,3 +75,8 @@ NumbersRise xs = Rises (λ x. x.number) xs
 
 abbrev pub BucketsRise : List Bucket → Type 0
 BucketsRise bs = Rises (λ b. b.number) bs
+
+-- all counters of the account
+abbrev pub AreCounters : Rows → List Counter → Type 0
+AreCounters rows xs = (g c : ℕ) →
+    find (λ x. nat_eq x.group g && nat_eq x.cycle c) xs ≡ rows.counters g c

@@ -73,7 +73,7 @@ fn counter_among(rows: &[Row]) -> Result<Option<Counter>, ReadFault>
     }
 }
 
-fn counter_from(row: &Row) -> Result<Counter, ReadFault>
+pub(crate) fn counter_from(row: &Row) -> Result<Counter, ReadFault>
     ensures { IfOk result (λ k. row.now ≡ counter_cells k) }
 {
     has_columns(row, 3)?;

@@ -16,18 +16,17 @@ use Rattle.reserving.specs.Ledger.{Ledger}
 use Rattle.reserving.specs.Pricing.{cycle_at}
 use Rattle.reserving.specs.Balance.{buckets_at}
 use Rattle.reserving.specs.Keyed.{put}
-use Rattle.reserving.specs.Sessions.{is_of, is_counter, is_live_in}
+use Rattle.reserving.specs.Sessions.{is_of, is_live_in}
 use Rattle.reserving.specs.Settlement.{price_of, passes}
 use Rattle.reserving.specs.Debiting.{untagged, event_price, is_covered, debit_passes, charged_use, debited}
 use Rattle.reserving.specs.Changes.{lapse_group, lapsed_in, advanced, group_or_new, used_in, count_in, with_event, with_count, event_price_in, debited_account}
-use Rattle.reserving.specs.Prepared.{with_group, counter_or_new, with_counter, with_rows}
+use Rattle.reserving.specs.Prepared.{with_group, with_rows}
 use Rattle.reserving.specs.Rows.{AccountRows, IsAccount, IsRowsOf}
 use Rattle.reserving.specs.Results.{IsDebitOf}
 use Rattle.reserving.proofs.Advancing.{IsRowsOf-advanced}
 use Rattle.reserving.proofs.Advanced.{IsAccount-advanced}
-use Rattle.reserving.proofs.kept.Settled.{or_new_cycle}
 use Rattle.reserving.proofs.SettledRows.{used_in_is, count_in_is}
-use Rattle.reserving.proofs.calls.RowParts.{put-put, put_later, or_new_later, held_by-with_group, count_later}
+use Rattle.reserving.proofs.calls.RowParts.{charged_parts, put_later, or_new_later, held_by-with_group, counted_later}
 use Rattle.reserving.proofs.rows.Debited.{IsRowsOf-debited}
 
 -- ---- an event's price
@@ -86,16 +85,8 @@ pub debited_parts : (a : AccountRows) (s : List ℕ) (g cycle units blocks rated
       next_charge = a.next_charge + 1;
     } in x) ≡ debited_account s g units blocks rated a
 debited_parts a s g cycle units blocks rated holds buckets counters groups e h b c k =
-    let moved : buckets ≡ settled_rows [] g a.as_of rated a.buckets =
-    b ∙ ap (λ x. settled_rows x g a.as_of rated a.buckets) h in
-    let counted : counters ≡ with_count g (cycle_at a.book g a.as_of) blocks a.counters =
-    c ∙ ap (λ x. with_count g x blocks a.counters) e in
-    λ i. record a {
-      buckets = moved i;
-      counters = counted i;
-      groups = k i;
-      next_charge = a.next_charge + 1;
-    }
+    charged_parts a g cycle blocks rated holds [] buckets counters groups
+    (with_event s g units a.groups) e h b c k
 
 -- the buckets don't know of empty rows
 pub buckets_later : (a : AccountRows) (s : List ℕ) (g c t : ℕ) →
@@ -129,18 +120,10 @@ debited_later a s g t units blocks rated =
     ∙ put_later keeps s g
     (record { session = s; group = g; used = new.used + units; reservation = new.reservation })
     a.groups in
-    let counters : with_count g c blocks (with_counter g c a.counters)
-    ≡ with_count g c blocks a.counters =
-    (λ i. put (is_counter g c)
-    (record { group = g; cycle = c; blocks = count_later g c a.counters i + blocks })
-    (with_counter g c a.counters))
-    ∙ put-put (is_counter g c)
-    (record { group = g; cycle = c; blocks = count_in g c a.counters + blocks })
-    (counter_or_new g c a.counters) a.counters (or_new_cycle g c a.counters) in
     let x : AccountRows = debited_account s g units blocks rated (advanced t a) in
     λ i. record x {
       buckets = settled_rows [] g t rated (buckets_later a s g c t i);
-      counters = counters i;
+      counters = counted_later g c blocks a.counters i;
       groups = groups i;
     }
 

@@ -29,6 +29,36 @@ ended_parts a s g holds buckets groups h b k =
     b ∙ ap (λ x. released_rows x a.as_of a.buckets) h in
     λ i. record a { buckets = moved i; groups = k i }
 
+-- what a charge leaves: the buckets, the counters, the groups and the next charge's number
+pub charged_parts : (a : AccountRows) (g cycle blocks rated : ℕ) (holds given : List Hold)
+    (buckets : List Row) (counters : List Counter) (groups leaves : List SessionGroup) →
+    cycle ≡ cycle_at a.book g a.as_of →
+    holds ≡ given → buckets ≡ settled_rows holds g a.as_of rated a.buckets →
+    counters ≡ with_count g cycle blocks a.counters → groups ≡ leaves →
+    (let x : AccountRows = record a {
+      buckets = buckets;
+      counters = counters;
+      groups = groups;
+      next_charge = a.next_charge + 1;
+    } in x)
+    ≡ (let y : AccountRows = record a {
+      buckets = settled_rows given g a.as_of rated a.buckets;
+      counters = with_count g (cycle_at a.book g a.as_of) blocks a.counters;
+      groups = leaves;
+      next_charge = a.next_charge + 1;
+    } in y)
+charged_parts a g cycle blocks rated holds given buckets counters groups leaves e h b c k =
+    let moved : buckets ≡ settled_rows given g a.as_of rated a.buckets =
+    b ∙ ap (λ x. settled_rows x g a.as_of rated a.buckets) h in
+    let counted : counters ≡ with_count g (cycle_at a.book g a.as_of) blocks a.counters =
+    c ∙ ap (λ x. with_count g x blocks a.counters) e in
+    λ i. record a {
+      buckets = moved i;
+      counters = counted i;
+      groups = k i;
+      next_charge = a.next_charge + 1;
+    }
+
 pub settled_parts : (a : AccountRows) (s : List ℕ) (g cycle units blocks rated : ℕ)
     (holds : List Hold) (buckets : List Row) (counters : List Counter) (groups : List SessionGroup)
     →
@@ -42,16 +72,8 @@ pub settled_parts : (a : AccountRows) (s : List ℕ) (g cycle units blocks rated
       next_charge = a.next_charge + 1;
     } in x) ≡ settled_account s g units blocks rated a
 settled_parts a s g cycle units blocks rated holds buckets counters groups e h b c k =
-    let moved : buckets ≡ settled_rows (reserved_in s g a.groups) g a.as_of rated a.buckets =
-    b ∙ ap (λ x. settled_rows x g a.as_of rated a.buckets) h in
-    let counted : counters ≡ with_count g (cycle_at a.book g a.as_of) blocks a.counters =
-    c ∙ ap (λ x. with_count g x blocks a.counters) e in
-    λ i. record a {
-      buckets = moved i;
-      counters = counted i;
-      groups = k i;
-      next_charge = a.next_charge + 1;
-    }
+    charged_parts a g cycle blocks rated holds (reserved_in s g a.groups) buckets counters groups
+    (with_use s g units a.groups) e h b c k
 
 -- ---- rows without facts
 
@@ -215,6 +237,17 @@ count_later g c rows =
     by_row (Some x) = refl
     by_row None = refl
 
+-- a use is counted alike with the counter's empty row and without
+pub counted_later : (g c blocks : ℕ) (rows : List Counter) →
+    with_count g c blocks (with_counter g c rows) ≡ with_count g c blocks rows
+counted_later g c blocks rows =
+    (λ i. put (is_counter g c)
+    (record { group = g; cycle = c; blocks = count_later g c rows i + blocks })
+    (with_counter g c rows))
+    ∙ put-put (is_counter g c)
+    (record { group = g; cycle = c; blocks = count_in g c rows + blocks })
+    (counter_or_new g c rows) rows (or_new_cycle g c rows)
+
 -- a settlement finds the empty rows as none
 pub settled_later : (a : AccountRows) (s : List ℕ) (g t units blocks rated : ℕ) →
     settled_account s g units blocks rated (advanced t (with_rows s g (cycle_at a.book g t) a))
@@ -237,14 +270,6 @@ settled_later a s g t units blocks rated =
       reservation = None;
     })
     a.groups in
-    let counters : with_count g c blocks (with_counter g c a.counters)
-    ≡ with_count g c blocks a.counters =
-    (λ i. put (is_counter g c)
-    (record { group = g; cycle = c; blocks = count_later g c a.counters i + blocks })
-    (with_counter g c a.counters))
-    ∙ put-put (is_counter g c)
-    (record { group = g; cycle = c; blocks = count_in g c a.counters + blocks })
-    (counter_or_new g c a.counters) a.counters (or_new_cycle g c a.counters) in
     let given : (b : Row) →
     lapsed_in keeps (with_group s g a.groups) b ≡ lapsed_in keeps a.groups b =
     λ b. held_by-with_group (λ x. not (keeps x)) s g a.groups b in
@@ -253,6 +278,6 @@ settled_later a s g t units blocks rated =
       buckets =
           settled_rows (holds_in (row i).reservation) g t rated
           (map (λ b. with_end t (with_release t b (given b i))) a.buckets);
-      counters = counters i;
+      counters = counted_later g c blocks a.counters i;
       groups = groups i;
     }

@@ -218,19 +218,23 @@ rows_settled ledger a middle after s g c t units blocks rated used_parts account
     subst (IsRowsOf (settled_by a.book t s g used_parts ledger)) (sym same)
     (IsRowsOf-settled_by ledger later s g used_parts account' rows' live)
 
--- what the call answers
+-- what the call answers, by the account's rows before it and as it finds them at the moment
+pub record IsTold (a middle : AccountRows) (s : List ℕ) (g c t : ℕ) (used_parts : List UsedPart)
+    (blocks rated without paid : ℕ) : Type 0 where
+  pub blocks_are : blocks ≡ (price_in s g t used_parts a).blocks
+  pub rated_is : rated ≡ (price_in s g t used_parts a).amount.0
+  pub brought : middle ≡ advanced t (with_rows s g c a)
+  pub missing : without
+      ≡ uncollected (reserved_in s g middle.groups) g middle.as_of rated middle.buckets
+  pub all : paid + without ≡ rated
+
 pub settlement_is : (ledger : Ledger) (a middle : AccountRows) (s : List ℕ) (g c t : ℕ)
     (used_parts : List UsedPart) (x : Settled) →
     IsAccount a → IsRowsOf ledger a → a.as_of ≤ t →
     is_live_in a.book.validity t a.sessions s ≡ true →
-    x.blocks.0 ≡ (price_in s g t used_parts a).blocks →
-    x.rated.0 ≡ (price_in s g t used_parts a).amount.0 →
-    middle ≡ advanced t (with_rows s g c a) →
-    x.uncollected.0
-    ≡ uncollected (reserved_in s g middle.groups) g middle.as_of x.rated.0 middle.buckets →
-    x.collected.0 + x.uncollected.0 ≡ x.rated.0 →
+    IsTold a middle s g c t used_parts x.blocks.0 x.rated.0 x.uncollected.0 x.collected.0 →
     IsSettlementOf a.book t s g used_parts ledger x
-settlement_is ledger a middle s g c t used_parts x account rows le live_in b r m un all =
+settlement_is ledger a middle s g c t used_parts x account rows le live_in told =
     let v : ℕ = a.book.validity in
     let live : is_live v t ledger s ≡ true = sym (is_live_in-is ledger a t s rows le) ∙ live_in in
     let keeps : List ℕ → Bool = is_live_in v t a.sessions in
@@ -240,7 +244,7 @@ settlement_is ledger a middle s g c t used_parts x account rows le live_in b r m
     let cost : price_in s g t used_parts a ≡ report_price a.book t s g used_parts ledger =
     price_is ledger a s g t used_parts account rows le live_in in
     let rated : x.rated.0 ≡ (report_price a.book t s g used_parts ledger).amount.0 =
-    r ∙ ap (λ (y : Rated). y.amount.0) cost in
+    told.rated_is ∙ ap (λ (y : Rated). y.amount.0) cost in
     let given : (y : Row) →
     lapsed_in keeps (with_group s g a.groups) y ≡ lapsed_in keeps a.groups y =
     λ y. held_by-with_group (λ z. not (keeps z)) s g a.groups y in
@@ -250,10 +254,11 @@ settlement_is ledger a middle s g c t used_parts x account rows le live_in b r m
     ap (λ (y : SessionGroup). holds_in y.reservation) (or_new_later keeps s g a.groups)
     ∙ reserved_in_is ledger later s g account' rows' live in
     record {
-      blocks = b ∙ ap (λ (y : Rated). y.blocks) cost;
+      blocks = told.blocks_are ∙ ap (λ (y : Rated). y.blocks) cost;
       rated = rated;
       uncollected =
-          un ∙ (λ i. uncollected (reserved_in s g (m i).groups) g (m i).as_of x.rated.0
-          (m i).buckets) ∙ (λ i. uncollected (held i) g t (rated i) (buckets i));
-      collected = all;
+          told.missing
+          ∙ (λ i. uncollected (reserved_in s g (told.brought i).groups) g (told.brought i).as_of
+          x.rated.0 (told.brought i).buckets) ∙ (λ i. uncollected (held i) g t (rated i) (buckets i));
+      collected = told.all;
     }

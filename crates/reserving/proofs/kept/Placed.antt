@@ -1,15 +1,14 @@
 -- The periods of each reservation stay the book's, whatever a call makes of the rows.
 use Rattle.std.proofs.Common.{◌≡◌, ℕ, ◌+◌, ◌≤◌, ◌<◌, Bool, true, false, cond, List, [], ◌∷◌, ◌++◌, map, refl, sym, ap, subst, ◌∙◌, arith, Option, Some, None}
-use Rattle.std.specs.Prelude.{if◌then◌else◌, ◌&&◌, filter, is_some, length, nat_lt, option_map, unwrap_or}
-use Rattle.std.specs.List.{find, list_all}
+use Rattle.std.specs.Prelude.{if◌then◌else◌, ◌&&◌, is_some, length, nat_lt, option_map, unwrap_or}
+use Rattle.std.specs.List.{list_all}
 use Rattle.std.proofs.lemmas.Bool.{false≢true}
 use Rattle.std.proofs.lemmas.Bool.Decides.{nat_tests}
 use Rattle.tariffs.specs.Books.{Book, IsBook}
 use Rattle.tariffs.specs.Tariffs.{GroupTariff}
-use Rattle.tariffs.specs.GroupPrices.{GroupPrices, prices_in}
+use Rattle.tariffs.specs.GroupPrices.{prices_in}
 use Rattle.tariffs.specs.BookPrices.{prices_at}
 use Rattle.rating.specs.declared.grant.Periods.{Periods}
-use Rattle.reserving.specs.declared.session.Session.{Session}
 use Rattle.reserving.specs.declared.session.SessionState.{SessionState}
 use Rattle.reserving.specs.declared.session.SessionGroup.{SessionGroup}
 use Rattle.reserving.specs.declared.session.Reservation.{Reservation}
@@ -20,7 +19,7 @@ use Rattle.buckets.specs.Holding.{holds_of}
 use Rattle.reserving.specs.Keyed.{put}
 use Rattle.reserving.specs.Changes.{advanced, with_session, touched_account, closed_account, lapse_group, is_other, new_group, group_or_new, ended_group, ended_rows, settled_account, debited_account, reserved_account, credited_account, used_in, count_in, periods_in}
 use Rattle.reserving.specs.Prepared.{with_group_row, with_rows, reservation_in}
-use Rattle.reserving.specs.Rows.{AccountRows, EachIn, AreApart, IsAccount}
+use Rattle.reserving.specs.Rows.{AccountRows, EachIn, AreApart}
 use Rattle.reserving.specs.Placed.{AreOfBook, is_placed, ArePlaced, IsPriced}
 use Rattle.reserving.specs.Stored.{StoredRows, IsStored, priced}
 use Rattle.reserving.specs.Live.{is_live_group, live_part}
@@ -137,6 +136,19 @@ placed_put : (b : Book) (s : List ℕ) (g : ℕ) (x : SessionGroup) (rows : List
 placed_put b s g x rows k h =
     EachIn-put (λ r. is_placed b r.group r.reservation ≡ true) (is_of s g) x rows k h
 
+-- a group's row with more units
+placed_used : (a : AccountRows) (s : List ℕ) (g units : ℕ) (reservation : Option Reservation) →
+    is_placed a.book g reservation ≡ true → ArePlaced a.book a.groups →
+    ArePlaced a.book
+    (put (is_of s g)
+    (record {
+      session = s;
+      group = g;
+      used = used_in s g a.groups + units;
+      reservation = reservation;
+    }) a.groups)
+placed_used a s g units reservation k h = placed_put a.book s g _ a.groups k h
+
 -- ---- what each call keeps
 
 pub IsPriced-advanced : (a : AccountRows) (t : ℕ) → IsPriced a → IsPriced (advanced t a)
@@ -171,13 +183,7 @@ pub IsPriced-settled : (a : AccountRows) (session : List ℕ) (group units block
 IsPriced-settled a session group units blocks rated used_fits count_fits charge_fits is = record {
   account = IsAccount-settled a session group units blocks rated used_fits count_fits charge_fits
       is.account;
-  placed = placed_put a.book session group
-      (record {
-        session = session;
-        group = group;
-        used = used_in session group a.groups + units;
-        reservation = None;
-      }) a.groups refl is.placed;
+  placed = placed_used a session group units None refl is.placed;
 }
 
 pub IsPriced-debited : (a : AccountRows) (session : List ℕ) (group units blocks rated : ℕ) →
@@ -188,13 +194,8 @@ pub IsPriced-debited : (a : AccountRows) (session : List ℕ) (group units block
 IsPriced-debited a session group units blocks rated used_fits count_fits charge_fits is = record {
   account = IsAccount-debited a session group units blocks rated used_fits count_fits charge_fits
       is.account;
-  placed = placed_put a.book session group
-      (record {
-        session = session;
-        group = group;
-        used = used_in session group a.groups + units;
-        reservation = (group_or_new session group a.groups).reservation;
-      }) a.groups (placed_at a.book session group a.groups is.placed) is.placed;
+  placed = placed_used a session group units (group_or_new session group a.groups).reservation
+      (placed_at a.book session group a.groups is.placed) is.placed;
 }
 
 pub IsPriced-ended : (a : AccountRows) (session : List ℕ) (group : ℕ) → IsPriced a →

@@ -74,6 +74,22 @@ split_is v t session group n ledger live =
     held_split (λ s g. is_live v t ledger s) (others v t session group ledger) (only session group)
     n ledger (one_split (λ s. is_live v t ledger s) session group live)
 
+-- what all live sessions hold of a bucket: the others' and the one reservation's
+split_at : (v t : ℕ) (session : List ℕ) (group : ℕ) (ledger : Ledger) (c : Row) →
+    (let holds : List Hold = holds_at v t session group ledger in
+    is_live v t ledger session ≡ true →
+    sum_at c.number holds ≡ held (only session group) c.number ledger →
+    held (λ s g. is_live v t ledger s) c.number ledger
+    ≡ held (others v t session group ledger) c.number ledger
+    + held_in holds (bucket_at v t ledger c))
+split_at v t session group ledger c live holding =
+    omega (
+      arith,
+      split_is v t session group c.number ledger live,
+      held_in-sum_at (holds_at v t session group ledger) (bucket_at v t ledger c),
+      holding,
+    )
+
 bucket_at-settled : (v t : ℕ) (session : List ℕ) (group units blocks rated : ℕ) (ledger : Ledger)
     (c : Row) →
     (let holds : List Hold = holds_at v t session group ledger in
@@ -99,13 +115,7 @@ bucket_at-settled v t session group units blocks rated ledger c live balanced ho
     let r : ℕ = held (others v t session group ledger) n ledger in
     let s1 : ℕ = paid_of_hold holds rated rows (bucket_at v t ledger c) in
     let s2 : ℕ = paid_of_rest holds group t rated rows (bucket_at v t ledger c) in
-    let split : held all n ledger ≡ r + h =
-    omega (
-      arith,
-      split_is v t session group n ledger live,
-      held_in-sum_at holds (bucket_at v t ledger c),
-      holding,
-    ) in
+    let split : held all n ledger ≡ r + h = split_at v t session group ledger c live holding in
     let same : others' ≡ others v t session group ledger =
     λ i s g. same_live v t ledger after
     (same_sessions-settled v t session group units blocks rated ledger) s i
@@ -185,13 +195,7 @@ bucket_at-ended v t session group ledger c live balanced holding =
     let all : List ℕ → ℕ → Bool = λ s g. is_live v t ledger s in
     let h : ℕ = held_in holds (bucket_at v t ledger c) in
     let r : ℕ = held (others v t session group ledger) n ledger in
-    let split : held all n ledger ≡ r + h =
-    omega (
-      arith,
-      split_is v t session group n ledger live,
-      held_in-sum_at holds (bucket_at v t ledger c),
-      holding,
-    ) in
+    let split : held all n ledger ≡ r + h = split_at v t session group ledger c live holding in
     let held' : 0 + held (others v t session group ledger) n ledger ≡ r = omega arith in
     let charged' : 0 + charged n ledger ≡ ch = omega arith in
     let within : ch + (r + h) ≤ c.credited =

@@ -4,13 +4,13 @@ use Rattle.std.proofs.lemmas.Bool.Decides.{nat_tests}
 use Rattle.units.specs.declared.blocks.UsedPart.{UsedPart}
 use Rattle.rating.specs.declared.report.Rated.{Rated}
 use Rattle.reserving.specs.declared.session.SessionGroup.{SessionGroup}
-use Rattle.reserving.specs.Ledger.{Ledger}
+use Rattle.reserving.specs.Ledger.{Ledger, is_live}
 use Rattle.reserving.specs.Pricing.{cycle_at}
 use Rattle.reserving.specs.Sessions.{is_of, is_live_in}
 use Rattle.reserving.specs.Settlement.{reported, passes, settled_by}
 use Rattle.reserving.specs.Changes.{advanced, used_in, count_in, price_in, ended_rows, settled_account, settled_by_rows}
 use Rattle.reserving.specs.Prepared.{with_rows}
-use Rattle.reserving.specs.Rows.{AccountRows, EachIn, IsAccount}
+use Rattle.reserving.specs.Rows.{AccountRows, EachIn, IsAccount, IsRowsOf}
 use Rattle.reserving.specs.Left.{LeftRows, joined, IsWith}
 use Rattle.reserving.proofs.Advancing.{is_live_in-is}
 use Rattle.reserving.proofs.kept.Settled.{IsAccount-settled}
@@ -61,6 +61,32 @@ live_later ledger left a s t le h k alive =
     ∙ is_live_in-is ledger (joined left (advanced t a)) t s k.rows now
     ∙ sym (is_live_in-is ledger (joined left a) t s h.rows le)
     ∙ live left a h.apart t s ∙ alive
+
+-- a session that lives at a moment, in the rows as the call finds them then
+pub record IsLiveThen (ledger : Ledger) (a : AccountRows) (s : List ℕ) (t : ℕ) : Type 0 where
+  pub rows : IsRowsOf ledger (advanced t a)
+  pub live : is_live a.book.validity t ledger s ≡ true
+
+pub live_then : (ledger : Ledger) (a middle : AccountRows) (s : List ℕ) (t : ℕ) →
+    middle ≡ advanced t a → IsRowsOf ledger a → IsRowsOf ledger middle → a.as_of ≤ t →
+    is_live_in a.book.validity t a.sessions s ≡ true → IsLiveThen ledger a s t
+live_then ledger a middle s t m rows later le alive = record {
+  rows = subst (IsRowsOf ledger) m later;
+  live = sym (is_live_in-is ledger a t s rows le) ∙ alive;
+}
+
+-- the same beside rows that were left
+pub record IsLiveBeside (ledger : Ledger) (left : LeftRows) (a : AccountRows) (s : List ℕ) (t : ℕ) :
+    Type 0 where
+  pub rows : IsWith ledger left t (advanced t a)
+  pub live : is_live_in a.book.validity t (advanced t a).sessions s ≡ true
+
+pub live_beside : (ledger : Ledger) (left : LeftRows) (a middle : AccountRows) (s : List ℕ) (t : ℕ) →
+    middle ≡ advanced t a → IsWith ledger left t a → IsWith ledger left t middle → a.as_of ≤ t →
+    is_live_in a.book.validity t a.sessions s ≡ true → IsLiveBeside ledger left a s t
+live_beside ledger left a middle s t m h k le alive =
+    let later : IsWith ledger left t (advanced t a) = subst (IsWith ledger left t) m k in
+    record { rows = later; live = live_later ledger left a s t le h later alive }
 
 pub left_ended : (ledger : Ledger) (left : LeftRows) (a middle after : AccountRows) (s : List ℕ)
     (g t : ℕ) (used_parts : List UsedPart) →

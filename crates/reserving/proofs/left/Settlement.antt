@@ -1,5 +1,5 @@
 -- What a settlement answers, from a ledger whose rows the account's are together with those left.
-use Rattle.std.proofs.Common.{◌≡◌, ℕ, ◌+◌, ◌≤◌, true, false, List, refl, sym, ap, ◌∙◌}
+use Rattle.std.proofs.Common.{◌≡◌, ℕ, ◌≤◌, true, false, List, refl, sym, ap, ◌∙◌}
 use Rattle.units.specs.declared.blocks.UsedPart.{UsedPart}
 use Rattle.buckets.specs.declared.holds.Hold.{Hold}
 use Rattle.buckets.specs.Holding.{uncollected}
@@ -14,7 +14,7 @@ use Rattle.reserving.specs.Rows.{AccountRows, EachIn}
 use Rattle.reserving.specs.Results.{IsSettlementOf}
 use Rattle.reserving.specs.Left.{LeftRows, merged, joined, IsWith}
 use Rattle.reserving.proofs.calls.RowParts.{or_new_later}
-use Rattle.reserving.proofs.calls.Settled.{settlement_is}
+use Rattle.reserving.proofs.calls.Settled.{IsTold, settlement_is}
 use Rattle.reserving.proofs.calls.Debited.{buckets_later}
 use Rattle.reserving.proofs.LeftFrames.{live, not_of_live, holds_same, holds_none, advanced_joined}
 use Rattle.reserving.proofs.LeftMore.{with_advanced}
@@ -30,14 +30,9 @@ held_later a s g c t =
 pub settlement_beside : (ledger : Ledger) (left : LeftRows) (a middle : AccountRows) (s : List ℕ)
     (g c t : ℕ) (used_parts : List UsedPart) (x : Settled) →
     IsWith ledger left t a → a.as_of ≤ t → is_live_in a.book.validity t a.sessions s ≡ true →
-    x.blocks.0 ≡ (price_in s g t used_parts a).blocks →
-    x.rated.0 ≡ (price_in s g t used_parts a).amount.0 →
-    middle ≡ advanced t (with_rows s g c a) →
-    x.uncollected.0
-    ≡ uncollected (reserved_in s g middle.groups) g middle.as_of x.rated.0 middle.buckets →
-    x.collected.0 + x.uncollected.0 ≡ x.rated.0 →
+    IsTold a middle s g c t used_parts x.blocks.0 x.rated.0 x.uncollected.0 x.collected.0 →
     IsSettlementOf a.book t s g used_parts ledger x
-settlement_beside ledger left a middle s g c t used_parts x h le alive b r m un all =
+settlement_beside ledger left a middle s g c t used_parts x h le alive told =
     let whole : AccountRows = joined left a in
     let later : AccountRows = advanced t a in
     let rated : ℕ = x.rated.0 in
@@ -56,12 +51,19 @@ settlement_beside ledger left a middle s g c t used_parts x h le alive b r m un 
     let missing : x.uncollected.0
     ≡ uncollected (reserved_in s g (advanced t (with_rows s g c whole)).groups) g t rated
     (advanced t (with_rows s g c whole)).buckets =
-    un ∙ (λ i. uncollected (reserved_in s g (m i).groups) g (m i).as_of rated (m i).buckets)
+    told.missing
+    ∙ (λ i. uncollected (reserved_in s g (told.brought i).groups) g (told.brought i).as_of rated
+    (told.brought i).buckets)
     ∙ (λ i. uncollected (held_later a s g c t i) g t rated (buckets_later a s g c t i))
     ∙ sym (uncollected_merged holds g t rated left.buckets later.buckets h.apart.dead
     (holds_none left later with_later.apart s g not_of))
     ∙ (λ i. uncollected (sym held i) g t rated (sym buckets i)) in
     settlement_is ledger whole (advanced t (with_rows s g c whole)) s g c t used_parts x
     h.apart.whole h.rows le (live left a h.apart t s ∙ alive)
-    (b ∙ ap (λ (y : Rated). y.blocks) (sym cost)) (r ∙ ap (λ (y : Rated). y.amount.0) (sym cost))
-    refl missing all
+    (record {
+      blocks_are = told.blocks_are ∙ ap (λ (y : Rated). y.blocks) (sym cost);
+      rated_is = told.rated_is ∙ ap (λ (y : Rated). y.amount.0) (sym cost);
+      brought = refl;
+      missing = missing;
+      all = told.all;
+    })

@@ -1,14 +1,12 @@
 -- What the rows of a ledger owe a store: reservations are of open sessions, groups of sessions with
 -- rows.
-use Rattle.std.proofs.Common.{◌≡◌, ◌≢◌, ℕ, Bool, true, false, List, refl, sym, ap, ◌∙◌, Option, Some, None}
+use Rattle.std.proofs.Common.{◌≡◌, ℕ, Bool, true, false, refl, sym, ap, ◌∙◌, Option, Some, None}
 use Rattle.std.specs.Prelude.{if◌then◌else◌, is_some}
 use Rattle.reserving.specs.declared.session.SessionGroup.{SessionGroup}
-use Rattle.reserving.specs.declared.session.Reservation.{Reservation}
-use Rattle.reserving.specs.Ledger.{Ledger, Recording, last_recording, used, has_group}
-use Rattle.reserving.specs.Sessions.{session_in, session_row, state_at, group_in, reservation_at}
+use Rattle.reserving.specs.Ledger.{Recording, last_recording, used, has_group}
+use Rattle.reserving.specs.Sessions.{session_in, session_row, state_at, reservation_at}
 use Rattle.reserving.specs.Left.{is_open_row}
-use Rattle.reserving.specs.Owed.{AreOfOpenSessions, AreGroupsRecorded, AreOfSessionsThere}
-use Rattle.reserving.specs.Rows.{AccountRows, IsRowsOf}
+use Rattle.reserving.specs.Owed.{AreOfOpenSessions, AreOfSessionsThere}
 use Rattle.reserving.proofs.Lists.{not_both, no_some, some_of}
 use Rattle.reserving.proofs.left.Ended.{closed_free}
 

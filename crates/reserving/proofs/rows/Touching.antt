@@ -11,11 +11,10 @@ use Rattle.reserving.specs.Ledger.{Ledger, Recording, is_barred, is_same, is_liv
 use Rattle.reserving.specs.Ledger.Fact.{Touch}
 use Rattle.reserving.specs.Balance.{credits, bucket_at, buckets_at, balance_of}
 use Rattle.reserving.specs.Sessions.{is_session, session_in, session_at, session_row, state_at, group_at, reservation_at, reservation_of, holds_at, counter_at}
-use Rattle.reserving.specs.Keyed.{put}
 use Rattle.reserving.specs.Pricing.{cycle_at}
 use Rattle.reserving.specs.Rows.{AccountRows, IsRowsOf, IsUnknown}
 use Rattle.reserving.specs.Requests.{recorded, touched, closed}
-use Rattle.reserving.specs.Changes.{with_session}
+use Rattle.reserving.specs.Changes.{session_put, with_session}
 use Rattle.reserving.proofs.Lists.{find-put, find-put_other, no_some}
 use Rattle.reserving.proofs.Holds.{held_split, same_itself, same_from, one_if, IsSplit}
 use Rattle.reserving.proofs.ledger.Positions.{parts-at}
@@ -258,13 +257,17 @@ touch-known s x n t true ledger before e h = absurd (no_some _ (sym h))
 touch-known s x n t false ledger before e h =
     unknown-same x (touched t s n ledger) ledger (same_touched t s n ledger) refl (before h)
 
+-- the row of a session's first request
+abbrev new_row : List ℕ → ℕ → ℕ → SessionState → Session
+new_row s n t state = record { id = s; last_number = n; touched = t; state = state }
+
 -- ---- a new session's request is recorded
 
 pub IsRowsOf-denied : (ledger : Ledger) (a : AccountRows) (s : List ℕ) (n t : ℕ) →
     IsRowsOf ledger a → session_in s a.sessions ≡ None →
     IsRowsOf (recorded t s n ledger) (with_session s n t NeverOpened a)
 IsRowsOf-denied ledger a s n t rows new =
-    IsRowsOf-leaves a (recorded t s n ledger) ledger (put (is_session s) row a.sessions) rows
+    IsRowsOf-leaves a (recorded t s n ledger) ledger (session_put s n t NeverOpened a.sessions) rows
     (record {
       barred = refl;
       money = same_recorded t s n ledger;
@@ -284,9 +287,6 @@ IsRowsOf-denied ledger a s n t rows new =
     u : ℕ
     u = a.as_of
 
-    row : Session
-    row = record { id = s; last_number = n; touched = t; state = NeverOpened }
-
     no_touch : last_touch s ledger ≡ None
     no_touch = no_touch_of ledger a s rows new
 
@@ -294,20 +294,20 @@ IsRowsOf-denied ledger a s n t rows new =
     never = rw no_touch refl
 
     found : (x : List ℕ) (b : Bool) → is_same s x ≡ b →
-        session_in x (put (is_session s) row a.sessions)
+        session_in x (session_put s n t NeverOpened a.sessions)
         ≡ session_row x (state_at v u ledger x)
         (or_else (if b then Some (record { number = n; at = t }) else None)
         (last_recording x ledger))
     found x true e =
         let same : s ≡ x = same_from s x e in
-        let one : session_in s (put (is_session s) row a.sessions)
+        let one : session_in s (session_put s n t NeverOpened a.sessions)
         ≡ session_row s (state_at v u ledger s) (Some (record { number = n; at = t })) =
-        find-put (is_session s) row a.sessions (same_itself s)
+        find-put (is_session s) (new_row s n t NeverOpened) a.sessions (same_itself s)
         ∙ ap (λ st. session_row s st (Some (record { number = n; at = t }))) (sym never) in
-        subst (λ y. session_in y (put (is_session s) row a.sessions)
+        subst (λ y. session_in y (session_put s n t NeverOpened a.sessions)
         ≡ session_row y (state_at v u ledger y) (Some (record { number = n; at = t }))) same one
     found x false e =
-        find-put_other (is_session s) (is_session x) row a.sessions e
+        find-put_other (is_session s) (is_session x) (new_row s n t NeverOpened) a.sessions e
         (λ y p. other_name s x y.id e p) ∙ rows.sessions x
 
     recorded_at : (x : List ℕ) (y : ℕ) (b : Bool) → is_same s x ≡ b → last_touch x ledger ≡ Some y →
@@ -332,7 +332,7 @@ pub IsRowsOf-opened : (ledger : Ledger) (a : AccountRows) (s : List ℕ) (n t : 
     IsRowsOf ledger a → session_in s a.sessions ≡ None → a.as_of ≤ t → 0 < a.book.validity →
     IsRowsOf (touched t s n ledger) (with_session s n t Open a)
 IsRowsOf-opened ledger a s n t rows new le some =
-    IsRowsOf-leaves a (touched t s n ledger) ledger (put (is_session s) row a.sessions) rows
+    IsRowsOf-leaves a (touched t s n ledger) ledger (session_put s n t Open a.sessions) rows
     (record {
       barred = refl;
       money = same_touched t s n ledger;
@@ -348,9 +348,6 @@ IsRowsOf-opened ledger a s n t rows new le some =
 
     u : ℕ
     u = a.as_of
-
-    row : Session
-    row = record { id = s; last_number = n; touched = t; state = Open }
 
     unknown : IsUnknown s ledger
     unknown = rows.unknown s (no_record ledger a s rows new)
@@ -402,15 +399,15 @@ IsRowsOf-opened ledger a s n t rows new le some =
         (others x e)
 
     found : (x : List ℕ) (b : Bool) → is_same s x ≡ b →
-        session_in x (put (is_session s) row a.sessions) ≡ session_at v u (touched t s n ledger) x
+        session_in x (session_put s n t Open a.sessions) ≡ session_at v u (touched t s n ledger) x
     found x true e =
         let same : s ≡ x = same_from s x e in
-        let one : session_in s (put (is_session s) row a.sessions)
+        let one : session_in s (session_put s n t Open a.sessions)
         ≡ session_at v u (touched t s n ledger) s =
-        find-put (is_session s) row a.sessions (same_itself s)
+        find-put (is_session s) (new_row s n t Open) a.sessions (same_itself s)
         ∙ sym (rw (same_itself s, begun, unknown.closed) refl) in
-        subst (λ y. session_in y (put (is_session s) row a.sessions)
+        subst (λ y. session_in y (session_put s n t Open a.sessions)
         ≡ session_at v u (touched t s n ledger) y) same one
     found x false e =
-        find-put_other (is_session s) (is_session x) row a.sessions e
+        find-put_other (is_session s) (is_session x) (new_row s n t Open) a.sessions e
         (λ y p. other_name s x y.id e p) ∙ rows.sessions x ∙ sym (rw e refl)

@@ -10,6 +10,7 @@ use identifiers::AccountNumber;
 use reserving::{ChargeRow, Counter};
 use sql_rows::{
     Head, put_charge, put_charges, put_counter, put_counters, read_charges, read_counter,
+    read_counters,
 };
 use sqlite::{Alter, Error};
 use std::alloc::{AllocError, Global};
@@ -28,6 +29,15 @@ fn push_charges(alloc: Global, rows: &[ChargeRow], text: &mut String) -> Result<
     }
     text.push_str("\n")?;
     Ok(())
+}
+
+/// Each counter's rating group, cycle and blocks.
+fn push_counters(alloc: Global, rows: &[Counter], text: &mut String) -> Result<(), AllocError> {
+    for row in rows {
+        let piece = format!(in alloc; "{} {} {}; ", row.group, row.cycle, row.blocks)?;
+        text.push_str(piece.as_str())?;
+    }
+    text.push_str("\n")
 }
 
 impl<S: Alter> Page<S> {
@@ -58,6 +68,14 @@ impl<S: Alter> Page<S> {
         };
         let piece = format!(in self.alloc; "{} {} {}; ", row.group, row.cycle, row.blocks)?;
         Ok(self.push(piece.as_str())?)
+    }
+
+    fn note_counters(&mut self, account: &AccountNumber) -> Result<(), Fail>
+        requires ready { IsReady (state S.Store self.old.conn) }
+        ensures ready { IsReady (state S.Store self.new.conn) }
+    {
+        let rows = read_counters(&mut self.conn, self.alloc, account)?;
+        Ok(push_counters(self.alloc, &rows, &mut self.text)?)
     }
 
     fn keep_charges(&mut self, account: &AccountNumber, rows: &[ChargeRow]) -> Result<(), Error>
@@ -98,28 +116,36 @@ fn counter(cycle: u32, blocks: u64) -> Counter {
 fn try_counters<S: Alter>(
     page: &mut Page<S>,
     account: &AccountNumber,
+    other: &AccountNumber,
     head: &Head,
 ) -> Result<(), Fail>
     requires ready { IsReady (state S.Store page.old.conn) }
 {
     page.keep_account(account, head)?;
+    page.keep_account(other, head)?;
+    page.keep_counter(other, &counter(5, 1))?;
+    page.note_counters(account)?;
     page.keep_counters(account, &[counter(3, 7), counter(4, 8)])?;
     page.keep_counter(account, &counter(3, 4_000_000_000_000_000_000))?;
     page.note_counter(account, 2)?;
     page.note_counter(account, 3)?;
-    page.note_counter(account, 4)
+    page.note_counter(account, 4)?;
+    page.note_counters(account)
 }
+
+/// The other account has a counter of its own.
+const COUNTED: &str = "
+none; 10 3 4000000000000000000; 10 4 8; 10 3 4000000000000000000; 10 4 8; 
+";
 
 #[test]
 fn counters(rt: HostRuntime) -> Result<(), Fail> {
     let alloc = rt.alloc();
-    let (ours, head) = (account(alloc, "49151")?, head(false, 100, 1, 1)?);
+    let (ours, other) = (account(alloc, "49151")?, account(alloc, "49152")?);
+    let head = head(false, 100, 1, 1)?;
     let mut page = new_page(alloc)?;
-    try_counters(&mut page, &ours, &head)?;
-    assert_eq!(rt;
-        page.text.as_str(),
-        "none; 10 3 4000000000000000000; 10 4 8; "
-    );
+    try_counters(&mut page, &ours, &other, &head)?;
+    assert_eq!(rt; page.text.as_str(), COUNTED);
     Ok(())
 }
 

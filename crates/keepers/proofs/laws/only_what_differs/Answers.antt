@@ -5,7 +5,7 @@ use Rattle.keepers.specs.Keyed.{same_bucket, same_session, same_counter}
 use Rattle.keepers.specs.Differing.{equal_bucket, equal_counter, equal_session}
 use Rattle.keepers.proofs.Found.{one_bucket}
 use Rattle.keepers.proofs.Equal.{bucket_from, counter_from, session_from}
-use Rattle.keepers.proofs.Overlaid.{differing_over}
+use Rattle.reserving.proofs.LeftTests.{differing_over}
 use Rattle.keepers.proofs.GroupsOverlaid.{rows_overlaid, holds_overlaid}
 use Rattle.keepers.proofs.laws.only_what_differs.Goals as goal
 

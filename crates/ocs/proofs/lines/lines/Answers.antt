@@ -3,7 +3,8 @@ use Rattle.std.specs.Io.KnownBytes.{Appends}
 use Rattle.charging.specs.declared.running.DatedCommand.{DatedCommand}
 use Rattle.ocs.specs.Input.{told_fault}
 use Rattle.ocs.specs.Served.{opening_for, texts_of}
-use Rattle.ocs.proofs.Beginnings.{on_err, where_ok}
+use Rattle.office.proofs.Beginnings.{on_err}
+use Rattle.ocs.proofs.SoFar.{where_ok}
 use Rattle.ocs.proofs.Answered.{begun-none, answered-run}
 use Rattle.ocs.proofs.lines.lines.Goals as goal
 

@@ -2,7 +2,8 @@ use Rattle.std.proofs.Common.{◌≡◌, ◌+◌, ◌++◌, ◌∷◌, [], map, 
 use Rattle.std.specs.Prelude.{if◌then◌else◌, option_map}
 use Rattle.ocs.specs.Input.{told_fault}
 use Rattle.ocs.specs.Served.{texts_of}
-use Rattle.ocs.proofs.Beginnings.{on_err, so_far-more, so_far-failed}
+use Rattle.office.proofs.Beginnings.{on_err}
+use Rattle.ocs.proofs.SoFar.{so_far-more, so_far-failed}
 use Rattle.ocs.proofs.Texts.{texts_first, texts_next}
 use Rattle.ocs.proofs.output.write_output.Goals as goal
 

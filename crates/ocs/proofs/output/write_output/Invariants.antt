@@ -1,7 +1,7 @@
 use Rattle.std.proofs.Common.{map, drop}
 use Rattle.ocs.specs.Input.{told_fault}
 use Rattle.ocs.specs.Served.{texts_of}
-use Rattle.ocs.proofs.Beginnings.{IsWrittenSoFar}
+use Rattle.ocs.proofs.SoFar.{IsWrittenSoFar}
 use Rattle.ocs.proofs.output.write_output.Given as goal
 
 -- what is written so far, with the texts of the lines that are left, is the whole text

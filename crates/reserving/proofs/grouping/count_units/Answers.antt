@@ -1,23 +1,21 @@
-use Rattle.std.proofs.Common.{sym, ap, ◌∙◌, ◌≡◌, arith, ◌+◌, Some, get_or}
+use Rattle.std.proofs.Common.{ap, ◌∙◌, ◌≡◌, arith, ◌+◌, Some, get_or}
 use Rattle.std.specs.Prelude.{position}
 use Rattle.reserving.specs.Sessions.{is_of}
 use Rattle.reserving.specs.declared.session.SessionGroup.{SessionGroup}
 use Rattle.reserving.specs.Keyed.{put}
 use Rattle.reserving.specs.Changes.{group_or_new, used_in}
-use Rattle.reserving.proofs.KeysFound.{used_at, put_at, reservation_at_place, not_there}
+use Rattle.reserving.proofs.KeysFound.{used_at, put_at, reservation_at_place, place_is, found_none}
 use Rattle.reserving.proofs.grouping.count_units.Goals.{After-index_mut}
 use Rattle.reserving.proofs.grouping.count_units.Goals as goal
 
 there : (c : After-index_mut) →
     position (is_of c.args.session.now c.args.group) c.args.groups.now.items ≡ Some c.in-Some.place
-there c = ap (position (is_of c.args.session.now c.args.group)) (sym c.deref.ensures.value)
-    ∙ sym c.place_of.ensures ∙ c.in-Some.is
+there c =
+    place_is c.args.session.now c.args.group c.deref.ensures.value c.place_of.ensures c.in-Some.is
 
 pub unreachable-requires : goal.unreachable-requires
 unreachable-requires c =
-    not_there c.args.session.now c.args.group c.args.groups.now.items
-    (ap (position (is_of c.args.session.now c.args.group)) (sym c.deref.ensures.value)
-    ∙ sym c.place_of.ensures ∙ c.in_default.is) c.requires.there
+    found_none c.args.session.now c.args.group c.deref.ensures.value c.place_of.ensures c.in_default.is c.requires.there
 
 pub overflow_add-index_mut : goal.overflow_add-index_mut
 overflow_add-index_mut c =
@@ -36,8 +34,7 @@ pub returns : goal.returns
 returns c =
     let at : position (is_of c.args.session.now c.args.group) c.args.groups.now.items
     ≡ Some c.in-Some.place =
-    ap (position (is_of c.args.session.now c.args.group)) (sym c.deref.ensures.value)
-    ∙ sym c.place_of.ensures ∙ c.in-Some.is in
+    place_is c.args.session.now c.args.group c.deref.ensures.value c.place_of.ensures c.in-Some.is in
     let used : c.index_mut.result.now.used
     ≡ used_in c.args.session.now c.args.group c.args.groups.now.items =
     ap (λ (x : SessionGroup). x.used) c.index_mut.ensures.value

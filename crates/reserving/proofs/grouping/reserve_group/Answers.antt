@@ -1,25 +1,22 @@
-use Rattle.std.proofs.Common.{sym, ap, ◌∙◌, ◌≡◌, Some}
+use Rattle.std.proofs.Common.{ap, ◌∙◌, ◌≡◌, Some}
 use Rattle.std.specs.Prelude.{position}
 use Rattle.reserving.specs.Sessions.{is_of}
 use Rattle.reserving.specs.declared.session.SessionGroup.{SessionGroup}
 use Rattle.reserving.specs.declared.session.Reservation.{Reservation}
 use Rattle.reserving.specs.Keyed.{put}
 use Rattle.reserving.specs.Changes.{used_in}
-use Rattle.reserving.proofs.KeysFound.{used_at, put_at, not_there}
+use Rattle.reserving.proofs.KeysFound.{used_at, put_at, place_is, found_none}
 use Rattle.reserving.proofs.grouping.reserve_group.Goals as goal
 
 pub unreachable-requires : goal.unreachable-requires
 unreachable-requires c =
-    not_there c.args.session.now c.args.group c.args.groups.now.items
-    (ap (position (is_of c.args.session.now c.args.group)) (sym c.deref.ensures.value)
-    ∙ sym c.place_of.ensures ∙ c.in_default.is) c.requires
+    found_none c.args.session.now c.args.group c.deref.ensures.value c.place_of.ensures c.in_default.is c.requires
 
 pub returns : goal.returns
 returns c =
     let there : position (is_of c.args.session.now c.args.group) c.args.groups.now.items
     ≡ Some c.in-Some.place =
-    ap (position (is_of c.args.session.now c.args.group)) (sym c.deref.ensures.value)
-    ∙ sym c.place_of.ensures ∙ c.in-Some.is in
+    place_is c.args.session.now c.args.group c.deref.ensures.value c.place_of.ensures c.in-Some.is in
     let used : c.index_mut-row.result.now.used
     ≡ used_in c.args.session.now c.args.group c.args.groups.now.items =
     ap (λ (x : SessionGroup). x.used) c.index_mut-row.ensures.value

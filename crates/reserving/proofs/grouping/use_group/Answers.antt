@@ -1,28 +1,26 @@
-use Rattle.std.proofs.Common.{sym, ap, ◌∙◌, ◌≡◌, arith, ◌+◌, Some, get_or}
+use Rattle.std.proofs.Common.{ap, ◌∙◌, ◌≡◌, arith, ◌+◌, Some, get_or}
 use Rattle.std.specs.Prelude.{position}
-use Rattle.reserving.specs.Sessions.{is_of, holds_in}
+use Rattle.reserving.specs.Sessions.{is_of}
 use Rattle.reserving.specs.declared.session.SessionGroup.{SessionGroup}
 use Rattle.reserving.specs.Keyed.{put}
 use Rattle.reserving.specs.Changes.{used_in}
-use Rattle.reserving.proofs.KeysFound.{used_at, put_at, reserved_at, not_there}
+use Rattle.reserving.proofs.KeysFound.{used_at, put_at, taken_is, place_is, found_none}
 use Rattle.reserving.proofs.grouping.use_group.Goals.{After-index_mut-row, After-holds_of}
 use Rattle.reserving.proofs.grouping.use_group.Goals as goal
 
 there : (c : After-index_mut-row) →
     position (is_of c.args.session.now c.args.group) c.args.groups.now.items ≡ Some c.in-Some.place
-there c = ap (position (is_of c.args.session.now c.args.group)) (sym c.deref.ensures.value)
-    ∙ sym c.place_of.ensures ∙ c.in-Some.is
+there c =
+    place_is c.args.session.now c.args.group c.deref.ensures.value c.place_of.ensures c.in-Some.is
 
 found : (c : After-holds_of) →
     position (is_of c.args.session.now c.args.group) c.args.groups.now.items ≡ Some c.in-Some.place
-found c = ap (position (is_of c.args.session.now c.args.group)) (sym c.deref.ensures.value)
-    ∙ sym c.place_of.ensures ∙ c.in-Some.is
+found c =
+    place_is c.args.session.now c.args.group c.deref.ensures.value c.place_of.ensures c.in-Some.is
 
 pub unreachable-requires : goal.unreachable-requires
 unreachable-requires c =
-    not_there c.args.session.now c.args.group c.args.groups.now.items
-    (ap (position (is_of c.args.session.now c.args.group)) (sym c.deref.ensures.value)
-    ∙ sym c.place_of.ensures ∙ c.in_default.is) c.requires.there
+    found_none c.args.session.now c.args.group c.deref.ensures.value c.place_of.ensures c.in_default.is c.requires.there
 
 pub overflow_add-row : goal.overflow_add-row
 overflow_add-row c =
@@ -59,9 +57,5 @@ returns-clause-groups c =
 
 pub returns-clause-holds : goal.returns-clause-holds
 returns-clause-holds c =
-    c.holds_of.ensures
-    ∙ ap holds_in
-    (c.take.ensures.value
-    ∙ ap (λ (x : SessionGroup). x.reservation) c.index_mut-row.ensures.value)
-    ∙ reserved_at c.args.session.now c.args.group c.in-Some.place c.args.groups.now.items
-    c.index_mut-row.result.now (found c)
+    taken_is c.args.session.now c.args.group c.in-Some.place _ c.index_mut-row.result.now _ _ (found c)
+    c.index_mut-row.ensures.value c.take.ensures.value c.holds_of.ensures

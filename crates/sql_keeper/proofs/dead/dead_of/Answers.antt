@@ -1,4 +1,4 @@
-use Rattle.std.proofs.Common.{rules, map, ◌≡◌, List, IfOk, subst}
+use Rattle.std.proofs.Common.{map, ◌≡◌, List, IfOk, subst}
 use Rattle.sqlite.specs.Held.{state}
 use Rattle.sql_rows.specs.declared.bucket_rows.BucketColumns.{BucketColumns}
 use Rattle.sql_rows.specs.Content.{rows_in}

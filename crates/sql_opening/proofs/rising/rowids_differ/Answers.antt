@@ -11,5 +11,6 @@ returns-in-Ok-true g c = λ k next so. record {
       let same = c.in-Ok-true.ensures.same clean in
       let was : HasCleanDisk (state g.S.Store c.args.conn.now) = omega (arith, c.in-Ok-true.ensures.crash.clean, clean) in
       (same, stored_next g.S.Store c.args.sql.now k next c.args.conn.now rise.0 (state g.S.Store c.are_rising.new.conn) rise.1 rise.2 rise.3 rise.4 same (so was));
+  told = tt;
   survives = c.in-Ok-true.ensures.crash;
 }

@@ -2,23 +2,18 @@ use Rattle.std.proofs.Common.{◌≡◌, arith, ◌∙◌, ap, pos, ◌+ℤ◌}
 use Rattle.jiff_core.proofs.SignedLemmas.{signed_casts}
 use Rattle.jiff.specs.Words.{epoch_day}
 use Rattle.calendar.specs.Clock.{day}
-use Rattle.calendar.proofs.Shown.{day_is, day_bound}
 use Rattle.calendar.proofs.zone.Zone.day_at.Goals as goal
 
 pub overflow_cast-result : goal.overflow_cast-result
 overflow_cast-result c =
     let is : epoch_day c.to_plain.result +ℤ pos 1 ≡ pos (day c.args.self.now c.args.seconds) =
-    ap (λ d. epoch_day d +ℤ pos 1) (c.to_plain.ensures ∙ c.date-date.ensures)
-    ∙ day_is _ _ c.shown.result
-    (record { at = c.shown.ensures.at; near = c.shown.ensures.near }) in
-    let bound = day_bound c.args.self.now c.args.seconds c.shown.ensures.near c.requires in
+    ap (λ d. epoch_day d +ℤ pos 1) c.to_plain.ensures ∙ c.date_at-date.ensures.day in
+    let bound = c.date_at-date.ensures.bound in
     omega (arith, signed_casts, is, bound, c.to_unix_epoch_day.ensures.value)
 
 pub returns : goal.returns
 returns c =
     let is : epoch_day c.to_plain.result +ℤ pos 1 ≡ pos (day c.args.self.now c.args.seconds) =
-    ap (λ d. epoch_day d +ℤ pos 1) (c.to_plain.ensures ∙ c.date-date.ensures)
-    ∙ day_is _ _ c.shown.result
-    (record { at = c.shown.ensures.at; near = c.shown.ensures.near }) in
-    let bound = day_bound c.args.self.now c.args.seconds c.shown.ensures.near c.requires in
+    ap (λ d. epoch_day d +ℤ pos 1) c.to_plain.ensures ∙ c.date_at-date.ensures.day in
+    let bound = c.date_at-date.ensures.bound in
     omega (arith, signed_casts, is, bound, c.to_unix_epoch_day.ensures.value)

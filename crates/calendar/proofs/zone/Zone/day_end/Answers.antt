@@ -3,31 +3,24 @@ use Rattle.std.proofs.lemmas.Bool.{false≢true}
 use Rattle.jiff_core.proofs.SignedLemmas.{signed_casts}
 use Rattle.jiff.specs.Words.{plain_zone, picked_instant}
 use Rattle.calendar.specs.Clock.{IsZone}
-use Rattle.calendar.specs.Laws.{midnight_after}
 use Rattle.calendar.proofs.DayEnds.{IsAnswered, zone_is, picked_is, seconds_are, answers, answers_none, far_end, no_instant}
 use Rattle.calendar.proofs.zone.Zone.day_end.Goals as goal
 
 pub overflow_cast-as_second : goal.overflow_cast-as_second
 overflow_cast-as_second c =
     let instant =
-    picked_is _ c.args.self.now c.args.seconds c.args.days _ c.in-Ok.instant.nanosecond
-    c.self.invariant c.self.view_is c.in-Some.ensures.some c.in-Ok.ensures.value in
-    let seconds =
-    c.as_second.ensures
-    ∙ seconds_are c.in-Ok.instant.nanosecond
-    (midnight_after c.args.self.now c.args.seconds c.args.days) instant in
+    picked_is _ _ _ _ _ _ c.self.invariant c.self.view_is c.in-Some.ensures.some
+    c.in-Ok.ensures.value in
+    let seconds = c.as_second.ensures ∙ seconds_are c.in-Ok.instant.nanosecond _ instant in
     omega (arith, signed_casts, seconds, instant, c.in-Ok.instant.in_range)
 
 answered : (c : goal.After-of_command) →
     IsAnswered c.args.self.now c.args.seconds c.args.days c.of_command.result
 answered c =
     let instant =
-    picked_is _ c.args.self.now c.args.seconds c.args.days _ c.in-Ok.instant.nanosecond
-    c.self.invariant c.self.view_is c.in-Some.ensures.some c.in-Ok.ensures.value in
-    let seconds =
-    c.as_second.ensures
-    ∙ seconds_are c.in-Ok.instant.nanosecond
-    (midnight_after c.args.self.now c.args.seconds c.args.days) instant in
+    picked_is _ _ _ _ _ _ c.self.invariant c.self.view_is c.in-Some.ensures.some
+    c.in-Ok.ensures.value in
+    let seconds = c.as_second.ensures ∙ seconds_are c.in-Ok.instant.nanosecond _ instant in
     let known : IsZone c.args.self.now = zone_is _ _ c.self.invariant c.self.view_is in
     answers _ _ _ _ _ known
     (omega (arith, signed_casts, seconds, instant, c.in-Ok.instant.in_range))

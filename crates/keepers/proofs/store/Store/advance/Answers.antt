@@ -1,4 +1,4 @@
-use Rattle.std.proofs.Common.{◌≡◌, ◌∙◌, sym, ap, subst}
+use Rattle.std.proofs.Common.{sym, subst}
 use Rattle.reserving.specs.Stored.{StoredRows}
 use Rattle.keepers.specs.Change.{AreRowsAt}
 use Rattle.keepers.specs.Parts.{Parts, AreParts, rows_of}
@@ -15,6 +15,7 @@ invariant_of-self c =
           (sym c.advance.ensures)
           (parts_advanced c.args.book.now c.args.moment p c.self.invariant.parts);
       buckets = c.self.invariant.buckets;
+      counters = c.self.invariant.counters;
       sessions = c.self.invariant.sessions;
       groups = c.self.invariant.groups;
     }

@@ -2,8 +2,9 @@ use Rattle.std.proofs.Common.{◌≡◌, List, subst, sym, ap, ◌∙◌}
 use Rattle.buckets.specs.Row.{Row}
 use Rattle.reserving.specs.declared.session.Session.{Session}
 use Rattle.reserving.specs.declared.session.SessionGroup.{SessionGroup}
-use Rattle.keepers.specs.Parts.{Parts, AreParts, rows_of}
-use Rattle.keepers.specs.Named.{AreLeftBuckets, AreLeftSessions, AreLeftGroups}
+use Rattle.reserving.specs.declared.session.Counter.{Counter}
+use Rattle.keepers.specs.Parts.{AreParts, rows_of}
+use Rattle.keepers.specs.Named.{AreLeftBuckets, AreLeftCounters, AreLeftSessions, AreLeftGroups}
 use Rattle.keepers.proofs.PartsWritten.{parts_first}
 use Rattle.keepers.proofs.PartsKept.{parts_new}
 use Rattle.reserving.specs.Left.{LeftRows, none_left}
@@ -28,6 +29,8 @@ invariant_of-result c =
           (parts_new c.args.live c.as_of-kept.ensures.kept);
       buckets = subst (λ (xs : List Row). AreLeftBuckets c.new-5.result xs)
           (sym c.new.ensures.items) tt;
+      counters = subst (λ (xs : List Counter). AreLeftCounters c.new-7.result xs)
+          (sym c.new-2.ensures.items) tt;
       sessions = subst (λ (xs : List Session). AreLeftSessions c.new-6.result xs)
           (sym c.new-3.ensures.items) tt;
       groups = subst (λ (xs : List SessionGroup). AreLeftGroups c.new-6.result xs)

@@ -1,16 +1,13 @@
-use Rattle.std.proofs.Common.{◌≡◌, sym, ap, ◌∙◌, subst, true}
+use Rattle.std.proofs.Common.{◌≡◌, sym, ap, ◌∙◌, subst}
 use Rattle.std.specs.Prelude.{not}
-use Rattle.reserving.specs.Ledger.{is_live}
 use Rattle.reserving.specs.Rows.{AccountRows, IsRowsOf}
 use Rattle.reserving.specs.Requests.{closed}
 use Rattle.reserving.specs.Changes.{advanced, closed_account, is_other, lapsed_rows}
-use Rattle.reserving.proofs.Advancing.{is_live_in-is}
 use Rattle.reserving.proofs.rows.Lapsing.{lapsable_of}
 use Rattle.reserving.proofs.rows.Closing.{IsRowsOf-closed}
 use Rattle.reserving.proofs.kept.Sessions.{closed-parts}
 use Rattle.reserving.specs.Left.{IsWith}
-use Rattle.reserving.specs.Sessions.{is_live_in}
-use Rattle.reserving.proofs.left.Settled.{live_later}
+use Rattle.reserving.proofs.left.Settled.{live_then, live_beside}
 use Rattle.reserving.proofs.left.Sessions.{with_closed}
 use Rattle.reserving.specs.Inside.{rows_of}
 use Rattle.reserving.specs.Placed.{IsPriced}
@@ -59,25 +56,18 @@ returns-clause-rows c = after_is c
 
 pub returns-clause-ledger : goal.returns-clause-ledger
 returns-clause-ledger c = λ ledger rows.
-    let later : IsRowsOf ledger (advanced c.args.moment c.args.self.now) =
-    subst (IsRowsOf ledger) c.advance.ensures.rows (c.advance.ensures.ledger ledger rows) in
-    let live : is_live c.args.self.now.book.validity c.args.moment ledger c.args.session.now
-    ≡ true = sym
-    (is_live_in-is ledger c.args.self.now c.args.moment c.args.session.now rows
-    c.requires.later) ∙ c.requires.live in
+    let is =
+    live_then ledger c.args.self.now _ c.args.session.now c.args.moment c.advance.ensures.rows rows
+    (c.advance.ensures.ledger ledger rows) c.requires.later c.requires.live in
     subst (IsRowsOf (closed c.args.moment c.args.session.now ledger)) (sym (after_is c))
     (IsRowsOf-closed ledger (advanced c.args.moment c.args.self.now) c.args.session.now
-    (account_of c).account later live)
+    (account_of c).account is.rows is.live)
 
 pub returns-clause-left : goal.returns-clause-left
 returns-clause-left c = λ ledger left h.
-    let later : IsWith ledger left c.args.moment (advanced c.args.moment c.args.self.now) =
-    subst (IsWith ledger left c.args.moment) c.advance.ensures.rows
-    (c.advance.ensures.left ledger left h) in
-    let live : is_live_in c.args.self.now.book.validity c.args.moment
-    (advanced c.args.moment c.args.self.now).sessions c.args.session.now ≡ true =
-    live_later ledger left c.args.self.now c.args.session.now c.args.moment c.requires.later h
-    later c.requires.live in
+    let is =
+    live_beside ledger left _ _ c.args.session.now _ c.advance.ensures.rows h
+    (c.advance.ensures.left ledger left h) c.requires.later c.requires.live in
     subst (IsWith (closed c.args.moment c.args.session.now ledger) left c.args.moment)
     (sym (after_is c))
-    (with_closed ledger left (advanced c.args.moment c.args.self.now) c.args.session.now later live)
+    (with_closed ledger left (advanced c.args.moment c.args.self.now) c.args.session.now is.rows is.live)

@@ -1,4 +1,4 @@
-use Rattle.std.proofs.Common.{◌≡◌, ◌≤◌, ℕ, sym, ap, subst, ◌∙◌}
+use Rattle.std.proofs.Common.{◌≤◌, ℕ, ap, subst, ◌∙◌}
 use Rattle.std.specs.Prelude.{option_map, IfSome, IfNone}
 use Rattle.units.specs.declared.blocks.Units.{Units}
 use Rattle.units.specs.Blocks.{started}

@@ -1,49 +1,36 @@
-use Rattle.std.proofs.Common.{◌≡◌, ℕ, ◌<◌, List, Option, sym, ap, subst, ◌∙◌, arith, refl}
+use Rattle.std.proofs.Common.{◌≡◌, ℕ, ◌<◌, Option, sym, ap, ◌∙◌, arith, refl}
 use Rattle.std.specs.Prelude.{option_map, nat_lt}
 use Rattle.units.specs.declared.blocks.Units.{Units}
 use Rattle.rating.specs.declared.grant.Grant.{Grant}
-use Rattle.rating.specs.declared.grant.Periods.{Periods}
-use Rattle.buckets.specs.Spend.{funds}
-use Rattle.reserving.specs.Pricing.{periods_at, switch_at, validity_at, cycle_at}
-use Rattle.reserving.specs.Quotas.{IsQuota}
-use Rattle.reserving.specs.Changes.{advanced, used_in, count_in, reserved_account}
+use Rattle.reserving.specs.Pricing.{periods_at, switch_at, validity_at}
+use Rattle.reserving.specs.Changes.{advanced, used_in, reserved_account}
 use Rattle.reserving.specs.Prepared.{with_group_row}
 use Rattle.reserving.specs.Rows.{AccountRows}
-use Rattle.reserving.proofs.ReservedCall.{group_there, free_middle, covered_middle, QuotaOf, grant_told, quota_covered, grant_is, within_grant}
+use Rattle.reserving.proofs.ReservedCall.{group_there, free_middle, covered_middle, QuotaOf, quota_of, grant_told, quota_covered, grant_is, within_grant}
 use Rattle.reserving.proofs.calls.StillFree.{others_advanced, others_reserved}
 use Rattle.reserving.specs.Left.{IsWith}
 use Rattle.reserving.proofs.left.Granted.{nothing_beside, grant_beside}
 use Rattle.reserving.proofs.account.Account.reserve.Goals as goal
 
--- the quota that was reckoned with the window's periods
-quota_is : (a : AccountRows) (s : List ℕ) (g t : ℕ) (requested : Option ℕ) (units : ℕ)
-    (grant : Grant) (periods : Periods) → periods ≡ periods_at a.book t →
-    IsQuota a.book (used_in s g a.groups) g requested periods
-    (count_in g (cycle_at a.book g t) a.counters) (funds g t (advanced t a).buckets) units grant
-    → QuotaOf a s g t requested units grant
-quota_is a s g t requested units grant periods is q =
-    subst (λ p. IsQuota a.book (used_in s g a.groups) g requested p
-    (count_in g (cycle_at a.book g t) a.counters) (funds g t (advanced t a).buckets) units
-    grant) is q
+-- where nothing is granted, the quota was reckoned with the window's periods
+nothing_told : (c : goal.After-advance) →
+    QuotaOf c.args.self.now c.args.session.now c.args.group c.args.moment
+    (option_map (λ (u : Units). u.0) c.args.requested) c.quota-quota.result.wanted
+    c.quota-quota.result.grant
+nothing_told c =
+    quota_of c.args.self.now c.args.session.now c.args.group c.args.moment _ _ _ _
+    (c.window_at-window.ensures.periods
+    ∙ ap (λ (x : AccountRows). periods_at x.book c.args.moment) c.self.view_is)
+    c.quota-quota.ensures.quota
 
 pub returns-then-quota-eq0-clause-rows : goal.returns-then-quota-eq0-clause-rows
-returns-then-quota-eq0-clause-rows c = λ ledger rows.
-    let a : AccountRows = c.args.self.now in
-    let requested : Option ℕ = option_map (λ (u : Units). u.0) c.args.requested in
-    let periods : c.window_at-window.result.periods ≡ periods_at a.book c.args.moment =
-    c.window_at-window.ensures.periods
-    ∙ ap (λ (x : AccountRows). periods_at x.book c.args.moment) c.self.view_is in
-    let q : QuotaOf a c.args.session.now c.args.group c.args.moment requested
-    c.quota-quota.result.wanted c.quota-quota.result.grant =
-    quota_is a c.args.session.now c.args.group c.args.moment requested
-    c.quota-quota.result.wanted c.quota-quota.result.grant c.window_at-window.result.periods
-    periods c.quota-quota.ensures.quota in (
-      sym (ap (λ (x : Grant). x.units.0)
-          (grant_told ledger a c.args.session.now c.args.group c.args.moment requested
-          c.quota-quota.result.wanted c.quota-quota.result.grant c.quota-quota.ensures.account rows
-          c.requires.moment q)) ∙ c.if-quota-eq0.true,
-      c.advance.ensures.ledger ledger rows,
-    )
+returns-then-quota-eq0-clause-rows c = λ ledger rows. (
+  sym (ap (λ (x : Grant). x.units.0)
+      (grant_told ledger c.args.self.now c.args.session.now c.args.group c.args.moment
+      (option_map (λ (u : Units). u.0) c.args.requested) _ _ c.quota-quota.ensures.account
+      rows c.requires.moment (nothing_told c))) ∙ c.if-quota-eq0.true,
+  c.advance.ensures.ledger ledger rows,
+)
 
 pub hold_quota-requires-clause-there : goal.hold_quota-requires-clause-there
 hold_quota-requires-clause-there c =
@@ -57,20 +44,14 @@ hold_quota-requires-clause-free c =
 
 pub hold_quota-requires-clause-covered : goal.hold_quota-requires-clause-covered
 hold_quota-requires-clause-covered c =
-    let a : AccountRows = c.args.self.now in
-    let requested : Option ℕ = option_map (λ (u : Units). u.0) c.args.requested in
-    let periods : c.window_at-window.result.periods ≡ periods_at a.book c.args.moment =
-    c.window_at-window.ensures.periods
-    ∙ ap (λ (x : AccountRows). periods_at x.book c.args.moment) c.self.view_is in
-    let q : QuotaOf a c.args.session.now c.args.group c.args.moment requested
-    c.quota-quota.result.wanted c.quota-quota.result.grant =
-    quota_is a c.args.session.now c.args.group c.args.moment requested
-    c.quota-quota.result.wanted c.quota-quota.result.grant c.window_at-window.result.periods
-    periods c.quota-quota.ensures.quota in
-    covered_middle a c.advance-2.new.self c.args.session.now c.args.group c.args.moment
-    c.quota-quota.result.grant.amount.0
-    (quota_covered a c.args.session.now c.args.group c.args.moment requested
-    c.quota-quota.result.wanted c.quota-quota.result.grant q)
+    covered_middle c.args.self.now c.advance-2.new.self c.args.session.now c.args.group
+    c.args.moment c.quota-quota.result.grant.amount.0
+    (quota_covered c.args.self.now c.args.session.now c.args.group c.args.moment
+    (option_map (λ (u : Units). u.0) c.args.requested) _ c.quota-quota.result.grant
+    (quota_of c.args.self.now c.args.session.now c.args.group c.args.moment _ _ _ _
+    (c.window_at-window.ensures.periods
+    ∙ ap (λ (x : AccountRows). periods_at x.book c.args.moment) c.self.view_is)
+    c.quota-quota.ensures.quota))
     (c.advance-2.ensures.rows ∙ ap (advanced c.args.moment) c.in_ok-room.ensures.ok)
 
 -- what a grant of some units comes from
@@ -84,8 +65,7 @@ quota_told : (c : goal.After-struct_known-2-1) →
     QuotaOf c.args.self.now c.args.session.now c.args.group c.args.moment (requested_units c)
     c.quota-quota.result.wanted (granted c)
 quota_told c =
-    quota_is c.args.self.now c.args.session.now c.args.group c.args.moment (requested_units c)
-    c.quota-quota.result.wanted (granted c) c.window_at-window.result.periods
+    quota_of c.args.self.now c.args.session.now c.args.group c.args.moment _ _ _ _
     (c.window_at-window.ensures.periods
     ∙ ap (λ (x : AccountRows). periods_at x.book c.args.moment) c.self.view_is)
     c.quota-quota.ensures.quota
@@ -152,25 +132,14 @@ returns-then-quota-eq0-clause-sessions c =
 
 pub returns-then-quota-eq0-clause-left : goal.returns-then-quota-eq0-clause-left
 returns-then-quota-eq0-clause-left c = λ ledger left h.
-    let a : AccountRows = c.args.self.now in
-    let requested : Option ℕ = option_map (λ (u : Units). u.0) c.args.requested in
     let later : IsWith ledger left c.args.moment c.advance.new.self =
-    c.advance.ensures.left ledger left h in
-    let periods : c.window_at-window.result.periods ≡ periods_at a.book c.args.moment =
-    c.window_at-window.ensures.periods
-    ∙ ap (λ (x : AccountRows). periods_at x.book c.args.moment) c.self.view_is in
-    let q : QuotaOf a c.args.session.now c.args.group c.args.moment requested
-    c.quota-quota.result.wanted c.quota-quota.result.grant =
-    quota_is a c.args.session.now c.args.group c.args.moment requested
-    c.quota-quota.result.wanted c.quota-quota.result.grant c.window_at-window.result.periods
-    periods c.quota-quota.ensures.quota in (
+    c.advance.ensures.left ledger left h in (
       record { apart = later.apart; cycles = later.cycles },
       (
         sym (ap (λ (x : Grant). x.units.0)
-            (nothing_beside ledger left c.args.moment a c.args.session.now c.args.group requested
-            c.quota-quota.result.wanted c.quota-quota.result.grant h c.requires.moment
-            c.requires.live
-            q)) ∙ c.if-quota-eq0.true,
+            (nothing_beside ledger left c.args.moment c.args.self.now c.args.session.now
+            c.args.group (option_map (λ (u : Units). u.0) c.args.requested) _ _ h
+            c.requires.moment c.requires.live (nothing_told c))) ∙ c.if-quota-eq0.true,
         later.rows,
       ),
     )

@@ -1,10 +1,10 @@
-use Rattle.std.proofs.Common.{◌≡◌, refl, sym, ap, ◌∙◌, arith}
-use Rattle.reserving.specs.Changes.{advanced, used_in, count_in, settled_account, ended_rows}
+use Rattle.std.proofs.Common.{false, ◌≡◌, refl, sym, ap, ◌∙◌, arith}
+use Rattle.reserving.specs.Changes.{advanced, used_in, count_in, price_in, settled_account, ended_rows}
 use Rattle.reserving.specs.Pricing.{cycle_at}
 use Rattle.reserving.specs.Rows.{AccountRows}
-use Rattle.reserving.specs.Settlement.{passes}
+use Rattle.reserving.specs.Settlement.{passes, reported}
 use Rattle.reserving.proofs.Lists.{is_nothing, is_something}
-use Rattle.reserving.proofs.calls.Settled.{rows_ended, nothing_settled, within_used, within_counted, passes_is, there_later, counter_there, used_middle, count_middle, rows_settled, settled_is, ended_is, settlement_is}
+use Rattle.reserving.proofs.calls.Settled.{rows_ended, nothing_settled, within_used, within_counted, passes_is, there_later, counter_there, used_middle, count_middle, rows_settled, settled_is, ended_is, IsTold, settlement_is}
 use Rattle.reserving.proofs.calls.Freed.{ended_free, settled_free}
 use Rattle.reserving.proofs.calls.StillFree.{others_ended, others_settled}
 use Rattle.reserving.proofs.left.Settled.{left_ended, left_settled}
@@ -96,25 +96,47 @@ returns-clause-rows c = λ ledger rows.
     (c.advance-2.ensures.rows ∙ ap (advanced c.args.moment) c.in_ok-make_rows.ensures.ok)
     c.settle_use-charged.ensures.rows
 
+-- what is answered, by the account's rows
+told : (c : goal.After-result-6-1) →
+    IsTold c.args.self.now c.advance-2.new.self c.args.session.now c.args.group
+    c.cycle_at-cycle.result c.args.moment c.args.parts.now c.in-Some.rated.blocks.0
+    c.in-Some.rated.amount.0 c.settle_use-charged.result.uncollected.0
+    c.settle_use-charged.result.collected.0
+told c = record {
+  blocks_are = c.in-Some.ensures.blocks;
+  rated_is = c.in-Some.ensures.amount;
+  brought =
+      c.advance-2.ensures.rows ∙ ap (advanced c.args.moment) c.in_ok-make_rows.ensures.ok;
+  missing = c.settle_use-charged.ensures.uncollected;
+  all = c.settle_use-charged.ensures.collected;
+}
+
 pub returns-clause-settled : goal.returns-clause-settled
 returns-clause-settled c = λ ledger rows.
     settlement_is ledger c.args.self.now c.advance-2.new.self c.args.session.now c.args.group
     c.cycle_at-cycle.result c.args.moment c.args.parts.now _
-    c.rate.ensures.account rows c.requires.moment c.requires.live c.in-Some.ensures.blocks
-    c.in-Some.ensures.amount
-    (c.advance-2.ensures.rows ∙ ap (advanced c.args.moment) c.in_ok-make_rows.ensures.ok)
-    c.settle_use-charged.ensures.uncollected c.settle_use-charged.ensures.collected
+    c.rate.ensures.account rows c.requires.moment c.requires.live (told c)
+
+-- what is reported stays within the limits
+within : (c : goal.After-result-6-1) →
+    passes (used_in c.args.session.now c.args.group c.args.self.now.groups)
+    (reported c.args.parts.now)
+    (count_in c.args.group (cycle_at c.args.self.now.book c.args.group c.args.moment)
+    c.args.self.now.counters)
+    (price_in c.args.session.now c.args.group c.args.moment c.args.parts.now
+    c.args.self.now).blocks c.args.self.now.next_charge ≡ false
+within c =
+    (λ i. passes (used_in c.args.session.now c.args.group c.args.self.now.groups)
+    (sym c.in-Some.ensures.units i)
+    (count_in c.args.group (cycle_at c.args.self.now.book c.args.group c.args.moment)
+    c.args.self.now.counters) (sym c.in-Some.ensures.blocks i) c.args.self.now.next_charge)
+    ∙ c.in-Some.ensures.some
 
 pub returns-clause-within : goal.returns-clause-within
 returns-clause-within c = λ ledger rows.
     passes_is ledger c.args.self.now c.args.session.now c.args.group c.args.moment c.args.parts.now
     c.rate.ensures.account rows c.requires.moment c.requires.live
-    (is_something c.args.parts.now (sym c.is_empty.ensures ∙ c.if-is_empty.false))
-    ∙ (λ i. passes (used_in c.args.session.now c.args.group c.args.self.now.groups)
-    (sym c.in-Some.ensures.units i)
-    (count_in c.args.group (cycle_at c.args.self.now.book c.args.group c.args.moment)
-    c.args.self.now.counters) (sym c.in-Some.ensures.blocks i) c.args.self.now.next_charge)
-    ∙ c.in-Some.ensures.some
+    (is_something c.args.parts.now (sym c.is_empty.ensures ∙ c.if-is_empty.false)) ∙ within c
 
 pub returns-clause-sessions : goal.returns-clause-sessions
 returns-clause-sessions c =
@@ -192,20 +214,13 @@ pub returns-clause-settled_left : goal.returns-clause-settled_left
 returns-clause-settled_left c = λ ledger left h.
     settlement_beside ledger left c.args.self.now c.advance-2.new.self c.args.session.now
     c.args.group c.cycle_at-cycle.result c.args.moment c.args.parts.now _
-    h c.requires.moment c.requires.live c.in-Some.ensures.blocks c.in-Some.ensures.amount
-    (c.advance-2.ensures.rows ∙ ap (advanced c.args.moment) c.in_ok-make_rows.ensures.ok)
-    c.settle_use-charged.ensures.uncollected c.settle_use-charged.ensures.collected
+    h c.requires.moment c.requires.live (told c)
 
 pub returns-clause-within_left : goal.returns-clause-within_left
 returns-clause-within_left c = λ ledger left h.
     passes_told ledger left c.args.moment c.args.self.now c.args.session.now c.args.group
     c.args.parts.now c.requires.moment h c.requires.live
-    (is_something c.args.parts.now (sym c.is_empty.ensures ∙ c.if-is_empty.false))
-    ∙ (λ i. passes (used_in c.args.session.now c.args.group c.args.self.now.groups)
-    (sym c.in-Some.ensures.units i)
-    (count_in c.args.group (cycle_at c.args.self.now.book c.args.group c.args.moment)
-    c.args.self.now.counters) (sym c.in-Some.ensures.blocks i) c.args.self.now.next_charge)
-    ∙ c.in-Some.ensures.some
+    (is_something c.args.parts.now (sym c.is_empty.ensures ∙ c.if-is_empty.false)) ∙ within c
 
 pub returns-then-is_empty-clause-by_rows : goal.returns-then-is_empty-clause-by_rows
 returns-then-is_empty-clause-by_rows c =

@@ -1,4 +1,4 @@
-use Rattle.std.proofs.Common.{rules, refl, sym, ◌≡◌, ◌∙◌}
+use Rattle.std.proofs.Common.{refl, sym, ◌∙◌}
 use Rattle.sql_tables.proofs.Found.{is_some_map}
 use Rattle.sql_keeper.specs.Content.{head_in}
 use Rattle.sql_keeper.proofs.Asked.{asked, keeper_after}

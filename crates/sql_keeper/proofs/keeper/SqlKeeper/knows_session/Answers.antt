@@ -1,4 +1,4 @@
-use Rattle.std.proofs.Common.{rules, refl, ◌≡◌}
+use Rattle.std.proofs.Common.{refl}
 use Rattle.sql_keeper.proofs.Asked.{asked, keeper_after}
 use Rattle.sql_keeper.proofs.keeper.SqlKeeper.knows_session.Goals as goal
 

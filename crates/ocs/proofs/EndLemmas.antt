@@ -1,0 +1,166 @@
+-- How the program ends, by what its words say and by why they weren't read.
+use Rattle.std.proofs.Common.{◌≡◌, ℕ, ◌≤◌, ◌+◌, ◌++◌, ◌∷◌, Bool, true, false, List, [], take, sym, ap, subst, ◌∙◌, refl, inl, inr, Option, Some, None, Result, Ok, Err, arith}
+use Rattle.std.specs.Prelude.{IfErr, IfSome, min}
+use Rattle.std.specs.Io.KnownBytes.{Appends}
+use Rattle.byte_streams.specs.declared.StreamFault.{StreamFault}
+use Rattle.byte_streams.specs.declared.StreamFault.TheVariants as stream
+use Rattle.clap.specs.Values.{kind_of}
+use Rattle.clap.specs.Words.{IsAmong, Kinds, Text, fault_of}
+use Rattle.clap.specs.declared.error.kind.ErrorKind.{ErrorKind}
+use Rattle.keepers.specs.Faults.{max_failures}
+use Rattle.keepers.specs.declared.fault.StoreFault.TheVariants as store
+use Rattle.office.specs.Written.{WritesBeginning}
+use Rattle.office.proofs.Beginnings.{beginning_before, nothing_written, some_written}
+use Rattle.office.specs.declared.status.Status.{Status}
+use Rattle.office.specs.declared.status.Status.TheVariants.{Done, Failed, Unread}
+use Rattle.operator.specs.Program.{program_app}
+use Rattle.operator.specs.Read.{IsInvalid, IsSaid, IsUnread}
+use Rattle.operator.specs.declared.fault.WordsFault.{WordsFault}
+use Rattle.operator.specs.declared.fault.WordsFault.TheVariants as fault
+use Rattle.operator.specs.declared.parsed.OnceWords.{OnceWords}
+use Rattle.operator.specs.declared.parsed.ProgramWords.{ProgramWords}
+use Rattle.operator.specs.declared.parsed.ProgramWords.TheVariants as words
+use Rattle.ocs.specs.Ends.{IfOnce, IsEnd, IsEndBy, IsEndOf, IsMemory, Runs, SaysWhatDoesNot}
+use Rattle.ocs.specs.Told.{IsReached, IsReachedByLines, IsTextTold, IsTold, IsToldBy, IsToldOf, TellsFault, fault_line}
+use Rattle.ocs.specs.declared.fault.LinesFault.{LinesFault}
+use Rattle.ocs.specs.declared.fault.LinesFault.TheVariants.{Read, Store, Write}
+use Rattle.ocs.specs.declared.fault.ProgramFault.{ProgramFault}
+use Rattle.ocs.specs.declared.fault.ProgramFault.TheVariants as program
+
+-- ---- lines over a store that never fails
+
+-- a count that stays at 0 has no cause
+no_cause : min (0 + 1) max_failures ≤ 0 → ⊥
+no_cause h = omega (arith, h)
+
+pub reached_lines : {A : Type 0} (r : Result A LinesFault) → (r ≡ Err (Store store.Store) → min (0 + 1) max_failures ≤ 0) → IfErr r IsReachedByLines
+reached_lines (Ok x) cause = tt
+reached_lines (Err (Read f)) cause = tt
+reached_lines (Err (Store store.Memory)) cause = tt
+reached_lines (Err (Store store.Store)) cause = no_cause (cause refl)
+reached_lines (Err (Write f)) cause = tt
+
+-- ---- faults
+
+reached_from : (A B : Type 0) (f : ProgramFault) → (A → B) → IsReached A f → IsReached B f
+reached_from A B (program.Lines f) h is = is
+reached_from A B (program.Stream f) h is = is
+reached_from A B program.NotYet h is = h is
+
+pub tells_from : (A B : Type 0) (old new : Option (List ℕ)) → (A → B) → TellsFault A old new → TellsFault B old new
+tells_from A B old new h t = record { fault = t.fault; reached = reached_from A B t.fault h t.reached; written = t.written }
+
+-- ---- words that are read
+
+ok_in : {E : Type 0} → Result ProgramWords E → ProgramWords → ProgramWords
+ok_in (Ok said) other = said
+ok_in (Err f) other = other
+
+same_said : (texts : List Text) (a b : ProgramWords) → IsSaid texts a → IsSaid texts b → a ≡ b
+unfolding ok_in
+same_said texts a b h k = ap (λ r. ok_in r a) (sym h.means ∙ k.means)
+
+pub end_said : (texts : List Text) (said : ProgramWords) (status : Status) → IsSaid texts said → IsEndBy said status → IsEnd texts status
+end_said texts said Done h runs = inl (record { said = said; says = h; runs = runs })
+end_said texts said Failed h end = tt
+end_said texts said Unread h end = absurd end
+
+pub told_said : (texts : List Text) (said : ProgramWords) (status : Status) (old new : Option (List ℕ)) → IsSaid texts said → IsToldBy said status old new → IsTold texts status old new
+told_said texts said Done old new h told = told
+told_said texts said Failed old new h told =
+    tells_from (Runs said → ⊥) (SaysWhatDoesNot texts) old new (λ rests. record { said = said; says = h; rests = rests }) told
+told_said texts said Unread old new h told = absurd told
+
+-- what is so of the words of `once`
+pub once_said : (texts : List Text) (said : ProgramWords) (P : OnceWords → Type 0) (once : OnceWords) → IsSaid texts said → IfOnce said P → IsSaid texts (words.Once once) → P once
+once_said texts said P once h if k = subst (λ (s : ProgramWords). IfOnce s P) (same_said texts said (words.Once once) h k) if
+
+pub not_once : (texts : List Text) (said : ProgramWords) → IsSaid texts said → ((once : OnceWords) → IsSaid texts (words.Once once) → ⊥) → IfOnce said (λ _. ⊥)
+not_once texts (words.Once once) h other = other once h
+not_once texts (words.Init init) h other = tt
+not_once texts (words.Serve serve) h other = tt
+not_once texts (words.Import import) h other = tt
+not_once texts (words.Office office) h other = tt
+not_once texts (words.Statement statement) h other = tt
+not_once texts (words.Replay replay) h other = tt
+
+pub ends_read : (said : ProgramWords) (status : Status) → IsEndBy said status → status ≡ Unread → ⊥
+ends_read said status end e = subst (IsEndBy said) e end
+
+-- ---- words that aren't read
+
+not_among : (k : ErrorKind) (kinds : Kinds) → kinds ≡ [] → IsAmong k kinds → ⊥
+not_among k kinds e among = subst (IsAmong k) e among
+
+is_ok : {E : Type 0} → Result ProgramWords E → Bool
+is_ok (Ok said) = true
+is_ok (Err f) = false
+
+true_false : true ≡ false → ⊥
+true_false e = subst (λ (b : Bool). if_true b) e tt
+  where
+    if_true : Bool → Type 0
+    if_true true = Unit {0}
+    if_true false = ⊥
+
+not_said : (texts : List Text) (said : ProgramWords) → IsSaid texts said → IsInvalid texts → ⊥
+unfolding is_ok
+not_said texts said h k = true_false (ap is_ok (sym h.means ∙ k.means))
+
+pub end_unread : (texts : List Text) (f : WordsFault) (status : Status) → IsUnread texts f → IsEndOf f status → IsEnd texts status
+end_unread texts (fault.Unread error) Done unread end = inr (record { kind = kind_of error; among = unread; is = end })
+end_unread texts (fault.Unread error) Failed unread end = tt
+end_unread texts (fault.Unread error) Unread unread end = inr (record { kind = kind_of error; among = unread; is = end })
+end_unread texts fault.Invalid Done unread end = absurd end
+end_unread texts fault.Invalid Failed unread end = tt
+end_unread texts fault.Invalid Unread unread end = inl unread
+end_unread texts fault.Memory Done unread end = absurd end
+end_unread texts fault.Memory Failed unread end = tt
+end_unread texts fault.Memory Unread unread end = absurd end
+
+none_tells : (B : Type 0) (old new : Option (List ℕ)) → TellsFault ⊥ old new → TellsFault B old new
+none_tells B old new t = tells_from ⊥ B old new (λ none. absurd none) t
+
+pub told_unread : (texts : List Text) (f : WordsFault) (status : Status) (old new : Option (List ℕ)) → IsUnread texts f → IsEndOf f status → IsToldOf f status old new → IsTold texts status old new
+told_unread texts (fault.Unread error) Done old new unread end told = told
+told_unread texts (fault.Unread error) Failed old new unread end told = none_tells (SaysWhatDoesNot texts) old new told
+told_unread texts (fault.Unread error) Unread old new unread end told = λ invalid. absurd (not_among (kind_of error) (fault_of program_app texts) invalid.taken unread)
+told_unread texts fault.Invalid Done old new unread end told = absurd end
+told_unread texts fault.Invalid Failed old new unread end told = absurd end
+told_unread texts fault.Invalid Unread old new unread end told = λ invalid. told
+told_unread texts fault.Memory Done old new unread end told = absurd end
+told_unread texts fault.Memory Failed old new unread end told = none_tells (SaysWhatDoesNot texts) old new told
+told_unread texts fault.Memory Unread old new unread end told = absurd end
+
+-- words that say something weren't read only for want of memory
+pub memory_alone : (texts : List Text) (f : WordsFault) (said : ProgramWords) → IsUnread texts f → IsSaid texts said → IsMemory f
+memory_alone texts (fault.Unread error) said unread h = absurd (not_among (kind_of error) (fault_of program_app texts) h.taken unread)
+memory_alone texts fault.Invalid said unread h = absurd (not_said texts said h unread)
+memory_alone texts fault.Memory said unread h = tt
+
+-- and then nothing is done
+pub not_done : (f : WordsFault) (status : Status) → IsMemory f → IsEndOf f status → status ≡ Done → ⊥
+not_done (fault.Unread error) status memory end e = memory
+not_done fault.Invalid status memory end e = memory
+not_done fault.Memory status memory end e = subst (IsEndOf fault.Memory) e end
+
+-- ---- lines
+
+-- a beginning of a line is one of the line with more
+pub part_told : (a b : Option (List ℕ)) (line more : List ℕ) → (n : ℕ) × Appends a b (take n line) → WritesBeginning a b (line ++ more)
+part_told a b line more h = beginning_before a b line more (some_written a b line h.0 h.1)
+
+-- nothing is a beginning of each text
+pub unwritten_begins : (r old new : Option (List ℕ)) (text : List ℕ → List ℕ) → new ≡ old → IfSome r (λ stream. WritesBeginning old new (text stream))
+unwritten_begins None old new text same = tt
+unwritten_begins (Some stream) old new text same = subst (λ (w : Option (List ℕ)). WritesBeginning old w (text stream)) (sym same) (nothing_written old (text stream))
+
+-- ---- want of memory, and streams
+
+pub told_stream : (f : StreamFault) (status : Status) (old new : Option (List ℕ)) → status ≡ Failed → WritesBeginning old new (fault_line (program.Stream f) ++ 10 ∷ []) → IsTextTold status old new
+told_stream f status old new is written =
+    subst (λ (s : Status). IsTextTold s old new) (sym is) (record { fault = program.Stream f; reached = tt; written = written })
+
+pub told_memory : (f : WordsFault) (status : Status) (old new : Option (List ℕ)) → f ≡ fault.Memory → status ≡ Failed → WritesBeginning old new (fault_line (program.Stream stream.Memory) ++ 10 ∷ []) → IsToldOf f status old new
+told_memory f status old new memory is written =
+    subst (λ (x : WordsFault). IsToldOf x status old new) (sym memory) (record { fault = program.Stream stream.Memory; reached = tt; written = written })

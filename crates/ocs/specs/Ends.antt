@@ -1,0 +1,98 @@
+-- How the program ends, by what its words say.
+-- Source: profile.
+use Rattle.std.specs.Prelude.{◌≡◌, ◌⊎◌, Bool, true, false, List}
+use Rattle.clap.specs.Values.{kind_of}
+use Rattle.clap.specs.Words.{IsAmong, Text, fault_of}
+use Rattle.clap.specs.declared.error.kind.ErrorKind.{ErrorKind}
+use Rattle.clap.specs.declared.error.kind.ErrorKind.TheVariants.{DisplayHelp, DisplayVersion}
+use Rattle.office.specs.declared.status.Status.{Status}
+use Rattle.office.specs.declared.status.Status.TheVariants.{Done, Failed, Unread}
+use Rattle.operator.specs.Program.{program_app}
+use Rattle.operator.specs.Read.{IsInvalid, IsSaid}
+use Rattle.operator.specs.declared.fault.WordsFault.{WordsFault}
+use Rattle.operator.specs.declared.fault.WordsFault.TheVariants as fault
+use Rattle.operator.specs.declared.parsed.OnceWords.{OnceWords}
+use Rattle.operator.specs.declared.parsed.ProgramWords.{ProgramWords}
+use Rattle.operator.specs.declared.parsed.ProgramWords.TheVariants as words
+
+-- ---- what words say
+
+-- this is so of the words of `once`
+abbrev pub IfOnce : ProgramWords → (OnceWords → Type 0) → Type 0
+IfOnce (words.Once once) says = says once
+IfOnce (words.Init init) says = Unit {0}
+IfOnce (words.Serve serve) says = Unit {0}
+IfOnce (words.Import import) says = Unit {0}
+IfOnce (words.Office office) says = Unit {0}
+IfOnce (words.Statement statement) says = Unit {0}
+IfOnce (words.Replay replay) says = Unit {0}
+
+-- their command runs
+abbrev pub Runs : ProgramWords → Type 0
+Runs (words.Once once) = Unit {0}
+Runs (words.Init init) = ⊥
+Runs (words.Serve serve) = ⊥
+Runs (words.Import import) = ⊥
+Runs (words.Office office) = ⊥
+Runs (words.Statement statement) = ⊥
+Runs (words.Replay replay) = ⊥
+
+-- the words say this of a command that runs
+pub record SaysWhatRuns (texts : List Text) : Type 0 where
+  pub said : ProgramWords
+  pub says : IsSaid texts said
+  pub runs : Runs said
+
+-- and of one that doesn't
+pub record SaysWhatDoesNot (texts : List Text) : Type 0 where
+  pub said : ProgramWords
+  pub says : IsSaid texts said
+  pub rests : Runs said → ⊥
+
+-- ---- words that aren't read
+
+-- an error of this kind is a text that the words ask for
+abbrev pub is_text : ErrorKind → Bool
+is_text DisplayHelp = true
+is_text DisplayVersion = true
+is_text _ = false
+
+-- `clap` finds an error in the words, of a kind that is a text that they ask for, or a mistake
+pub record HasError (texts : List Text) (text : Bool) : Type 0 where
+  pub kind : ErrorKind
+  pub among : IsAmong kind (fault_of program_app texts)
+  pub is : is_text kind ≡ text
+
+-- done where the words say what runs, or ask for a text; unread where there is a mistake in them
+abbrev pub IsEnd : List Text → Status → Type 0
+IsEnd texts Done = SaysWhatRuns texts ⊎ HasError texts true
+IsEnd texts Failed = Unit {0}
+IsEnd texts Unread = IsInvalid texts ⊎ HasError texts false
+
+-- ---- the same by the fault of the words
+
+abbrev pub IsEndOfKind : ErrorKind → Status → Type 0
+IsEndOfKind kind Done = is_text kind ≡ true
+IsEndOfKind kind Failed = Unit {0}
+IsEndOfKind kind Unread = is_text kind ≡ false
+
+abbrev pub IsEndOf : WordsFault → Status → Type 0
+IsEndOf (fault.Unread error) status = IsEndOfKind (kind_of error) status
+IsEndOf fault.Invalid Done = ⊥
+IsEndOf fault.Invalid Failed = ⊥
+IsEndOf fault.Invalid Unread = Unit {0}
+IsEndOf fault.Memory Done = ⊥
+IsEndOf fault.Memory Failed = Unit {0}
+IsEndOf fault.Memory Unread = ⊥
+
+abbrev pub IsMemory : WordsFault → Type 0
+IsMemory (fault.Unread error) = ⊥
+IsMemory fault.Invalid = ⊥
+IsMemory fault.Memory = Unit {0}
+
+-- ---- the same by what the words say
+
+abbrev pub IsEndBy : ProgramWords → Status → Type 0
+IsEndBy said Done = Runs said
+IsEndBy said Failed = Unit {0}
+IsEndBy said Unread = ⊥

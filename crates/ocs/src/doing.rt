@@ -1,0 +1,92 @@
+ghost use Rattle.std.specs.Prelude.{◌≡◌, ◌≢◌, Err, IfErr, IfSome, OnOk, OnErr};
+ghost use Rattle.std.specs.Io.KnownBytes.{Appends};
+ghost use Rattle.keepers.specs.declared.fault.StoreFault.TheVariants.{Store as StoreFailed};
+ghost use Rattle.office.specs.Written.{WritesBeginning};
+ghost use Rattle.one_price.specs.OnceBook.{once_book};
+ghost use Rattle.operator.specs.Read.{IsInRange, IsOnceInRange};
+ghost use Rattle.ocs.specs.Ends.{IfOnce, Runs};
+ghost use Rattle.ocs.specs.Served.{once_text};
+ghost use Rattle.ocs.specs.Told.{IsReached, IsReachedByLines};
+
+use crate::fault::{LinesFault, ProgramFault};
+use crate::lines::lines;
+use keepers::MemoryKeeper;
+use one_price::once_book;
+use operator::{OnceWords, ProgramWords};
+use std::alloc::Global;
+use std::io::{Read, Write};
+
+/// Does what the words say.
+///
+/// # Errors
+/// `NotYet` where their command doesn't run yet. What else is told is their command's.
+pub(crate) fn do_said<I: Read, O: Write>(
+    alloc: Global,
+    said: ProgramWords,
+    input: &mut I,
+    output: &mut O,
+) -> Result<(), ProgramFault>
+    requires { IsInRange said }
+    ensures runs { OnOk result (Runs said) }
+    ensures reached { IfErr result (IsReached (Runs said → ⊥)) }
+    ensures unread { IfOnce said (λ _. ⊥) → input.new ≡ input.old }
+    ensures done { IfOnce said (λ once. OnOk result (IfSome (I.remaining input.old) (λ stream.
+        Appends (O.contents output.old) (O.contents output.new)
+        (once_text (once_book once.price once.block) once.credit stream)))) }
+    ensures fault { IfOnce said (λ once. OnErr result (IfSome (I.remaining input.old) (λ stream.
+        WritesBeginning (O.contents output.old) (O.contents output.new)
+        (once_text (once_book once.price once.block) once.credit stream)))) }
+{
+    match said {
+        ProgramWords::Once(once) => answer_once(alloc, once, input, output),
+        ProgramWords::Init(_) => Err(ProgramFault::NotYet),
+        ProgramWords::Serve(_) => Err(ProgramFault::NotYet),
+        ProgramWords::Import(_) => Err(ProgramFault::NotYet),
+        ProgramWords::Office(_) => Err(ProgramFault::NotYet),
+        ProgramWords::Statement(_) => Err(ProgramFault::NotYet),
+        ProgramWords::Replay(_) => Err(ProgramFault::NotYet),
+    }
+}
+
+/// Answers the lines of the input, priced by the book of the words.
+fn answer_once<I: Read, O: Write>(
+    alloc: Global,
+    once: OnceWords,
+    input: &mut I,
+    output: &mut O,
+) -> Result<(), ProgramFault>
+    requires { IsOnceInRange once }
+    ensures reached { IfErr result (IsReached ⊥) }
+    ensures done { OnOk result (IfSome (I.remaining input.old) (λ stream.
+        Appends (O.contents output.old) (O.contents output.new)
+        (once_text (once_book once.price once.block) once.credit stream))) }
+    ensures fault { OnErr result (IfSome (I.remaining input.old) (λ stream.
+        WritesBeginning (O.contents output.old) (O.contents output.new)
+        (once_text (once_book once.price once.block) once.credit stream))) }
+{
+    match answer_lines(alloc, once, input, output) {
+        Ok(()) => Ok(()),
+        Err(fault) => Err(ProgramFault::Lines(fault)),
+    }
+}
+
+/// The same, by the fault of the lines.
+fn answer_lines<I: Read, O: Write>(
+    alloc: Global,
+    once: OnceWords,
+    input: &mut I,
+    output: &mut O,
+) -> Result<(), LinesFault>
+    requires { IsOnceInRange once }
+    ensures reached { IfErr result IsReachedByLines }
+    ensures done { OnOk result (IfSome (I.remaining input.old) (λ stream.
+        Appends (O.contents output.old) (O.contents output.new)
+        (once_text (once_book once.price once.block) once.credit stream))) }
+    ensures fault { OnErr result (IfSome (I.remaining input.old) (λ stream.
+        WritesBeginning (O.contents output.old) (O.contents output.new)
+        (once_text (once_book once.price once.block) once.credit stream))) }
+{
+    let book = once_book(alloc, once.price, once.block)?;
+    let mut keeper = MemoryKeeper::new(alloc);
+    lines(alloc, &mut keeper, &book, Some(once.credit), input, output)
+}

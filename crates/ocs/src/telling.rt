@@ -1,0 +1,114 @@
+ghost use Rattle.std.specs.Prelude.{◌≡◌, ◌++◌, ◌∷◌, []};
+ghost use Rattle.clap.specs.Words.{kind_of};
+ghost use Rattle.office.specs.Written.{WritesBeginning};
+ghost use Rattle.office.specs.declared.status.Status.TheVariants.{Failed, Unread};
+ghost use Rattle.ocs.specs.Ends.{IsEndOf, IsEndOfKind, IsMemory, is_text};
+ghost use Rattle.ocs.specs.Told.{IsTextTold, IsToldOf, fault_line};
+
+use crate::fault::ProgramFault;
+use byte_streams::{StreamFault, write_whole};
+use clap::Error;
+use clap::error::ErrorKind;
+use office::Status;
+use operator::WordsFault;
+use std::alloc::Global;
+use std::io::{self, Write};
+
+/// What is told of words of which one isn't what its place takes.
+const INVALID: &str = "ocs: a word is not one that its place takes";
+
+const NO_MEMORY: ProgramFault = ProgramFault::Stream(StreamFault::Memory);
+
+/// Writes a line feed, where it can be written.
+fn end_line<E: Write>(errors: &mut E)
+    ensures { WritesBeginning (E.contents errors.old) (E.contents errors.new) (10 ∷ []) }
+{
+    let _ = write_whole(errors, b"\n");
+}
+
+/// Writes a line and its line feed, as far as it can be written.
+pub(crate) fn tell_line<E: Write>(errors: &mut E, line: &str)
+    ensures { WritesBeginning (E.contents errors.old) (E.contents errors.new)
+        (line.now ++ 10 ∷ []) }
+{
+    match write_whole(errors, line.as_bytes()) {
+        Ok(()) => end_line(errors),
+        Err(_) => {}
+    }
+}
+
+/// Tells a fault by its line, as far as it can be written.
+pub(crate) fn tell_fault<E: Write>(errors: &mut E, fault: ProgramFault) -> Status
+    ensures status { result ≡ Failed }
+    ensures told { WritesBeginning (E.contents errors.old) (E.contents errors.new)
+        (fault_line fault ++ 10 ∷ []) }
+{
+    tell_line(errors, fault.line());
+    Status::Failed
+}
+
+/// Whether an error of this kind is a text that the words ask for.
+fn is_text(kind: ErrorKind) -> bool
+    ensures { result ≡ is_text kind }
+{
+    matches!(kind, ErrorKind::DisplayHelp | ErrorKind::DisplayVersion)
+}
+
+/// Tells an error of `clap` by its text: the help and the version on the output, any other on the
+/// errors.
+fn tell_error<O: Write, E: Write>(
+    alloc: Global,
+    error: &Error,
+    output: &mut O,
+    errors: &mut E,
+) -> Status
+    ensures end { IsEndOfKind (kind_of error.now) result }
+    ensures told { IsTextTold result (E.contents errors.old) (E.contents errors.new) }
+    ensures unwritten { result ≡ Unread → output.new ≡ output.old }
+{
+    let Ok(text) = format!(in alloc; "{error}") else {
+        return tell_fault(errors, NO_MEMORY);
+    };
+    if !is_text(error.kind()) {
+        let _ = write_whole(errors, text.as_bytes());
+        return Status::Unread;
+    }
+    match write_whole(output, text.as_bytes()) {
+        Ok(()) => Status::Done,
+        Err(fault) => tell_fault(errors, ProgramFault::Stream(fault)),
+    }
+}
+
+/// Tells why words weren't read.
+pub(crate) fn tell_unread<O: Write, E: Write>(
+    alloc: Global,
+    fault: WordsFault,
+    output: &mut O,
+    errors: &mut E,
+) -> Status
+    ensures end { IsEndOf fault result }
+    ensures told { IsToldOf fault result (E.contents errors.old) (E.contents errors.new) }
+    ensures unwritten { result ≡ Unread → output.new ≡ output.old }
+    ensures memory { IsMemory fault → output.new ≡ output.old }
+{
+    match fault {
+        WordsFault::Unread(error) => tell_error(alloc, &error, output, errors),
+        WordsFault::Invalid => {
+            tell_line(errors, INVALID);
+            Status::Unread
+        }
+        WordsFault::Memory => tell_fault(errors, NO_MEMORY),
+    }
+}
+
+/// Tells why the words that the program is started with weren't handed over: one isn't text, or
+/// memory was refused.
+pub(crate) fn tell_start<E: Write>(errors: &mut E, kind: io::ErrorKind) -> Status {
+    match kind {
+        io::ErrorKind::InvalidData => {
+            tell_line(errors, INVALID);
+            Status::Unread
+        }
+        _ => tell_fault(errors, NO_MEMORY),
+    }
+}

@@ -1,0 +1,262 @@
+//! The rows of an account as a store gives them, tested.
+
+ghost use Rattle.std.specs.Prelude.{◌≡◌, ◌==◌, ◌&&◌, not, nat_lt, nat_le, IfSome, IfNone, drop};
+ghost use Rattle.std.specs.List.{list_all};
+ghost use Rattle.buckets.specs.Holding.{held_in};
+ghost use Rattle.buckets.specs.Spend.{IsSound};
+ghost use Rattle.buckets.specs.Share.{parts};
+ghost use Rattle.reserving.specs.Restored.{are_along, are_apart, are_holds_kept, are_in_range, are_keys_apart, given, is_held, is_tested, same_holds};
+ghost use Rattle.reserving.specs.Sessions.{holds_in, is_counter, is_of, is_session};
+ghost use Rattle.reserving.specs.Stored.{IsStored};
+
+use crate::funds::held_of;
+use crate::kept_rows::KeptRows;
+use crate::session::{Counter, Session, SessionGroup};
+use crate::stored::StoredAccount;
+use buckets::{Bucket, Hold, Holds, Purse};
+use std::alloc::Global;
+use units::Moment;
+
+/// The rows of an account as a store gives them: each is one, and nothing is tested of them
+/// together.
+#[derive(Drop)]
+pub struct GivenRows {
+    /// The moment of its last change.
+    pub as_of: Moment,
+    /// Whether it is barred (profile).
+    pub barred: bool,
+    /// Its buckets.
+    pub purse: Purse,
+    /// Its counters.
+    pub counters: Vec<Counter>,
+    /// Its sessions and recorded events.
+    pub sessions: Vec<Session>,
+    /// What its sessions have of rating groups.
+    pub groups: Vec<SessionGroup>,
+    /// The number of its next bucket.
+    pub next_bucket: u64,
+    /// The number of its next charge.
+    pub next_charge: u64,
+}
+
+/// Those after the first.
+fn later<T>(rows: &[T]) -> &[T]
+    ensures { result.now ≡ drop 1 rows.now }
+{
+    match rows {
+        [] => rows,
+        [_, others @ ..] => others,
+    }
+}
+
+fn is_other_session(row: &Session, others: &[Session]) -> bool
+    ensures { result ≡ list_all (λ y. not (is_session row.now.id y)) others.now }
+{
+    others.iter().all(|other| other.id != row.id)
+}
+
+/// Whether no two sessions have one name.
+fn are_sessions_apart(rows: &[Session]) -> bool
+    ensures { result ≡ are_apart (λ x y. is_session x.id y) rows.now }
+{
+    let mut others = rows;
+    'rows: for row in rows {
+        others = later(others);
+        if !is_other_session(row, others) {
+            return false;
+        }
+    }
+    true
+}
+
+fn is_other_group(row: &SessionGroup, others: &[SessionGroup]) -> bool
+    ensures { result ≡ list_all (λ y. not (is_of row.now.session row.now.group y)) others.now }
+{
+    others.iter().all(|other| !(other.session == row.session && other.group == row.group))
+}
+
+/// Whether no two rows are of one session and group.
+fn are_groups_apart(rows: &[SessionGroup]) -> bool
+    ensures { result ≡ are_apart (λ x y. is_of x.session x.group y) rows.now }
+{
+    let mut others = rows;
+    'rows: for row in rows {
+        others = later(others);
+        if !is_other_group(row, others) {
+            return false;
+        }
+    }
+    true
+}
+
+fn is_other_counter(row: &Counter, others: &[Counter]) -> bool
+    ensures { result ≡ list_all (λ y. not (is_counter row.now.group row.now.cycle y)) others.now }
+{
+    others.iter().all(|other| !(other.group == row.group && other.cycle == row.cycle))
+}
+
+/// Whether no two counters are of one group and cycle.
+fn are_counters_apart(rows: &[Counter]) -> bool
+    ensures { result ≡ are_apart (λ x y. is_counter x.group x.cycle y) rows.now }
+{
+    let mut others = rows;
+    'rows: for row in rows {
+        others = later(others);
+        if !is_other_counter(row, others) {
+            return false;
+        }
+    }
+    true
+}
+
+/// Whether each number is below the next.
+fn are_numbers_below(buckets: &[Bucket], next: u64) -> bool
+    ensures { result ≡ list_all (λ b. nat_lt b.number next) buckets.now }
+{
+    buckets.iter().all(|bucket| (bucket.number() as u64) < next)
+}
+
+/// Whether no use is above 10^18 units.
+fn are_uses_in_range(groups: &[SessionGroup]) -> bool
+    ensures { result ≡ list_all (λ g. nat_le g.used 1_000_000_000_000_000_000) groups.now }
+{
+    groups
+        .iter()
+        .all(|group| group.used <= 1_000_000_000_000_000_000)
+}
+
+/// Whether no counter is above 4 * 10^18 blocks.
+fn are_counts_in_range(counters: &[Counter]) -> bool
+    ensures { result ≡ list_all (λ c. nat_le c.blocks 4_000_000_000_000_000_000) counters.now }
+{
+    counters
+        .iter()
+        .all(|counter| counter.blocks <= 4_000_000_000_000_000_000)
+}
+
+/// Whether the reservations hold of a bucket what it has reserved.
+fn is_held(groups: &[SessionGroup], bucket: &Bucket) -> bool
+    ensures { result ≡ is_held groups.now bucket.now }
+{
+    let mut left = bucket.reserved() as u128;
+    'groups: for group in groups {
+        let held = held_of(bucket, group);
+        if left < held {
+            return false;
+        }
+        left -= held;
+    }
+    left == 0
+}
+
+/// Whether what is reserved of each bucket is held.
+fn are_held(groups: &[SessionGroup], buckets: &[Bucket]) -> bool
+    ensures { result ≡ list_all (is_held groups.now) buckets.now }
+{
+    buckets.iter().all(|bucket| is_held(groups, bucket))
+}
+
+/// Whether a hold is of a bucket and this amount.
+fn is_hold_of(hold: &Hold, bucket: u32, amount: u128) -> bool
+    ensures { result ≡ (hold.now.bucket == bucket && hold.now.amount == amount) }
+{
+    hold.bucket == bucket && hold.amount as u128 == amount
+}
+
+/// Whether holds stand in the order of the buckets, and are of no other.
+fn is_along(buckets: &[Bucket], holds: &Holds) -> bool
+    ensures { result ≡ same_holds holds.now (parts (held_in holds.now) buckets.now) }
+{
+    let mut left = holds.as_slice();
+    'buckets: for bucket in buckets {
+        let part = holds.of(bucket);
+        if part > 0 {
+            let Some(first) = left.first() else {
+                return false;
+            };
+            if !is_hold_of(first, bucket.number(), part) {
+                return false;
+            }
+            left = later(left);
+        }
+    }
+    left.is_empty()
+}
+
+fn are_along(buckets: &[Bucket], group: &SessionGroup) -> bool
+    ensures { result ≡ are_along buckets.now group.now }
+{
+    match &group.reservation {
+        None => true,
+        Some(reservation) => is_along(buckets, &reservation.holds),
+    }
+}
+
+/// Whether each reservation holds in the order of the buckets.
+fn are_all_along(groups: &[SessionGroup], buckets: &[Bucket]) -> bool
+    ensures { result ≡ list_all (are_along buckets.now) groups.now }
+{
+    groups.iter().all(|group| are_along(buckets, group))
+}
+
+/// Whether no two rows have one key.
+fn are_keys_apart(rows: &GivenRows) -> bool
+    ensures { result ≡ are_keys_apart (given rows.now) }
+{
+    are_sessions_apart(&rows.sessions)
+        && are_groups_apart(&rows.groups)
+        && are_counters_apart(&rows.counters)
+}
+
+/// Whether each number is in its range.
+fn are_in_range(rows: &GivenRows) -> bool
+    ensures { result ≡ are_in_range (given rows.now) }
+{
+    are_numbers_below(rows.purse.buckets(), rows.next_bucket)
+        && rows.next_bucket <= 4_294_967_296
+        && rows.next_charge <= 4_294_967_296
+        && are_uses_in_range(&rows.groups)
+        && are_counts_in_range(&rows.counters)
+}
+
+/// Whether what is reserved is held.
+fn are_holds_kept(rows: &GivenRows) -> bool
+    ensures { result ≡ are_holds_kept (given rows.now) }
+{
+    let buckets = rows.purse.buckets();
+    are_held(&rows.groups, buckets) && are_all_along(&rows.groups, buckets)
+}
+
+/// Whether the rows are those of an account.
+fn are_tested(rows: &GivenRows) -> bool
+    ensures tested { result ≡ is_tested (given rows.now) }
+    ensures sound { IsSound rows.now.purse }
+{
+    let _sound = rows.purse.buckets();
+    are_keys_apart(rows) && are_in_range(rows) && are_holds_kept(rows)
+}
+
+impl StoredAccount {
+    /// The account of these rows. None where two rows have one key, a number is out of its range,
+    /// or what is reserved of the buckets isn't what the reservations hold, in their order.
+    pub fn from_rows(alloc: Global, rows: GivenRows) -> Option<Self>
+        ensures rows { IfSome result (λ account. account ≡ given rows) }
+        ensures refused { IfNone result (IsStored (given rows) → ⊥) }
+    {
+        if !are_tested(&rows) {
+            return None;
+        }
+        let rows = KeptRows {
+            as_of: rows.as_of,
+            barred: rows.barred,
+            purse: rows.purse,
+            counters: rows.counters,
+            sessions: rows.sessions,
+            groups: rows.groups,
+            next_bucket: rows.next_bucket,
+            next_charge: rows.next_charge,
+            alloc,
+        };
+        Some(StoredAccount { rows })
+    }
+}

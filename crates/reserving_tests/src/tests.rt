@@ -1,0 +1,3 @@
+//! The tests, by what is made.
+
+mod restoring;

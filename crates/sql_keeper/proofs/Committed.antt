@@ -1,0 +1,97 @@
+-- A keeper after a commit.
+use Rattle.std.proofs.Common.{◌≡◌, ◌≤◌, ◌⊎◌, inl, inr, subst, ℕ, List, IsTrue, arith, false}
+use Rattle.std.specs.Prelude.{Result, Ok, Err, OnOk, OnErr}
+use Rattle.sqlite_disk.specs.Disk.{MoreFaults}
+use Rattle.sqlite_trees.specs.Tree.{Trees}
+use Rattle.sqlite_trees.specs.declared.store.Store.{Ghosts}
+use Rattle.sqlite.specs.Held.{Held, state}
+use Rattle.sqlite.specs.State.{State, HasCleanDisk, Survives}
+use Rattle.sql_rows.specs.Content.{content_of}
+use Rattle.keepers.specs.declared.fault.StoreFault.{StoreFault}
+use Rattle.keepers.specs.declared.loaded.Change.{Change}
+use Rattle.keepers.specs.Change.{IsMadeFrom, changed}
+use Rattle.keepers.specs.Faults.{HasCause, max_failures}
+use Rattle.keepers.specs.Keeping.{Keeps}
+use Rattle.sql_keeper.specs.Commits.{Becomes, CommitsChange}
+use Rattle.sql_keeper.specs.Content.{tables_of}
+use Rattle.sql_keeper.specs.Inside.{KeeperState, IsClean, StaysOpen, IsKeeper, tables_in, failed_in, clean_in}
+use Rattle.sql_keeper.specs.Stops.{IsWhole, MayLeave, trees_in}
+use Rattle.sql_keeper.proofs.Asked.{none_more, open_of}
+
+-- only a failure of the disk shuts the connection
+pub stays_survived : (old new : State) (P : Trees → Type 0) → StaysOpen old → Survives old new P → StaysOpen new
+stays_survived old new P stays survives clean none =
+    let before : old.faults ≡ 0 = omega (arith, survives.counts, none) in
+    go before (survives.closes clean (stays (omega (arith, survives.clean, clean)) before))
+  where
+    go : old.faults ≡ 0 → IsTrue new.is_open ⊎ MoreFaults old.faults new.faults → IsTrue new.is_open
+    go before (inl on) = on
+    go before (inr more) = absurd (none_more old.faults new.faults before none more)
+
+-- the law of a commit
+pub committed : {S A : Type 0} (g : Ghosts S) (old : KeeperState S) (conn : Held S) (text : List ℕ) (change : Change)
+    → IsKeeper g old → (r : Result A StoreFault)
+    → CommitsChange old.names text change (state g old.connection) (state g conn) r → IsClean (state g conn)
+    → OnOk r (IsMadeFrom change.before change.after ((tables_in g old).rows change.number)
+    → tables_of old.names (content_of (state g conn).now.trees) ≡ changed change (tables_in g old))
+committed g old conn text change keeper (Ok x) commits clean = (commits.done clean.disk).2.tables
+committed g old conn text change keeper (Err e) commits clean = tt
+
+module _ {S A : Type 0} (g : Ghosts S) (old new : KeeperState S) (text : List ℕ) (change : Change)
+    (keeper : IsKeeper g old) where
+  abbrev CommitsIn : Result A StoreFault → Type 0
+  CommitsIn r = CommitsChange old.names text change (state g old.connection) (state g new.connection) r
+
+  stays_in : (r : Result A StoreFault) → CommitsIn r → StaysOpen (state g new.connection)
+  stays_in r commits = stays_survived (state g old.connection) (state g new.connection)
+      (λ db. IsTrue (state g old.connection).is_open
+      → Becomes old.names text change (state g old.connection).now.trees db) keeper.stays commits.survives
+
+  -- a keeper is one still
+  pub committed_keeper : (r : Result A StoreFault) → CommitsIn r → new.connection.in_transaction ≡ false
+      → new.failures ≤ max_failures → IsKeeper g new
+  committed_keeper r commits plain bounded =
+      record { bounded = bounded; plain = plain; idle = commits.idle; stays = stays_in r commits }
+
+  was_open : (r : Result A StoreFault) → CommitsIn r → HasCleanDisk (state g new.connection)
+      → IsTrue (state g new.connection).is_open → IsTrue (state g old.connection).is_open
+  was_open (Ok x) commits clean on = (commits.done clean).0
+  was_open (Err e) commits clean on = (commits.err clean on).was_open
+
+  was_clean : (r : Result A StoreFault) → CommitsIn r → IsClean (state g new.connection)
+      → IsClean (state g old.connection)
+  was_clean r commits clean = record {
+    disk = omega (arith, commits.survives.clean, clean.disk);
+    open_still = inr (was_open r commits clean.disk
+        (open_of (state g new.connection) (stays_in r commits) clean));
+  }
+
+  same_tables : (r : Result A StoreFault) → CommitsIn r → new.names ≡ old.names → IsClean (state g new.connection)
+      → IsTrue (state g new.connection).is_open → OnErr r (tables_in g new ≡ tables_in g old)
+  same_tables (Ok x) commits names clean on = tt
+  same_tables (Err e) commits names clean on =
+      let still = commits.err clean.disk on in
+      λ i. tables_of (names i) (content_of ((still.now_is i).trees))
+
+  pub keeps : (r : Result A StoreFault) → CommitsIn r → new.names ≡ old.names
+      → HasCause old.failures new.failures r → Keeps (tables_in g) failed_in (clean_in g) old new r
+  keeps r commits names cause = record {
+    err = λ clean. same_tables r commits names clean
+        (open_of (state g new.connection) (stays_in r commits) clean);
+    cleanness = was_clean r commits;
+    cause = cause;
+  }
+
+  -- what a stop leaves
+  pub whole : (r : Result A StoreFault) → CommitsIn r → text ≡ old.text
+      → (HasCleanDisk (state g new.connection) → IsTrue (state g old.connection).is_open → (db : Trees)
+      → MayLeave g new db → (db ≡ trees_in g old) ⊎ Becomes old.names text change (trees_in g old) db)
+      → (HasCleanDisk (state g new.connection) → IsTrue (state g new.connection).is_open → (db : Trees)
+      → MayLeave g new db → db ≡ trees_in g new)
+      → IsWhole g old new (Becomes old.names old.text change (trees_in g old))
+  whole r commits is stop settled =
+      subst (λ t. IsWhole g old new (Becomes old.names t change (trees_in g old))) is (record {
+        stop = λ clean was db may. stop clean (open_of (state g old.connection) keeper.stays was) db may;
+        settled = λ clean db may. settled clean.disk
+            (open_of (state g new.connection) (stays_in r commits) clean) db may;
+      })

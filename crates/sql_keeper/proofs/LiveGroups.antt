@@ -1,0 +1,246 @@
+-- What a list of sessions has of rating groups, one session after another; and several reads in
+-- turn.
+use Rattle.std.proofs.Common.{◌≡◌, ◌≤◌, ◌<◌, ◌+◌, take, get_or, inl, ℕ, Bool, true, false, List, [], ◌∷◌, ◌++◌, Option, Some, None, Result, Ok, Err, IfOk, IsTrue, length, map, refl, sym, ap, subst, ◌∙◌, arith, true≢false}
+use Rattle.std.specs.Prelude.{if◌then◌else◌, ◌&&◌, ◌||◌, option_map, is_some}
+use Rattle.std.specs.Option.{option_or}
+use Rattle.std.specs.Result.{IsErr}
+use Rattle.std.proofs.lemmas.List.{take_more, take_all}
+use Rattle.std.proofs.lemmas.List.Folds.{find-append}
+use Rattle.sqlite_trees.specs.Tree.{Trees}
+use Rattle.sqlite.specs.Effect.{Database}
+use Rattle.sqlite.specs.State.{State, HasCleanDisk}
+use Rattle.buckets.specs.Row.{Row}
+use Rattle.buckets.specs.Spend.{AreDistinct}
+use Rattle.reserving.specs.declared.session.Session.{Session}
+use Rattle.reserving.specs.declared.session.SessionGroup.{SessionGroup}
+use Rattle.reserving.specs.Left.{is_open_row}
+use Rattle.reserving.specs.Sessions.{is_session, session_in, is_of, group_in, is_open}
+use Rattle.keepers.specs.Change.{has_reservation}
+use Rattle.keepers.specs.Tables.{GroupRow, group_row, held_of}
+use Rattle.sql_tables.specs.Keyed.{same_name}
+use Rattle.sql_tables.specs.Selects.{only}
+use Rattle.sql_tables.specs.Statements.{HasIdleBook, OnlyReads}
+use Rattle.sql_tables.proofs.Keeps.{only_reads_then}
+use Rattle.sql_rows.specs.declared.group_rows.GroupColumns.{GroupColumns}
+use Rattle.sql_rows.specs.declared.hold_rows.HeldColumns.{HeldColumns}
+use Rattle.sql_rows.specs.Content.{Rows as Stored, rows_in}
+use Rattle.sql_rows.specs.Lists.{AreGroups, AreHolds}
+use Rattle.sql_rows.specs.Texts.{group_at, hold_at}
+use Rattle.sql_rows.specs.Values.{Group}
+use Rattle.sql_keeper.specs.Content.{group_in as group_told, is_reserved, held_in}
+use Rattle.sql_keeper.specs.GroupRows.{AreGroupsOf, AreSessionGroups}
+use Rattle.sql_keeper.specs.LiveGroups.{Gathers, is_among, AreLiveGroups, AreOpenGroupsLoaded}
+use Rattle.sql_keeper.proofs.GroupRows.{session_groups}
+
+-- ---- one session more
+
+none_told : (names : List (List ℕ)) (rows : Stored) → AreLiveGroups names rows [] []
+none_told names rows = record { groups = λ s g. refl; holds = λ s g n. refl }
+
+among_more : (s : List ℕ) (ss : List Session) (x : Session)
+    → is_among s (ss ++ x ∷ []) ≡ (is_among s ss || same_name x.id s)
+among_more s ss x =
+    ap is_some (find-append (is_session s) ss (x ∷ [])) ∙ go (session_in s ss) (same_name x.id s)
+  where
+    go : (o : Option Session) (t : Bool)
+        → is_some (option_or o (if t then Some x else None)) ≡ (is_some o || t)
+    go (Some y) t = refl
+    go None true = refl
+    go None false = refl
+
+not_there : {A : Type 0} (x : A) → Some x ≡ None → ⊥
+not_there x e = true≢false (ap is_some e)
+
+joined_rows : (p q : Bool) (a b : Option SessionGroup) (e : Option GroupRow)
+    → option_map group_row a ≡ (if p then e else None) → option_map group_row b ≡ (if q then e else None)
+    → option_map group_row (option_or a b) ≡ (if p || q then e else None)
+joined_rows true q (Some x) b e h k = h
+joined_rows false q (Some x) b e h k = absurd (not_there (group_row x) h)
+joined_rows true true None b e h k = k
+joined_rows true false None b e h k = k ∙ h
+joined_rows false q None b e h k = k
+
+joined_holds : (n : ℕ) (p q : Bool) (a b : Option SessionGroup) (e : Option GroupRow) (amount : ℕ)
+    → option_map group_row a ≡ (if p then e else None) → held_of n a ≡ (if p then amount else 0)
+    → held_of n b ≡ (if q then amount else 0)
+    → held_of n (option_or a b) ≡ (if p || q then amount else 0)
+joined_holds n true q (Some x) b e amount r h k = h
+joined_holds n false q (Some x) b e amount r h k = absurd (not_there (group_row x) r)
+joined_holds n true true None b e amount r h k = k
+joined_holds n true false None b e amount r h k = k ∙ h
+joined_holds n false q None b e amount r h k = k
+
+more_told : (names : List (List ℕ)) (rows : Stored) (ss : List Session) (x : Session)
+    (xs ys : List SessionGroup) → AreLiveGroups names rows ss xs → AreSessionGroups names rows x.id ys
+    → AreLiveGroups names rows (ss ++ x ∷ []) (xs ++ ys)
+more_told names rows ss x xs ys before here = record {
+  groups = λ s g.
+      ap (option_map group_row) (find-append (is_of s g) xs ys)
+      ∙ joined_rows (is_among s ss) (same_name x.id s) (group_in s g xs) (group_in s g ys)
+      (option_map (group_told names true) (rows.groups s g)) (before.groups s g) (here.groups s g)
+      ∙ ap (λ t. if t then option_map (group_told names true) (rows.groups s g) else None)
+      (sym (among_more s ss x));
+  holds = λ s g n.
+      ap (held_of n) (find-append (is_of s g) xs ys)
+      ∙ joined_holds n (is_among s ss) (same_name x.id s) (group_in s g xs) (group_in s g ys)
+      (option_map (group_told names true) (rows.groups s g))
+      (held_in (is_reserved (rows.groups s g)) (rows.holds s g n)) (before.groups s g) (before.holds s g n)
+      (here.holds s g n)
+      ∙ ap (λ t. if t then held_in (is_reserved (rows.groups s g)) (rows.holds s g n) else 0)
+      (sym (among_more s ss x));
+}
+
+-- ---- the open sessions
+
+among_open : (x y : Option Session) → x ≡ only (λ (r : Session). is_open r.state) y
+    → is_some x ≡ is_open_row y
+among_open x None e = ap is_some e
+among_open x (Some r) e = ap is_some e ∙ go (is_open r.state)
+  where
+    go : (t : Bool) → is_some (if t then Some r else None) ≡ t
+    go true = refl
+    go false = refl
+
+none_reserved : (names : List (List ℕ)) (o : Option Group)
+    → has_reservation (option_map (group_told names false) o) ≡ false
+none_reserved names None = refl
+none_reserved names (Some x) = refl
+
+loaded_rows : (names : List (List ℕ)) (open_is : Bool) (o : Option Group)
+    → (if open_is then option_map (group_told names true) o else None)
+    ≡ (if open_is || has_reservation (option_map (group_told names open_is) o)
+    then option_map (group_told names open_is) o else None)
+loaded_rows names true o = refl
+loaded_rows names false o =
+    ap (λ t. if t then option_map (group_told names false) o else None) (sym (none_reserved names o))
+
+loaded_holds : (names : List (List ℕ)) (open_is : Bool) (o : Option Group) (amount : Option ℕ)
+    → (if open_is then held_in (is_reserved o) amount else 0)
+    ≡ (if open_is || has_reservation (option_map (group_told names open_is) o)
+    then held_in (open_is && is_reserved o) amount else 0)
+loaded_holds names true o amount = refl
+loaded_holds names false o amount =
+    ap (λ t. if t then held_in (false && is_reserved o) amount else 0) (sym (none_reserved names o))
+
+pub open_loaded : AreOpenGroupsLoaded
+open_loaded names rows sessions xs open_ones told = record {
+  groups = λ s g.
+      told.groups s g
+      ∙ ap (λ t. if t then option_map (group_told names true) (rows.groups s g) else None)
+      (among_open (session_in s sessions) (rows.sessions s) (open_ones s))
+      ∙ loaded_rows names (is_open_row (rows.sessions s)) (rows.groups s g);
+  holds = λ s g n.
+      told.holds s g n
+      ∙ ap (λ t. if t then held_in (is_reserved (rows.groups s g)) (rows.holds s g n) else 0)
+      (among_open (session_in s sessions) (rows.sessions s) (open_ones s))
+      ∙ loaded_holds names (is_open_row (rows.sessions s)) (rows.groups s g) (rows.holds s g n);
+}
+
+-- ---- reads in turn
+
+still_here : (s : State) → HasIdleBook s → OnlyReads s s
+still_here s idle = record {
+  still = λ clean on. record { was_open = on; now_is = refl; committed_is = refl };
+  idle = idle;
+  cleanness = λ clean. clean;
+  mode = λ plain. plain;
+  counts = omega arith;
+  closes = λ clean on. inl on;
+}
+
+if_ok : {A E : Type 0} (P Q : A → Type 0) (r : Result A E) → ((x : A) → P x → Q x) → IfOk r P → IfOk r Q
+if_ok P Q (Ok x) to h = to x h
+if_ok P Q (Err e) to h = tt
+
+-- a failure after reads
+pub failed_then : {A E : Type 0} (told : Trees → A → Type 0) (old mid new : State) (r : Result A E) → IsErr r
+    → OnlyReads old mid → OnlyReads mid new → Gathers told old new r
+failed_then told old mid new (Ok x) failed first second = absurd (true≢false (sym failed))
+failed_then told old mid new (Err e) failed first second =
+    record { found = λ clean on. tt; only = only_reads_then old mid new first second }
+
+pub gives_up : {A E : Type 0} (told : Trees → A → Type 0) (old mid new : State) (e : E) → OnlyReads old mid
+    → OnlyReads mid new → Gathers {A = A} {E = E} told old new (Err e)
+gives_up told old mid new e first second =
+    record { found = λ clean on. tt; only = only_reads_then old mid new first second }
+
+-- what was told of the first state, where nothing changed
+told_before : (P : Trees → Type 0) (old mid new : State) → OnlyReads old mid → OnlyReads mid new
+    → HasCleanDisk new → IsTrue new.is_open → P mid.now.trees → P old.now.trees
+told_before P old mid new first second clean on =
+    let after = second.still clean on in
+    let before = first.still (second.cleanness clean) after.was_open in
+    subst (λ (d : Database). P d.trees) before.now_is
+
+-- the rows of a session and what is held for it, read one after the other
+pub gathered : {V E : Type 0} (items : V → List SessionGroup) (names : List (List ℕ)) (a s : List ℕ)
+    (buckets : List Row) (cs : List GroupColumns) (held : List HeldColumns) (old mid new : State)
+    (r : Result V E) → AreDistinct buckets → OnlyReads old mid → OnlyReads mid new
+    → (HasCleanDisk mid → AreGroups (rows_in old.now.trees a) s (map group_at cs))
+    → (HasCleanDisk new → AreHolds (rows_in mid.now.trees a) s (map hold_at held))
+    → IfOk r (λ v. AreGroupsOf names buckets held s (map group_at cs) (items v))
+    → Gathers (λ trees v. AreSessionGroups names (rows_in trees a) s (items v)) old new r
+gathered items names a s buckets cs held old mid new r distinct first second groups holds made = record {
+  found = λ clean on.
+      if_ok (λ v. AreGroupsOf names buckets held s (map group_at cs) (items v))
+      (λ v. AreSessionGroups names (rows_in old.now.trees a) s (items v)) r
+      (λ v all. session_groups names (rows_in old.now.trees a) s buckets held (map group_at cs) (items v) distinct
+      (groups (second.cleanness clean))
+      (told_before (λ trees. AreHolds (rows_in trees a) s (map hold_at held)) old mid new first second clean on
+      (holds clean)) all) made;
+  only = only_reads_then old mid new first second;
+}
+
+-- what the sessions so far have
+pub record HasGathered (names : List (List ℕ)) (a : List ℕ) (ss : List Session) (xs : List SessionGroup)
+    (old new : State) : Type 0 where
+  pub found : HasCleanDisk new → IsTrue new.is_open → AreLiveGroups names (rows_in old.now.trees a) ss xs
+  pub reads : OnlyReads old new
+
+pub none_yet : (names : List (List ℕ)) (a : List ℕ) (xs : List SessionGroup) (s : State) → xs ≡ []
+    → HasIdleBook s → HasGathered names a [] xs s s
+none_yet names a xs s none idle = record {
+  found = λ clean on.
+      subst (AreLiveGroups names (rows_in s.now.trees a) []) (sym none)
+      (none_told names (rows_in s.now.trees a));
+  reads = still_here s idle;
+}
+
+pub one_more : {V E : Type 0} (items : V → List SessionGroup) (names : List (List ℕ)) (a : List ℕ)
+    (ss : List Session) (x : Session) (xs : List SessionGroup) (old mid new : State) (v : V)
+    → HasGathered names a ss xs old mid
+    → Gathers {A = V} {E = E} (λ trees v. AreSessionGroups names (rows_in trees a) x.id (items v)) mid new (Ok v)
+    → HasGathered names a (ss ++ x ∷ []) (xs ++ items v) old new
+one_more items names a ss x xs old mid new v before here = record {
+  found = λ clean on.
+      let after = here.only.still clean on in
+      more_told names (rows_in old.now.trees a) ss x xs (items v)
+      (before.found (here.only.cleanness clean) after.was_open)
+      (told_before (λ trees. AreSessionGroups names (rows_in trees a) x.id (items v)) old mid new before.reads
+      here.only clean on (here.found clean on));
+  reads = only_reads_then old mid new before.reads here.only;
+}
+
+-- the next of the sessions
+pub next_gathered : {V E : Type 0} (items : V → List SessionGroup) (names : List (List ℕ)) (a : List ℕ)
+    (ss : List Session) (i : ℕ) (x : Session) (xs ys : List SessionGroup) (old mid new : State) (v : V)
+    → i < length ss → x ≡ get_or ss i x → ys ≡ xs ++ items v → HasGathered names a (take i ss) xs old mid
+    → Gathers {A = V} {E = E} (λ trees v. AreSessionGroups names (rows_in trees a) x.id (items v)) mid new (Ok v)
+    → HasGathered names a (take (i + 1) ss) ys old new
+next_gathered {V} {E} items names a ss i x xs ys old mid new v less is more before here =
+    subst (λ l. HasGathered names a (take (i + 1) ss) l old new) (sym more)
+    (subst (λ l. HasGathered names a l (xs ++ items v) old new)
+    (ap (λ y. take i ss ++ y ∷ []) is ∙ sym (take_more ss i x less))
+    (one_more {V = V} {E = E} items names a (take i ss) x xs old mid new v before here))
+
+pub all_gathered : {V E : Type 0} (items : V → List SessionGroup) (names : List (List ℕ)) (a : List ℕ)
+    (ss : List Session) (i : ℕ) (v : V) (old new : State) → length ss ≤ i
+    → HasGathered names a (take i ss) (items v) old new
+    → Gathers {A = V} {E = E} (λ trees v. AreLiveGroups names (rows_in trees a) ss (items v)) old new (Ok v)
+all_gathered items names a ss i v old new end h =
+    record {
+      found = λ clean on.
+          subst (λ l. AreLiveGroups names (rows_in old.now.trees a) l (items v)) (take_all i ss end)
+          (h.found clean on);
+      only = h.reads;
+    }

@@ -1,0 +1,199 @@
+-- A keeper that is made or opened, and what was read of its database.
+use Rattle.std.proofs.Common.{◌≡◌, ◌⊎◌, inl, inr, ◌∙◌, ap, refl, sym, subst, ℕ, List, Some, IsTrue, false, arith}
+use Rattle.std.specs.Prelude.{Ok, Err, Result, IfErr, IfOk, OnOk}
+use Rattle.std.specs.String.{string_bytes}
+use Rattle.tariffs.specs.Books.{Book}
+use Rattle.sqlite_trees.specs.declared.store.Store.{Ghosts}
+use Rattle.sqlite_trees.specs.Tree.{Trees}
+use Rattle.sqlite.specs.Effect.{Database}
+use Rattle.sqlite.specs.Held.{Held, state}
+use Rattle.sqlite.specs.State.{State, HasCleanDisk, Survives}
+use Rattle.sqlite.proofs.StateLemmas.{survives_then}
+use Rattle.sql_tables.specs.Statements.{IsStill, OnlyReads}
+use Rattle.sql_tables.specs.Texts.{stage}
+use Rattle.sql_rows.specs.Content.{content_of}
+use Rattle.sql_rows.specs.Texts.{meta_of}
+use Rattle.sql_rows.specs.declared.meta_rows.Meta.{Meta as MetaRow}
+use Rattle.sql_opening.specs.Opens.{IsFound, IsNoVersion}
+use Rattle.sql_opening.specs.declared.fault.OpenFault.{OpenFault}
+use Rattle.sql_opening.specs.declared.fault.OpenFault.TheVariants.{Version}
+use Rattle.sqlite_schema.specs.declared.schema.Schema.{Schema}
+use Rattle.sql_tables.specs.Ours.{has_ours}
+use Rattle.sql_keeper.specs.Books.{IsBookOf, IsBookText}
+use Rattle.keepers.specs.Tables.{no_tables}
+use Rattle.sql_keeper.specs.Content.{tables_of}
+use Rattle.sql_keeper.specs.Creates.{CreatesBook, IsNewBook}
+use Rattle.sql_keeper.specs.Faults.{IsCreateFault}
+use Rattle.sql_keeper.specs.Finds.{FindsBook, FindsMeta}
+use Rattle.sql_keeper.specs.Inside.{KeeperState, IsClean}
+use Rattle.sql_keeper.specs.Opened.{IsCreated, IsFresh, IsKept, IsNotCreated, IsOpened}
+use Rattle.sql_keeper.specs.declared.books.ReadBook.{ReadBook}
+use Rattle.sql_keeper.specs.declared.create_fault.CreateFault.{CreateFault}
+use Rattle.sql_keeper.specs.declared.create_fault.CreateFault.TheVariants.{Store, Memory}
+use Rattle.sql_keeper.proofs.Commits.{not_shut}
+
+pub survives_self : (s : State) (P : Trees → Type 0) → Survives s s P
+survives_self s P = record {
+  clean = omega arith;
+  shield = λ h. h;
+  counts = omega arith;
+  limit = refl;
+  closes = λ clean on. inl on;
+  crash = λ clean db may. inl may;
+}
+
+-- ---- the tables of a book
+
+pub untouched : {A E : Type 0} (text : List ℕ) (s : State) (e : E)
+    → CreatesBook {A = A} {E = E} text s s (Err e)
+untouched text s e = record {
+  done = λ clean. tt;
+  kept = λ clean on. record { was_open = on; now_is = refl; committed_is = refl };
+  survives = survives_self s (IsNewBook text);
+}
+
+pub made_still : {A B E F : Type 0} (text : List ℕ) (old new : State) (u : A) (v : B)
+    → CreatesBook {A = A} {E = E} text old new (Ok u) → CreatesBook {A = B} {E = F} text old new (Ok v)
+made_still text old new u v c = record { done = c.done; kept = λ clean on. tt; survives = c.survives }
+
+pub refused_still : {A B E F : Type 0} (text : List ℕ) (old new : State) (e : E) (f : F)
+    → CreatesBook {A = A} {E = E} text old new (Err e) → CreatesBook {A = B} {E = F} text old new (Err f)
+refused_still text old new e f c = record { done = λ clean. tt; kept = c.kept; survives = c.survives }
+
+-- what the store tells is told of a book and of tables that aren't there
+pub store_told : (text : List ℕ) (schema : Schema) (f : CreateFault) → (f ≡ Store) ⊎ (f ≡ Memory)
+    → has_ours schema ≡ false → IsBookText text → IsCreateFault text schema f
+store_told text schema f (inl is) none book = subst (IsCreateFault text schema) (sym is) (book, none)
+store_told text schema f (inr is) none book = subst (IsCreateFault text schema) (sym is) (book, none)
+
+-- ---- a keeper before its first call
+
+module _ {S : Type 0} (g : Ghosts S) (k : KeeperState S) (conn : Held S) (book given own : Book)
+    (text bytes : List ℕ) (connection : k.connection ≡ conn) (is : book ≡ given) (same : own ≡ given)
+    (names : k.names ≡ own.periods) (told : k.text ≡ bytes) (none : k.failures ≡ 0)
+    (read : IsBookOf text given) (kept : bytes ≡ text) where
+  pub fresh : IsFresh k book
+  fresh = record {
+    read = subst (λ t. IsBookOf t book) (sym (told ∙ kept)) (subst (IsBookOf text) (sym is) read);
+    names = names ∙ ap (λ (b : Book). b.periods) (same ∙ sym is);
+    uncounted = none;
+  }
+
+  pub created : {A E : Type 0} (old : Held S) (u : A) → old.schema ≡ stage 0 → old.in_transaction ≡ false
+      → CreatesBook {A = A} {E = E} text (state g old) (state g conn) (Ok u) → IsCreated g text old k book
+  created old u blank plain c = record {
+    fresh = fresh;
+    of_text = told ∙ kept;
+    blank = blank;
+    plain = plain;
+    clean = subst (λ h. HasCleanDisk (state g h) → IsClean (state g h)) (sym connection)
+        (λ clean. record { disk = clean; open_still = inr (c.done clean).0 });
+    made = subst (λ h. HasCleanDisk (state g h) → IsNewBook text (state g h).now.trees) (sym connection)
+        (λ clean. (c.done clean).2);
+    tables = subst (λ h. HasCleanDisk (state g h) → tables_of k.names (content_of (state g h).now.trees) ≡ no_tables)
+        (sym connection) (λ clean. (c.done clean).2.tables k.names);
+    survives = subst (λ h. Survives (state g old) (state g h) (IsNewBook text)) (sym connection) c.survives;
+  }
+
+  pub opened : (old : Held S) → (HasCleanDisk (state g conn) → IsKept (state g conn).now.trees bytes
+      × IsStill (state g old) (state g conn) × IsTrue (state g conn).is_open)
+      → Survives (state g old) (state g conn) (λ _. ⊥) → IsOpened g old k book
+  opened old found survives = record {
+    fresh = fresh;
+    kept = subst (λ h. HasCleanDisk (state g h) → IsKept (state g h).now.trees k.text) (sym connection)
+        (λ clean. subst (IsKept (state g conn).now.trees) (sym told) (found clean).0);
+    clean = subst (λ h. HasCleanDisk (state g h) → IsClean (state g h)) (sym connection)
+        (λ clean. record { disk = clean; open_still = inr (found clean).2 });
+    still = subst (λ h. HasCleanDisk (state g h) → IsStill (state g old) (state g h)) (sym connection)
+        (λ clean. (found clean).1);
+    survives = subst (λ h. Survives (state g old) (state g h) (λ _. ⊥)) (sym connection) survives;
+  }
+
+pub not_created : {S A E : Type 0} (g : Ghosts S) (text : List ℕ) (old new : Held S) (fault : CreateFault) (e : E)
+    → IsCreateFault text old.schema fault → new.in_transaction ≡ old.in_transaction
+    → CreatesBook {A = A} {E = E} text (state g old) (state g new) (Err e) → IsNotCreated g text old new fault
+not_created g text old new fault e told mode c =
+    record { told = told; mode = mode; still = c.kept; survives = c.survives }
+
+-- ---- what is read before
+
+module _ (old mid new : State) (found : HasCleanDisk mid → IsFound old mid) (one : Survives old mid (λ _. ⊥))
+    (only : OnlyReads mid new) (two : Survives mid new (λ _. mid.is_open ≡ false)) where
+  open_between : HasCleanDisk new → IsTrue mid.is_open
+  open_between clean = (found (only.cleanness clean)).unchanged.0.is_open
+
+  pub reads_survived : Survives old new (λ _. ⊥)
+  reads_survived = survives_then old mid new (λ _. ⊥) (λ _. mid.is_open ≡ false) (λ _. ⊥)
+      (λ clean db no'. no') (λ clean db shut. not_shut mid.is_open (open_between clean) shut) one two
+
+  still_read : HasCleanDisk new → IsTrue new.is_open → IsStill old new
+  still_read clean on =
+      let first = (found (only.cleanness clean)).unchanged.0 in
+      let then' = only.still clean on in
+      record {
+        was_open = first.was_open;
+        now_is = then'.now_is ∙ first.now_is;
+        committed_is = then'.committed_is ∙ first.committed_is;
+      }
+
+  pub finds_meta : (r : Result MetaRow OpenFault)
+      → (HasCleanDisk new → IfOk r (λ m. (content_of mid.now.trees).meta ≡ Some (meta_of m)))
+      → (HasCleanDisk new → OnOk r (IsTrue new.is_open)) → IfErr r IsNoVersion → FindsMeta old new r
+  finds_meta (Ok m) is on told = record {
+    found = λ clean. (
+      subst (λ (d : Database). (content_of d.trees).meta ≡ Some (meta_of m))
+          (sym (only.still clean (on clean)).now_is) (is clean),
+      still_read clean (on clean),
+      on clean,
+    );
+    idle = only.idle;
+    told = tt;
+    survives = reads_survived;
+  }
+  finds_meta (Err e) is on told =
+      record { found = λ clean. tt; idle = tt; told = told; survives = reads_survived }
+
+-- no table was found
+pub finds_none : (old new : State) (e : OpenFault) → IsNoVersion e → Survives old new (λ _. ⊥)
+    → FindsMeta old new (Err e)
+finds_none old new e told survives =
+    record { found = λ clean. tt; idle = tt; told = told; survives = survives }
+
+pub finds_book : (old new : State) (m : MetaRow) (r : Result ReadBook OpenFault) → FindsMeta old new (Ok m)
+    → OnOk r (m.version ≡ 1) → IfOk r (λ b. IsBookOf (string_bytes b.text) b.given)
+    → IfOk r (λ b. b.own ≡ b.given) → IfOk r (λ b. string_bytes b.text ≡ string_bytes m.book)
+    → IfErr r (λ fault. fault ≡ Version → ¬ (m.version ≡ 1)) → FindsBook old new r
+finds_book old new m (Ok b) finds version read same text told = record {
+  found = λ clean.
+      let f = finds.found clean in
+      (record { row = meta_of m; is = f.0; version = version; book = sym text }, f.1, f.2);
+  read = read;
+  same = same;
+  idle = finds.idle;
+  version = λ clean. tt;
+  survives = finds.survives;
+}
+finds_book old new m (Err e) finds version read same text told = record {
+  found = λ clean. tt;
+  read = tt;
+  same = tt;
+  idle = tt;
+  version = λ clean is.
+      let f = finds.found clean in
+      record {
+        row = meta_of m;
+        is = subst (λ (d : Database). (content_of d.trees).meta ≡ Some (meta_of m)) f.1.now_is f.0;
+        other = told is;
+      };
+  survives = finds.survives;
+}
+
+pub finds_no_book : (old new : State) (e : OpenFault) → FindsMeta old new (Err e) → FindsBook old new (Err e)
+finds_no_book old new e finds = record {
+  found = λ clean. tt;
+  read = tt;
+  same = tt;
+  idle = tt;
+  version = λ clean is. absurd (finds.told is);
+  survives = finds.survives;
+}

@@ -1,0 +1,23 @@
+-- The faults of making the database of a book.
+-- Source: profile.
+use Rattle.std.specs.Prelude.{◌≡◌, ℕ, true, false, List}
+use Rattle.book_fields.specs.Faults.{number_of}
+use Rattle.sqlite_schema.specs.declared.schema.Schema.{Schema}
+use Rattle.sql_tables.specs.Ours.{has_ours}
+use Rattle.sql_keeper.specs.Books.{IsBookFault, IsBookText}
+use Rattle.sql_keeper.specs.declared.create_fault.CreateFault.{CreateFault}
+use Rattle.sql_keeper.specs.declared.create_fault.CreateFault.TheVariants.{Book, Present, Store, Memory}
+
+-- the number under which a fault is told: that of the book's fault, or that of an opening
+abbrev pub fault_number : CreateFault → ℕ
+fault_number (Book fault) = number_of fault
+fault_number Present = 1
+fault_number Store = 4
+fault_number Memory = 5
+
+-- when a fault is told of a text and a database: first the book's, then that a table is there
+abbrev pub IsCreateFault : List ℕ → Schema → CreateFault → Type 0
+IsCreateFault text schema (Book fault) = IsBookFault text fault
+IsCreateFault text schema Present = IsBookText text × (has_ours schema ≡ true)
+IsCreateFault text schema Store = IsBookText text × (has_ours schema ≡ false)
+IsCreateFault text schema Memory = IsBookText text × (has_ours schema ≡ false)

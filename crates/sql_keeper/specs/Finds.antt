@@ -1,0 +1,33 @@
+-- What is read of a database before a keeper is made over it.
+-- Source: profile.
+use Rattle.std.specs.Prelude.{◌≡◌, Some, IfErr, IfOk, OnOk, IsTrue, Result}
+use Rattle.std.specs.String.{string_bytes}
+use Rattle.sqlite.specs.State.{State, HasCleanDisk, Survives}
+use Rattle.sql_tables.specs.Statements.{HasIdleBook, IsStill}
+use Rattle.sql_rows.specs.declared.meta_rows.Meta.{Meta as MetaRow}
+use Rattle.sql_rows.specs.Content.{content_of}
+use Rattle.sql_rows.specs.Texts.{meta_of}
+use Rattle.sql_opening.specs.Opens.{IsNoVersion}
+use Rattle.sql_opening.specs.declared.fault.OpenFault.{OpenFault}
+use Rattle.sql_opening.specs.declared.fault.OpenFault.TheVariants.{Version}
+use Rattle.sql_keeper.specs.Books.{IsBookOf}
+use Rattle.sql_keeper.specs.Opened.{IsKept, IsOtherVersion}
+use Rattle.sql_keeper.specs.declared.books.ReadBook.{ReadBook}
+
+-- the tables are ours, and this is kept once; nothing was written
+pub record FindsMeta (old new : State) (result : Result MetaRow OpenFault) : Type 0 where
+  pub found : HasCleanDisk new → IfOk result (λ m. ((content_of new.now.trees).meta ≡ Some (meta_of m))
+      × IsStill old new × IsTrue new.is_open)
+  pub idle : OnOk result (HasIdleBook new)
+  pub told : IfErr result IsNoVersion
+  pub survives : Survives old new (λ _. ⊥)
+
+-- the same with the book of the text that is kept
+pub record FindsBook (old new : State) (result : Result ReadBook OpenFault) : Type 0 where
+  pub found : HasCleanDisk new → IfOk result (λ r. IsKept new.now.trees (string_bytes r.text)
+      × IsStill old new × IsTrue new.is_open)
+  pub read : IfOk result (λ r. IsBookOf (string_bytes r.text) r.given)
+  pub same : IfOk result (λ r. r.own ≡ r.given)
+  pub idle : OnOk result (HasIdleBook new)
+  pub version : HasCleanDisk new → IfErr result (λ fault. fault ≡ Version → IsOtherVersion old.now.trees)
+  pub survives : Survives old new (λ _. ⊥)

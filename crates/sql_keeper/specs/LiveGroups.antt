@@ -1,0 +1,48 @@
+-- What sessions have of rating groups, with what is held there, read from the tables.
+-- Source: profile.
+use Rattle.std.specs.Prelude.{◌≡◌, ℕ, Bool, true, List, None, Result, IfOk, IsTrue, option_map, is_some, if◌then◌else◌}
+use Rattle.sqlite_trees.specs.Tree.{Trees}
+use Rattle.sqlite.specs.State.{State, HasCleanDisk}
+use Rattle.reserving.specs.declared.session.Session.{Session}
+use Rattle.reserving.specs.declared.session.SessionGroup.{SessionGroup}
+use Rattle.reserving.specs.Sessions.{session_in, group_in, is_open}
+use Rattle.keepers.specs.Change.{is_loaded}
+use Rattle.keepers.specs.Tables.{Rows, group_row, held_of}
+use Rattle.sql_tables.specs.Statements.{OnlyReads}
+use Rattle.sql_rows.specs.Content.{Rows as Stored}
+use Rattle.sql_rows.specs.Lists.{AreSessions}
+use Rattle.sql_keeper.specs.Content.{group_in as group_told, is_reserved, held_in, rows_of}
+
+-- outside a transaction, several reads in turn: while the connection stays open, what they answer is
+-- told by the tables; whether they answer or not, they change nothing
+pub record Gathers {A E : Type 0} (told : Trees → A → Type 0) (old new : State) (result : Result A E) : Type 0
+  where
+    pub found : HasCleanDisk new → IsTrue new.is_open → IfOk result (told old.now.trees)
+    pub only : OnlyReads old new
+
+-- the session is one of the list
+abbrev pub is_among : List ℕ → List Session → Bool
+is_among s sessions = is_some (session_in s sessions)
+
+-- what the sessions of a list have of rating groups, and what their reservations hold: all of it,
+-- each as of a session that is open, and of no other session
+pub record AreLiveGroups (names : List (List ℕ)) (rows : Stored) (sessions : List Session)
+    (xs : List SessionGroup) : Type 0 where
+  pub groups : (s : List ℕ) (g : ℕ) → option_map group_row (group_in s g xs) ≡
+      (if is_among s sessions then option_map (group_told names true) (rows.groups s g) else None)
+  pub holds : (s : List ℕ) (g n : ℕ) → held_of n (group_in s g xs) ≡
+      (if is_among s sessions then held_in (is_reserved (rows.groups s g)) (rows.holds s g n) else 0)
+
+-- of an account's rows, what is loaded of groups and holds
+pub record AreLoadedGroups (r : Rows) (xs : List SessionGroup) : Type 0 where
+  pub groups : (s : List ℕ) (g : ℕ) → option_map group_row (group_in s g xs) ≡
+      (if is_loaded r s g then r.groups s g else None)
+  pub holds : (s : List ℕ) (g n : ℕ) → held_of n (group_in s g xs) ≡
+      (if is_loaded r s g then r.holds s g n else 0)
+
+-- what the open sessions have is what is loaded
+abbrev pub AreOpenGroupsLoaded : Type 0
+AreOpenGroupsLoaded =
+    (names : List (List ℕ)) (rows : Stored) (sessions : List Session) (xs : List SessionGroup)
+    → AreSessions (λ x. is_open x.state) rows sessions → AreLiveGroups names rows sessions xs
+    → AreLoadedGroups (rows_of names rows) xs

@@ -1,0 +1,78 @@
+-- A keeper that was just made over a database, and what is left where none was made.
+-- Source: profile.
+use Rattle.std.specs.Prelude.{◌≡◌, ℕ, false, List, Some, IsTrue}
+use Rattle.tariffs.specs.Books.{Book}
+use Rattle.sqlite_trees.specs.declared.store.Store.{Ghosts}
+use Rattle.sqlite_trees.specs.Tree.{Trees}
+use Rattle.sqlite.specs.Held.{Held, state}
+use Rattle.sqlite.specs.State.{HasCleanDisk, Survives}
+use Rattle.sql_tables.specs.Statements.{IsStill}
+use Rattle.sql_tables.specs.Texts.{stage}
+use Rattle.sql_rows.specs.Values.{Meta}
+use Rattle.sql_rows.specs.Content.{content_of}
+use Rattle.sql_opening.specs.declared.fault.OpenFault.{OpenFault}
+use Rattle.sql_opening.specs.declared.fault.OpenFault.TheVariants.{Version}
+use Rattle.keepers.specs.Tables.{no_tables}
+use Rattle.sql_keeper.specs.Books.{IsBookOf}
+use Rattle.sql_keeper.specs.Creates.{IsNewBook}
+use Rattle.sql_keeper.specs.Faults.{IsCreateFault}
+use Rattle.sql_keeper.specs.declared.create_fault.CreateFault.{CreateFault}
+use Rattle.sql_keeper.specs.Inside.{KeeperState, IsClean, tables_in}
+use Rattle.sql_keeper.specs.Stops.{trees_in}
+
+-- a keeper before its first call, and the book of its text
+pub record IsFresh {S : Type 0} (k : KeeperState S) (book : Book) : Type 0 where
+  pub read : IsBookOf k.text book
+  pub names : k.names ≡ book.periods
+  pub uncounted : k.failures ≡ 0
+
+-- ---- made
+
+-- the tables were made in a database that had none, and hold nothing but what is kept once
+pub record IsCreated {S : Type 0} (g : Ghosts S) (text : List ℕ) (old : Held S) (k : KeeperState S)
+    (book : Book) : Type 0 where
+  pub fresh : IsFresh k book
+  pub of_text : k.text ≡ text
+  pub blank : old.schema ≡ stage 0
+  pub plain : old.in_transaction ≡ false
+  pub clean : HasCleanDisk (state g k.connection) → IsClean (state g k.connection)
+  pub made : HasCleanDisk (state g k.connection) → IsNewBook text (trees_in g k)
+  pub tables : HasCleanDisk (state g k.connection) → tables_in g k ≡ no_tables
+  pub survives : Survives (state g old) (state g k.connection) (IsNewBook text)
+
+-- nothing is changed; a stop leaves what it left before, or the new tables
+pub record IsNotCreated {S : Type 0} (g : Ghosts S) (text : List ℕ) (old new : Held S)
+    (fault : CreateFault) : Type 0 where
+  pub told : IsCreateFault text old.schema fault
+  pub mode : new.in_transaction ≡ old.in_transaction
+  pub still : HasCleanDisk (state g new) → IsTrue (state g new).is_open → IsStill (state g old) (state g new)
+  pub survives : Survives (state g old) (state g new) (IsNewBook text)
+
+-- ---- opened
+
+-- what is kept once: the first version of the tables, and the text of the book
+pub record IsKept (trees : Trees) (text : List ℕ) : Type 0 where
+  pub row : Meta
+  pub is : (content_of trees).meta ≡ Some row
+  pub version : row.version ≡ 1
+  pub book : row.book ≡ text
+
+-- the tables are of another version
+pub record IsOtherVersion (trees : Trees) : Type 0 where
+  pub row : Meta
+  pub is : (content_of trees).meta ≡ Some row
+  pub other : ¬ (row.version ≡ 1)
+
+-- the keeper holds what was there, and nothing was written
+pub record IsOpened {S : Type 0} (g : Ghosts S) (old : Held S) (k : KeeperState S) (book : Book) : Type 0
+  where
+    pub fresh : IsFresh k book
+    pub kept : HasCleanDisk (state g k.connection) → IsKept (trees_in g k) k.text
+    pub clean : HasCleanDisk (state g k.connection) → IsClean (state g k.connection)
+    pub still : HasCleanDisk (state g k.connection) → IsStill (state g old) (state g k.connection)
+    pub survives : Survives (state g old) (state g k.connection) (λ _. ⊥)
+
+-- nothing was written
+pub record IsNotOpened {S : Type 0} (g : Ghosts S) (old new : Held S) (fault : OpenFault) : Type 0 where
+  pub survives : Survives (state g old) (state g new) (λ _. ⊥)
+  pub version : HasCleanDisk (state g new) → fault ≡ Version → IsOtherVersion (state g old).now.trees

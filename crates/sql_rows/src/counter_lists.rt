@@ -1,0 +1,45 @@
+ghost use Rattle.std.specs.Prelude.{◌≡◌, map, IfOk};
+ghost use Rattle.sql_rows.specs.Content.{rows_in};
+ghost use Rattle.sql_rows.specs.Values.{counter_cells};
+ghost use Rattle.sql_rows.specs.Lists.{AreCounters};
+ghost use Rattle.sql_tables.specs.Statements.{HasIdleBook, Reads};
+ghost use Rattle.sqlite.specs.Held.{state};
+
+use crate::counter_rows::counter_from;
+use identifiers::AccountNumber;
+use reserving::Counter;
+use sql_tables::{ReadFault, read, text};
+use sqlite::{Alter, Connection, Row};
+use std::alloc::Global;
+
+/// The counters of an account, of each rating group and cycle.
+pub fn read_counters<S: Alter>(
+    conn: &mut Connection<S>,
+    alloc: Global,
+    account: &AccountNumber,
+) -> Result<Vec<Counter>, ReadFault>
+    requires idle { HasIdleBook (state S.Store conn.old) }
+    ensures reads { Reads (λ trees xs. AreCounters (rows_in trees account.now) xs.items)
+        (state S.Store conn.old) (state S.Store conn.new) result }
+{
+    let of_account = text(account.as_str());
+    let rows = read(
+        conn,
+        "SELECT rating_group, cycle, blocks FROM counters WHERE account = ?1",
+        &[of_account],
+    )?;
+    counters_from(alloc, &rows)
+}
+
+fn counters_from(alloc: Global, rows: &[Row]) -> Result<Vec<Counter>, ReadFault>
+    ensures { IfOk result (λ xs. map counter_cells xs.items ≡ rows.now) }
+{
+    let mut counters = Vec::new(alloc);
+    'rows: for row in rows {
+        let counter = counter_from(row)?;
+        let Ok(()) = counters.push(counter) else {
+            return Err(ReadFault::Memory);
+        };
+    }
+    Ok(counters)
+}
