@@ -28,12 +28,12 @@ neither p q true b e f = rw (e, f) (twice b)
 neither p q false b e f = rw e refl
 
 -- the test of the rows is the ledger's
-spent_is_dead : (b : Row) → is_spent b ≡ is_dead b
+pub spent_is_dead : (b : Row) → is_spent b ≡ is_dead b
 spent_is_dead b = neither _ _ (b.available == 0) (b.reserved == 0)
     (some_or_none b.available _ _ refl refl) (some_or_none b.reserved _ _ refl refl)
 
 -- of what is found, that which passes either test
-those_are : {A : Type 0} (p q : A → Bool) → ((x : A) → p x ≡ q x) → (o : Option A)
+pub those_are : {A : Type 0} (p q : A → Bool) → ((x : A) → p x ≡ q x) → (o : Option A)
     → those p o ≡ only q o
 those_are p q same None = refl
 those_are p q same (Some x) = ap (λ (t : Bool). if t then Some x else None) (same x)

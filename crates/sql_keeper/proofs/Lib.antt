@@ -7,6 +7,7 @@ pub mod DeadRows
 pub mod HeldAlong
 pub mod GroupRows
 pub mod LiveGroups
+pub mod LiveRows
 pub mod Changed
 pub mod Empty
 pub mod Opens

@@ -10,6 +10,7 @@ pub mod GroupRows
 pub mod Inside
 pub mod Laws
 pub mod LiveGroups
+pub mod LiveRows
 pub mod Opened
 pub mod Stops
 pub mod Tests

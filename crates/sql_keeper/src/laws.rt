@@ -1,5 +1,6 @@
 ghost use Rattle.sql_keeper.specs.Laws.{AreChangesRead, AreNewTablesEmpty};
 ghost use Rattle.sql_keeper.specs.LiveGroups.{AreOpenGroupsLoaded};
+ghost use Rattle.sql_keeper.specs.LiveRows.{AreLiveRowsLoaded};
 
 /// The rows that a change writes read as the change.
 #[tactic(auto, using(crate::proofs::Changed::changes_read))]
@@ -16,4 +17,10 @@ pub fn new_tables_are_empty()
 #[tactic(auto, using(crate::proofs::LiveGroups::open_loaded))]
 pub fn open_groups_are_loaded()
     ensures { AreOpenGroupsLoaded }
+{}
+
+/// What is read of an account's rows that may still change is what is loaded of them.
+#[tactic(auto, using(crate::proofs::LiveRows::live_loaded))]
+pub fn live_rows_are_loaded()
+    ensures { AreLiveRowsLoaded }
 {}

@@ -14,6 +14,8 @@ mod held_groups;
 mod keeper;
 mod laws;
 mod live_groups;
+mod live_rows;
+mod loading;
 mod opening;
 mod putting;
 mod rebuilding;
@@ -24,7 +26,9 @@ mod texts;
 pub use crate::create_fault::CreateFault;
 pub use crate::faults::counted;
 pub use crate::keeper::SqlKeeper;
-pub use crate::laws::{changes_are_read, new_tables_are_empty, open_groups_are_loaded};
+pub use crate::laws::{
+    changes_are_read, live_rows_are_loaded, new_tables_are_empty, open_groups_are_loaded,
+};
 pub use crate::testing::may_be_written;
 pub use crate::texts::kept_texts;
 pub use sql_opening::OpenFault;

@@ -1,0 +1,126 @@
+-- What may still change of an account is what a load asks.
+use Rattle.std.proofs.Common.{◌≡◌, ℕ, ◌==◌, Bool, true, false, not, List, [], ◌∷◌, Option, Some, None, Result, Ok, Err, IfOk, cond, refl, sym, ap, ◌∙◌, subst, true≢false}
+use Rattle.std.specs.Prelude.{if◌then◌else◌, filter, option_map}
+use Rattle.std.specs.List.{find}
+use Rattle.sqlite_trees.specs.Tree.{Trees}
+use Rattle.sqlite.specs.State.{State}
+use Rattle.buckets.specs.Row.{Row}
+use Rattle.tariffs.specs.Books.{Book}
+use Rattle.reserving.specs.declared.session.Session.{Session}
+use Rattle.reserving.specs.declared.session.Counter.{Counter}
+use Rattle.reserving.specs.Left.{is_dead}
+use Rattle.reserving.specs.Pricing.{cycle_at}
+use Rattle.reserving.specs.Sessions.{is_open, is_counter, counter_in}
+use Rattle.reserving.specs.Rows.{AccountRows}
+use Rattle.reserving.specs.Stored.{StoredRows, stored}
+use Rattle.reserving.proofs.Keys.{first_true, second_true, same_number}
+use Rattle.sql_rows.specs.Content.{Rows as Stored}
+use Rattle.sql_rows.specs.Lists.{AreBuckets, AreCounters, is_live}
+use Rattle.keepers.specs.declared.loaded.Loaded.{Loaded}
+use Rattle.keepers.specs.Change.{IsLoadedFrom, IsLoad, IsView}
+use Rattle.sql_keeper.specs.Content.{head_in, rows_of}
+use Rattle.sql_keeper.specs.LiveGroups.{Gathers}
+use Rattle.sql_keeper.specs.LiveRows.{AreLiveBuckets, AreCountersAt, AreLiveRowsLoaded, IsLiveAccount, IsLoadOf, IsViewOf}
+use Rattle.sql_keeper.proofs.DeadRows.{those_are, spent_is_dead}
+use Rattle.sql_keeper.proofs.LiveGroups.{open_loaded}
+
+-- ---- buckets
+
+twice : (b : Bool) → not (not b) ≡ b
+twice true = refl
+twice false = refl
+
+live_is : (b : Row) → is_live b ≡ not (is_dead b)
+live_is b = sym (twice (is_live b)) ∙ ap not (spent_is_dead b)
+
+pub live_buckets : (rows : Stored) (bs : List Row) → AreBuckets is_live rows bs → AreLiveBuckets rows bs
+live_buckets rows bs found n = found n ∙ those_are is_live (λ b. not (is_dead b)) live_is (rows.buckets n)
+
+pub live_made : {E : Type 0} (rows : Stored) (bs : List Row) (r : Result (List Row) E)
+    → AreBuckets is_live rows bs → IfOk r (λ p. p ≡ bs) → IfOk r (AreLiveBuckets rows)
+live_made rows bs (Ok p) found is = subst (AreLiveBuckets rows) (sym is) (live_buckets rows bs found)
+live_made rows bs (Err e) found is = tt
+
+-- ---- counters
+
+none : {A : Type 0} (b : Bool) (o : Option A) → o ≡ None → o ≡ (if b then o else None)
+none true o e = refl
+none false o e = e
+
+-- a test that tells all rows of a key alike keeps what is found, or none of it
+find_kept : {A : Type 0} (q p : A → Bool) (b : Bool) → ((x : A) → q x ≡ true → p x ≡ b) → (xs : List A)
+    → find q (filter p xs) ≡ (if b then find q xs else None)
+find_kept q p b same [] = none b (find q []) refl
+find_kept q p b same (x ∷ xs) = at b (p x) (q x) refl refl (same x) (find_kept q p b same xs)
+  where
+    at : (b u t : Bool) → p x ≡ u → q x ≡ t → (q x ≡ true → p x ≡ b)
+        → find q (filter p xs) ≡ (if b then find q xs else None)
+        → find q (cond u (x ∷ filter p xs) (filter p xs)) ≡ (if b then cond t (Some x) (find q xs) else None)
+    at true true true e k is rest = rw k refl
+    at true false true e k is rest = absurd (true≢false (sym (is k) ∙ e))
+    at false true true e k is rest = absurd (true≢false (sym e ∙ is k))
+    at false false true e k is rest = rest
+    at b true false e k is rest = rw k rest
+    at b false false e k is rest = rest
+
+cycle_is : (book : Book) (t g c : ℕ) (x : Counter) → is_counter g c x ≡ true
+    → (x.cycle == cycle_at book x.group t) ≡ (c == cycle_at book g t)
+cycle_is book t g c x e = λ i.
+    same_number x.cycle c (second_true (x.group == g) (x.cycle == c) e) i == cycle_at book
+    (same_number x.group g (first_true (x.group == g) (x.cycle == c) e) i) t
+
+pub counters_at : (book : Book) (t : ℕ) (rows : Stored) (all cs : List Counter) → AreCounters rows all
+    → cs ≡ filter (λ r. r.cycle == cycle_at book r.group t) all → AreCountersAt book t rows cs
+counters_at book t rows all cs found is g c =
+    ap (counter_in g c) is
+    ∙ find_kept (is_counter g c) (λ r. r.cycle == cycle_at book r.group t) (c == cycle_at book g t)
+    (cycle_is book t g c) all
+    ∙ ap (λ o. if c == cycle_at book g t then o else None) (found g c)
+
+-- ---- all of it
+
+pub live_loaded : AreLiveRowsLoaded
+live_loaded names book t rows w (head, live) =
+    let groups = open_loaded names rows w.sessions w.groups live.sessions live.groups in
+    record {
+      priced_by = refl;
+      head = ap (option_map head_in) head;
+      buckets = live.buckets;
+      sessions = λ s. live.sessions s
+          ∙ those_are (λ (x : Session). is_open x.state) (λ x. is_open x.state) (λ x. refl) (rows.sessions s);
+      groups = groups.groups;
+      holds = groups.holds;
+      counters = live.counters;
+    }
+
+pub load_made : {E : Type 0} (names : List (List ℕ)) (book : Book) (t : ℕ) (a : List ℕ) (rows : Stored)
+    (o : Option StoredRows) (r : Result (Option Loaded) E) → IfOk r (IsLoadOf book a o)
+    → IsLiveAccount names book t rows o → IfOk r (IsLoad book t a (rows_of names rows))
+load_made names book t a rows None (Ok None) made live = ap (option_map head_in) live
+load_made names book t a rows None (Ok (Some l)) made live = absurd made
+load_made names book t a rows (Some w) (Ok None) made live = absurd made
+load_made names book t a rows (Some w) (Ok (Some l)) (number, account, before) live = (
+  number,
+  subst (IsLoadedFrom book t (rows_of names rows)) (sym account) (live_loaded names book t rows w live),
+  before ∙ ap stored (sym account),
+)
+load_made names book t a rows o (Err e) made live = tt
+
+pub view_made : {E : Type 0} (names : List (List ℕ)) (book : Book) (t : ℕ) (rows : Stored)
+    (o : Option StoredRows) (r : Result (Option AccountRows) E) → IfOk r (IsViewOf book o)
+    → IsLiveAccount names book t rows o → IfOk r (IsView book t (rows_of names rows))
+view_made names book t rows None (Ok None) made live = ap (option_map head_in) live
+view_made names book t rows None (Ok (Some a)) made live = absurd made
+view_made names book t rows (Some w) (Ok None) made live = absurd made
+view_made names book t rows (Some w) (Ok (Some a)) made live =
+    subst (IsLoadedFrom book t (rows_of names rows)) (sym made) (live_loaded names book t rows w live)
+view_made names book t rows o (Err e) made live = tt
+
+-- ---- what was read, made into something else
+
+-- of the tables as they were before, with the faults of what is made of it
+pub gathers_made : {A B E : Type 0} (P : Trees → A → Type 0) (told : Trees → B → Type 0) (old new : State) (x : A)
+    (r : Result B E) → Gathers {A = A} {E = E} P old new (Ok x)
+    → ((trees : Trees) → P trees x → IfOk r (told trees)) → Gathers told old new r
+gathers_made P told old new x r h to =
+    record { found = λ clean on. to old.now.trees (h.found clean on); only = h.only }

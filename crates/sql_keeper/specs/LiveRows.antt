@@ -1,0 +1,82 @@
+-- What may still change of an account, read from the rows of its tables.
+-- Source: profile.
+use Rattle.std.specs.Prelude.{◌≡◌, ℕ, ◌==◌, not, List, Option, Some, None, if◌then◌else◌}
+use Rattle.buckets.specs.Row.{Row}
+use Rattle.tariffs.specs.Books.{Book}
+use Rattle.reserving.specs.declared.session.Session.{Session}
+use Rattle.reserving.specs.declared.session.SessionGroup.{SessionGroup}
+use Rattle.reserving.specs.declared.session.Counter.{Counter}
+use Rattle.reserving.specs.Left.{is_dead, only, bucket_in}
+use Rattle.reserving.specs.Pricing.{cycle_at}
+use Rattle.reserving.specs.Sessions.{is_open, counter_in}
+use Rattle.reserving.specs.Stored.{StoredRows, priced}
+use Rattle.keepers.specs.Change.{IsLoadedFrom}
+use Rattle.keepers.specs.declared.loaded.Loaded.{Loaded}
+use Rattle.reserving.specs.Rows.{AccountRows}
+use Rattle.sql_rows.specs.Content.{Rows as Stored}
+use Rattle.sql_rows.specs.Lists.{AreSessions}
+use Rattle.sql_rows.specs.declared.head.Head.{Head as HeadColumns}
+use Rattle.sql_keeper.specs.Content.{rows_of}
+use Rattle.sql_keeper.specs.LiveGroups.{AreLiveGroups}
+use Rattle.sql_keeper.specs.Writes.{head_of}
+use Rattle.sql_keeper.specs.declared.live_rows.LiveRows.{LiveRows}
+
+-- the buckets that aren't dead: each by its number, and no other
+abbrev pub AreLiveBuckets : Stored → List Row → Type 0
+AreLiveBuckets rows bs = (n : ℕ) → bucket_in n bs ≡ only (λ b. not (is_dead b)) (rows.buckets n)
+
+-- the counters of the cycles at the moment: each by its rating group and cycle, and no other
+abbrev pub AreCountersAt : Book → ℕ → Stored → List Counter → Type 0
+AreCountersAt book t rows cs = (g c : ℕ) →
+    counter_in g c cs ≡ (if c == cycle_at book g t then rows.counters g c else None)
+
+-- all that may still change at the moment; the names are those of the periods of reservations
+pub record AreLiveRows (names : List (List ℕ)) (book : Book) (t : ℕ) (rows : Stored) (bs : List Row)
+    (ss : List Session) (xs : List SessionGroup) (cs : List Counter) : Type 0 where
+  pub buckets : AreLiveBuckets rows bs
+  pub sessions : AreSessions (λ x. is_open x.state) rows ss
+  pub groups : AreLiveGroups names rows ss xs
+  pub counters : AreCountersAt book t rows cs
+
+-- the rows of an account with this head
+abbrev pub account_with : HeadColumns → LiveRows → StoredRows
+account_with h x = record {
+  as_of = h.as_of;
+  barred = h.barred;
+  buckets = x.purse;
+  counters = x.counters.items;
+  sessions = x.sessions.items;
+  groups = x.groups.items;
+  next_bucket = h.next_bucket;
+  next_charge = h.next_charge;
+}
+
+-- the account, with all of it that may still change; there is none where it has no head
+abbrev pub IsLiveAccount : List (List ℕ) → Book → ℕ → Stored → Option StoredRows → Type 0
+IsLiveAccount names book t rows None = rows.head ≡ None
+IsLiveAccount names book t rows (Some w) =
+    (rows.head ≡ Some (head_of w))
+    × AreLiveRows names book t rows w.buckets w.sessions w.groups w.counters
+
+-- it is what a load asks of the account's rows, once the book prices it
+abbrev pub AreLiveRowsLoaded : Type 0
+AreLiveRowsLoaded =
+    (names : List (List ℕ)) (book : Book) (t : ℕ) (rows : Stored) (w : StoredRows)
+    → IsLiveAccount names book t rows (Some w)
+    → IsLoadedFrom book t (rows_of names rows) (priced book w)
+
+-- ---- once they are read
+
+-- the account's number, the account priced by the book, and the same rows once more
+abbrev pub IsLoadOf : Book → List ℕ → Option StoredRows → Option Loaded → Type 0
+IsLoadOf book a None None = Unit {0}
+IsLoadOf book a None (Some l) = ⊥
+IsLoadOf book a (Some w) None = ⊥
+IsLoadOf book a (Some w) (Some l) = (l.number ≡ a) × (l.account ≡ priced book w) × (l.before ≡ w)
+
+-- the account priced by the book
+abbrev pub IsViewOf : Book → Option StoredRows → Option AccountRows → Type 0
+IsViewOf book None None = Unit {0}
+IsViewOf book None (Some a) = ⊥
+IsViewOf book (Some w) None = ⊥
+IsViewOf book (Some w) (Some a) = a ≡ priced book w

@@ -1,0 +1,159 @@
+//! An account with all of it that may still change, loaded to be changed or to be read.
+
+ghost use Rattle.std.specs.Prelude.{◌≡◌, IfOk};
+ghost use Rattle.keepers.specs.Change.{IsLoad, IsView};
+ghost use Rattle.keepers.specs.Keeping.{Reads as Finds};
+ghost use Rattle.reserving.specs.Stored.{priced};
+ghost use Rattle.sql_keeper.specs.Content.{rows_of};
+ghost use Rattle.sql_keeper.specs.Inside.{tables_in, failed_in, clean_in};
+ghost use Rattle.sql_keeper.specs.LiveGroups.{Gathers};
+ghost use Rattle.sql_keeper.specs.LiveRows.{IsLoadOf, IsViewOf};
+ghost use Rattle.sql_rows.specs.Content.{rows_in};
+ghost use Rattle.sql_tables.specs.Statements.{HasIdleBook};
+ghost use Rattle.sqlite.specs.Held.{state};
+
+use crate::faults::counted;
+use crate::keeper::SqlKeeper;
+use crate::live_rows::read_live_account;
+use identifiers::AccountNumber;
+use keepers::{Loaded, StoreFault};
+use reserving::{Account, LoadFault, StoredAccount};
+use sql_tables::ReadFault;
+use sqlite::{Alter, Connection};
+use std::alloc::Global;
+use tariffs::TariffBook;
+use units::Moment;
+
+/// A copy of the rows as an account that the book prices. A reservation that has no prices in it is
+/// out of the rules.
+fn priced_copy<'b>(rows: &StoredAccount, book: &'b TariffBook) -> Result<Account<'b>, ReadFault>
+    ensures { IfOk result (λ account. account ≡ priced book.now rows.now) }
+{
+    match rows.load(book) {
+        Ok(account) => Ok(account),
+        Err(LoadFault::Memory) => Err(ReadFault::Memory),
+        Err(LoadFault::OtherBook) => Err(ReadFault::Rules),
+    }
+}
+
+/// The account of the rows, where there are rows, with the rows once more.
+fn loaded_of<'b>(
+    rows: Option<StoredAccount>,
+    book: &'b TariffBook,
+    number: &AccountNumber,
+) -> Result<Option<Loaded<'b>>, ReadFault>
+    ensures { IfOk result (IsLoadOf book.now number.now rows) }
+{
+    let Some(before) = rows else {
+        return Ok(None);
+    };
+    let number = number.clone()?;
+    let account = priced_copy(&before, book)?;
+    Ok(Some(Loaded {
+        number,
+        account,
+        before,
+    }))
+}
+
+/// The account of the rows, where there are rows.
+fn viewed_of<'b>(
+    rows: &Option<StoredAccount>,
+    book: &'b TariffBook,
+) -> Result<Option<Account<'b>>, ReadFault>
+    ensures { IfOk result (IsViewOf book.now rows.now) }
+{
+    match rows {
+        None => Ok(None),
+        Some(rows) => Ok(Some(priced_copy(rows, book)?)),
+    }
+}
+
+fn load_of<'b, S: Alter>(
+    conn: &mut Connection<S>,
+    alloc: Global,
+    names: &TariffBook,
+    book: &'b TariffBook,
+    account: &AccountNumber,
+    moment: Moment,
+) -> Result<Option<Loaded<'b>>, ReadFault>
+    requires idle { HasIdleBook (state S.Store conn.old) }
+    ensures { Gathers (λ trees found. IsLoad book.now moment account.now
+        (rows_of names.now.periods (rows_in trees account.now)) found)
+        (state S.Store conn.old) (state S.Store conn.new) result }
+{
+    let rows = read_live_account(conn, alloc, account, names, book, moment)?;
+    loaded_of(rows, book, account)
+}
+
+fn view_of<'b, S: Alter>(
+    conn: &mut Connection<S>,
+    alloc: Global,
+    names: &TariffBook,
+    book: &'b TariffBook,
+    account: &AccountNumber,
+    moment: Moment,
+) -> Result<Option<Account<'b>>, ReadFault>
+    requires idle { HasIdleBook (state S.Store conn.old) }
+    ensures { Gathers (λ trees found. IsView book.now moment
+        (rows_of names.now.periods (rows_in trees account.now)) found)
+        (state S.Store conn.old) (state S.Store conn.new) result }
+{
+    let rows = read_live_account(conn, alloc, account, names, book, moment)?;
+    viewed_of(&rows, book)
+}
+
+impl<S: Alter> SqlKeeper<S> {
+    /// What may still change of the account of this number at the moment, priced by the book; None
+    /// where there is no account.
+    ///
+    /// # Errors
+    /// A fault of the store, which is counted, as are rows that are no account's, or a reservation
+    /// that has no prices in the book; want of memory.
+    pub fn load<'b>(
+        &mut self,
+        book: &'b TariffBook,
+        account: &AccountNumber,
+        moment: Moment,
+    ) -> Result<Option<Loaded<'b>>, StoreFault>
+        ensures { Finds (tables_in S.Store) failed_in (clean_in S.Store) self.old self.new
+            (λ found. IsLoad book.now moment account.now
+            ((tables_in S.Store self.old).rows account.now) found) result }
+    {
+        let read = load_of(
+            &mut self.connection,
+            self.alloc,
+            &self.book,
+            book,
+            account,
+            moment,
+        );
+        counted(&mut self.failures, read)
+    }
+
+    /// What may still change of the account of this number at the moment, to be read; None where
+    /// there is no account.
+    ///
+    /// # Errors
+    /// As of `load`.
+    pub fn view<'b>(
+        &mut self,
+        book: &'b TariffBook,
+        account: &AccountNumber,
+        moment: Moment,
+    ) -> Result<Option<Account<'b>>, StoreFault>
+        ensures { Finds (tables_in S.Store) failed_in (clean_in S.Store) self.old self.new
+            (λ found. IsView book.now moment
+            ((tables_in S.Store self.old).rows account.now) found) result }
+    {
+        let read = view_of(
+            &mut self.connection,
+            self.alloc,
+            &self.book,
+            book,
+            account,
+            moment,
+        );
+        counted(&mut self.failures, read)
+    }
+}
