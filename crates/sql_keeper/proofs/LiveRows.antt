@@ -1,5 +1,5 @@
 -- What may still change of an account is what a load asks.
-use Rattle.std.proofs.Common.{◌≡◌, ℕ, ◌==◌, Bool, true, false, not, List, [], ◌∷◌, Option, Some, None, Result, Ok, Err, IfOk, cond, refl, sym, ap, ◌∙◌, subst, true≢false}
+use Rattle.std.proofs.Common.{◌≡◌, ℕ, ◌==◌, Bool, true, false, not, List, [], ◌∷◌, Option, Some, None, Result, Ok, Err, IfOk, IsErrOf, cond, refl, sym, ap, ◌∙◌, subst, true≢false}
 use Rattle.std.specs.Prelude.{if◌then◌else◌, filter, option_map}
 use Rattle.std.specs.List.{find}
 use Rattle.sqlite_trees.specs.Tree.{Trees}
@@ -17,10 +17,14 @@ use Rattle.reserving.proofs.Keys.{first_true, second_true, same_number}
 use Rattle.sql_rows.specs.Content.{Rows as Stored}
 use Rattle.sql_rows.specs.Lists.{AreBuckets, AreCounters, is_live}
 use Rattle.keepers.specs.declared.loaded.Loaded.{Loaded}
+use Rattle.keepers.specs.declared.fault.StoreFault.{StoreFault}
+use Rattle.keepers.specs.declared.fault.StoreFault.TheVariants.{Store}
+use Rattle.keepers.specs.Tables.{Rows, Tables}
 use Rattle.keepers.specs.Change.{IsLoadedFrom, IsLoad, IsView}
+use Rattle.keepers.specs.Keeping.{Reads}
 use Rattle.sql_keeper.specs.Content.{head_in, rows_of}
 use Rattle.sql_keeper.specs.LiveGroups.{Gathers}
-use Rattle.sql_keeper.specs.LiveRows.{AreLiveBuckets, AreCountersAt, AreLiveRowsLoaded, IsLiveAccount, IsLoadOf, IsViewOf}
+use Rattle.sql_keeper.specs.LiveRows.{AreLiveBuckets, AreCountersAt, AreLiveRowsLoaded, IsAccountOf, IsLiveAccount, IsLoadOf}
 use Rattle.sql_keeper.proofs.DeadRows.{those_are, spent_is_dead}
 use Rattle.sql_keeper.proofs.LiveGroups.{open_loaded}
 
@@ -80,7 +84,7 @@ counters_at book t rows all cs found is g c =
 -- ---- all of it
 
 pub live_loaded : AreLiveRowsLoaded
-live_loaded names book t rows w (head, live) =
+live_loaded names book t rows w (head, live, counters) =
     let groups = open_loaded names rows w.sessions w.groups live.sessions live.groups in
     record {
       priced_by = refl;
@@ -90,7 +94,7 @@ live_loaded names book t rows w (head, live) =
           ∙ those_are (λ (x : Session). is_open x.state) (λ x. is_open x.state) (λ x. refl) (rows.sessions s);
       groups = groups.groups;
       holds = groups.holds;
-      counters = live.counters;
+      counters = counters;
     }
 
 pub load_made : {E : Type 0} (names : List (List ℕ)) (book : Book) (t : ℕ) (a : List ℕ) (rows : Stored)
@@ -106,15 +110,41 @@ load_made names book t a rows (Some w) (Ok (Some l)) (number, account, before) l
 )
 load_made names book t a rows o (Err e) made live = tt
 
-pub view_made : {E : Type 0} (names : List (List ℕ)) (book : Book) (t : ℕ) (rows : Stored)
-    (o : Option StoredRows) (r : Result (Option AccountRows) E) → IfOk r (IsViewOf book o)
-    → IsLiveAccount names book t rows o → IfOk r (IsView book t (rows_of names rows))
-view_made names book t rows None (Ok None) made live = ap (option_map head_in) live
-view_made names book t rows None (Ok (Some a)) made live = absurd made
-view_made names book t rows (Some w) (Ok None) made live = absurd made
-view_made names book t rows (Some w) (Ok (Some a)) made live =
-    subst (IsLoadedFrom book t (rows_of names rows)) (sym made) (live_loaded names book t rows w live)
-view_made names book t rows o (Err e) made live = tt
+abbrev answers : {A E : Type 0} → Result A E → Bool
+answers (Ok x) = true
+answers (Err e) = false
+
+abbrev fault_or : {A E : Type 0} → E → Result A E → E
+fault_or d (Ok x) = d
+fault_or d (Err e) = e
+
+-- a load without the rows once more is a view
+pub viewed : {K : Type 0} (content : K → Tables) (failed : K → ℕ) (clean : K → Type 0) (old new : K)
+    (book : Book) (t : ℕ) (a : List ℕ) (rows : Rows) (r : Result (Option Loaded) StoreFault)
+    (q : Result (Option AccountRows) StoreFault) → IsAccountOf r q
+    → Reads content failed clean old new (IsLoad book t a rows) r
+    → Reads content failed clean old new (IsView book t rows) q
+viewed content failed clean old new book t a rows r q is h = record {
+  found = λ now. found r q is (h.found now);
+  same = h.same;
+  cleanness = h.cleanness;
+  cause = record { kept = h.cause.kept; cause = λ e. h.cause.cause (fault r q is e) };
+}
+  where
+    found : (r : Result (Option Loaded) StoreFault) (q : Result (Option AccountRows) StoreFault)
+        → IsAccountOf r q → IfOk r (IsLoad book t a rows) → IfOk q (IsView book t rows)
+    found (Ok None) (Ok None) is load = load
+    found (Ok None) (Ok (Some x)) is load = absurd is
+    found (Ok (Some l)) (Ok None) is load = absurd is
+    found (Ok (Some l)) (Ok (Some x)) is (number, load, before) = subst (IsLoadedFrom book t rows) (sym is) load
+    found r (Err f) is load = tt
+    found (Err e) (Ok o) is load = absurd is
+
+    fault : (r : Result (Option Loaded) StoreFault) (q : Result (Option AccountRows) StoreFault)
+        → IsAccountOf r q → IsErrOf q Store → IsErrOf r Store
+    fault (Ok o) (Err f) is e = absurd is
+    fault (Err d) (Err f) is e = ap (λ x. Err x) (sym is ∙ ap (fault_or f) e)
+    fault r (Ok o) is e = absurd (true≢false (ap answers e))
 
 -- ---- what was read, made into something else
 

@@ -1,6 +1,6 @@
 -- What may still change of an account, read from the rows of its tables.
 -- Source: profile.
-use Rattle.std.specs.Prelude.{◌≡◌, ℕ, ◌==◌, not, List, Option, Some, None, if◌then◌else◌}
+use Rattle.std.specs.Prelude.{◌≡◌, ℕ, ◌==◌, not, List, Option, Some, None, Result, Ok, Err, if◌then◌else◌}
 use Rattle.buckets.specs.Row.{Row}
 use Rattle.tariffs.specs.Books.{Book}
 use Rattle.reserving.specs.declared.session.Session.{Session}
@@ -30,33 +30,34 @@ abbrev pub AreCountersAt : Book → ℕ → Stored → List Counter → Type 0
 AreCountersAt book t rows cs = (g c : ℕ) →
     counter_in g c cs ≡ (if c == cycle_at book g t then rows.counters g c else None)
 
--- all that may still change at the moment; the names are those of the periods of reservations
-pub record AreLiveRows (names : List (List ℕ)) (book : Book) (t : ℕ) (rows : Stored) (bs : List Row)
-    (ss : List Session) (xs : List SessionGroup) (cs : List Counter) : Type 0 where
+-- all that may still change whatever the moment: the buckets that aren't dead, the open sessions,
+-- and what they have of rating groups; the names are those of the periods of reservations
+pub record AreLiveRows (names : List (List ℕ)) (rows : Stored) (bs : List Row) (ss : List Session)
+    (xs : List SessionGroup) : Type 0 where
   pub buckets : AreLiveBuckets rows bs
   pub sessions : AreSessions (λ x. is_open x.state) rows ss
   pub groups : AreLiveGroups names rows ss xs
-  pub counters : AreCountersAt book t rows cs
 
 -- the rows of an account with this head
-abbrev pub account_with : HeadColumns → LiveRows → StoredRows
-account_with h x = record {
+abbrev pub account_with : HeadColumns → LiveRows → List Counter → StoredRows
+account_with h x cs = record {
   as_of = h.as_of;
   barred = h.barred;
   buckets = x.purse;
-  counters = x.counters.items;
+  counters = cs;
   sessions = x.sessions.items;
   groups = x.groups.items;
   next_bucket = h.next_bucket;
   next_charge = h.next_charge;
 }
 
--- the account, with all of it that may still change; there is none where it has no head
+-- the account, with all of it that may still change at the moment; there is none where it has no
+-- head
 abbrev pub IsLiveAccount : List (List ℕ) → Book → ℕ → Stored → Option StoredRows → Type 0
 IsLiveAccount names book t rows None = rows.head ≡ None
 IsLiveAccount names book t rows (Some w) =
-    (rows.head ≡ Some (head_of w))
-    × AreLiveRows names book t rows w.buckets w.sessions w.groups w.counters
+    (rows.head ≡ Some (head_of w)) × AreLiveRows names rows w.buckets w.sessions w.groups
+    × AreCountersAt book t rows w.counters
 
 -- it is what a load asks of the account's rows, once the book prices it
 abbrev pub AreLiveRowsLoaded : Type 0
@@ -74,9 +75,12 @@ IsLoadOf book a None (Some l) = ⊥
 IsLoadOf book a (Some w) None = ⊥
 IsLoadOf book a (Some w) (Some l) = (l.number ≡ a) × (l.account ≡ priced book w) × (l.before ≡ w)
 
--- the account priced by the book
-abbrev pub IsViewOf : Book → Option StoredRows → Option AccountRows → Type 0
-IsViewOf book None None = Unit {0}
-IsViewOf book None (Some a) = ⊥
-IsViewOf book (Some w) None = ⊥
-IsViewOf book (Some w) (Some a) = a ≡ priced book w
+-- the account alone, or the same fault
+abbrev pub IsAccountOf : {E : Type 0} → Result (Option Loaded) E → Result (Option AccountRows) E → Type 0
+IsAccountOf (Ok None) (Ok None) = Unit {0}
+IsAccountOf (Ok None) (Ok (Some a)) = ⊥
+IsAccountOf (Ok (Some l)) (Ok None) = ⊥
+IsAccountOf (Ok (Some l)) (Ok (Some a)) = a ≡ l.account
+IsAccountOf (Ok o) (Err f) = ⊥
+IsAccountOf (Err e) (Ok o) = ⊥
+IsAccountOf (Err e) (Err f) = f ≡ e

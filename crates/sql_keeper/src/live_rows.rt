@@ -23,7 +23,7 @@ use std::alloc::Global;
 use tariffs::TariffBook;
 use units::Moment;
 
-/// What may still change of an account.
+/// What may still change of an account, whatever the moment.
 #[derive(Drop)]
 pub(crate) struct LiveRows {
     /// The buckets that aren't dead.
@@ -32,8 +32,6 @@ pub(crate) struct LiveRows {
     pub sessions: Vec<Session>,
     /// What they have of rating groups.
     pub groups: Vec<SessionGroup>,
-    /// The counters of the cycles at a moment.
-    pub counters: Vec<Counter>,
 }
 
 /// The purse of these rows. They are out of the rules where they don't stand in the order of their
@@ -66,10 +64,10 @@ fn read_purse<S: Alter>(
 fn cycle_of(book: &TariffBook, group: u32, moment: Moment) -> u32
     ensures { result ≡ cycle_at book.now group moment }
 {
-    match book.tariff(group) {
-        Some(tariff) => book.cycle_of(tariff.cycle(), moment),
-        None => 0,
-    }
+    let Some(tariff) = book.tariff(group) else {
+        return 0;
+    };
+    book.cycle_of(tariff.cycle(), moment)
 }
 
 /// Those of the cycles at a moment.
@@ -98,42 +96,43 @@ fn read_counters_at<S: Alter>(
     Ok(counters_at(counters, book, moment))
 }
 
-/// What may still change of an account at a moment. The periods of reservations have the names of
-/// one book, and counters the cycles of the other.
+/// What may still change of an account, whatever the moment. The periods of reservations have the
+/// names of the book.
 fn read_live_rows<S: Alter>(
     conn: &mut Connection<S>,
     alloc: Global,
     account: &AccountNumber,
     names: &TariffBook,
-    book: &TariffBook,
-    moment: Moment,
 ) -> Result<LiveRows, ReadFault>
     requires idle { HasIdleBook (state S.Store conn.old) }
-    ensures { Gathers (λ trees x. AreLiveRows names.now.periods book.now moment
-        (rows_in trees account.now) x.purse x.sessions.items x.groups.items x.counters.items)
+    ensures { Gathers (λ trees x. AreLiveRows names.now.periods (rows_in trees account.now)
+        x.purse x.sessions.items x.groups.items)
         (state S.Store conn.old) (state S.Store conn.new) result }
 {
     let purse = read_purse(conn, alloc, account)?;
     let sessions = read_sessions_open(conn, alloc, account)?;
     let groups = read_live_groups(conn, alloc, account, names, &purse, &sessions)?;
-    let counters = read_counters_at(conn, alloc, account, book, moment)?;
     Ok(LiveRows {
         purse,
         sessions,
         groups,
-        counters,
     })
 }
 
 /// The account of a head and these rows; rows that are no account's are out of the rules.
-fn account_of(alloc: Global, head: &Head, rows: LiveRows) -> Result<StoredAccount, ReadFault>
-    ensures { IfOk result (λ account. account ≡ account_with head.now rows) }
+fn account_of(
+    alloc: Global,
+    head: &Head,
+    rows: LiveRows,
+    counters: Vec<Counter>,
+) -> Result<StoredAccount, ReadFault>
+    ensures { IfOk result (λ account. account ≡ account_with head.now rows counters.items) }
 {
     let given = GivenRows {
         as_of: head.as_of,
         barred: head.barred,
         purse: rows.purse,
-        counters: rows.counters,
+        counters,
         sessions: rows.sessions,
         groups: rows.groups,
         next_bucket: head.next_bucket,
@@ -167,7 +166,8 @@ pub(crate) fn read_live_account<S: Alter>(
     let Some(head) = read_account(conn, account)? else {
         return Ok(None);
     };
-    let rows = read_live_rows(conn, alloc, account, names, book, moment)?;
-    let account = account_of(alloc, &head, rows)?;
+    let rows = read_live_rows(conn, alloc, account, names)?;
+    let counters = read_counters_at(conn, alloc, account, book, moment)?;
+    let account = account_of(alloc, &head, rows, counters)?;
     Ok(Some(account))
 }

@@ -7,7 +7,7 @@ ghost use Rattle.reserving.specs.Stored.{priced};
 ghost use Rattle.sql_keeper.specs.Content.{rows_of};
 ghost use Rattle.sql_keeper.specs.Inside.{tables_in, failed_in, clean_in};
 ghost use Rattle.sql_keeper.specs.LiveGroups.{Gathers};
-ghost use Rattle.sql_keeper.specs.LiveRows.{IsLoadOf, IsViewOf};
+ghost use Rattle.sql_keeper.specs.LiveRows.{IsAccountOf, IsLoadOf};
 ghost use Rattle.sql_rows.specs.Content.{rows_in};
 ghost use Rattle.sql_tables.specs.Statements.{HasIdleBook};
 ghost use Rattle.sqlite.specs.Held.{state};
@@ -56,16 +56,23 @@ fn loaded_of<'b>(
     }))
 }
 
-/// The account of the rows, where there are rows.
-fn viewed_of<'b>(
-    rows: &Option<StoredAccount>,
-    book: &'b TariffBook,
-) -> Result<Option<Account<'b>>, ReadFault>
-    ensures { IfOk result (IsViewOf book.now rows.now) }
+/// What was loaded without the rows once more, to be read.
+fn account_of<'b>(
+    loaded: Result<Option<Loaded<'b>>, StoreFault>,
+) -> Result<Option<Account<'b>>, StoreFault>
+    ensures { IsAccountOf loaded.entry result }
 {
-    match rows {
-        None => Ok(None),
-        Some(rows) => Ok(Some(priced_copy(rows, book)?)),
+    match loaded {
+        Ok(None) => Ok(None),
+        Ok(Some(loaded)) => {
+            let Loaded {
+                number: _,
+                account,
+                before: _,
+            } = loaded;
+            Ok(Some(account))
+        }
+        Err(fault) => Err(fault),
     }
 }
 
@@ -84,23 +91,6 @@ fn load_of<'b, S: Alter>(
 {
     let rows = read_live_account(conn, alloc, account, names, book, moment)?;
     loaded_of(rows, book, account)
-}
-
-fn view_of<'b, S: Alter>(
-    conn: &mut Connection<S>,
-    alloc: Global,
-    names: &TariffBook,
-    book: &'b TariffBook,
-    account: &AccountNumber,
-    moment: Moment,
-) -> Result<Option<Account<'b>>, ReadFault>
-    requires idle { HasIdleBook (state S.Store conn.old) }
-    ensures { Gathers (λ trees found. IsView book.now moment
-        (rows_of names.now.periods (rows_in trees account.now)) found)
-        (state S.Store conn.old) (state S.Store conn.new) result }
-{
-    let rows = read_live_account(conn, alloc, account, names, book, moment)?;
-    viewed_of(&rows, book)
 }
 
 impl<S: Alter> SqlKeeper<S> {
@@ -146,14 +136,7 @@ impl<S: Alter> SqlKeeper<S> {
             (λ found. IsView book.now moment
             ((tables_in S.Store self.old).rows account.now) found) result }
     {
-        let read = view_of(
-            &mut self.connection,
-            self.alloc,
-            &self.book,
-            book,
-            account,
-            moment,
-        );
-        counted(&mut self.failures, read)
+        let loaded = self.load(book, account, moment);
+        account_of(loaded)
     }
 }

@@ -1,12 +1,9 @@
-use Rattle.std.proofs.Common.{refl}
-use Rattle.sql_keeper.proofs.Asked.{asked_in_turn, keeper_after}
+use Rattle.sql_keeper.specs.Inside.{tables_in, failed_in, clean_in}
+use Rattle.sql_keeper.proofs.LiveRows.{viewed}
 use Rattle.sql_keeper.proofs.keeper.SqlKeeper.view.Goals as goal
 
-pub invariant_of-self : goal.invariant_of-self
-invariant_of-self g c = keeper_after g.S.Store _ _ c.self.invariant c.view_of-read.ensures.only
-    c.counted.ensures.bounded
-
 pub returns : goal.returns
-returns g c = rw (← c.self.view_is) (asked_in_turn g.S.Store _ _ _ _ c.view_of-read.result c.counted.result
-    c.self.invariant c.view_of-read.ensures refl c.counted.ensures.handed c.counted.ensures.cause
-    (λ x t. t))
+returns g c = viewed (tables_in g.S.Store) failed_in (clean_in g.S.Store) c.args.self.now c.load-loaded.new.self
+    c.args.book.now c.args.moment c.args.account.now
+    ((tables_in g.S.Store c.args.self.now).rows c.args.account.now) c.load-loaded.result c.account_of.result
+    c.account_of.ensures c.load-loaded.ensures
