@@ -15,6 +15,3 @@ pub use crate::laws::{period_of_entry, shown_at_midnight, weekday_of_date};
 pub use crate::week::{Entry, Period};
 pub use crate::window::Window;
 pub use crate::zone::Zone;
-
-#[cfg(test)]
-mod tests;

@@ -9,6 +9,3 @@ mod runs;
 pub use crate::grant::{Grant, Periods, greatest_grant, greatest_grant_steps};
 pub use crate::price::{rate, rate_steps};
 pub use crate::report::{Part, Rated, cutting, rate_report};
-
-#[cfg(test)]
-mod tests;

@@ -35,6 +35,3 @@ pub use crate::restoring::GivenRows;
 pub use crate::session::{Counter, Reservation, Session, SessionGroup, SessionState};
 pub use crate::settle::Settled;
 pub use crate::stored::StoredAccount;
-
-#[cfg(test)]
-mod tests;

@@ -2,7 +2,7 @@
 //! with a fixed offset: the date's ordinal, its year and month, its weekday and hour, and the timestamp of a midnight;
 //! switches and validity times are those of a search over each second.
 
-use crate::{Calendar, Cycle, Entry, Period, Zone};
+use calendar::{Calendar, Cycle, Entry, Period, Zone};
 use std::alloc::{AllocError, Global};
 use std::process::Abort;
 use std::test::Fail;

@@ -2,8 +2,8 @@
 //! blocks of 60 at 50000 or 100000 micro-units a block; octets in blocks of 1048576, of which the first 100 of a
 //! month are free and the others cost 10000; and events at 90000. What tiers give is compared with a sum over blocks.
 
-use crate::{Grant, Part, Rated, greatest_grant, rate, rate_report};
 use calendar::Period;
+use rating::{Grant, Part, Rated, greatest_grant, rate, rate_report};
 use std::alloc::Global;
 use std::test::Fail;
 use tariffs::{Prices, Side, TariffBook, Tier};

@@ -10,9 +10,9 @@ ghost use Rattle.std.specs.Prelude.{◌≡◌, true, false, None};
 ghost use Rattle.reserving.specs.Sessions.{session_in};
 ghost use Rattle.reserving.specs.Prepared.{reservation_in};
 
-use crate::{Account, Granted, Session, SessionGroup, Settled};
 use buckets::Bucket;
 use identifiers::SessionId;
+use reserving::{Account, Granted, Session, SessionGroup, Settled};
 use std::alloc::Global;
 use std::process::Abort;
 use std::test::Fail;

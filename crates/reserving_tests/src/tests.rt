@@ -1,3 +1,0 @@
-//! The tests, by what is made.
-
-mod restoring;
