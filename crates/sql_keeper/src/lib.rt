@@ -32,6 +32,3 @@ pub use crate::laws::{
 pub use crate::testing::may_be_written;
 pub use crate::texts::kept_texts;
 pub use sql_opening::OpenFault;
-
-#[cfg(test)]
-mod tests;

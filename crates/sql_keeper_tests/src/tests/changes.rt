@@ -1,16 +1,17 @@
 //! The texts of what is kept of a credit, and which rows of a change may be written. A line is a
 //! question and its answer.
 
-use crate::kept_texts;
-use crate::testing::{are_numbered, are_writable};
-use buckets::Holds;
+use buckets::{Holds, Purse};
 use calendar::Period;
 use commands::{Answer, Content, Credit, KeptCredit};
 use identifiers::{AccountNumber, SessionId};
-use keepers::KeptAnswer;
+use keepers::{Change, KeptAnswer};
 use rating::Periods;
-use reserving::{ChargeRow, Reservation, Session, SessionGroup, SessionState};
-use sql_rows::Kept;
+use reserving::{
+    ChargeRow, GivenRows, Reservation, Session, SessionGroup, SessionState, StoredAccount,
+};
+use sql_keeper::{kept_texts, may_be_written};
+use sql_rows::{Head, Kept};
 use sql_tables::ReadFault;
 use std::alloc::Global;
 use std::process::Abort;
@@ -95,8 +96,50 @@ fn charge(alloc: Global, number: u32) -> Result<ChargeRow, Fail> {
     })
 }
 
-/// `FIRST NEXT NUMBERS`: whether charges of these numbers go from the first to below the next.
-fn numbered(alloc: Global, words: &str) -> Result<String, Fail> {
+fn head(next_charge: u64) -> Result<Option<Head>, Fail> {
+    Ok(Some(Head {
+        barred: false,
+        as_of: moment()?,
+        next_bucket: 1,
+        next_charge,
+    }))
+}
+
+/// An account without buckets.
+fn stored(
+    alloc: Global,
+    sessions: Vec<Session>,
+    groups: Vec<SessionGroup>,
+    next_charge: u64,
+) -> Result<StoredAccount, Fail> {
+    let rows = GivenRows {
+        as_of: moment()?,
+        barred: false,
+        purse: Purse::new(alloc),
+        counters: Vec::new(alloc),
+        sessions,
+        groups,
+        next_bucket: 1,
+        next_charge,
+    };
+    Ok(StoredAccount::from_rows(alloc, rows).ok_or("an account")?)
+}
+
+/// The change of a new account into this one.
+fn change(alloc: Global, after: StoredAccount, charges: Vec<ChargeRow>) -> Result<Change, Fail> {
+    Ok(Change {
+        moment: moment()?,
+        number: account(alloc, "49151")?,
+        after,
+        before: stored(alloc, Vec::new(alloc), Vec::new(alloc), 1)?,
+        charges,
+        kept: None,
+    })
+}
+
+/// `FIRST NEXT NUMBERS`: whether charges of these numbers may be written where the account's next
+/// charge was the first and becomes the next.
+fn numbered(alloc: Global, book: &TariffBook, words: &str) -> Result<String, Fail> {
     let (first, words) = words.split_once(" ").ok_or("a number")?;
     let (next, numbers) = words.split_once(" ").ok_or("a number and a list")?;
     let mut charges = Vec::new(alloc);
@@ -105,8 +148,15 @@ fn numbered(alloc: Global, words: &str) -> Result<String, Fail> {
             charges.push(charge(alloc, number.parse::<u32>()?)?)?;
         }
     }
-    let (first, next) = (first.parse::<u64>()?, next.parse::<u64>()?);
-    Ok(format!(in alloc; "{}", are_numbered(charges.as_slice(), first, next))?)
+    let after = stored(
+        alloc,
+        Vec::new(alloc),
+        Vec::new(alloc),
+        next.parse::<u64>()?,
+    )?;
+    let change = change(alloc, after, charges)?;
+    let may = may_be_written(book, &head(first.parse::<u64>()?)?, &change);
+    Ok(format!(in alloc; "{}", may)?)
 }
 
 fn state(word: &str) -> SessionState {
@@ -156,9 +206,9 @@ fn groups(alloc: Global, words: &str) -> Result<Vec<SessionGroup>, Fail> {
 /// `STATE PERIODS`: whether a reservation of these periods may stand in a session of this state.
 fn writable(alloc: Global, book: &TariffBook, words: &str) -> Result<String, Fail> {
     let (word, words) = words.split_once(" ").ok_or("a state and periods")?;
-    let sessions = sessions(alloc, word)?;
-    let groups = groups(alloc, words)?;
-    let may = are_writable(book, sessions.as_slice(), groups.as_slice());
+    let after = stored(alloc, sessions(alloc, word)?, groups(alloc, words)?, 1)?;
+    let change = change(alloc, after, Vec::new(alloc))?;
+    let may = may_be_written(book, &head(1)?, &change);
     Ok(format!(in alloc; "{}", may)?)
 }
 
@@ -166,7 +216,7 @@ fn outcome(alloc: Global, book: &TariffBook, question: &str, words: &str) -> Res
     match question {
         "content" => content(alloc, words),
         "answer" => answer(alloc, words),
-        "numbered" => numbered(alloc, words),
+        "numbered" => numbered(alloc, book, words),
         _ => writable(alloc, book, words),
     }
 }
