@@ -15,7 +15,7 @@ use Rattle.reserving.specs.declared.session.SessionGroup.{SessionGroup}
 use Rattle.reserving.specs.declared.session.Reservation.{Reservation}
 use Rattle.reserving.specs.declared.session.Counter.{Counter}
 use Rattle.rating.specs.declared.grant.Periods.{Periods}
-use Rattle.reserving.specs.Ledger.{Fact, Dated, Ledger, or_else, open_grant, held, only, used, counter, has_group, has_counter, inner, is_live, is_same, units_in, names_group, grant_in, counts_group, blocks_in, uses_in, credits_in, any, newest}
+use Rattle.reserving.specs.Ledger.{Fact, Dated, Ledger, or_else, open_grant, held, only, used, counter, has_group, has_counter, inner, is_live, is_same, units_in, names_group, grant_in, counts_group, blocks_in, uses_in, credits_in, newest, total, next_bucket, next_charge}
 use Rattle.reserving.specs.Ledger.Fact.{End, Use, Charge, Credit, Grant, Hold as HoldFact, Touch, Close, Recorded, Barred}
 use Rattle.reserving.specs.Pricing.{cycle_at}
 use Rattle.reserving.specs.Keyed.{put}
@@ -30,7 +30,7 @@ use Rattle.reserving.proofs.Keys.{is_key, own_key, key_session, key_group, key_o
 use Rattle.reserving.proofs.Holds.{one_if, held_split, held_same}
 use Rattle.reserving.proofs.SettledFacts.{is_barred-front, total-front, newest-front, any-front, any_dated-front, each_charge, held-charge_facts, charged-charge_facts, IsMoved, SameSessions, SameGroup, same_session, same_touched, same_group}
 use Rattle.reserving.proofs.ledger.SettledBuckets.{with_end, buckets_at-settled, buckets_at-ended, same_sessions-settled, same_sessions-ended}
-use Rattle.reserving.proofs.rows.Complete.{reserved_in_is}
+use Rattle.reserving.proofs.rows.Complete.{row_with, reserved_in_is}
 
 -- ---- what wasn't named is 0
 
@@ -107,14 +107,7 @@ open_none s g (d ∷ older) h =
 
 either_periods : (h l : Bool) (hs : List Hold) (p : Option Periods) (used : ℕ) (s : List ℕ) (g : ℕ)
     → l ≡ true → (h ≡ false → p ≡ None) →
-    (let x : SessionGroup =
-    record {
-      session = s;
-      group = g;
-      used = used;
-      reservation = if l then reservation_of hs p
-          else None;
-    } in
+    (let x : SessionGroup = row_with s g used (if l then reservation_of hs p else None) in
     option_map (λ (r : Reservation). r.periods)
     (unwrap_or (if h then Some x else None) (new_group s g)).reservation ≡ p)
 either_periods true true hs None used s g e k = refl
@@ -184,6 +177,52 @@ count_in_is ledger a g c rows =
     (record { group = g; cycle = c; blocks = counter (cycle_at a.book g) g c ledger })
     (counter_none (cycle_at a.book g) g c ledger)
 
+-- ---- charges, and a use in front of them
+
+charges_first : (f : Dated → ℕ) (t : ℕ) (hs : List Hold) (ledger : Ledger) →
+    ((b n : ℕ) → f (record { at = t; fact = Charge b n }) ≡ 0) →
+    total f (charge_facts t hs ++ ledger) ≡ total f ledger
+charges_first f t hs ledger none =
+    total-front f (charge_facts t hs) ledger (each_charge (λ d. f d ≡ 0) t hs none)
+
+pub next_bucket-charges : (t : ℕ) (hs : List Hold) (ledger : Ledger) →
+    next_bucket (charge_facts t hs ++ ledger) ≡ next_bucket ledger
+next_bucket-charges t hs ledger =
+    ap (λ n. n + 1) (charges_first (λ d. credits_in d.fact) t hs ledger (λ b n. refl))
+
+pub next_charge-charges : (t : ℕ) (hs : List Hold) (ledger : Ledger) →
+    next_charge (charge_facts t hs ++ ledger) ≡ next_charge ledger
+next_charge-charges t hs ledger =
+    ap (λ n. n + 1) (charges_first (λ d. uses_in d.fact) t hs ledger (λ b n. refl))
+
+-- the use is the session's
+pub own_named : (s : List ℕ) (g : ℕ) (ledger : Ledger) →
+    (is_key s g s g || has_group s g ledger) ≡ true
+own_named s g ledger = λ i. own_key s g i || has_group s g ledger
+
+pub own_used : (s : List ℕ) (g units t : ℕ) (hs : List Hold) (ledger : Ledger) →
+    (if is_key s g s g then units else 0) + used s g (charge_facts t hs ++ ledger)
+    ≡ used s g ledger + units
+own_used s g units t hs ledger =
+    let all : (if is_key s g s g then units else 0) ≡ units = rw (own_key s g) refl in
+    omega (arith, charges_first (λ d. units_in s g d.fact) t hs ledger (λ b n. refl))
+
+-- the use is another session's or another group's
+pub other_named : (session : List ℕ) (group : ℕ) (s : List ℕ) (g t : ℕ) (hs : List Hold)
+    (ledger : Ledger) → is_key session group s g ≡ false →
+    (is_key session group s g || has_group s g (charge_facts t hs ++ ledger)) ≡ has_group s g ledger
+other_named session group s g t hs ledger h =
+    (λ i. h i || has_group s g (charge_facts t hs ++ ledger))
+    ∙ any-front (names_group s g) (charge_facts t hs) ledger (each_charge _ t hs (λ b n. refl))
+
+pub other_used : (session : List ℕ) (group units : ℕ) (s : List ℕ) (g t : ℕ) (hs : List Hold)
+    (ledger : Ledger) → is_key session group s g ≡ false →
+    (if is_key session group s g then units else 0) + used s g (charge_facts t hs ++ ledger)
+    ≡ used s g ledger
+other_used session group units s g t hs ledger h =
+    let none : (if is_key session group s g then units else 0) ≡ 0 = rw h refl in
+    omega (arith, charges_first (λ d. units_in s g d.fact) t hs ledger (λ b n. refl))
+
 -- ---- the groups of the ledger with the settlement
 
 -- an end of one reservation leaves the others
@@ -224,16 +263,9 @@ pub other_settled : (v t : ℕ) (session : List ℕ) (group units blocks rated :
     SameGroup s g ledger (settled v t session group units blocks rated ledger)
 other_settled v t session group units blocks rated ledger s g h =
     let hs : List Hold = parts_paid v t session group rated ledger in
-    let none : (if is_same session s && group == g then units else 0) ≡ 0 = rw h refl in
     record {
-      named = (λ i. h i || any (names_group s g) (charge_facts t hs ++ ledger))
-          ∙ any-front (names_group s g) (charge_facts t hs) ledger
-          (each_charge _ t hs (λ b n. refl));
-      used = omega (
-        arith,
-        total-front (λ d. units_in s g d.fact) (charge_facts t hs) ledger
-            (each_charge _ t hs (λ b n. refl)),
-      );
+      named = other_named session group s g t hs ledger h;
+      used = omega (arith, other_used session group units s g t hs ledger h);
       grant = (λ i. inner
           (or_else (if h i then Some None else None)
           (newest (grant_in s g) (charge_facts t hs ++ ledger))))
@@ -260,11 +292,6 @@ either_none : (l : Bool) (hs : List Hold) (p : Option (Option _)) → p ≡ Some
 either_none true hs p e = ap (λ x. reservation_of hs (inner x)) e
 either_none false hs p e = refl
 
--- the row of a session's group, by its use and its reservation
-abbrev pub row_with : List ℕ → ℕ → ℕ → Option Reservation → SessionGroup
-row_with s g units reservation =
-    record { session = s; group = g; used = units; reservation = reservation }
-
 pub own_row : (s : List ℕ) (g : ℕ) (h : Bool) (u w : ℕ) (o p : Option Reservation) → h ≡ true →
     u ≡ w → o ≡ p → (if h then Some (row_with s g u o) else None) ≡ Some (row_with s g w p)
 own_row s g h u w o p named used kept =
@@ -281,21 +308,14 @@ own_settled : (v t : ℕ) (session : List ℕ) (group units blocks rated : ℕ) 
 own_settled v t session group units blocks rated ledger =
     let after : Ledger = settled v t session group units blocks rated ledger in
     let hs : List Hold = parts_paid v t session group rated ledger in
-    let own : is_key session group session group ≡ true = own_key session group in
     let named : has_group session group after ≡ true =
-    λ i. own i || any (names_group session group) (charge_facts t hs ++ ledger) in
-    let all : (if is_same session session && group == group then units else 0) ≡ units =
-    rw own refl in
+    own_named session group (charge_facts t hs ++ ledger) in
     let so_far : used session group after ≡ used session group ledger + units =
-    omega (
-      arith,
-      total-front (λ d. units_in session group d.fact) (charge_facts t hs) ledger
-          (each_charge _ t hs (λ b n. refl)),
-    ) in
+    omega (arith, own_used session group units t hs ledger) in
     let none : reservation_at v t after session group ≡ None =
     either_none (is_live v t after session) (holds_at v t session group after)
     (newest (grant_in session group) after)
-    (λ i. or_else (if own i then Some None else None)
+    (λ i. or_else (if own_key session group i then Some None else None)
     (newest (grant_in session group) (charge_facts t hs ++ ledger))) in
     own_row session group _ _ _ _ _ named so_far none
 
@@ -589,20 +609,9 @@ IsRowsOf-settled ledger a session group units blocks rated account rows live =
       counters =
           counters-settled (cycle_at a.book) v t session group units blocks rated ledger a.counters
           (count_in_is ledger a group (cycle_at a.book group t) rows) rows.counters;
-      next_bucket =
-          rows.next_bucket
-          ∙ omega (
-            arith,
-            total-front (λ d. credits_in d.fact) (charge_facts t hs) ledger
-                (each_charge _ t hs (λ b n. refl)),
-          );
+      next_bucket = rows.next_bucket ∙ omega (arith, next_bucket-charges t hs ledger);
       next_charge =
-          ap (λ n. n + 1) rows.next_charge
-          ∙ omega (
-            arith,
-            total-front (λ d. uses_in d.fact) (charge_facts t hs) ledger
-                (each_charge _ t hs (λ b n. refl)),
-          );
+          ap (λ n. n + 1) rows.next_charge ∙ omega (arith, next_charge-charges t hs ledger);
       touched = same_touched ledger after same rows.touched;
       unknown =
           λ s e. unknown-settled v t session group units blocks rated ledger s

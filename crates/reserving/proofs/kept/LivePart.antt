@@ -13,7 +13,7 @@ use Rattle.reserving.specs.declared.session.Reservation.{Reservation}
 use Rattle.reserving.specs.declared.session.Counter.{Counter}
 use Rattle.reserving.specs.Pricing.{cycle_at}
 use Rattle.reserving.specs.Sessions.{is_session, is_of, is_counter, is_open, session_in, holds_in, held_by}
-use Rattle.reserving.specs.Rows.{EachIn, AreApart, IsInOrderOf, IsAccount}
+use Rattle.reserving.specs.Rows.{AccountRows, EachIn, AreApart, IsInOrderOf, IsAccount}
 use Rattle.reserving.specs.Stored.{StoredRows, IsStored}
 use Rattle.reserving.specs.Left.{is_dead, is_open_row}
 use Rattle.reserving.specs.Live.{is_live_group, live_part}
@@ -86,3 +86,27 @@ IsAccount-live book t others w ranges is apart counted = record {
       (λ g. IsInOrderOf (filter (λ b. not (is_dead b)) w.buckets) (holds_in g.reservation))
       (is_live_group w.sessions) w.groups (order_live w.buckets w.groups is.held is.order);
 }
+
+-- the account that is made of what was copied
+pub live_made : (book : Book) (t : ℕ) (others : List Counter) (w : StoredRows)
+    {copied buckets : List Row} {given counters : List Counter} {sessions all : List Session}
+    {groups : List SessionGroup} →
+    buckets ≡ filter (λ b. not (is_dead b)) copied → copied ≡ w.buckets →
+    counters ≡ filter (λ r. r.cycle == cycle_at book r.group t) (others ++ given) →
+    given ≡ w.counters → sessions ≡ filter (λ r. is_open r.state) w.sessions →
+    groups ≡ filter (is_live_group all) w.groups → all ≡ w.sessions →
+    (let a : AccountRows =
+    record (live_part book t others w) {
+      buckets = buckets;
+      counters = counters;
+      sessions = sessions;
+      groups = groups;
+    } in a) ≡ live_part book t others w
+live_made book t others w buckets_are copied_is counters_are given_is open_are groups_are all_is =
+    λ i. record (live_part book t others w) {
+      buckets = (buckets_are ∙ ap (filter (λ b. not (is_dead b))) copied_is) i;
+      counters = (counters_are ∙ ap (λ xs. filter
+          (λ (r : Counter). r.cycle == cycle_at book r.group t) (others ++ xs)) given_is) i;
+      sessions = open_are i;
+      groups = (groups_are ∙ ap (λ xs. filter (is_live_group xs) w.groups) all_is) i;
+    }

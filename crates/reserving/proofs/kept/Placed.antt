@@ -277,6 +277,23 @@ placed_by b given rows t same is all =
     (sym (ap (list_all (λ (r : SessionGroup). is_placed b r.group r.reservation)) same)
     ∙ sym is ∙ all)
 
+-- the same of rows that are kept so
+pub rows_placed : (b : Book) (given : List SessionGroup) (kept rows : StoredRows) (t : Bool) →
+    given ≡ kept.groups → t ≡ list_all (λ r. is_placed b r.group r.reservation) given →
+    kept ≡ rows → t ≡ true → ArePlaced b rows.groups
+rows_placed b given kept rows t same is view all =
+    subst (λ (r : StoredRows). ArePlaced b r.groups) view
+    (placed_by b given kept.groups t same is all)
+
+pub not_placed : (b : Book) (given : List SessionGroup) (kept rows : StoredRows) (t : Bool) →
+    given ≡ kept.groups → t ≡ list_all (λ r. is_placed b r.group r.reservation) given →
+    kept ≡ rows → t ≡ false → ArePlaced b rows.groups → ⊥
+not_placed b given kept rows t same is view none placed =
+    false≢true
+    (sym none ∙ is ∙ ap (list_all (λ (r : SessionGroup). is_placed b r.group r.reservation)) same
+    ∙ each_placed b kept.groups
+    (subst (λ (r : StoredRows). ArePlaced b r.groups) (sym view) placed))
+
 pub IsPriced-priced : (book : Book) (r : StoredRows) → IsBook book → IsStored r →
     ArePlaced book r.groups → IsPriced (priced book r)
 IsPriced-priced book r ranges is placed =

@@ -269,18 +269,16 @@ none_in : (o : Option Reservation) → is_some o ≡ false → holds_in o ≡ []
 none_in None h = refl
 none_in (Some x) h = cc
 
+-- the row of a session's group, by its use and its reservation
+abbrev pub row_with : List ℕ → ℕ → ℕ → Option Reservation → SessionGroup
+row_with s g units reservation =
+    record { session = s; group = g; used = units; reservation = reservation }
+
 abbrev either_row : Bool → SessionGroup → List ℕ → ℕ → SessionGroup
 either_row h x s g = unwrap_or (if h then Some x else None) (new_group s g)
 
 either_holds : (h l : Bool) (hs : List Hold) (p : Option Periods) (used : ℕ) (s : List ℕ) (g : ℕ) →
-    (let x : SessionGroup =
-    record {
-      session = s;
-      group = g;
-      used = used;
-      reservation = if l then reservation_of hs p
-          else None;
-    } in
+    (let x : SessionGroup = row_with s g used (if l then reservation_of hs p else None) in
     is_some (either_row h x s g).reservation ≡ true →
     holds_in (either_row h x s g).reservation ≡ hs)
 either_holds true l hs p used s g e = reservation_holds l hs p e

@@ -9,7 +9,7 @@ use Rattle.buckets.specs.Holding.{held_in, paid, paid_of_hold, paid_of_rest, set
 use Rattle.buckets.proofs.Parts.{sum_at, sum_at-parts}
 use Rattle.reserving.specs.declared.session.SessionGroup.{SessionGroup}
 use Rattle.rating.specs.declared.grant.Periods.{Periods}
-use Rattle.reserving.specs.Ledger.{Ledger, charged, open_grant, held, only, used, counter, has_group, has_counter, inner, is_live, is_same, units_in, names_group, grant_in, counts_group, blocks_in, uses_in, credits_in, any}
+use Rattle.reserving.specs.Ledger.{Ledger, charged, open_grant, held, only, used, counter, has_group, has_counter, inner, is_live, is_same, grant_in, counts_group, blocks_in}
 use Rattle.reserving.specs.Pricing.{cycle_at}
 use Rattle.reserving.specs.Keyed.{put}
 use Rattle.reserving.specs.Balance.{credits, balance_of, bucket_at, buckets_at}
@@ -24,7 +24,8 @@ use Rattle.reserving.proofs.SettledFacts.{is_barred-front, total-front, newest-f
 use Rattle.reserving.proofs.ledger.Columns.{balanced_le}
 use Rattle.reserving.proofs.ledger.SettledBuckets.{balance_by-settled, eligible_le}
 use Rattle.reserving.proofs.kept.Settled.{settled_number}
-use Rattle.reserving.proofs.SettledRows.{own_row, used_in_is, count_in_is, open_none, if_none, counters_used, differs_above, sum_at_none}
+use Rattle.reserving.proofs.rows.Complete.{row_with}
+use Rattle.reserving.proofs.SettledRows.{own_row, own_named, own_used, other_named, other_used, next_bucket-charges, next_charge-charges, used_in_is, count_in_is, open_none, if_none, counters_used, differs_above, sum_at_none}
 
 -- what each bucket pays of an event's price
 abbrev shares : ℕ → ℕ → ℕ → ℕ → Ledger → List Hold
@@ -134,30 +135,16 @@ other_debited : (v t : ℕ) (session : List ℕ) (group units blocks rated : ℕ
     SameGroup s g ledger (charged_use v t session group units blocks rated ledger)
 other_debited v t session group units blocks rated ledger s g h =
     let hs : List Hold = shares v t group rated ledger in
-    let none : (if is_same session s && group == g then units else 0) ≡ 0 = rw h refl in
     record {
-      named = (λ i. h i || any (names_group s g) (charge_facts t hs ++ ledger))
-          ∙ any-front (names_group s g) (charge_facts t hs) ledger
-          (each_charge _ t hs (λ b n. refl));
-      used = omega (
-        arith,
-        total-front (λ d. units_in s g d.fact) (charge_facts t hs) ledger
-            (each_charge _ t hs (λ b n. refl)),
-      );
+      named = other_named session group s g t hs ledger h;
+      used = other_used session group units s g t hs ledger h;
       grant = same_grant v t session group units blocks rated ledger s g;
       held = same_held v t session group units blocks rated ledger (only s g);
     }
 
 either_reservation : (h l : Bool) (hs : List Hold) (p : Option Periods) (used : ℕ) (s : List ℕ)
     (g : ℕ) → (h ≡ false → p ≡ None) →
-    (let x : SessionGroup =
-    record {
-      session = s;
-      group = g;
-      used = used;
-      reservation = if l then reservation_of hs p
-          else None;
-    } in
+    (let x : SessionGroup = row_with s g used (if l then reservation_of hs p else None) in
     (unwrap_or (if h then Some x else None) (new_group s g)).reservation
     ≡ (if l then reservation_of hs p else None))
 either_reservation true l hs p used s g k = refl
@@ -186,17 +173,10 @@ own_debited : (v t : ℕ) (session : List ℕ) (group units blocks rated : ℕ) 
 own_debited v t session group units blocks rated ledger does moved =
     let after : Ledger = charged_use v t session group units blocks rated ledger in
     let hs : List Hold = shares v t group rated ledger in
-    let own : is_key session group session group ≡ true = own_key session group in
     let named : has_group session group after ≡ true =
-    λ i. own i || any (names_group session group) (charge_facts t hs ++ ledger) in
-    let all : (if is_same session session && group == group then units else 0) ≡ units =
-    rw own refl in
+    own_named session group (charge_facts t hs ++ ledger) in
     let so_far : used session group after ≡ used session group ledger + units =
-    omega (
-      arith,
-      total-front (λ d. units_in session group d.fact) (charge_facts t hs) ledger
-          (each_charge _ t hs (λ b n. refl)),
-    ) in
+    own_used session group units t hs ledger in
     let kept : reservation_at v t after session group ≡ reservation_at v t ledger session group =
     same_reservation does v t ledger after session group moved
     (same_sessions-debited v t session group units blocks rated ledger)
@@ -329,20 +309,9 @@ IsRowsOf-debited ledger a session group units blocks rated account rows =
           (counter-debited v t session group units blocks rated ledger)
           (has_counter-debited v t session group units blocks rated ledger)
           (count_in_is ledger a group (cycle_at a.book group t) rows) rows.counters;
-      next_bucket =
-          rows.next_bucket
-          ∙ omega (
-            arith,
-            total-front (λ d. credits_in d.fact) (charge_facts t hs) ledger
-                (each_charge _ t hs (λ b n. refl)),
-          );
+      next_bucket = rows.next_bucket ∙ omega (arith, next_bucket-charges t hs ledger);
       next_charge =
-          ap (λ n. n + 1) rows.next_charge
-          ∙ omega (
-            arith,
-            total-front (λ d. uses_in d.fact) (charge_facts t hs) ledger
-                (each_charge _ t hs (λ b n. refl)),
-          );
+          ap (λ n. n + 1) rows.next_charge ∙ omega (arith, next_charge-charges t hs ledger);
       touched = same_touched ledger after same rows.touched;
       unknown =
           λ s e. unknown-debited v t session group units blocks rated ledger s

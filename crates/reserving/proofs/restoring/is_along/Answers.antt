@@ -1,4 +1,4 @@
-use Rattle.std.proofs.Common.{rules, ◌≡◌, ◌≤◌, [], ◌==◌, drop, length, arith}
+use Rattle.std.proofs.Common.{rules, ◌≡◌, ◌≤◌, ◌==◌, length, arith}
 use Rattle.std.proofs.lemmas.List.{drop_all}
 use Rattle.reserving.proofs.Restored.{along_end}
 use Rattle.reserving.proofs.restoring.is_along.Goals as goal
