@@ -1,0 +1,250 @@
+//! What is loaded of an account that was written, as one text.
+
+use buckets::{Bucket, Columns, Hold, Holds, Purse};
+use calendar::Period;
+use identifiers::{AccountNumber, SessionId};
+use keepers::Change;
+use rating::Periods;
+use reserving::{
+    Account, Counter, GivenRows, Reservation, Session, SessionGroup, SessionState, StoredAccount,
+};
+use sql_keeper::SqlKeeper;
+use sqlite::{Connection, MemStore};
+use std::alloc::Global;
+use std::test::Fail;
+use tariffs::TariffBook;
+use units::Moment;
+
+/// Monday, 2026-01-05, 10:00: the month has number 684.
+const AT: u64 = 1_767_607_200;
+
+const END: u64 = 1_767_700_000;
+
+fn moment(seconds: u64) -> Result<Moment, Fail> {
+    Ok(Moment::new(seconds).ok_or("a moment")?)
+}
+
+fn number(alloc: Global, text: &str) -> Result<AccountNumber, Fail> {
+    Ok(AccountNumber::new(alloc, text)?.ok_or("an account")?)
+}
+
+fn session_id(alloc: Global, name: &str) -> Result<SessionId, Fail> {
+    Ok(SessionId::new(alloc, name)?.ok_or("a session")?)
+}
+
+/// A bucket of 10 micro-units.
+fn bucket(number: u32, available: u64, reserved: u64, charged: u64) -> Result<Bucket, Fail> {
+    let columns = Columns {
+        number,
+        from: moment(AT)?,
+        until: moment(END)?,
+        scope: None,
+        credited: 10,
+        available,
+        reserved,
+        charged,
+        expired: 0,
+    };
+    Ok(Bucket::from_columns(&columns).ok_or("a bucket")?)
+}
+
+fn purse(alloc: Global) -> Result<Purse, Fail> {
+    let mut buckets = Vec::new(alloc);
+    buckets.push(bucket(1, 0, 0, 10)?)?;
+    buckets.push(bucket(2, 7, 3, 0)?)?;
+    Ok(Purse::from_buckets(alloc, buckets).ok_or("a purse")?)
+}
+
+fn counters(alloc: Global) -> Result<Vec<Counter>, Fail> {
+    let mut rows = Vec::new(alloc);
+    for (group, cycle, blocks) in [(10, 0, 2), (20, 683, 9), (20, 684, 4)] {
+        rows.push(Counter {
+            group,
+            cycle,
+            blocks,
+        })?;
+    }
+    Ok(rows)
+}
+
+fn session(alloc: Global, name: &str, state: SessionState) -> Result<Session, Fail> {
+    Ok(Session {
+        id: session_id(alloc, name)?,
+        last_number: 1,
+        touched: moment(AT)?,
+        state,
+    })
+}
+
+fn sessions(alloc: Global) -> Result<Vec<Session>, Fail> {
+    let mut rows = Vec::new(alloc);
+    rows.push(session(alloc, "open", SessionState::Open)?)?;
+    rows.push(session(alloc, "over", SessionState::Ended)?)?;
+    Ok(rows)
+}
+
+/// A reservation of 3 micro-units of the second bucket.
+fn reservation(alloc: Global) -> Result<Reservation, Fail> {
+    let mut items = Vec::new(alloc);
+    items.push(Hold {
+        bucket: 2,
+        amount: 3,
+    })?;
+    Ok(Reservation {
+        periods: Periods {
+            before: Period(1),
+            after: Period(0),
+        },
+        holds: Holds::from_items(items).ok_or("holds")?,
+    })
+}
+
+fn groups(alloc: Global) -> Result<Vec<SessionGroup>, Fail> {
+    let mut rows = Vec::new(alloc);
+    rows.push(SessionGroup {
+        session: session_id(alloc, "open")?,
+        group: 10,
+        used: 60,
+        reservation: Some(reservation(alloc)?),
+    })?;
+    rows.push(SessionGroup {
+        session: session_id(alloc, "over")?,
+        group: 10,
+        used: 120,
+        reservation: None,
+    })?;
+    Ok(rows)
+}
+
+/// An account with two buckets, the first of them dead, two sessions, one of them over, and counters
+/// of two months.
+fn account(alloc: Global) -> Result<StoredAccount, Fail> {
+    let rows = GivenRows {
+        as_of: moment(AT)?,
+        barred: false,
+        purse: purse(alloc)?,
+        counters: counters(alloc)?,
+        sessions: sessions(alloc)?,
+        groups: groups(alloc)?,
+        next_bucket: 3,
+        next_charge: 1,
+    };
+    Ok(StoredAccount::from_rows(alloc, rows).ok_or("an account")?)
+}
+
+fn add(text: &mut String, line: &str) -> Result<(), Fail> {
+    text.push_str(line)?;
+    text.push_str("\n")?;
+    Ok(())
+}
+
+fn tell_purse(alloc: Global, text: &mut String, account: &Account) -> Result<(), Fail> {
+    for bucket in account.purse().buckets() {
+        let (number, available) = (bucket.number(), bucket.available());
+        add(
+            text,
+            format!(in alloc; "bucket {} has {}", number, available)?.as_str(),
+        )?;
+    }
+    Ok(())
+}
+
+fn tell_sessions(text: &mut String, account: &Account) -> Result<(), Fail> {
+    for session in account.sessions() {
+        add(text, session.id.as_str())?;
+    }
+    Ok(())
+}
+
+fn tell_groups(alloc: Global, text: &mut String, account: &Account) -> Result<(), Fail> {
+    for row in account.groups() {
+        let (group, used) = (row.group, row.used);
+        add(
+            text,
+            format!(in alloc; "group {} used {}", group, used)?.as_str(),
+        )?;
+    }
+    Ok(())
+}
+
+fn tell_counters(alloc: Global, text: &mut String, account: &Account) -> Result<(), Fail> {
+    for row in account.counters() {
+        let (group, cycle, blocks) = (row.group, row.cycle, row.blocks);
+        add(
+            text,
+            format!(in alloc; "counter {} {} {}", group, cycle, blocks)?.as_str(),
+        )?;
+    }
+    Ok(())
+}
+
+fn told(alloc: Global, account: &Account) -> Result<String, Fail> {
+    let mut text = String::new(alloc);
+    tell_purse(alloc, &mut text, account)?;
+    tell_sessions(&mut text, account)?;
+    tell_groups(alloc, &mut text, account)?;
+    tell_counters(alloc, &mut text, account)?;
+    Ok(text)
+}
+
+fn write(
+    alloc: Global,
+    keeper: &mut SqlKeeper<MemStore>,
+    book: &TariffBook,
+    account: &AccountNumber,
+    after: StoredAccount,
+) -> Result<(), Fail> {
+    keeper.commit(Change {
+        moment: moment(AT)?,
+        number: account.clone()?,
+        after,
+        before: Account::new(alloc, book).into_stored(),
+        charges: Vec::new(alloc),
+        kept: None,
+    })?;
+    Ok(())
+}
+
+fn viewed(
+    alloc: Global,
+    keeper: &mut SqlKeeper<MemStore>,
+    book: &TariffBook,
+    account: &AccountNumber,
+) -> Result<String, Fail> {
+    match keeper.view(book, account, moment(AT)?)? {
+        Some(account) => told(alloc, &account),
+        None => Ok(String::from_str(alloc, "no account\n")?),
+    }
+}
+
+/// What is seen before the account is written, and after.
+fn seen(
+    alloc: Global,
+    keeper: &mut SqlKeeper<MemStore>,
+    book: &TariffBook,
+) -> Result<String, Fail> {
+    let account_number = number(alloc, "49151")?;
+    let mut text = viewed(alloc, keeper, book, &account_number)?;
+    write(alloc, keeper, book, &account_number, account(alloc)?)?;
+    text.push_str(viewed(alloc, keeper, book, &account_number)?.as_str())?;
+    Ok(text)
+}
+
+const SEEN: &str = "no account
+bucket 2 has 7
+open
+group 10 used 60
+counter 10 0 2
+counter 20 684 4
+";
+
+#[test]
+fn what_may_still_change_is_loaded(rt: HostRuntime) -> Result<(), Fail> {
+    let alloc = rt.alloc();
+    let conn = Connection::open_in_memory(alloc)?;
+    let made = SqlKeeper::create(alloc, conn, worked_book::BOOK);
+    let (mut keeper, book) = made.ok().ok_or("a keeper")?;
+    let text = seen(alloc, &mut keeper, &book)?;
+    assert_eq!(rt; text.as_str(), SEEN);
+    Ok(())
+}
