@@ -1,5 +1,6 @@
 -- A keeper after a call that only reads, and what it hands on.
-use Rattle.std.proofs.Common.{◌≡◌, ◌≤◌, ◌⊎◌, inl, inr, ℕ, Result, Ok, Err, IfOk, IsTrue, sym, subst, arith}
+use Rattle.std.proofs.Common.{◌≡◌, ◌≤◌, ◌+◌, ◌⊎◌, inl, inr, ℕ, Result, Ok, Err, IfOk, IsTrue, min, sym, subst, arith}
+use Rattle.std.proofs.lemmas.Bool.Decides.{nat_tests}
 use Rattle.sqlite_disk.specs.Disk.{MoreFaults}
 use Rattle.sqlite_trees.specs.Tree.{Trees}
 use Rattle.sqlite_trees.specs.declared.store.Store.{Ghosts}
@@ -42,6 +43,23 @@ was_clean old new stays only clean = record {
   open_still = inr ((only.still clean.disk (open_of new stays clean)).was_open);
 }
 
+-- ---- the count, which stays at the highest
+
+min_grows : (a b m : ℕ) → a ≤ b → min a m ≤ min b m
+min_grows a b m h = grind (arith, nat_tests)
+
+min_raised : (a b m : ℕ) → min (a + 1) m ≤ b → min (min a m + 1) m ≤ min b m
+min_raised a b m h = grind (arith, nat_tests)
+
+pub cause_at_most : {A : Type 0} (old new : ℕ) (r : Result A StoreFault) → HasCause old new r
+    → HasCause (min old max_failures) (min new max_failures) r
+cause_at_most old new r h = record {
+  kept = min_grows old new max_failures h.kept;
+  cause = λ e. min_raised old new max_failures (h.cause e);
+}
+
+-- ---- what is handed on
+
 handed : {T : Type 0} (P Q : T → Type 0) (read : Result T ReadFault) (result : Result T StoreFault)
     → IsHanded read result → ((x : T) → P x → Q x) → IfOk read P → IfOk result Q
 handed P Q (Ok x) (Ok y) e to p = subst Q (sym e) (to x p)
@@ -72,7 +90,7 @@ asked_in_turn g old new told Found read result keeper reads names e cause to = r
       handed (told before.now.trees) Found read result e to (reads.found clean.disk (open_of after stays clean));
   same = λ clean. same (open_of after stays clean) clean.disk;
   cleanness = was_clean before after stays reads.only;
-  cause = cause;
+  cause = cause_at_most old.failures new.failures result cause;
 }
   where
     before : State

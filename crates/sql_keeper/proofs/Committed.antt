@@ -16,7 +16,7 @@ use Rattle.sql_keeper.specs.Commits.{Becomes, CommitsChange}
 use Rattle.sql_keeper.specs.Content.{tables_of}
 use Rattle.sql_keeper.specs.Inside.{KeeperState, IsClean, StaysOpen, IsKeeper, tables_in, failed_in, clean_in}
 use Rattle.sql_keeper.specs.Stops.{IsWhole, MayLeave, trees_in}
-use Rattle.sql_keeper.proofs.Asked.{none_more, open_of}
+use Rattle.sql_keeper.proofs.Asked.{cause_at_most, none_more, open_of}
 
 -- only a failure of the disk shuts the connection
 pub stays_survived : (old new : State) (P : Trees → Type 0) → StaysOpen old → Survives old new P → StaysOpen new
@@ -79,7 +79,7 @@ module _ {S A : Type 0} (g : Ghosts S) (old new : KeeperState S) (text : List �
     err = λ clean. same_tables r commits names clean
         (open_of (state g new.connection) (stays_in r commits) clean);
     cleanness = was_clean r commits;
-    cause = cause;
+    cause = cause_at_most old.failures new.failures r cause;
   }
 
   -- what a stop leaves

@@ -1,6 +1,6 @@
 -- What a keeper over a database is, what it holds, and when its store is clean.
 -- Source: profile.
-use Rattle.std.specs.Prelude.{◌≡◌, ◌≤◌, ◌⊎◌, ℕ, false, List, IsTrue, refl}
+use Rattle.std.specs.Prelude.{◌≡◌, ◌≤◌, ◌⊎◌, ℕ, false, List, IsTrue, min, refl}
 use Rattle.std.specs.Coded.{Coded, code_by, coded×, coded_ℕ, coded_list}
 use Rattle.sqlite_trees.specs.declared.store.Store.{Ghosts}
 use Rattle.sqlite.specs.Held.{Held, held_code, state}
@@ -50,8 +50,9 @@ pub record IsKeeper {S : Type 0} (g : Ghosts S) (k : KeeperState S) : Type 0 whe
 abbrev pub tables_in : {S : Type 0} → Ghosts S → KeeperState S → Tables
 tables_in g k = tables_of k.names (content_of (state g k.connection).now.trees)
 
+-- a keeper's count isn't above the highest
 abbrev pub failed_in : {S : Type 0} → KeeperState S → ℕ
-failed_in k = k.failures
+failed_in k = min k.failures max_failures
 
 abbrev pub clean_in : {S : Type 0} → Ghosts S → KeeperState S → Type 0
 clean_in g k = IsClean (state g k.connection)

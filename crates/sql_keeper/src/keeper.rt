@@ -1,6 +1,7 @@
 //! A keeper over a database: what it is. Its calls stand in modules of their own.
 
 ghost use Rattle.std.specs.Prelude.{◌≡◌};
+ghost use Rattle.sql_keeper.specs.Inside.{failed_in};
 
 use sqlite::{Alter, Connection};
 use std::alloc::Global;
@@ -59,7 +60,8 @@ impl<S: Alter + Drop> Drop for SqlKeeper<S> {
 impl<S: Alter> SqlKeeper<S> {
     /// How many calls met a failure of the store; at 10^18 it stays.
     pub fn failures(&self) -> u64
-        ensures { result ≡ self.now.failures }
+        ensures value { result ≡ self.now.failures }
+        ensures count { result ≡ failed_in self.now }
     {
         self.failures
     }

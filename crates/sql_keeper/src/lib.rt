@@ -12,6 +12,7 @@ mod faults;
 mod finding;
 mod held_groups;
 mod keeper;
+mod keeping;
 mod laws;
 mod live_groups;
 mod live_rows;

@@ -1,0 +1,91 @@
+//! A keeper over a database is a keeper: its calls are those of the trait.
+
+use crate::keeper::SqlKeeper;
+use buckets::Bucket;
+use identifiers::{AccountNumber, SessionId};
+use keepers::{Change, Keeper, KeptAnswer, Key, Loaded, StoreFault};
+use reserving::Account;
+use sqlite::Alter;
+use tariffs::TariffBook;
+use units::Moment;
+
+impl<S: Alter> Keeper for SqlKeeper<S> {
+    ghost use Rattle.sql_keeper.specs.Inside.{tables_in, failed_in, clean_in};
+
+    ghost content = { tables_in S.Store };
+
+    ghost failed = { failed_in };
+
+    ghost clean = { clean_in S.Store };
+
+    ghost use Rattle.std.proofs.Math.Nat.{min-le_right};
+    ghost use Rattle.keepers.specs.Faults.{max_failures};
+
+    ghost bounded = { λ k. min-le_right k.failures max_failures };
+
+    fn failures(&self) -> u64 {
+        SqlKeeper::failures(self)
+    }
+
+    fn last(&mut self) -> Result<Moment, StoreFault> {
+        SqlKeeper::last(self)
+    }
+
+    fn load<'b>(
+        &mut self,
+        book: &'b TariffBook,
+        account: &AccountNumber,
+        moment: Moment,
+    ) -> Result<Option<Loaded<'b>>, StoreFault> {
+        SqlKeeper::load(self, book, account, moment)
+    }
+
+    fn view<'b>(
+        &mut self,
+        book: &'b TariffBook,
+        account: &AccountNumber,
+        moment: Moment,
+    ) -> Result<Option<Account<'b>>, StoreFault> {
+        SqlKeeper::view(self, book, account, moment)
+    }
+
+    fn has_account(&mut self, account: &AccountNumber) -> Result<bool, StoreFault> {
+        SqlKeeper::has_account(self, account)
+    }
+
+    fn knows_session(
+        &mut self,
+        account: &AccountNumber,
+        session: &SessionId,
+    ) -> Result<bool, StoreFault> {
+        SqlKeeper::knows_session(self, account, session)
+    }
+
+    fn dead_buckets(&mut self, account: &AccountNumber) -> Result<Vec<Bucket>, StoreFault> {
+        SqlKeeper::dead_buckets(self, account)
+    }
+
+    fn find_answer(
+        &mut self,
+        account: &AccountNumber,
+        key: &Key,
+    ) -> Result<Option<KeptAnswer>, StoreFault> {
+        SqlKeeper::find_answer(self, account, key)
+    }
+
+    fn commit(&mut self, change: Change) -> Result<(), StoreFault> {
+        SqlKeeper::commit(self, change)
+    }
+
+    fn abandon<'b>(&mut self, loaded: Loaded<'b>) {
+        let Loaded {
+            number: _,
+            account: _,
+            before: _,
+        } = loaded;
+    }
+
+    fn sweep(&mut self, _book: &TariffBook, _moment: Moment) -> Result<u64, StoreFault> {
+        Err(StoreFault::Memory)
+    }
+}
