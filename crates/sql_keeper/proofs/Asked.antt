@@ -115,4 +115,9 @@ pub asked : {S T : Type 0} (g : Ghosts S) (old new : KeeperState S) (told : Tree
     → Reads (tables_in g) failed_in (clean_in g) old new Found result
 asked g old new told Found read result keeper reads names e cause to =
     asked_in_turn g old new told Found read result keeper
-    (record { found = λ clean on. reads.found clean; only = reads.only }) names e cause to
+    (record {
+      found = λ clean on. reads.found clean;
+      only = reads.only;
+      stays = λ clean on. reads.stays clean;
+      survives = reads.survives;
+    }) names e cause to

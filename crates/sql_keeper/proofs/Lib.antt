@@ -1,5 +1,6 @@
 pub mod Overlays
 pub mod Groups
+pub mod InTurn
 pub mod Numbers
 pub mod Asked
 pub mod BookTexts

@@ -3,7 +3,6 @@
 use Rattle.std.proofs.Common.{◌≡◌, ◌≤◌, ◌<◌, ◌+◌, take, get_or, inl, ℕ, Bool, true, false, List, [], ◌∷◌, ◌++◌, Option, Some, None, Result, Ok, Err, IfOk, IsTrue, length, map, refl, sym, ap, subst, ◌∙◌, arith, true≢false}
 use Rattle.std.specs.Prelude.{if◌then◌else◌, ◌&&◌, ◌||◌, option_map, is_some}
 use Rattle.std.specs.Option.{option_or}
-use Rattle.std.specs.Result.{IsErr}
 use Rattle.std.proofs.lemmas.List.{take_more, take_all}
 use Rattle.std.proofs.lemmas.List.Folds.{find-append}
 use Rattle.sqlite_trees.specs.Tree.{Trees}
@@ -20,7 +19,6 @@ use Rattle.keepers.specs.Tables.{GroupRow, group_row, held_of}
 use Rattle.sql_tables.specs.Keyed.{same_name}
 use Rattle.sql_tables.specs.Selects.{only}
 use Rattle.sql_tables.specs.Statements.{HasIdleBook, OnlyReads}
-use Rattle.sql_tables.proofs.Keeps.{only_reads_then}
 use Rattle.sql_rows.specs.declared.group_rows.GroupColumns.{GroupColumns}
 use Rattle.sql_rows.specs.declared.hold_rows.HeldColumns.{HeldColumns}
 use Rattle.sql_rows.specs.Content.{Rows as Stored, rows_in}
@@ -31,6 +29,7 @@ use Rattle.sql_keeper.specs.Content.{group_in as group_told, is_reserved, held_i
 use Rattle.sql_keeper.specs.GroupRows.{AreGroupsOf, AreSessionGroups}
 use Rattle.sql_keeper.specs.LiveGroups.{Gathers, is_among, AreLiveGroups, AreOpenGroupsLoaded}
 use Rattle.sql_keeper.proofs.GroupRows.{session_groups}
+use Rattle.sql_keeper.proofs.InTurn.{HaveRead, none_read, have_gathered, have_read_then, gathers_from}
 
 -- ---- one session more
 
@@ -138,31 +137,9 @@ open_loaded names rows sessions xs open_ones told = record {
 
 -- ---- reads in turn
 
-still_here : (s : State) → HasIdleBook s → OnlyReads s s
-still_here s idle = record {
-  still = λ clean on. record { was_open = on; now_is = refl; committed_is = refl };
-  idle = idle;
-  cleanness = λ clean. clean;
-  mode = λ plain. plain;
-  counts = omega arith;
-  closes = λ clean on. inl on;
-}
-
 if_ok : {A E : Type 0} (P Q : A → Type 0) (r : Result A E) → ((x : A) → P x → Q x) → IfOk r P → IfOk r Q
 if_ok P Q (Ok x) to h = to x h
 if_ok P Q (Err e) to h = tt
-
--- a failure after reads
-pub failed_then : {A E : Type 0} (told : Trees → A → Type 0) (old mid new : State) (r : Result A E) → IsErr r
-    → OnlyReads old mid → OnlyReads mid new → Gathers told old new r
-failed_then told old mid new (Ok x) failed first second = absurd (true≢false (sym failed))
-failed_then told old mid new (Err e) failed first second =
-    record { found = λ clean on. tt; only = only_reads_then old mid new first second }
-
-pub gives_up : {A E : Type 0} (told : Trees → A → Type 0) (old mid new : State) (e : E) → OnlyReads old mid
-    → OnlyReads mid new → Gathers {A = A} {E = E} told old new (Err e)
-gives_up told old mid new e first second =
-    record { found = λ clean on. tt; only = only_reads_then old mid new first second }
 
 -- what was told of the first state, where nothing changed
 told_before : (P : Trees → Type 0) (old mid new : State) → OnlyReads old mid → OnlyReads mid new
@@ -175,27 +152,26 @@ told_before P old mid new first second clean on =
 -- the rows of a session and what is held for it, read one after the other
 pub gathered : {V E : Type 0} (items : V → List SessionGroup) (names : List (List ℕ)) (a s : List ℕ)
     (buckets : List Row) (cs : List GroupColumns) (held : List HeldColumns) (old mid new : State)
-    (r : Result V E) → AreDistinct buckets → OnlyReads old mid → OnlyReads mid new
+    (r : Result V E) → AreDistinct buckets → HaveRead old mid → HaveRead mid new
     → (HasCleanDisk mid → AreGroups (rows_in old.now.trees a) s (map group_at cs))
     → (HasCleanDisk new → AreHolds (rows_in mid.now.trees a) s (map hold_at held))
     → IfOk r (λ v. AreGroupsOf names buckets held s (map group_at cs) (items v))
     → Gathers (λ trees v. AreSessionGroups names (rows_in trees a) s (items v)) old new r
-gathered items names a s buckets cs held old mid new r distinct first second groups holds made = record {
-  found = λ clean on.
-      if_ok (λ v. AreGroupsOf names buckets held s (map group_at cs) (items v))
-      (λ v. AreSessionGroups names (rows_in old.now.trees a) s (items v)) r
-      (λ v all. session_groups names (rows_in old.now.trees a) s buckets held (map group_at cs) (items v) distinct
-      (groups (second.cleanness clean))
-      (told_before (λ trees. AreHolds (rows_in trees a) s (map hold_at held)) old mid new first second clean on
-      (holds clean)) all) made;
-  only = only_reads_then old mid new first second;
-}
+gathered items names a s buckets cs held old mid new r distinct first second groups holds made =
+    gathers_from (λ trees v. AreSessionGroups names (rows_in trees a) s (items v)) old new r
+    (have_read_then old mid new first second)
+    (λ clean on. if_ok (λ v. AreGroupsOf names buckets held s (map group_at cs) (items v))
+    (λ v. AreSessionGroups names (rows_in old.now.trees a) s (items v)) r
+    (λ v all. session_groups names (rows_in old.now.trees a) s buckets held (map group_at cs) (items v) distinct
+    (groups (second.only.cleanness clean))
+    (told_before (λ trees. AreHolds (rows_in trees a) s (map hold_at held)) old mid new first.only second.only clean
+    on (holds clean)) all) made)
 
 -- what the sessions so far have
 pub record HasGathered (names : List (List ℕ)) (a : List ℕ) (ss : List Session) (xs : List SessionGroup)
     (old new : State) : Type 0 where
   pub found : HasCleanDisk new → IsTrue new.is_open → AreLiveGroups names (rows_in old.now.trees a) ss xs
-  pub reads : OnlyReads old new
+  pub reads : HaveRead old new
 
 pub none_yet : (names : List (List ℕ)) (a : List ℕ) (xs : List SessionGroup) (s : State) → xs ≡ []
     → HasIdleBook s → HasGathered names a [] xs s s
@@ -203,7 +179,7 @@ none_yet names a xs s none idle = record {
   found = λ clean on.
       subst (AreLiveGroups names (rows_in s.now.trees a) []) (sym none)
       (none_told names (rows_in s.now.trees a));
-  reads = still_here s idle;
+  reads = none_read s idle;
 }
 
 pub one_more : {V E : Type 0} (items : V → List SessionGroup) (names : List (List ℕ)) (a : List ℕ)
@@ -211,14 +187,15 @@ pub one_more : {V E : Type 0} (items : V → List SessionGroup) (names : List (L
     → HasGathered names a ss xs old mid
     → Gathers {A = V} {E = E} (λ trees v. AreSessionGroups names (rows_in trees a) x.id (items v)) mid new (Ok v)
     → HasGathered names a (ss ++ x ∷ []) (xs ++ items v) old new
-one_more items names a ss x xs old mid new v before here = record {
+one_more {V} {E} items names a ss x xs old mid new v before here = record {
   found = λ clean on.
       let after = here.only.still clean on in
       more_told names (rows_in old.now.trees a) ss x xs (items v)
       (before.found (here.only.cleanness clean) after.was_open)
-      (told_before (λ trees. AreSessionGroups names (rows_in trees a) x.id (items v)) old mid new before.reads
-      here.only clean on (here.found clean on));
-  reads = only_reads_then old mid new before.reads here.only;
+      (told_before (λ trees. AreSessionGroups names (rows_in trees a) x.id (items v)) old mid new
+      before.reads.only here.only clean on (here.found clean on));
+  reads = have_read_then old mid new before.reads (have_gathered {A = V} {E = E}
+      (λ trees v. AreSessionGroups names (rows_in trees a) x.id (items v)) mid new v here);
 }
 
 -- the next of the sessions
@@ -237,10 +214,8 @@ pub all_gathered : {V E : Type 0} (items : V → List SessionGroup) (names : Lis
     (ss : List Session) (i : ℕ) (v : V) (old new : State) → length ss ≤ i
     → HasGathered names a (take i ss) (items v) old new
     → Gathers {A = V} {E = E} (λ trees v. AreLiveGroups names (rows_in trees a) ss (items v)) old new (Ok v)
-all_gathered items names a ss i v old new end h =
-    record {
-      found = λ clean on.
-          subst (λ l. AreLiveGroups names (rows_in old.now.trees a) l (items v)) (take_all i ss end)
-          (h.found clean on);
-      only = h.reads;
-    }
+all_gathered {V} {E} items names a ss i v old new end h =
+    gathers_from {A = V} {E = E} (λ trees v. AreLiveGroups names (rows_in trees a) ss (items v)) old new (Ok v)
+    h.reads
+    (λ clean on. subst (λ l. AreLiveGroups names (rows_in old.now.trees a) l (items v)) (take_all i ss end)
+    (h.found clean on))

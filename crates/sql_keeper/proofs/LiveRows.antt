@@ -3,7 +3,6 @@ use Rattle.std.proofs.Common.{◌≡◌, ℕ, ◌==◌, Bool, true, false, not, 
 use Rattle.std.specs.Prelude.{if◌then◌else◌, filter, option_map}
 use Rattle.std.specs.List.{find}
 use Rattle.sqlite_trees.specs.Tree.{Trees}
-use Rattle.sqlite.specs.State.{State}
 use Rattle.buckets.specs.Row.{Row}
 use Rattle.tariffs.specs.Books.{Book}
 use Rattle.reserving.specs.declared.session.Session.{Session}
@@ -23,7 +22,6 @@ use Rattle.keepers.specs.Tables.{Rows, Tables}
 use Rattle.keepers.specs.Change.{IsLoadedFrom, IsLoad, IsView}
 use Rattle.keepers.specs.Keeping.{Reads}
 use Rattle.sql_keeper.specs.Content.{head_in, rows_of}
-use Rattle.sql_keeper.specs.LiveGroups.{Gathers}
 use Rattle.sql_keeper.specs.LiveRows.{AreLiveBuckets, AreCountersAt, AreLiveRowsLoaded, IsAccountOf, IsLiveAccount, IsLoadOf}
 use Rattle.sql_keeper.proofs.DeadRows.{those_are, spent_is_dead}
 use Rattle.sql_keeper.proofs.LiveGroups.{open_loaded}
@@ -145,12 +143,3 @@ viewed content failed clean old new book t a rows r q is h = record {
     fault (Ok o) (Err f) is e = absurd is
     fault (Err d) (Err f) is e = ap (λ x. Err x) (sym is ∙ ap (fault_or f) e)
     fault r (Ok o) is e = absurd (true≢false (ap answers e))
-
--- ---- what was read, made into something else
-
--- of the tables as they were before, with the faults of what is made of it
-pub gathers_made : {A B E : Type 0} (P : Trees → A → Type 0) (told : Trees → B → Type 0) (old new : State) (x : A)
-    (r : Result B E) → Gathers {A = A} {E = E} P old new (Ok x)
-    → ((trees : Trees) → P trees x → IfOk r (told trees)) → Gathers told old new r
-gathers_made P told old new x r h to =
-    record { found = λ clean on. to old.now.trees (h.found clean on); only = h.only }

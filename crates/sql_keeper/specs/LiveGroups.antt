@@ -1,8 +1,8 @@
 -- What sessions have of rating groups, with what is held there, read from the tables.
 -- Source: profile.
-use Rattle.std.specs.Prelude.{◌≡◌, ℕ, Bool, true, List, None, Result, IfOk, IsTrue, option_map, is_some, if◌then◌else◌}
+use Rattle.std.specs.Prelude.{◌≡◌, ℕ, Bool, true, false, List, None, Result, IfOk, OnOk, IsTrue, option_map, is_some, if◌then◌else◌}
 use Rattle.sqlite_trees.specs.Tree.{Trees}
-use Rattle.sqlite.specs.State.{State, HasCleanDisk}
+use Rattle.sqlite.specs.State.{State, HasCleanDisk, Survives}
 use Rattle.reserving.specs.declared.session.Session.{Session}
 use Rattle.reserving.specs.declared.session.SessionGroup.{SessionGroup}
 use Rattle.reserving.specs.Sessions.{session_in, group_in, is_open}
@@ -13,12 +13,16 @@ use Rattle.sql_rows.specs.Content.{Rows as Stored}
 use Rattle.sql_rows.specs.Lists.{AreSessions}
 use Rattle.sql_keeper.specs.Content.{group_in as group_told, is_reserved, held_in, rows_of}
 
--- outside a transaction, several reads in turn: while the connection stays open, what they answer is
--- told by the tables; whether they answer or not, they change nothing
+-- outside a transaction, several reads in turn, or none: while the connection stays open, what they
+-- answer is told by the tables; whether they answer or not, they change nothing
 pub record Gathers {A E : Type 0} (told : Trees → A → Type 0) (old new : State) (result : Result A E) : Type 0
   where
     pub found : HasCleanDisk new → IsTrue new.is_open → IfOk result (told old.now.trees)
     pub only : OnlyReads old new
+    -- after an answer a connection that was open is open still
+    pub stays : HasCleanDisk new → IsTrue old.is_open → OnOk result (IsTrue new.is_open)
+    -- a stop leaves what it left before
+    pub survives : Survives old new (λ _. old.is_open ≡ false)
 
 -- the session is one of the list
 abbrev pub is_among : List ℕ → List Session → Bool

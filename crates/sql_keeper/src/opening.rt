@@ -1,12 +1,12 @@
 //! A keeper over a database: of one that is made for it, or of one that was.
 
-ghost use Rattle.std.specs.Prelude.{◌≡◌, ◌⊎◌, false, Some, IfErr, IfOk, IsTrue, OnOk};
+ghost use Rattle.std.specs.Prelude.{◌≡◌, ◌⊎◌, false, Some, IfErr, IfOk, OnOk};
 ghost use Rattle.std.specs.String.{string_bytes};
 ghost use Rattle.sql_opening.specs.Opens.{IsNoVersion};
 ghost use Rattle.sql_opening.specs.declared.fault.OpenFault.TheVariants.{Version};
 ghost use Rattle.sql_rows.specs.Content.{content_of};
 ghost use Rattle.sql_rows.specs.Texts.{meta_of};
-ghost use Rattle.sql_tables.specs.Statements.{HasIdleBook, OnlyReads};
+ghost use Rattle.sql_tables.specs.Statements.{HasIdleBook, Reads};
 ghost use Rattle.sql_tables.specs.Texts.{stage};
 ghost use Rattle.sql_keeper.specs.Books.{IsBookOf, IsBookText};
 ghost use Rattle.sql_keeper.specs.Creates.{CreatesBook};
@@ -15,7 +15,6 @@ ghost use Rattle.sql_keeper.specs.Finds.{FindsBook, FindsMeta};
 ghost use Rattle.sql_keeper.specs.Inside.{StaysOpen};
 ghost use Rattle.sql_keeper.specs.Opened.{IsCreated, IsNotCreated, IsNotOpened, IsOpened};
 ghost use Rattle.sqlite.specs.Held.{state};
-ghost use Rattle.sqlite.specs.State.{HasCleanDisk, Survives};
 
 use crate::books::{ReadBook, read_book};
 use crate::create_fault::CreateFault;
@@ -86,13 +85,8 @@ fn make_tables<S: Alter>(conn: &mut Connection<S>, text: &str) -> Result<(), Cre
 /// What is kept once.
 fn find_meta<S: Alter>(conn: &mut Connection<S>) -> Result<Meta, OpenFault>
     requires idle { HasIdleBook (state S.Store conn.old) }
-    ensures only { OnlyReads (state S.Store conn.old) (state S.Store conn.new) }
-    ensures stops { Survives (state S.Store conn.old) (state S.Store conn.new)
-        (λ _. (state S.Store conn.old).is_open ≡ false) }
-    ensures found { HasCleanDisk (state S.Store conn.new) → IfOk result
-        (λ m. (content_of (state S.Store conn.old).now.trees).meta ≡ Some (meta_of m)) }
-    ensures stays { HasCleanDisk (state S.Store conn.new) →
-        OnOk result (IsTrue (state S.Store conn.new).is_open) }
+    ensures reads { Reads (λ trees m. (content_of trees).meta ≡ Some (meta_of m))
+        (state S.Store conn.old) (state S.Store conn.new) result }
     ensures told { IfErr result IsNoVersion }
 {
     match read_meta(conn) {

@@ -1,7 +1,7 @@
 -- What the text of `read_meta` answers.
 use Rattle.std.specs.Prelude.{codes}
 use Rattle.std.proofs.Common.{◌≡◌, inl, inr, ℕ, pos, List, [], ◌∷◌, ◌++◌, map, drop, Bool, true, false, ◌&&◌, Some}
-use Rattle.std.proofs.Common.{None, Option, Equal, refl, sym, ap, subst, ◌∙◌, IsTrue, Result, Ok, Err, OnOk}
+use Rattle.std.proofs.Common.{None, Option, Equal, refl, sym, ap, subst, ◌∙◌}
 use Rattle.std.specs.List.{list_all}
 use Rattle.std.specs.Ordering.{eq_by_cmp}
 use Rattle.sqlite_value.specs.declared.value.Value.TheVariants.{Null, Int, Text}
@@ -16,7 +16,7 @@ use Rattle.sqlite_schema.specs.Rules.{equal}
 use Rattle.sqlite_tied.specs.Compute.{everything}
 use Rattle.sqlite.specs.Given.{IsPlain}
 use Rattle.sqlite.specs.Listing.{understood, reads_listing}
-use Rattle.sqlite.specs.State.{State, Shown}
+use Rattle.sqlite.specs.State.{State}
 use Rattle.sqlite.proofs.Callers.{command_of}
 use Rattle.sql_tables.specs.Keyed.{key_of}
 use Rattle.sql_tables.specs.Schema.{meta, book_schema}
@@ -81,16 +81,3 @@ meta_read old new rows o got is =
     (told read_meta_text names 0 terms project [] text_is read_meta_plain []
     (λ r. eq_by_cmp row_cmp (key_of places r) (meta_key)) columns
     means (λ r. refl) old new rows got))
-
--- a selection that answers leaves the connection open
-shown_open : (sql : List ℕ) (params : Row) (old new : State) (rows : List Row)
-    → IsPlain (understood old.now.schema sql) → Shown sql params old new rows → IsTrue new.is_open
-unfolding Shown
-shown_open sql params old new rows plain h =
-    let bare = subst IsPlain h.1.is plain in (rw bare.0 at h.2).3.0.is_open
-
-pub meta_open : {V E : Type 0} (old new : State) (rows : List Row) (r : Result V E)
-    → Answers read_meta_text [] old new rows → OnOk r (IsTrue new.is_open)
-meta_open old new rows (Ok v) got = shown_open read_meta_text [] old new rows
-    (subst (λ s. IsPlain (understood s read_meta_text)) (sym got.book.schema) read_meta_plain) got.shown
-meta_open old new rows (Err e) got = tt

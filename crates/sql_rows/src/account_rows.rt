@@ -1,4 +1,4 @@
-ghost use Rattle.std.specs.Prelude.{◌≡◌, map, false, IfOk};
+ghost use Rattle.std.specs.Prelude.{◌≡◌, map, IfOk};
 ghost use Rattle.sql_rows.specs.Content.{content_of, rows_in, with_account};
 ghost use Rattle.sql_rows.specs.Values.{head_cells, head_key};
 ghost use Rattle.sql_rows.specs.Lists.{AreAccounts};
@@ -6,7 +6,6 @@ ghost use Rattle.sql_rows.specs.Makes.{Makes};
 ghost use Rattle.sql_tables.specs.Statements.{Attempts, HasBook, HasIdleBook, Reads};
 ghost use Rattle.sql_tables.specs.Selects.{one_or_none};
 ghost use Rattle.sqlite.specs.Held.{state};
-ghost use Rattle.sqlite.specs.State.{Survives};
 
 use crate::decoding::{account_at, flag_at, moment_at};
 use crate::head::Head;
@@ -51,9 +50,6 @@ pub fn read_account<S: Alter>(
     requires idle { HasIdleBook (state S.Store conn.old) }
     ensures reads { Reads (λ trees o. o ≡ (rows_in trees account.now).head)
         (state S.Store conn.old) (state S.Store conn.new) result }
-    // A stop leaves what it left before.
-    ensures stops { Survives (state S.Store conn.old) (state S.Store conn.new)
-        (λ _. (state S.Store conn.old).is_open ≡ false) }
 {
     let of_account = text(account.as_str());
     let rows = read(

@@ -1,4 +1,4 @@
-ghost use Rattle.std.specs.Prelude.{◌≡◌, false, map, option_map, IfOk, IsTrue, OnOk};
+ghost use Rattle.std.specs.Prelude.{◌≡◌, map, option_map, IfOk};
 ghost use Rattle.sql_rows.specs.Content.{content_of, with_meta};
 ghost use Rattle.sql_rows.specs.Values.{meta_cells};
 ghost use Rattle.sql_rows.specs.Texts.{meta_of};
@@ -6,7 +6,6 @@ ghost use Rattle.sql_rows.specs.Makes.{Makes};
 ghost use Rattle.sql_tables.specs.Statements.{Attempts, HasBook, HasIdleBook, Reads};
 ghost use Rattle.sql_tables.specs.Selects.{one_or_none};
 ghost use Rattle.sqlite.specs.Held.{state};
-ghost use Rattle.sqlite.specs.State.{HasCleanDisk, Survives};
 
 use crate::decoding::moment_at;
 use sql_tables::{
@@ -58,11 +57,6 @@ pub fn read_meta<S: Alter>(conn: &mut Connection<S>) -> Result<Option<Meta>, Rea
     requires idle { HasIdleBook (state S.Store conn.old) }
     ensures reads { Reads (λ trees o. option_map meta_of o ≡ (content_of trees).meta)
         (state S.Store conn.old) (state S.Store conn.new) result }
-    // A stop leaves what it left before.
-    ensures stops { Survives (state S.Store conn.old) (state S.Store conn.new)
-        (λ _. (state S.Store conn.old).is_open ≡ false) }
-    ensures stays { HasCleanDisk (state S.Store conn.new) →
-        OnOk result (IsTrue (state S.Store conn.new).is_open) }
 {
     let rows = read(
         conn,

@@ -39,7 +39,7 @@ spares sql params old new (Ok count) h = tt
 spares sql params old new (Err e) (inl h) = h.1
 spares sql params old new (Err e) (inr h) = inl h.2
 
-pub on_ok : {A : Type 0} {B : Type 0} (r : Result A Error) → B → OnOk r B
+pub on_ok : {A B E : Type 0} (r : Result A E) → B → OnOk r B
 on_ok (Ok x) h = h
 on_ok (Err e) h = tt
 
@@ -175,8 +175,17 @@ fits_of old on book live =
     let sound = subst (λ s. IsSound s old.now.trees) book.schema (live on).0 in
     record { rules = λ rule other. sound.obeys.rules rule; indexed = sound.obeys.indexed }
 
-pub answers_from : (sql : List ℕ) (params : Row) (old new : State) (rows : List Row) →
-    (IsTrue old.is_open → IsIdle old) → IsLive old → Shown sql params old new rows → Answers sql params old new rows
-answers_from sql params old new rows idle live shown =
+pub answers_from : (sql : List ℕ) (params : Row) (old new : State) (rows : List Row)
+    → IsPlain (understood book_schema sql) → (IsTrue old.is_open → IsIdle old) → IsLive old
+    → Shown sql params old new rows → Answers sql params old new rows
+answers_from sql params old new rows plain idle live shown =
     let on = was_shown sql params old new rows shown in
-    record { was_open = on; book = (idle on).book; fits = fits_of old on (idle on).book live; shown = shown }
+    let same = shown_unchanged sql params old new rows
+    (subst (λ s. IsPlain (understood s sql)) (sym (idle on).book.schema) plain) shown in
+    record {
+      was_open = on;
+      is_open = same.0.is_open;
+      book = (idle on).book;
+      fits = fits_of old on (idle on).book live;
+      shown = shown;
+    }

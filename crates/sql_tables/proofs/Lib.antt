@@ -16,5 +16,6 @@ pub mod Steps
 pub mod Stored
 pub mod Swaps
 pub mod Tabled
+pub mod Telling
 pub mod Ties
 pub mod Upserts

@@ -100,10 +100,15 @@ pub record OnlyReads (old new : State) : Type 0 where
 pub record Reads {A E : Type 0} (told : Trees → A → Type 0) (old new : State) (result : Result A E) : Type 0 where
   pub found : HasCleanDisk new → IfOk result (told old.now.trees)
   pub only : OnlyReads old new
+  -- after an answer the connection is open
+  pub stays : HasCleanDisk new → OnOk result (IsTrue new.is_open)
+  -- a stop leaves what it left before
+  pub survives : Survives old new (λ _. old.is_open ≡ false)
 
 -- a selection answers these rows, and the tables obey their rules
 pub record Answers (sql : List ℕ) (params : Row) (old new : State) (rows : List Row) : Type 0 where
   pub was_open : IsTrue old.is_open
+  pub is_open : IsTrue new.is_open
   pub book : IsBook old
   pub fits : Fits book_schema old.now.trees
   pub shown : Shown sql params old new rows

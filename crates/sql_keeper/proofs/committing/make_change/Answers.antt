@@ -14,7 +14,7 @@ returns-in_err-write_change-clause-commits g c =
     (c.if-not-may_be_written.ensures.reservations refl) (c.if-not-may_be_written.ensures.numbers refl)
     c.in_ok-texts.ensures
     (state g.S.Store c.args.conn.now) (state g.S.Store c.read_account.new.conn)
-    (state g.S.Store c.write_change.new.conn) c.in_ok-head.ensures.reads.only c.in_ok-head.ensures.stops
+    (state g.S.Store c.write_change.new.conn) c.in_ok-head.ensures.reads.only c.in_ok-head.ensures.reads.survives
     c.in_ok-head.ensures.reads.found _ _ c.in_err-write_change.ensures.transacts)
 
 pub returns-clause-commits : goal.returns-clause-commits
@@ -24,5 +24,5 @@ returns-clause-commits g c =
     (c.if-not-may_be_written.ensures.reservations refl) (c.if-not-may_be_written.ensures.numbers refl)
     c.in_ok-texts.ensures
     (state g.S.Store c.args.conn.now) (state g.S.Store c.read_account.new.conn)
-    (state g.S.Store c.write_change.new.conn) c.in_ok-head.ensures.reads.only c.in_ok-head.ensures.stops
+    (state g.S.Store c.write_change.new.conn) c.in_ok-head.ensures.reads.only c.in_ok-head.ensures.reads.survives
     c.in_ok-head.ensures.reads.found _ _ c.in_ok-write_change.ensures.transacts

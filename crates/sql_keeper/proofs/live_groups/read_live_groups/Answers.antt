@@ -1,6 +1,7 @@
 use Rattle.std.proofs.Common.{arith}
 use Rattle.sqlite.specs.Held.{state}
-use Rattle.sql_keeper.proofs.LiveGroups.{none_yet, failed_then, gives_up, next_gathered, all_gathered}
+use Rattle.sql_keeper.proofs.InTurn.{failed_then, gives_up}
+use Rattle.sql_keeper.proofs.LiveGroups.{none_yet, next_gathered, all_gathered}
 use Rattle.sql_keeper.proofs.live_groups.read_live_groups.Goals as goal
 
 pub sessions-init : goal.sessions-init
@@ -9,17 +10,17 @@ sessions-init g c =
     c.new-groups.ensures.items c.requires.idle
 
 pub read_session_groups-requires : goal.read_session_groups-requires
-read_session_groups-requires g c = record { idle = c.sessions.invariant.reads.idle }
+read_session_groups-requires g c = record { idle = c.sessions.invariant.reads.only.idle }
 
 pub returns-in_err-more : goal.returns-in_err-more
 returns-in_err-more g c = failed_then _ (state g.S.Store c.args.conn.now) (state g.S.Store c.sessions.conn)
     (state g.S.Store c.read_session_groups.new.conn) c.from_residual.result c.from_residual.ensures.0
-    c.sessions.invariant.reads c.read_session_groups.ensures.only
+    c.sessions.invariant.reads c.read_session_groups.ensures.only c.read_session_groups.ensures.survives
 
 pub returns-in_default : goal.returns-in_default
 returns-in_default g c = gives_up _ (state g.S.Store c.args.conn.now) (state g.S.Store c.sessions.conn)
     (state g.S.Store c.read_session_groups.new.conn) _ c.sessions.invariant.reads
-    c.read_session_groups.ensures.only
+    c.read_session_groups.ensures.only c.read_session_groups.ensures.survives
 
 pub sessions-preserved : goal.sessions-preserved
 sessions-preserved g c = next_gathered (λ xs. xs.items) c.args.book.now.periods c.args.account.now

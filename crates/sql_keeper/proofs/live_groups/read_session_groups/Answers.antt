@@ -7,6 +7,7 @@ use Rattle.sql_rows.specs.declared.hold_rows.HeldColumns.{HeldColumns}
 use Rattle.sql_rows.specs.Content.{rows_in}
 use Rattle.sql_rows.specs.Lists.{AreGroups, AreHolds}
 use Rattle.sql_rows.specs.Texts.{group_at, hold_at}
+use Rattle.sql_keeper.proofs.InTurn.{have_read}
 use Rattle.sql_keeper.proofs.LiveGroups.{gathered}
 use Rattle.sql_keeper.proofs.live_groups.read_session_groups.Goals as goal
 
@@ -16,7 +17,7 @@ returns g c = gathered (λ xs. xs.items) c.args.book.now.periods c.args.account.
     (state g.S.Store c.args.conn.now) (state g.S.Store c.read_groups.new.conn) (state g.S.Store c.read_holds.new.conn)
     c.groups_of.result
     (subst (λ (bs : List Row). AreDistinct bs) (sym c.buckets.ensures.value) c.buckets.ensures.sound.distinct)
-    c.in_ok-rows.ensures.reads.only c.in_ok-held.ensures.reads.only
+    (have_read _ _ _ _ c.in_ok-rows.ensures.reads) (have_read _ _ _ _ c.in_ok-held.ensures.reads)
     (λ clean. subst (λ (l : List GroupColumns). AreGroups
     (rows_in (state g.S.Store c.args.conn.now).now.trees c.args.account.now) c.args.session.now (map group_at l))
     (sym c.deref.ensures.value) (c.in_ok-rows.ensures.reads.found clean))

@@ -1,6 +1,7 @@
 use Rattle.sqlite.specs.Held.{state}
 use Rattle.sql_rows.specs.Content.{rows_in}
-use Rattle.sql_keeper.proofs.LiveRows.{gathers_made, load_made}
+use Rattle.sql_keeper.proofs.InTurn.{gathers_made}
+use Rattle.sql_keeper.proofs.LiveRows.{load_made}
 use Rattle.sql_keeper.proofs.loading.load_of.Goals as goal
 
 pub returns : goal.returns

@@ -1,10 +1,10 @@
-use Rattle.std.proofs.Common.{rules, ◌≡◌, [], ◌∷◌, map, Some, None, refl, sym, ◌∙◌, ap, subst, arith}
-use Rattle.sqlite.specs.Held.{state}
+use Rattle.std.proofs.Common.{[], ◌∷◌, map, ap, ◌∙◌}
 use Rattle.sqlite.specs.Values.{bound_value}
 use Rattle.sqlite_value.specs.declared.value.Value.TheVariants.{Text}
-use Rattle.sql_tables.specs.Statements.{Answers}
-use Rattle.sql_tables.proofs.ByKey.{told_if_ok}
-use Rattle.sql_rows.specs.Values.{nat}
+use Rattle.std.specs.Prelude.{option_map}
+use Rattle.sql_rows.specs.Texts.{kept_of}
+use Rattle.sql_rows.specs.Values.{answer_key}
+use Rattle.sql_tables.proofs.Telling.{reads_as}
 use Rattle.sql_rows.proofs.ReadAnswer.{read_answer_text, read_answer_plain, answer_read}
 use Rattle.sql_rows.proofs.answer_rows.read_answer_request.Goals as goal
 
@@ -12,18 +12,12 @@ pub read-requires-clause-plain : goal.read-requires-clause-plain
 read-requires-clause-plain g c = read_answer_plain
 
 pub returns : goal.returns
-returns g c =
-    record {
-      reads = record {
-        found = λ clean. told_if_ok c.kept_among.result
-            (λ o is. answer_read c.args.account.now 1 c.args.session.now c.args.number _ _ c.in_ok-rows.rows.items _
-            (subst (λ p. Answers read_answer_text p (state g.S.Store c.args.conn.now)
-            (state g.S.Store c.read.new.conn) c.in_ok-rows.rows.items)
-            (λ i. map bound_value ((c.text-of_account.ensures ∙ ap Text c.as_str.ensures.value) i ∷
-            (c.whole-kind.ensures) i ∷ (c.text-name.ensures ∙ ap Text c.as_str-2.ensures.value) i ∷
-            (c.whole-of_number.ensures) i ∷ [])) (c.in_ok-rows.ensures.answers clean))
-            (sym c.deref.ensures.value ∙ is))
-            c.kept_among.ensures;
-        only = c.read.ensures.reads;
-      };
-    }
+returns g c = record {
+  reads = reads_as _ read_answer_text _ (answer_key c.args.account.now 1 c.args.session.now c.args.number) _ _ _ _
+      c.kept_among.result c.read.ensures.reads c.read.ensures.stops c.in_ok-rows.ensures.answers
+      (λ i. map bound_value ((c.text-of_account.ensures ∙ ap Text c.as_str.ensures.value) i ∷
+      c.whole-kind.ensures i ∷ (c.text-name.ensures ∙ ap Text c.as_str-2.ensures.value) i ∷
+      c.whole-of_number.ensures i ∷ []))
+      c.deref.ensures.value c.kept_among.ensures
+      (λ o. answer_read c.args.account.now 1 c.args.session.now c.args.number _ _ _ (option_map kept_of o));
+}

@@ -1,5 +1,6 @@
 use Rattle.std.proofs.Common.{rules, map}
 use Rattle.sqlite.specs.Held.{state}
+use Rattle.sql_tables.proofs.Keeps.{on_ok}
 use Rattle.sql_rows.specs.Content.{rows_in}
 use Rattle.sql_rows.specs.Texts.{bucket_row}
 use Rattle.sql_rows.proofs.Dead.{dead_told, dead_rise}
@@ -11,6 +12,8 @@ returns-clause-reads g c = record {
       (rows_in (state g.S.Store c.args.conn.now).now.trees c.args.account.now) c.dead_among.result
       c.dead_among.ensures.dead c.dead_among.ensures.order (c.in_ok-buckets.ensures.reads.found clean);
   only = c.in_ok-buckets.ensures.reads.only;
+  stays = λ clean. on_ok c.dead_among.result (c.in_ok-buckets.ensures.reads.stays clean);
+  survives = c.in_ok-buckets.ensures.reads.survives;
 }
 
 pub returns-clause-order : goal.returns-clause-order

@@ -1,10 +1,8 @@
-use Rattle.std.proofs.Common.{rules, ◌≡◌, [], ◌∷◌, map, refl, sym, ◌∙◌, ap, subst, arith}
-use Rattle.sqlite.specs.Held.{state}
+use Rattle.std.proofs.Common.{[], ◌∷◌, map, ap, ◌∙◌}
 use Rattle.sqlite.specs.Values.{bound_value}
 use Rattle.sqlite_value.specs.declared.value.Value.TheVariants.{Text}
-use Rattle.sql_tables.specs.Statements.{Answers}
-use Rattle.sql_tables.proofs.ByKey.{told_if_ok}
-use Rattle.sql_rows.specs.Values.{nat}
+use Rattle.sql_rows.specs.Texts.{bucket_row}
+use Rattle.sql_tables.proofs.Telling.{reads_as}
 use Rattle.sql_rows.proofs.ReadBuckets.{read_buckets_live_text, read_buckets_live_plain, live_read}
 use Rattle.sql_rows.proofs.bucket_rows.read_buckets_live.Goals as goal
 
@@ -12,17 +10,9 @@ pub read-requires-clause-plain : goal.read-requires-clause-plain
 read-requires-clause-plain g c = read_buckets_live_plain
 
 pub returns : goal.returns
-returns g c =
-    record {
-      reads = record {
-        found = λ clean. told_if_ok c.buckets_from.result
-            (λ o is. live_read c.args.account.now _ _ c.in_ok-rows.rows.items _
-            (subst (λ p. Answers read_buckets_live_text p (state g.S.Store c.args.conn.now)
-            (state g.S.Store c.read.new.conn) c.in_ok-rows.rows.items)
-            (λ i. map bound_value ((c.text-of_account.ensures ∙ ap Text c.as_str.ensures.value) i ∷ []))
-            (c.in_ok-rows.ensures.answers clean))
-            (is ∙ c.deref.ensures.value))
-            c.buckets_from.ensures;
-        only = c.read.ensures.reads;
-      };
-    }
+returns g c = record {
+  reads = reads_as _ read_buckets_live_text _ _ _ _ _ _ c.buckets_from.result c.read.ensures.reads c.read.ensures.stops
+      c.in_ok-rows.ensures.answers
+      (λ i. map bound_value ((c.text-of_account.ensures ∙ ap Text c.as_str.ensures.value) i ∷ []))
+      c.deref.ensures.value c.buckets_from.ensures (λ bs. live_read c.args.account.now _ _ _ (map bucket_row bs.items));
+}

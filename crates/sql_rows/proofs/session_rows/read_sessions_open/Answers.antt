@@ -1,10 +1,7 @@
-use Rattle.std.proofs.Common.{rules, ◌≡◌, [], ◌∷◌, map, refl, sym, ◌∙◌, ap, subst, arith}
-use Rattle.sqlite.specs.Held.{state}
+use Rattle.std.proofs.Common.{[], ◌∷◌, map, ap, ◌∙◌}
 use Rattle.sqlite.specs.Values.{bound_value}
 use Rattle.sqlite_value.specs.declared.value.Value.TheVariants.{Text}
-use Rattle.sql_tables.specs.Statements.{Answers}
-use Rattle.sql_tables.proofs.ByKey.{told_if_ok}
-use Rattle.sql_rows.specs.Values.{nat}
+use Rattle.sql_tables.proofs.Telling.{reads_as}
 use Rattle.sql_rows.proofs.ReadOpen.{read_sessions_open_text, read_sessions_open_plain, open_read}
 use Rattle.sql_rows.proofs.session_rows.read_sessions_open.Goals as goal
 
@@ -12,17 +9,9 @@ pub read-requires-clause-plain : goal.read-requires-clause-plain
 read-requires-clause-plain g c = read_sessions_open_plain
 
 pub returns : goal.returns
-returns g c =
-    record {
-      reads = record {
-        found = λ clean. told_if_ok c.sessions_from.result
-            (λ o is. open_read c.args.account.now _ _ c.in_ok-rows.rows.items _
-            (subst (λ p. Answers read_sessions_open_text p (state g.S.Store c.args.conn.now)
-            (state g.S.Store c.read.new.conn) c.in_ok-rows.rows.items)
-            (λ i. map bound_value ((c.text-of_account.ensures ∙ ap Text c.as_str.ensures.value) i ∷ []))
-            (c.in_ok-rows.ensures.answers clean))
-            (is ∙ c.deref.ensures.value))
-            c.sessions_from.ensures;
-        only = c.read.ensures.reads;
-      };
-    }
+returns g c = record {
+  reads = reads_as _ read_sessions_open_text _ _ _ _ _ _ c.sessions_from.result c.read.ensures.reads c.read.ensures.stops
+      c.in_ok-rows.ensures.answers
+      (λ i. map bound_value ((c.text-of_account.ensures ∙ ap Text c.as_str.ensures.value) i ∷ []))
+      c.deref.ensures.value c.sessions_from.ensures (λ xs. open_read c.args.account.now _ _ _ xs.items);
+}

@@ -7,7 +7,7 @@ use Rattle.sql_tables.proofs.reading.read.Goals as goal
 pub returns-in-Ok-clause-answers : goal.returns-in-Ok-clause-answers
 returns-in-Ok-clause-answers g c clean =
     answers_from c.args.sql.now (bound c.args.params.now) (state g.S.Store c.args.conn.now)
-    (state g.S.Store c.query_all.new.self) _
+    (state g.S.Store c.query_all.new.self) _ c.requires.plain
     (c.requires.idle (omega (arith, c.query_all.ensures.survives.clean))) c.schema-ours.ensures.live
     (c.in-Ok.ensures.ok clean)
 
