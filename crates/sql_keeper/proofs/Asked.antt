@@ -60,7 +60,7 @@ cause_at_most old new r h = record {
 
 -- ---- what is handed on
 
-handed : {T : Type 0} (P Q : T → Type 0) (read : Result T ReadFault) (result : Result T StoreFault)
+pub handed : {T : Type 0} (P Q : T → Type 0) (read : Result T ReadFault) (result : Result T StoreFault)
     → IsHanded read result → ((x : T) → P x → Q x) → IfOk read P → IfOk result Q
 handed P Q (Ok x) (Ok y) e to p = subst Q (sym e) (to x p)
 handed P Q (Ok x) (Err f) e to p = absurd e

@@ -139,7 +139,7 @@ module _ (names : List (List ℕ)) (w : StoredRows) (r : Stored) (free : (s : Li
   rows_read = λ i. record (over w (rows_of names r)) { groups = λ s g. groups_read s g i; holds = λ s g n. holds_read s g n i }
 
 -- the test of a group that is found
-may_at : (names : List (List ℕ)) (sessions : List Session) (gs : List SessionGroup) → AreWritable names sessions gs → (s : List ℕ) (g : ℕ) (x : SessionGroup)
+pub may_at : (names : List (List ℕ)) (sessions : List Session) (gs : List SessionGroup) → AreWritable names sessions gs → (s : List ℕ) (g : ℕ) (x : SessionGroup)
     → group_in s g gs ≡ Some x → MayStand names sessions s x.reservation
 may_at names sessions [] h s g x e = absurd (cc)
 may_at names sessions (y ∷ ys) h s g x e = at (is_of s g y) refl e (may_at names sessions ys h.1 s g x)
@@ -217,7 +217,7 @@ kept_answer a k None t r h = refl
 kept_answer a k (Some x) None r h = absurd h
 kept_answer a k (Some x) (Some t) r h = texts_answer a (key_of x.content) k t x r h
 
-same_texts : (a : List ℕ) (k : Key) (names : List (List ℕ)) (w : StoredRows) (cs : List ChargeRow) (r : Stored) → answer_in a k (over_charges cs (over_stored names w r)) ≡ answer_in a k r
+pub same_texts : (a : List ℕ) (k : Key) (names : List (List ℕ)) (w : StoredRows) (cs : List ChargeRow) (r : Stored) → answer_in a k (over_charges cs (over_stored names w r)) ≡ answer_in a k r
 same_texts a (Request s n) names w cs r = refl
 same_texts a (Reference x) names w cs r = refl
 

@@ -1,4 +1,4 @@
--- A keeper after a commit.
+-- A keeper after what is committed whole.
 use Rattle.std.proofs.Common.{◌≡◌, ◌≤◌, ◌⊎◌, inl, inr, subst, ℕ, List, IsTrue, arith, false}
 use Rattle.std.specs.Prelude.{Result, Ok, Err, OnOk, OnErr}
 use Rattle.sqlite_disk.specs.Disk.{MoreFaults}
@@ -9,13 +9,15 @@ use Rattle.sqlite.specs.State.{State, HasCleanDisk, Survives}
 use Rattle.sql_rows.specs.Content.{content_of}
 use Rattle.keepers.specs.declared.fault.StoreFault.{StoreFault}
 use Rattle.keepers.specs.declared.loaded.Change.{Change}
-use Rattle.keepers.specs.Change.{IsMadeFrom, changed}
+use Rattle.keepers.specs.Change.{IsMadeFrom, IsSwept, changed}
 use Rattle.keepers.specs.Faults.{HasCause, max_failures}
 use Rattle.keepers.specs.Keeping.{Keeps}
-use Rattle.sql_keeper.specs.Commits.{Becomes, CommitsChange}
+use Rattle.tariffs.specs.Books.{Book}
+use Rattle.sql_keeper.specs.Commits.{CommitsChange, CommitsWhole}
 use Rattle.sql_keeper.specs.Content.{tables_of}
 use Rattle.sql_keeper.specs.Inside.{KeeperState, IsClean, StaysOpen, IsKeeper, tables_in, failed_in, clean_in}
 use Rattle.sql_keeper.specs.Stops.{IsWhole, MayLeave, trees_in}
+use Rattle.sql_keeper.specs.Sweeps.{BecomesSwept}
 use Rattle.sql_keeper.proofs.Asked.{cause_at_most, none_more, open_of}
 
 -- only a failure of the disk shuts the connection
@@ -37,15 +39,24 @@ pub committed : {S A : Type 0} (g : Ghosts S) (old : KeeperState S) (conn : Held
 committed g old conn text change keeper (Ok x) commits clean = (commits.done clean.disk).2.tables
 committed g old conn text change keeper (Err e) commits clean = tt
 
-module _ {S A : Type 0} (g : Ghosts S) (old new : KeeperState S) (text : List ℕ) (change : Change)
-    (keeper : IsKeeper g old) where
+-- the law of a sweep
+pub swept_law : {S A : Type 0} (g : Ghosts S) (old : KeeperState S) (conn : Held S) (text : List ℕ) (book : Book)
+    (t : ℕ) → IsKeeper g old → (r : Result A StoreFault)
+    → CommitsWhole (BecomesSwept old.names text book t) (state g old.connection) (state g conn) r
+    → IsClean (state g conn)
+    → OnOk r (IsSwept book t (tables_in g old) (tables_of old.names (content_of (state g conn).now.trees)))
+swept_law g old conn text book t keeper (Ok x) commits clean = (commits.done clean.disk).2.tables
+swept_law g old conn text book t keeper (Err e) commits clean = tt
+
+module _ {S A : Type 0} (g : Ghosts S) (old new : KeeperState S) (Become : List ℕ → Trees → Trees → Type 0)
+    (text : List ℕ) (keeper : IsKeeper g old) where
   abbrev CommitsIn : Result A StoreFault → Type 0
-  CommitsIn r = CommitsChange old.names text change (state g old.connection) (state g new.connection) r
+  CommitsIn r = CommitsWhole (Become text) (state g old.connection) (state g new.connection) r
 
   stays_in : (r : Result A StoreFault) → CommitsIn r → StaysOpen (state g new.connection)
   stays_in r commits = stays_survived (state g old.connection) (state g new.connection)
-      (λ db. IsTrue (state g old.connection).is_open
-      → Becomes old.names text change (state g old.connection).now.trees db) keeper.stays commits.survives
+      (λ db. IsTrue (state g old.connection).is_open → Become text (state g old.connection).now.trees db)
+      keeper.stays commits.survives
 
   -- a keeper is one still
   pub committed_keeper : (r : Result A StoreFault) → CommitsIn r → new.connection.in_transaction ≡ false
@@ -85,12 +96,12 @@ module _ {S A : Type 0} (g : Ghosts S) (old new : KeeperState S) (text : List �
   -- what a stop leaves
   pub whole : (r : Result A StoreFault) → CommitsIn r → text ≡ old.text
       → (HasCleanDisk (state g new.connection) → IsTrue (state g old.connection).is_open → (db : Trees)
-      → MayLeave g new db → (db ≡ trees_in g old) ⊎ Becomes old.names text change (trees_in g old) db)
+      → MayLeave g new db → (db ≡ trees_in g old) ⊎ Become text (trees_in g old) db)
       → (HasCleanDisk (state g new.connection) → IsTrue (state g new.connection).is_open → (db : Trees)
       → MayLeave g new db → db ≡ trees_in g new)
-      → IsWhole g old new (Becomes old.names old.text change (trees_in g old))
+      → IsWhole g old new (Become old.text (trees_in g old))
   whole r commits is stop settled =
-      subst (λ t. IsWhole g old new (Becomes old.names t change (trees_in g old))) is (record {
+      subst (λ t. IsWhole g old new (Become t (trees_in g old))) is (record {
         stop = λ clean was db may. stop clean (open_of (state g old.connection) keeper.stays was) db may;
         settled = λ clean db may. settled clean.disk
             (open_of (state g new.connection) (stays_in r commits) clean) db may;

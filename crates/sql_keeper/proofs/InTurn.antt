@@ -1,5 +1,5 @@
 -- Reads of the tables, one after another, and what is made of what they answer.
-use Rattle.std.proofs.Common.{◌≡◌, inl, false, IsTrue, Result, Ok, Err, IfOk, OnOk, refl, sym, arith, true≢false}
+use Rattle.std.proofs.Common.{◌≡◌, inl, false, IsTrue, Result, Ok, Err, IfOk, refl, sym, arith, true≢false}
 use Rattle.std.specs.Result.{IsErr}
 use Rattle.sqlite_trees.specs.Tree.{Trees}
 use Rattle.sqlite.specs.State.{State, HasCleanDisk, Survives}

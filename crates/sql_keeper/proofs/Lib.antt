@@ -13,5 +13,8 @@ pub mod Changed
 pub mod Empty
 pub mod Opens
 pub mod Puts
+pub mod Whole
 pub mod Commits
 pub mod Committed
+pub mod Swept
+pub mod SweptReads

@@ -1,6 +1,6 @@
 -- What a list of sessions has of rating groups, one session after another; and several reads in
 -- turn.
-use Rattle.std.proofs.Common.{◌≡◌, ◌≤◌, ◌<◌, ◌+◌, take, get_or, inl, ℕ, Bool, true, false, List, [], ◌∷◌, ◌++◌, Option, Some, None, Result, Ok, Err, IfOk, IsTrue, length, map, refl, sym, ap, subst, ◌∙◌, arith, true≢false}
+use Rattle.std.proofs.Common.{◌≡◌, ◌≤◌, ◌<◌, ◌+◌, take, get_or, ℕ, Bool, true, false, List, [], ◌∷◌, ◌++◌, Option, Some, None, Result, Ok, Err, IfOk, IsTrue, length, map, refl, sym, ap, subst, ◌∙◌, true≢false}
 use Rattle.std.specs.Prelude.{if◌then◌else◌, ◌&&◌, ◌||◌, option_map, is_some}
 use Rattle.std.specs.Option.{option_or}
 use Rattle.std.proofs.lemmas.List.{take_more, take_all}
@@ -142,7 +142,7 @@ if_ok P Q (Ok x) to h = to x h
 if_ok P Q (Err e) to h = tt
 
 -- what was told of the first state, where nothing changed
-told_before : (P : Trees → Type 0) (old mid new : State) → OnlyReads old mid → OnlyReads mid new
+pub told_before : (P : Trees → Type 0) (old mid new : State) → OnlyReads old mid → OnlyReads mid new
     → HasCleanDisk new → IsTrue new.is_open → P mid.now.trees → P old.now.trees
 told_before P old mid new first second clean on =
     let after = second.still clean on in

@@ -30,7 +30,7 @@ use Rattle.sql_keeper.specs.Opened.{IsCreated, IsFresh, IsKept, IsNotCreated, Is
 use Rattle.sql_keeper.specs.declared.books.ReadBook.{ReadBook}
 use Rattle.sql_keeper.specs.declared.create_fault.CreateFault.{CreateFault}
 use Rattle.sql_keeper.specs.declared.create_fault.CreateFault.TheVariants.{Store, Memory}
-use Rattle.sql_keeper.proofs.Commits.{not_shut}
+use Rattle.sql_keeper.proofs.Whole.{not_shut}
 
 pub survives_self : (s : State) (P : Trees → Type 0) → Survives s s P
 survives_self s P = record {

@@ -41,12 +41,16 @@ pub record Becomes (names : List (List ℕ)) (text : List ℕ) (change : Change)
     pub meta : (content_of new).meta ≡ Some (meta_with text change)
     pub catalog : new catalog_tree ≡ old catalog_tree
 
--- a change is committed whole, or the tables are as before; a stop leaves one or the other
-pub record CommitsChange {A E : Type 0} (names : List (List ℕ)) (text : List ℕ) (change : Change)
-    (old new : State) (result : Result A E) : Type 0 where
+-- what the tables become is committed whole, or they are as before; a stop leaves one or the other
+pub record CommitsWhole {A E : Type 0} (Become : Trees → Trees → Type 0) (old new : State)
+    (result : Result A E) : Type 0 where
   pub done : HasCleanDisk new
-      → OnOk result (IsTrue old.is_open × IsTrue new.is_open × Becomes names text change old.now.trees new.now.trees)
+      → OnOk result (IsTrue old.is_open × IsTrue new.is_open × Become old.now.trees new.now.trees)
   pub err : HasCleanDisk new → IsTrue new.is_open → OnErr result (IsStill old new)
   pub idle : HasIdleBook new
   -- only a fault of the disk shuts the connection
-  pub survives : Survives old new (λ db. IsTrue old.is_open → Becomes names text change old.now.trees db)
+  pub survives : Survives old new (λ db. IsTrue old.is_open → Become old.now.trees db)
+
+-- so a change is
+abbrev pub CommitsChange : {A E : Type 0} → List (List ℕ) → List ℕ → Change → State → State → Result A E → Type 0
+CommitsChange names text change = CommitsWhole (Becomes names text change)

@@ -1,15 +1,18 @@
 -- What is proved of definitions alone.
 -- Source: profile.
 use Rattle.std.specs.Prelude.{◌≡◌, ℕ, List, [], Option}
+use Rattle.tariffs.specs.Books.{Book, IsBook}
 use Rattle.reserving.specs.Stored.{IsStored}
 use Rattle.keepers.specs.declared.loaded.Change.{Change}
 use Rattle.keepers.specs.Tables.{no_tables}
-use Rattle.keepers.specs.Change.{IsMadeFrom, changed}
+use Rattle.keepers.specs.Change.{IsMadeFrom, IsSwept, changed}
 use Rattle.sql_rows.specs.Values.{Meta, Kept}
 use Rattle.sql_rows.specs.Content.{Content, content_of}
 use Rattle.sql_keeper.specs.Content.{tables_of}
+use Rattle.sql_keeper.specs.Sweeps.{AreAllSwept, with_sweep}
 use Rattle.sql_keeper.specs.Writes.{AreTexts, with_change}
 use Rattle.sql_keeper.specs.Tests.{AreWritable, AreNumbered, first_number}
+use Rattle.sql_keeper.specs.declared.swept_rows.SweptAccount.{SweptAccount}
 
 -- the rows that a change writes, put one after another, read as the change over the tables that
 -- were there
@@ -23,6 +26,14 @@ AreChangesRead =
     → AreTexts change.number change.kept texts → m.last ≡ change.moment
     → IsMadeFrom change.before change.after ((tables_of names c).rows change.number)
     → tables_of names (with_change names m change texts c) ≡ changed change (tables_of names c)
+
+-- the rows that a sweep writes, one account after another, read as a sweep of the tables that were
+-- there
+abbrev pub AreSweepsRead : Type 0
+AreSweepsRead =
+    (names : List (List ℕ)) (text : List ℕ) (book : Book) (t : ℕ) (c : Content) (xs : List SweptAccount)
+    → IsBook book → AreAllSwept names book t c xs
+    → IsSwept book t (tables_of names c) (tables_of names (with_sweep names text t xs c))
 
 -- tables without rows hold nothing
 abbrev pub AreNewTablesEmpty : Type 0

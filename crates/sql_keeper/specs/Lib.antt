@@ -13,5 +13,6 @@ pub mod LiveGroups
 pub mod LiveRows
 pub mod Opened
 pub mod Stops
+pub mod Sweeps
 pub mod Tests
 pub mod Writes

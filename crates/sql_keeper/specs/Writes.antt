@@ -74,10 +74,13 @@ AreTexts a None t = Unit {0}
 AreTexts a (Some k) None = ⊥
 AreTexts a (Some k) (Some t) = kept_in a t ≡ Some k
 
--- what is kept once after a change: the first version of the tables, the text of the book, and
--- the moment
+-- what is kept once: the first version of the tables, the text of the book, and the moment of the
+-- last accepted command
+abbrev pub meta_at : List ℕ → ℕ → Meta
+meta_at text t = record { version = 1; book = text; last = t }
+
 abbrev pub meta_with : List ℕ → Change → Meta
-meta_with text change = record { version = 1; book = text; last = change.moment }
+meta_with text change = meta_at text change.moment
 
 -- all of a change
 abbrev pub with_change : List (List ℕ) → Meta → Change → Option Kept → Content → Content

@@ -47,7 +47,7 @@ fn write_change<S: Alter>(
 }
 
 /// Tests a change, and writes it if it may be written.
-#[tactic(auto, using(crate::proofs::Commits::refused))]
+#[tactic(auto, using(crate::proofs::Whole::refused))]
 fn make_change<S: Alter>(
     conn: &mut Connection<S>,
     alloc: Global,

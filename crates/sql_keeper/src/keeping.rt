@@ -85,7 +85,7 @@ impl<S: Alter> Keeper for SqlKeeper<S> {
         } = loaded;
     }
 
-    fn sweep(&mut self, _book: &TariffBook, _moment: Moment) -> Result<u64, StoreFault> {
-        Err(StoreFault::Memory)
+    fn sweep(&mut self, book: &TariffBook, moment: Moment) -> Result<u64, StoreFault> {
+        SqlKeeper::sweep(self, book, moment)
     }
 }

@@ -1,4 +1,4 @@
-ghost use Rattle.sql_keeper.specs.Laws.{AreChangesRead, AreNewTablesEmpty};
+ghost use Rattle.sql_keeper.specs.Laws.{AreChangesRead, AreNewTablesEmpty, AreSweepsRead};
 ghost use Rattle.sql_keeper.specs.LiveGroups.{AreOpenGroupsLoaded};
 ghost use Rattle.sql_keeper.specs.LiveRows.{AreLiveRowsLoaded};
 
@@ -6,6 +6,12 @@ ghost use Rattle.sql_keeper.specs.LiveRows.{AreLiveRowsLoaded};
 #[tactic(auto, using(crate::proofs::Changed::changes_read))]
 pub fn changes_are_read()
     ensures { AreChangesRead }
+{}
+
+/// The rows that a sweep writes read as the sweep.
+#[tactic(auto, using(crate::proofs::Swept::sweeps_read))]
+pub fn sweeps_are_read()
+    ensures { AreSweepsRead }
 {}
 
 /// Tables without rows hold nothing.

@@ -21,6 +21,8 @@ mod opening;
 mod putting;
 mod rebuilding;
 mod rebuilding_groups;
+mod sweeping;
+mod swept_rows;
 mod testing;
 mod texts;
 
@@ -29,6 +31,7 @@ pub use crate::faults::counted;
 pub use crate::keeper::SqlKeeper;
 pub use crate::laws::{
     changes_are_read, live_rows_are_loaded, new_tables_are_empty, open_groups_are_loaded,
+    sweeps_are_read,
 };
 pub use crate::testing::may_be_written;
 pub use crate::texts::kept_texts;

@@ -52,7 +52,7 @@ fn put_money<S: Alter>(
 }
 
 /// Puts the rows of an account.
-fn put_stored<S: Alter>(
+pub(crate) fn put_stored<S: Alter>(
     tx: &mut Transaction<'_, S>,
     account: &AccountNumber,
     book: &TariffBook,

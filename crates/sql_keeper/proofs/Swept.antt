@@ -1,0 +1,273 @@
+-- What a sweep writes reads as the sweep.
+use Rattle.std.proofs.Common.{◌≡◌, ℕ, Bool, true, false, cond, List, [], ◌∷◌, map, refl, sym, ap, ◌∙◌, subst, Option, Some, None, true≢false, arith}
+use Rattle.std.specs.Prelude.{if◌then◌else◌, ◌≤◌, ◌+◌, ◌&&◌, nat_le, nat_lt, option_map, is_some}
+use Rattle.std.specs.List.{find}
+use Rattle.std.proofs.lemmas.Bool.Decides.{nat_tests}
+use Rattle.identifiers.specs.Texts.{same_name}
+use Rattle.tariffs.specs.Books.{Book, IsBook}
+use Rattle.reserving.specs.Ledger.{Ledger}
+use Rattle.reserving.specs.Changes.{advanced}
+use Rattle.reserving.specs.Left.{left_of}
+use Rattle.reserving.specs.Rows.{EachIn, AreApart, IsAccount}
+use Rattle.reserving.specs.Stored.{StoredRows, IsStored, priced, advanced_stored}
+use Rattle.reserving.proofs.LeftMore.{with_advanced}
+use Rattle.reserving.proofs.Lists.{no_some, some_of}
+use Rattle.reserving.proofs.StoredRows.{IsAccount-priced}
+use Rattle.keepers.specs.declared.key.Key.{Key}
+use Rattle.keepers.specs.Tables.{Head, head_of as kept_head}
+use Rattle.keepers.specs.Change.{IsLoadedFrom, AreRowsAt, IsMadeFrom, IsSwept, over}
+use Rattle.keepers.proofs.Leaving.{left_behind}
+use Rattle.keepers.proofs.Taking.{taken}
+use Rattle.sql_rows.specs.declared.head.Head.{Head as HeadColumns}
+use Rattle.sql_rows.specs.Content.{Rows as Stored, Content, with_meta}
+use Rattle.sql_keeper.specs.Content.{head_in, rows_of, is_numbered, charge_of, answer_in, last_in, tables_of}
+use Rattle.sql_keeper.specs.Laws.{AreSweepsRead}
+use Rattle.sql_keeper.specs.LiveRows.{IsLiveAccount}
+use Rattle.sql_keeper.specs.Sweeps.{rows_at, AreSweptRows, IsSweptOf, AreAllSwept, with_accounts, with_sweep}
+use Rattle.sql_keeper.specs.Tests.{AreWritable}
+use Rattle.sql_keeper.specs.Writes.{head_of, meta_at, with_stored}
+use Rattle.sql_keeper.specs.declared.swept_rows.SweptAccount.{SweptAccount}
+use Rattle.sql_keeper.proofs.Changed.{over_stored, stored_over, rows_read, may_at, same_texts}
+use Rattle.sql_keeper.proofs.LiveRows.{live_loaded}
+use Rattle.sql_keeper.proofs.Overlays.{name_from, none_more, opened}
+
+-- ---- one account
+
+module _ (names : List (List ℕ)) (book : Book) (t : ℕ) (rows : Stored) (ranges : IsBook book) where
+  module _ (before : StoredRows) (live : IsLiveAccount names book t rows (Some before)) (kept : IsStored before)
+      (ledger : Ledger) (u : ℕ) (early : u ≤ t) (h : AreRowsAt book ledger u (rows_of names rows)) where
+    own : IsAccount (priced book before)
+    own = IsAccount-priced book before ranges kept
+
+    loads : IsLoadedFrom book t (rows_of names rows) (priced book before)
+    loads = live_loaded names book t rows before live
+
+    no_later : before.as_of ≤ t
+    no_later =
+        let same : kept_head before ≡ kept_head h.listed =
+        some_of (kept_head before) (kept_head h.listed) (sym loads.head ∙ h.are.head) in
+        subst (λ n. n ≤ t) (sym (ap (λ (x : Head). x.as_of) same ∙ h.moment)) early
+
+    -- what was loaded and brought on is over what was there as the ledger's rows of the later moment
+    pub brought_on : IsMadeFrom before (advanced_stored book t before) (rows_of names rows)
+        × AreRowsAt book ledger t (over (advanced_stored book t before) (rows_of names rows))
+    brought_on =
+        left_behind book ledger ledger u t (rows_of names rows) (priced book before)
+        (advanced t (priced book before)) h own loads refl (record { front = []; is = refl })
+        (with_advanced ledger (left_of t (priced book h.listed)) t (priced book before) no_later
+        (taken book ledger u t (rows_of names rows) (priced book before) h own loads))
+
+    pub swept_is : rows_at book t before ≡ advanced_stored book t before
+    swept_is = at (nat_le before.as_of t) (no_test before.as_of t no_later)
+      where
+        no_test : (n m : ℕ) → n ≤ m → nat_le n m ≡ true
+        no_test n m le = grind (arith, nat_tests)
+
+        at : (b : Bool) → b ≡ true
+            → (if b then advanced_stored book t before else before) ≡ advanced_stored book t before
+        at true e = refl
+        at false e = absurd (true≢false (sym e))
+
+  swept_one : (w : StoredRows) → AreSweptRows names book t rows w
+      → (ledger : Ledger) (u : ℕ) → u ≤ t → AreRowsAt book ledger u (rows_of names rows)
+      → AreRowsAt book ledger t (rows_of names (over_stored names w rows))
+  swept_one w s ledger u early h =
+      let both = brought_on s.before s.live s.kept ledger u early h in
+      let is : advanced_stored book t s.before ≡ w =
+      sym (s.is ∙ swept_is s.before s.live s.kept ledger u early h) in
+      let made : IsMadeFrom s.before w (rows_of names rows) =
+      subst (λ x. IsMadeFrom s.before x (rows_of names rows)) is both.0 in
+      subst (AreRowsAt book ledger t) (sym (rows_read names w rows made.free (may_at names w.sessions w.groups s.may)))
+      (subst (λ x. AreRowsAt book ledger t (over x (rows_of names rows))) is both.1)
+
+next_is : (book : Book) (t : ℕ) (w : StoredRows) → (rows_at book t w).next_charge ≡ w.next_charge
+next_is book t w = at (nat_le w.as_of t)
+  where
+    at : (b : Bool) → (if b then advanced_stored book t w else w).next_charge ≡ w.next_charge
+    at true = refl
+    at false = refl
+
+-- the same charges are numbered
+numbered_still : (n : ℕ) (h k : HeadColumns) (rows : Stored) → k.next_charge ≡ h.next_charge → rows.head ≡ Some h
+    → charge_of n (record rows { head = Some k }) ≡ charge_of n rows
+numbered_still n h k rows same there =
+    let tests : is_numbered n (Some k) ≡ is_numbered n rows.head =
+    ap (λ m. nat_lt 0 n && nat_lt n m) same ∙ sym (ap (is_numbered n) there) in
+    ap (λ b. if b then rows.charges n else None) tests
+
+-- ---- an account after all of a list are written
+
+abbrev swept_at : List ℕ → List SweptAccount → Option SweptAccount
+swept_at a xs = find (λ x. same_name x.number a) xs
+
+abbrev same_account : SweptAccount → SweptAccount → Bool
+same_account x y = same_name y.number x.number
+
+abbrev row_after : List (List ℕ) → Option SweptAccount → Stored → Stored
+row_after names None r = r
+row_after names (Some x) r = over_stored names x.rows r
+
+-- the row may be written
+abbrev MayBePut : List (List ℕ) → SweptAccount → Type 0
+MayBePut names x = IsStored x.rows × AreWritable names x.rows.sessions x.rows.groups
+
+-- the account is there
+abbrev IsThere : Content → SweptAccount → Type 0
+IsThere c x = is_some (c.rows x.number).head ≡ true
+
+module _ (names : List (List ℕ)) where
+  abbrev one_after : SweptAccount → Content → Content
+  one_after x c = opened x.number (over_stored names x.rows) c
+
+  step : (x : SweptAccount) (c : Content) → MayBePut names x → with_stored x.number names x.rows c ≡ one_after x c
+  step x c may = stored_over x.number names x.rows c may.0 may.1
+
+  meta_after : (xs : List SweptAccount) (c : Content) → EachIn (MayBePut names) xs → (with_accounts names xs c).meta ≡ c.meta
+  meta_after [] c may = refl
+  meta_after (x ∷ xs) c may =
+      ap (λ d. (with_accounts names xs d).meta) (step x c may.0) ∙ meta_after xs (one_after x c) may.1
+
+  there_still : (x : SweptAccount) (c : Content) (ys : List SweptAccount) → EachIn (IsThere c) ys
+      → EachIn (IsThere (one_after x c)) ys
+  there_still x c [] h = tt
+  there_still x c (y ∷ ys) h = (at (same_name x.number y.number) h.0, there_still x c ys h.1)
+    where
+      at : (b : Bool) → is_some (c.rows y.number).head ≡ true
+          → is_some (if b then over_stored names x.rows (c.rows y.number) else c.rows y.number).head ≡ true
+      at true e = refl
+      at false e = e
+
+  count_after : (xs : List SweptAccount) (c : Content) → EachIn (MayBePut names) xs → EachIn (IsThere c) xs
+      → (with_accounts names xs c).count ≡ c.count
+  count_after [] c may there = refl
+  count_after (x ∷ xs) c may there =
+      ap (λ d. (with_accounts names xs d).count) (step x c may.0)
+      ∙ count_after xs (one_after x c) may.1 (there_still x c xs there.1)
+      ∙ ap (λ b. if b then c.count else c.count + 1) there.0
+
+  rows_after : (a : List ℕ) (xs : List SweptAccount) (c : Content) → EachIn (MayBePut names) xs
+      → AreApart same_account xs → (with_accounts names xs c).rows a ≡ row_after names (swept_at a xs) (c.rows a)
+  rows_after a [] c may apart = refl
+  rows_after a (x ∷ xs) c may apart =
+      ap (λ d. (with_accounts names xs d).rows a) (step x c may.0)
+      ∙ rows_after a xs (one_after x c) may.1 apart.1
+      ∙ at (same_name x.number a) refl
+    where
+      one : (x y : SweptAccount) → same_name x.number a ≡ true → same_name y.number a ≡ true → same_account x y ≡ true
+      one x y p q = ap (same_name y.number) (name_from x.number a p) ∙ q
+
+      at : (b : Bool) → same_name x.number a ≡ b
+          → row_after names (swept_at a xs) (if b then over_stored names x.rows (c.rows a) else c.rows a)
+          ≡ row_after names (cond b (Some x) (swept_at a xs)) (c.rows a)
+      at true e = ap (λ o. row_after names o (over_stored names x.rows (c.rows a)))
+          (none_more same_account (λ y. same_name y.number a) one x xs e apart.0)
+      at false e = refl
+
+-- ---- all of it
+
+each_to : {A : Type 0} (P Q : A → Type 0) (xs : List A) → ((x : A) → P x → Q x) → EachIn P xs → EachIn Q xs
+each_to P Q [] to h = tt
+each_to P Q (x ∷ xs) to h = (to x h.0, each_to P Q xs to h.1)
+
+apart_of : (xs : List SweptAccount) → AreApart (λ x y. same_name y x) (map (λ (x : SweptAccount). x.number) xs)
+    → AreApart same_account xs
+apart_of [] h = tt
+apart_of (x ∷ xs) h = (each xs h.0, apart_of xs h.1)
+  where
+    each : (ys : List SweptAccount) → EachIn (λ y. same_name y x.number ≡ false) (map (λ (z : SweptAccount). z.number) ys)
+        → EachIn (λ y. same_name y.number x.number ≡ false) ys
+    each [] h = tt
+    each (y ∷ ys) h = (h.0, each ys h.1)
+
+found_number : (a : List ℕ) (xs : List SweptAccount)
+    → is_some (find (λ n. same_name n a) (map (λ (x : SweptAccount). x.number) xs)) ≡ is_some (swept_at a xs)
+found_number a [] = refl
+found_number a (x ∷ xs) = at (same_name x.number a) (found_number a xs)
+  where
+    at : (b : Bool) → is_some (find (λ n. same_name n a) (map (λ (x : SweptAccount). x.number) xs)) ≡ is_some (swept_at a xs)
+        → is_some (cond b (Some x.number) (find (λ n. same_name n a) (map (λ (x : SweptAccount). x.number) xs)))
+        ≡ is_some (cond b (Some x) (swept_at a xs))
+    at true e = refl
+    at false e = e
+
+-- the one that is found
+found_one : (P : SweptAccount → Type 0) (a : List ℕ) (xs : List SweptAccount) (x : SweptAccount) → EachIn P xs
+    → swept_at a xs ≡ Some x → P x × (x.number ≡ a)
+found_one P a [] x h e = absurd (no_some x e)
+found_one P a (y ∷ ys) x h e = at (same_name y.number a) refl e (found_one P a ys x h.1)
+  where
+    at : (b : Bool) → same_name y.number a ≡ b → cond b (Some y) (swept_at a ys) ≡ Some x
+        → (swept_at a ys ≡ Some x → P x × (x.number ≡ a)) → P x × (x.number ≡ a)
+    at true k f rest =
+        let is : y ≡ x = some_of y x f in
+        subst (λ z. P z × (z.number ≡ a)) is (h.0, name_from y.number a k)
+    at false k f rest = rest f
+
+module _ (names : List (List ℕ)) (text : List ℕ) (book : Book) (t : ℕ) (c : Content) (xs : List SweptAccount)
+    (ranges : IsBook book) (all : AreAllSwept names book t c xs) where
+  may : EachIn (MayBePut names) xs
+  may = each_to (IsSweptOf names book t c) (MayBePut names) xs (λ x h. (h.stored, h.may)) all.each
+
+  there : EachIn (IsThere c) xs
+  there = each_to (IsSweptOf names book t c) (IsThere c) xs (λ x h. ap is_some h.live.0) all.each
+
+  rows_are : (a : List ℕ) → (with_sweep names text t xs c).rows a ≡ row_after names (swept_at a xs) (c.rows a)
+  rows_are a = rows_after names a xs (with_meta (meta_at text t) c) may (apart_of xs all.all.apart)
+
+  -- what is seen of an account's rows, before and after
+  record AreSeen (a : List ℕ) (r : Stored) : Type 0 where
+    none : (rows_of names (c.rows a)).head ≡ None → rows_of names r ≡ rows_of names (c.rows a)
+    rows : (ledger : Ledger) (u : ℕ) → u ≤ t → AreRowsAt book ledger u (rows_of names (c.rows a))
+        → AreRowsAt book ledger t (rows_of names r)
+    answers : (k : Key) → answer_in a k r ≡ answer_in a k (c.rows a)
+    charges : (n : ℕ) → charge_of n r ≡ charge_of n (c.rows a)
+
+  seen_of : (a : List ℕ) (x : SweptAccount) → IsSweptOf names book t c x → x.number ≡ a
+      → AreSeen a (over_stored names x.rows (c.rows a))
+  seen_of a x one is = record {
+    none = λ e. absurd (no_some _ (sym e ∙ ap (option_map head_in) here.live.0));
+    rows = swept_one names book t (c.rows a) ranges x.rows here;
+    answers = λ k. same_texts a k names x.rows [] (c.rows a);
+    charges = λ n. numbered_still n (head_of here.before) (head_of x.rows) (c.rows a)
+        (ap (λ (w : StoredRows). w.next_charge) here.is ∙ next_is book t here.before) here.live.0;
+  }
+    where
+      here : AreSweptRows names book t (c.rows a) x.rows
+      here = subst (λ n. AreSweptRows names book t (c.rows n) x.rows) is one
+
+  seen_none : (a : List ℕ) → swept_at a xs ≡ None → AreSeen a (c.rows a)
+  seen_none a none = record {
+    none = λ e. refl;
+    rows = λ ledger u early h. absurd (headless (c.rows a).head
+        (sym (all.all.found a) ∙ found_number a xs ∙ ap is_some none) (λ e. no_some _ (sym e ∙ h.are.head)));
+    answers = λ k. refl;
+    charges = λ n. refl;
+  }
+    where
+      headless : (o : Option HeadColumns) → is_some o ≡ false → (option_map head_in o ≡ None → ⊥) → ⊥
+      headless None e without = without refl
+      headless (Some h) e without = true≢false e
+
+  seen : (a : List ℕ) → AreSeen a ((with_sweep names text t xs c).rows a)
+  seen a = subst (AreSeen a) (sym (rows_are a)) (at (swept_at a xs) refl)
+    where
+      at : (o : Option SweptAccount) → swept_at a xs ≡ o → AreSeen a (row_after names o (c.rows a))
+      at None e = seen_none a e
+      at (Some x) e =
+          let one = found_one (IsSweptOf names book t c) a xs x all.each e in seen_of a x one.0 one.1
+
+  pub swept : IsSwept book t (tables_of names c) (tables_of names (with_sweep names text t xs c))
+  swept = record {
+    last = ap last_in (meta_after names xs (with_meta (meta_at text t) c) may);
+    none = λ a. (seen a).none;
+    rows = λ a. (seen a).rows;
+    answers = λ a. (seen a).answers;
+    charges = λ a. (seen a).charges;
+    count = count_after names xs (with_meta (meta_at text t) c) may there;
+  }
+
+  pub swept_meta : (with_sweep names text t xs c).meta ≡ Some (meta_at text t)
+  swept_meta = meta_after names xs (with_meta (meta_at text t) c) may
+
+pub sweeps_read : AreSweepsRead
+sweeps_read names text book t c xs ranges all = swept names text book t c xs ranges all

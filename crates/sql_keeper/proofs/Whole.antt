@@ -1,0 +1,101 @@
+-- What is committed whole.
+use Rattle.std.proofs.Common.{◌≡◌, ◌⊎◌, inl, inr, ◌∙◌, ap, sym, IsTrue, Bool, true, false, true≢false}
+use Rattle.std.proofs.Common.{Ok, Err, Result, arith}
+use Rattle.sqlite.specs.Effect.{Database}
+use Rattle.sqlite.specs.State.{State, HasCleanDisk, Survives}
+use Rattle.sqlite.proofs.StateLemmas.{survives_then, survives_weaker}
+use Rattle.sqlite_trees.specs.Tree.{Trees}
+use Rattle.sql_tables.specs.Statements.{HasIdleBook, OnlyReads}
+use Rattle.sql_rows.specs.Content.{Content}
+use Rattle.sql_rows.specs.Makes.{Turns}
+use Rattle.sql_keeper.specs.Asks.{IsHanded}
+use Rattle.sql_keeper.specs.Commits.{CommitsWhole, Transacts}
+
+pub not_shut : (b : Bool) → IsTrue b → b ≡ false → ⊥
+not_shut true on e = true≢false e
+not_shut false on e = absurd (let no : false ≡ true = on in cc)
+
+-- ---- after what was only read, what is written
+
+module _ (change : Content → Content) (Become : Trees → Trees → Type 0) (old mid new : State) (only : OnlyReads old mid)
+    (stops : Survives old mid (λ _. old.is_open ≡ false))
+    (become : HasCleanDisk mid → IsTrue mid.is_open → (db : Trees) → Turns change mid.now.trees db
+    → Become old.now.trees db) where
+  survives_both : Survives mid new (λ db. IsTrue mid.is_open × Turns change mid.now.trees db)
+      → Survives old new (λ db. IsTrue old.is_open → Become old.now.trees db)
+  survives_both s =
+      survives_then old mid new (λ _. old.is_open ≡ false)
+      (λ db. IsTrue mid.is_open × Turns change mid.now.trees db)
+      (λ db. IsTrue old.is_open → Become old.now.trees db)
+      (λ clean db shut on. absurd (not_shut old.is_open on shut))
+      (λ clean db t on. become (omega (arith, s.clean, clean)) t.0 db t.1) stops s
+
+  pub written : {A B E F : Type 0} (u : A) (v : B) → Transacts {A = A} {E = E} change mid new (Ok u)
+      → CommitsWhole {A = B} {E = F} Become old new (Ok v)
+  written u v t = record {
+    done = λ clean.
+        let d = t.done clean in
+        let mid_clean : HasCleanDisk mid = omega (arith, t.survives.clean, clean) in
+        ((only.still mid_clean d.0).was_open, d.1, become mid_clean d.0 new.now.trees d.2.turns);
+    err = λ clean on. tt;
+    idle = t.idle;
+    survives = survives_both t.survives;
+  }
+
+  pub not_written : {A B E F : Type 0} (e : E) (f : F) → Transacts {A = A} {E = E} change mid new (Err e)
+      → CommitsWhole {A = B} {E = F} Become old new (Err f)
+  not_written e f t = record {
+    done = λ clean. tt;
+    err = λ clean on.
+        let k = t.kept clean on in
+        let s = only.still (omega (arith, t.survives.clean, clean)) k.was_open in
+        record {
+          was_open = s.was_open;
+          now_is = k.now_is ∙ s.now_is;
+          committed_is = k.committed_is ∙ s.committed_is;
+        };
+    idle = t.idle;
+    survives = survives_both t.survives;
+  }
+
+-- what isn't written
+pub refused : {A E : Type 0} (Become : Trees → Trees → Type 0) (old new : State) (e : E) → OnlyReads old new
+    → Survives old new (λ _. old.is_open ≡ false) → CommitsWhole {A = A} {E = E} Become old new (Err e)
+refused Become old new e only stops = record {
+  done = λ clean. tt;
+  err = only.still;
+  idle = only.idle;
+  survives = survives_weaker old new (λ _. old.is_open ≡ false)
+      (λ db. IsTrue old.is_open → Become old.now.trees db)
+      (λ clean db shut on. absurd (not_shut old.is_open on shut)) stops;
+}
+
+-- ---- what a stop leaves
+
+-- while the connection is open, a stop leaves what was last committed
+abbrev pub IsSettled : State → Type 0
+IsSettled s = (db : Trees) → IsTrue s.is_open → s.may_leave db → db ≡ s.committed.trees
+
+pub settled_now : (s : State) → IsSettled s → HasIdleBook s → HasCleanDisk s → IsTrue s.is_open → (db : Trees)
+    → s.may_leave db → db ≡ s.now.trees
+settled_now s law idle clean on db may = law db on may ∙ ap (λ (d : Database). d.trees) (sym (idle clean on).settled)
+
+pub stopped : {A E : Type 0} (Become : Trees → Trees → Type 0) (old new : State) (r : Result A E) → IsSettled old
+    → HasIdleBook old → CommitsWhole Become old new r → HasCleanDisk new → IsTrue old.is_open → (db : Trees)
+    → new.may_leave db → (db ≡ old.now.trees) ⊎ Become old.now.trees db
+stopped Become old new r law idle commits clean on db may =
+    elim (commits.survives.crash clean db may) [
+      | inl before ↦ inl (settled_now old law idle (omega (arith, commits.survives.clean, clean)) on db before)
+      | inr after ↦ inr (after on)
+    ]
+
+-- ---- what is handed on
+
+pub handed_on : {A E F : Type 0} (Become : Trees → Trees → Type 0) (old new : State) (r : Result A E)
+    (q : Result A F) → IsHanded r q → CommitsWhole Become old new r → CommitsWhole Become old new q
+handed_on Become old new (Ok x) (Ok y) h c =
+    record { done = c.done; err = c.err; idle = c.idle; survives = c.survives }
+handed_on Become old new (Ok x) (Err f) h c = absurd h
+handed_on Become old new (Err e) (Ok y) h c = absurd h
+handed_on Become old new (Err e) (Err f) h c =
+    record { done = c.done; err = c.err; idle = c.idle; survives = c.survives }

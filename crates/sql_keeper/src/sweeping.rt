@@ -1,0 +1,175 @@
+//! A sweep in one transaction: each account at the moment, or nothing is changed, also over a stop.
+
+ghost use Rattle.std.specs.Prelude.{◌≡◌, ◌≤◌, ◌⊎◌, false, IfOk, IsTrue, OnOk};
+ghost use Rattle.keepers.specs.Change.{IsSwept};
+ghost use Rattle.keepers.specs.Faults.{HasCause, max_failures};
+ghost use Rattle.keepers.specs.Keeping.{Keeps};
+ghost use Rattle.sql_rows.specs.Content.{content_of};
+ghost use Rattle.sql_rows.specs.Makes.{Makes, MakesIfOpen};
+ghost use Rattle.sql_tables.specs.Statements.{Attempts, HasBook, HasIdleBook};
+ghost use Rattle.sql_keeper.specs.Commits.{CommitsWhole, IsInside, Transacts};
+ghost use Rattle.sql_keeper.specs.Inside.{clean_in, failed_in, tables_in};
+ghost use Rattle.sql_keeper.specs.Stops.{IsWhole, trees_in};
+ghost use Rattle.sql_keeper.specs.Sweeps.{BecomesSwept, with_accounts, with_sweep};
+ghost use Rattle.sqlite.specs.Held.{state};
+ghost use Rattle.sqlite.specs.State.{HasCleanDisk};
+ghost use Rattle.sqlite_trees.specs.Tree.{Trees};
+
+use crate::faults::counted;
+use crate::keeper::SqlKeeper;
+use crate::putting::put_stored;
+use crate::swept_rows::{SweptAccount, read_sweep};
+use keepers::StoreFault;
+use sql_rows::put_meta;
+use sql_tables::ReadFault;
+use sqlite::{Alter, Connection, Error, Transaction};
+use std::alloc::Global;
+use tariffs::TariffBook;
+use units::Moment;
+
+/// Puts the rows of each of these accounts.
+fn put_accounts<S: Alter>(
+    tx: &mut Transaction<'_, S>,
+    names: &TariffBook,
+    accounts: &[SweptAccount],
+) -> Result<(), Error>
+    requires open { IsInside (state S.Store tx.old.conn.now) }
+    requires book { HasBook (state S.Store tx.old.conn.now) }
+    ensures same_reference { tx.new.conn.ghost_name ≡ tx.old.conn.ghost_name }
+    ensures makes { Attempts (MakesIfOpen (with_accounts names.now.periods accounts.now))
+        (state S.Store tx.old.conn.now) (state S.Store tx.new.conn.now) result }
+{
+    'accounts: for account in accounts {
+        put_stored(tx, &account.number, names, &account.rows)?;
+    }
+    Ok(())
+}
+
+/// Puts all that a sweep writes: the moment, and the rows of each account.
+fn put_sweep<S: Alter>(
+    tx: &mut Transaction<'_, S>,
+    names: &TariffBook,
+    text: &str,
+    moment: Moment,
+    accounts: &[SweptAccount],
+) -> Result<(), Error>
+    requires book { HasBook (state S.Store tx.old.conn.now) }
+    ensures same_reference { tx.new.conn.ghost_name ≡ tx.old.conn.ghost_name }
+    ensures makes { Attempts (Makes (with_sweep names.now.periods text.now moment accounts.now))
+        (state S.Store tx.old.conn.now) (state S.Store tx.new.conn.now) result }
+{
+    put_meta(tx, 1, text, moment)?;
+    put_accounts(tx, names, accounts)
+}
+
+/// Writes a sweep in one transaction.
+fn write_sweep<S: Alter>(
+    conn: &mut Connection<S>,
+    names: &TariffBook,
+    text: &str,
+    moment: Moment,
+    accounts: &[SweptAccount],
+) -> Result<(), Error>
+    requires plain { conn.old.in_transaction ≡ false }
+    requires idle { HasIdleBook (state S.Store conn.old) }
+    ensures plain { conn.new.in_transaction ≡ false }
+    ensures transacts { Transacts (with_sweep names.now.periods text.now moment accounts.now)
+        (state S.Store conn.old) (state S.Store conn.new) result }
+{
+    let mut tx = conn.transaction();
+    put_sweep(&mut tx, names, text, moment, accounts)?;
+    tx.commit()
+}
+
+/// Reads each account, brings it to the moment, and writes all; how many there are.
+fn make_sweep<S: Alter>(
+    conn: &mut Connection<S>,
+    alloc: Global,
+    names: &TariffBook,
+    text: &str,
+    book: &TariffBook,
+    moment: Moment,
+) -> Result<u64, ReadFault>
+    requires plain { conn.old.in_transaction ≡ false }
+    requires idle { HasIdleBook (state S.Store conn.old) }
+    ensures plain { conn.new.in_transaction ≡ false }
+    ensures commits { CommitsWhole (BecomesSwept names.now.periods text.now book.now moment)
+        (state S.Store conn.old) (state S.Store conn.new) result }
+    ensures count { HasCleanDisk (state S.Store conn.new) →
+        IfOk result (λ n. n ≡ (content_of (state S.Store conn.old).now.trees).count) }
+{
+    let _ranges = book.validity();
+    let accounts = read_sweep(conn, alloc, names, book, moment)?;
+    write_sweep(conn, names, text, moment, &accounts)?;
+    Ok(accounts.len() as u64)
+}
+
+/// Brings each account to a moment, in one transaction: the tables become those of the sweep, or at a
+/// fault they are as before. Whatever a stop leaves is one of the two.
+///
+/// # Errors
+/// Out of memory. The store failed, or an account's rows are out of the rules: these are counted.
+pub(crate) fn sweep_accounts<S: Alter>(
+    conn: &mut Connection<S>,
+    failures: &mut u64,
+    alloc: Global,
+    names: &TariffBook,
+    text: &str,
+    book: &TariffBook,
+    moment: Moment,
+) -> Result<u64, StoreFault>
+    requires plain { conn.old.in_transaction ≡ false }
+    requires idle { HasIdleBook (state S.Store conn.old) }
+    requires bounded { failures.old ≤ max_failures }
+    ensures plain { conn.new.in_transaction ≡ false }
+    ensures bounded { failures.new ≤ max_failures }
+    ensures commits { CommitsWhole (BecomesSwept names.now.periods text.now book.now moment)
+        (state S.Store conn.old) (state S.Store conn.new) result }
+    ensures count { HasCleanDisk (state S.Store conn.new) →
+        IfOk result (λ n. n ≡ (content_of (state S.Store conn.old).now.trees).count) }
+    ensures stop { HasCleanDisk (state S.Store conn.new) → IsTrue (state S.Store conn.old).is_open →
+        (db : Trees) → (state S.Store conn.new).may_leave db →
+        (db ≡ (state S.Store conn.old).now.trees) ⊎
+        BecomesSwept names.now.periods text.now book.now moment
+        (state S.Store conn.old).now.trees db }
+    ensures settled { HasCleanDisk (state S.Store conn.new) → IsTrue (state S.Store conn.new).is_open →
+        (db : Trees) → (state S.Store conn.new).may_leave db → db ≡ (state S.Store conn.new).now.trees }
+    ensures cause { HasCause failures.old failures.new result }
+{
+    let made = make_sweep(conn, alloc, names, text, book, moment);
+    counted(failures, made)
+}
+
+impl<S: Alter> SqlKeeper<S> {
+    /// Brings each account to the moment, in one transaction, and answers how many there are: of each
+    /// what may still change is read, sessions whose supervision time is over end, what their
+    /// reservations held is given up, and what is left of buckets that ended is expired. An account
+    /// of a later moment stays. At a fault nothing has changed, and whatever a stop leaves is the
+    /// rows before the sweep or with all of it.
+    ///
+    /// All accounts stand in memory together.
+    ///
+    /// # Errors
+    /// Want of memory; a fault of the store, which is counted, as are rows that are no account's or
+    /// that may not be written.
+    pub fn sweep(&mut self, book: &TariffBook, moment: Moment) -> Result<u64, StoreFault>
+        ensures count { clean_in S.Store self.new →
+            IfOk result (λ n. n ≡ (tables_in S.Store self.old).count) }
+        ensures done { clean_in S.Store self.new → OnOk result (IsSwept book.now moment
+            (tables_in S.Store self.old) (tables_in S.Store self.new)) }
+        ensures kept { Keeps (tables_in S.Store) failed_in (clean_in S.Store) self.old self.new
+            result }
+        ensures whole { IsWhole S.Store self.old self.new
+            (BecomesSwept self.old.names self.old.text book.now moment (trees_in S.Store self.old)) }
+    {
+        sweep_accounts(
+            &mut self.connection,
+            &mut self.failures,
+            self.alloc,
+            &self.book,
+            self.text.as_str(),
+            book,
+            moment,
+        )
+    }
+}
