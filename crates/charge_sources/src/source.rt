@@ -1,0 +1,41 @@
+ghost use Rattle.std.specs.Prelude.{◌≡◌, Bool, OnErr};
+ghost use Rattle.keepers.specs.Keeping.{Reads};
+ghost use Rattle.reserving.specs.ChargeColumns.{ChargeColumns};
+ghost use Rattle.charge_sources.specs.Visits.{SeesCharges, SeesBeginning};
+
+use identifiers::AccountNumber;
+use keepers::{Keeper, StoreFault};
+use reserving::ChargeRow;
+use units::Moment;
+
+/// What is shown the charges of an account, one at a time.
+pub trait ChargeVisitor {
+    /// What it becomes by a row, and whether it goes on.
+    ghost sees: { Self → ChargeColumns → Bool → Self → Type 0 };
+
+    /// Is shown a row; false stops.
+    fn row(&mut self, row: &ChargeRow) -> bool
+        ensures { sees self.old row.now result self.new };
+}
+
+/// A keeper that gives the charges of an account one at a time.
+pub trait ChargeSource: Keeper {
+    /// Shows a visitor each charge of an account whose moment is `from` or later and before
+    /// `until`, in the order of their numbers, until it stops; none where there is no account.
+    ///
+    /// # Errors
+    /// A store fault. Then the visitor was shown a beginning of those rows.
+    fn each<V: ChargeVisitor>(
+        &mut self,
+        account: &AccountNumber,
+        from: Moment,
+        until: Moment,
+        visitor: &mut V,
+    ) -> Result<(), StoreFault>
+        ensures reads { Reads Self.content Self.failed Self.clean self.old self.new
+            (λ _. SeesCharges V.sees from until ((Self.content self.old).charges account.now)
+            visitor.old visitor.new) result }
+        ensures beginning { Self.clean self.new →
+            OnErr result (SeesBeginning V.sees from until
+            ((Self.content self.old).charges account.now) visitor.old visitor.new) };
+}
