@@ -1,4 +1,5 @@
 pub mod Ascents
+pub mod Plains
 pub mod Standing
 pub mod Steps
 pub mod Texts

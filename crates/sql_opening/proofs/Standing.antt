@@ -1,31 +1,29 @@
 -- What rowids that rise say of the table.
-use Rattle.std.proofs.Common.{◌≡◌, ◌⊎◌, inl, inr, ℕ, pos, negsuc, List, [], ◌∷◌, map, flat_map, Bool, true, false, Ordering, Less, Equal, Greater, is_eq, IsTrue, Some, None, refl, sym, ap, subst, ◌∙◌}
+use Rattle.std.proofs.Common.{◌≡◌, inl, inr, ℕ, suc, ◌+◌, ◌<◌, length, slice_index_or, ap₂, arith, List, [], ◌∷◌, map, flat_map, Bool, false, Ordering, Less, Equal, Greater, is_eq, IsTrue, refl, sym, ap, subst, ◌∙◌}
 use Rattle.std.specs.Prelude.{codes, nat_le, ◌^◌}
 use Rattle.std.specs.List.{AllByRecursion, IsDistinct}
-use Rattle.std.specs.List.Sorted.{IsPermutation}
-use Rattle.std.specs.Ordering.{ordering_reverse}
+use Rattle.std.specs.List.Sorted.{IsPermutation, IsSorted, IsSortedBy}
+use Rattle.std.specs.Ordering.{is_lt, ordering_reverse}
 use Rattle.std.proofs.lemmas.Bool.{cases_Bool}
+use Rattle.std.proofs.lemmas.List.{get_or-map, length-map}
 use Rattle.std.proofs.lemmas.List.Sorted.{IsPermutation-map, IsPermutation-sym}
 use Rattle.std.proofs.lemmas.Map.Keys.{IsDistinct-IsPermutation}
-use Rattle.sqlite_value.specs.declared.value.Value.TheVariants.{Null, Int}
-use Rattle.sqlite_value.specs.declared.keys.Collation.TheVariants.{Binary}
-use Rattle.sqlite_value.specs.Order.{Row, column, value_cmp}
-use Rattle.sqlite_value.proofs.OrderLemmas.{value_cmp_total}
+use Rattle.sqlite_value.specs.declared.value.Value.TheVariants.{Null}
+use Rattle.sqlite_value.specs.Order.{Row, value_cmp}
+use Rattle.sqlite_value.proofs.OrderLemmas.{then-Equal, value_cmp_total}
 use Rattle.sqlite_trees.specs.Tree.{Trees, rowid, IsAscending}
 use Rattle.sqlite_trees.specs.View.{is_int}
-use Rattle.sqlite_trees.proofs.ListLemmas.{all-permutation, all_from_map, ascending_from_map}
-use Rattle.sqlite_sql.specs.Term.{lit, col}
-use Rattle.sqlite_sql.specs.Query.{Query, inner, end, Output, output, IsAnswer}
+use Rattle.sqlite_trees.proofs.ListLemmas.{all-map, all-permutation, all_from_map, all_weaker, ascending-map, ascending_from_map}
+use Rattle.sqlite_sql.specs.Query.{Output, output, output_cmp, IsAnswer}
 use Rattle.sqlite_sql.specs.Program.{overlay}
 use Rattle.sqlite_schema.specs.declared.command.Command.TheVariants.{Select}
-use Rattle.sqlite_tied.specs.Compute.{everything}
-use Rattle.sqlite.specs.Listing.{understood, reads_listing}
-use Rattle.sqlite.specs.State.{State, Shown, IsUnchanged}
-use Rattle.sqlite.proofs.Callers.{IsPlain, command_of, reads_as}
+use Rattle.sqlite.specs.State.{State, Shown}
+use Rattle.sqlite.proofs.Callers.{reads_as}
 use Rattle.sql_tables.specs.Keyed.{IsStored}
 use Rattle.sqlite_schema.specs.declared.schema.Table.{Table}
 use Rattle.sql_tables.specs.Schema.{book_schema}
 use Rattle.sql_opening.specs.Opens.{rowids_of, IsRowids}
+use Rattle.sql_opening.specs.Rises.{AreRising}
 
 bare : (db : Trees) (t : ℕ) → overlay db [] t ≡ db t
 bare db t = elim (cases_Bool (nat_le (2 ^ 31) t)) [
@@ -33,18 +31,21 @@ bare db t = elim (cases_Bool (nat_le (2 ^ 31) t)) [
   | inr e ↦ rw e refl
 ]
 
-shown_ids : (tree : ℕ) (db : Trees) (rows : List Row) → IsAnswer (rowids_of tree) (overlay db []) [] rows → IsPermutation (map (λ r. rowid r ∷ []) (db tree)) rows
-shown_ids tree db rows a =
-    let kept : a.kept ≡ map (λ r. (rowid r ∷ [], rowid r ∷ [])) (db tree) =
-    a.distinct ∙ ap (map (output (rowids_of tree))) (a.grouped ∙ ap (λ rs. flat_map (λ r. ([] ∷ r ∷ []) ∷ []) rs) (bare db tree)) ∙ all (db tree) in
-    let shuffled = IsPermutation-map (λ (o : Output). o.1) a.kept a.ordered a.same in
-    subst (λ ys. IsPermutation (map (λ r. rowid r ∷ []) (db tree)) ys) (sym a.shown)
-    (subst (λ xs. IsPermutation xs (map (λ (o : Output). o.1) a.ordered)) (ap (map (λ (o : Output). o.1)) kept ∙ twice (db tree)) shuffled)
+kept_ids : (tree : ℕ) (db : Trees) (rows : List Row) (a : IsAnswer (rowids_of tree) (overlay db []) [] rows)
+    → a.kept ≡ map (λ r. (rowid r ∷ [], rowid r ∷ [])) (db tree)
+kept_ids tree db rows a =
+    a.distinct ∙ ap (map (output (rowids_of tree))) (a.grouped ∙ ap (λ rs. flat_map (λ r. ([] ∷ r ∷ []) ∷ []) rs) (bare db tree)) ∙ all (db tree)
   where
     all : (rs : List Row) → map (output (rowids_of tree)) (flat_map (λ r. ([] ∷ r ∷ []) ∷ []) rs) ≡ map (λ r. (rowid r ∷ [], rowid r ∷ [])) rs
     all [] = refl
     all (r ∷ rs) = ap (λ xs. (rowid r ∷ [], rowid r ∷ []) ∷ xs) (all rs)
 
+shown_ids : (tree : ℕ) (db : Trees) (rows : List Row) → IsAnswer (rowids_of tree) (overlay db []) [] rows → IsPermutation (map (λ r. rowid r ∷ []) (db tree)) rows
+shown_ids tree db rows a =
+    let shuffled = IsPermutation-map (λ (o : Output). o.1) a.kept a.ordered a.same in
+    subst (λ ys. IsPermutation (map (λ r. rowid r ∷ []) (db tree)) ys) (sym a.shown)
+    (subst (λ xs. IsPermutation xs (map (λ (o : Output). o.1) a.ordered)) (ap (map (λ (o : Output). o.1)) (kept_ids tree db rows a) ∙ twice (db tree)) shuffled)
+  where
     twice : (rs : List Row) → map (λ (o : Output). o.1) (map (λ r. (rowid r ∷ [], rowid r ∷ [])) rs) ≡ map (λ r. rowid r ∷ []) rs
     twice [] = refl
     twice (r ∷ rs) = ap (λ xs. (rowid r ∷ []) ∷ xs) (twice rs)
@@ -84,3 +85,69 @@ rows_stand text table is old new rows has h stored =
     is.command is.plain is.listing rows h in
     let p = shown_ids table.tree old.now.trees rows (read.answer Null) in
     stored_ids (old.now.trees table.tree) (stored_permuted rows _ (IsPermutation-sym _ _ p) stored)
+
+-- ---- of a table in which no rowid stands twice
+
+ids_stored : (rows : List Row) → IsStored rows → IsStored (map (λ r. rowid r ∷ []) rows)
+ids_stored rows h = (ascending-map (λ a b. same_id a b ≡ false) (λ (r : Row). rowid r ∷ []) rows h.0, all-map (λ r. IsTrue (is_int (rowid r))) (λ (r : Row). rowid r ∷ []) rows h.1)
+
+above : (o : Ordering) → is_lt o ≡ false → is_eq (ordering_reverse o) ≡ false → ordering_reverse o ≡ Less
+above Less a b = absurd (cc a)
+above Equal a b = absurd (cc b)
+above Greater a b = refl
+
+abbrev rises_by : Row → Row → Type 0
+rises_by a b = value_cmp (rowid a) (rowid b) ≡ Less
+
+climbs : (rows : List Row) → IsSortedBy (λ a b. is_lt (value_cmp (rowid a) (rowid b))) rows
+    → IsAscending (λ a b. same_id a b ≡ false) rows → IsAscending rises_by rows
+climbs [] sorted apart = tt
+climbs (r ∷ []) sorted apart = (tt, tt)
+climbs (r ∷ s ∷ rows) sorted apart =
+    let rest = climbs (s ∷ rows) (λ k d low high.
+    let next : suc k + 1 ≡ suc (k + 1) = omega arith in
+    subst (λ n. is_lt (value_cmp (rowid (slice_index_or (r ∷ s ∷ rows) n d)) (rowid (slice_index_or (s ∷ rows) k d))) ≡ false)
+    next (sorted (suc k) d (omega arith) (omega (arith, high)))) apart.1 in
+    let turned = value_cmp_total.antisymm (rowid r) (rowid s) in
+    let less : rises_by r s =
+    turned ∙ above (value_cmp (rowid s) (rowid r)) (sorted 0 r (omega arith) (omega arith))
+    (ap is_eq (sym turned) ∙ apart.0.0) in (
+      (less, all_weaker (rises_by s) (rises_by r) (λ t more. value_cmp_total.trans (rowid r) (rowid s) (rowid t) less more) rows rest.0),
+      rest,
+    )
+
+abbrev both : Row → Output
+both r = (r, r)
+
+twins : (os : List Output) → AllByRecursion (λ (o : Output). o.0 ≡ o.1) os → os ≡ map both (map (λ (o : Output). o.1) os)
+twins [] h = refl
+twins (o ∷ os) h = ap (λ r. (r, o.1) ∷ os) h.0 ∙ ap (λ more. both o.1 ∷ more) (twins os h.1)
+
+all_twins : (rows : List Row) → AllByRecursion (λ (o : Output). o.0 ≡ o.1) (map (λ r. (rowid r ∷ [], rowid r ∷ [])) rows)
+all_twins [] = tt
+all_twins (r ∷ rows) = (refl, all_twins rows)
+
+sorted_ids : (tree : ℕ) (rows : List Row) → IsSorted (output_cmp (rowids_of tree)) (map both rows)
+    → IsSortedBy (λ a b. is_lt (value_cmp (rowid a) (rowid b))) rows
+sorted_ids tree rows sorted k d low high =
+    let wide : k + 1 < length (map both rows) = subst (λ n. k + 1 < n) (sym (length-map rows both)) high in
+    let one = get_or-map both rows (k + 1) d (both d) high in
+    let two = get_or-map both rows k d (both d) (omega (arith, high)) in
+    sym (ap is_lt (then-Equal (value_cmp (rowid (slice_index_or rows (k + 1) d)) (rowid (slice_index_or rows k d)))))
+    ∙ sym (ap₂ (λ a b. is_lt (output_cmp (rowids_of tree) a b)) one two) ∙ sorted k (both d) low wide
+
+pub rows_rise : (text : List ℕ) (table : Table) → IsRowids text table → (old new : State) (rows : List Row)
+    → old.now.schema ≡ book_schema → Shown text [] old new rows → IsStored (old.now.trees table.tree) → AreRising rows
+rows_rise text table is old new rows has h stored =
+    let read = reads_as text [] old new book_schema has
+    (Select (record { lets = []; body = rowids_of table.tree }) (codes "rowid" ∷ []))
+    is.command is.plain is.listing rows h in
+    let a = read.answer Null in
+    let p = shown_ids table.tree old.now.trees rows a in
+    let (apart, ints) = stored_permuted _ rows p (ids_stored (old.now.trees table.tree) stored) in
+    let twin : AllByRecursion (λ (o : Output). o.0 ≡ o.1) a.ordered =
+    all-permutation (λ (o : Output). o.0 ≡ o.1) a.kept a.ordered a.same
+    (subst (AllByRecursion (λ (o : Output). o.0 ≡ o.1)) (sym (kept_ids table.tree old.now.trees rows a)) (all_twins (old.now.trees table.tree))) in
+    let whole : a.ordered ≡ map both rows = twins a.ordered twin ∙ ap (map both) (sym a.shown) in
+    let sorted = sorted_ids table.tree rows (subst (IsSorted (output_cmp (rowids_of table.tree))) whole a.sorted) in
+    (climbs rows sorted apart, ints)

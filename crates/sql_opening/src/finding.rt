@@ -4,7 +4,7 @@ ghost use Rattle.std.specs.Prelude.{◌≡◌, false, true, IfErr, IsTrue, OnOk}
 ghost use Rattle.sqlite.specs.Held.{state};
 ghost use Rattle.sqlite.specs.State.{HasCleanDisk, Survives};
 ghost use Rattle.sql_tables.specs.Schema.{book_schema};
-ghost use Rattle.sql_opening.specs.Opens.{Finds, HasStoredTo, IsFound, IsNoVersion};
+ghost use Rattle.sql_opening.specs.Opens.{Finds, HasStoredTo, IsFound, IsNoVersion, IsTold};
 
 use crate::fault::OpenFault;
 use crate::rising::{fault_of, rowids_differ};
@@ -17,12 +17,13 @@ use std::alloc::Global;
 fn has_our_tables<S: Alter>(conn: &Connection<S>, alloc: Global) -> Result<(), OpenFault>
     ensures ours { OnOk result (conn.now.schema ≡ book_schema) }
     ensures told { IfErr result IsNoVersion }
+    ensures means { IfErr result (IsTold (state S.Store conn.now).now) }
 {
     let ours = match create_in_memory(alloc) {
         Ok(ours) => ours,
         Err(error) => return Err(fault_of(error)),
     };
-    if same_schema(conn.schema(), ours.schema()) {
+    if same_schema(ours.schema(), conn.schema()) {
         Ok(())
     } else {
         Err(OpenFault::Foreign)
@@ -147,12 +148,14 @@ fn other_tables_differ<S: Alter>(conn: &mut Connection<S>) -> Result<(), OpenFau
 /// that no rowid of theirs stands twice: then each statement of this system does what it says. Each
 /// row is looked at once.
 ///
-/// Errors: `Foreign`, `Rules` where a rowid stands twice, `Store`, also where a transaction is open,
-/// `Memory`. Nothing is changed, whatever is answered.
+/// Errors: `Foreign`, the tables aren't exactly ours; `Rules`, a rowid of ours stands twice or is no
+/// integer; `Store`, also where a transaction is open; `Memory`. Nothing is changed, whatever is
+/// answered.
 pub fn find_tables<S: Alter>(conn: &mut Connection<S>, alloc: Global) -> Result<(), OpenFault>
     ensures found { HasCleanDisk (state S.Store conn.new) → OnOk result (IsFound (state S.Store conn.old) (state S.Store conn.new)) }
     ensures idle { OnOk result (conn.new.in_transaction ≡ false) }
     ensures told { IfErr result IsNoVersion }
+    ensures means { HasCleanDisk (state S.Store conn.new) → IfErr result (IsTold (state S.Store conn.old).now) }
     ensures survives { Survives (state S.Store conn.old) (state S.Store conn.new) (λ _. ⊥) }
 {
     if !conn.is_autocommit() {

@@ -1,22 +1,24 @@
 //! Whether a rowid of a table stands twice: rowids that rise don't.
 
-ghost use Rattle.std.specs.Prelude.{◌≡◌, ◌<ℤ◌, ◌+◌, ℕ, [], List, IsTrue, IfOk, IfSome, OnOk};
-ghost use Rattle.sqlite_value.specs.declared.value.Value.TheVariants.{Int};
-ghost use Rattle.sqlite_value.specs.Order.{Row as Values, column};
+ghost use Rattle.std.specs.Prelude.{◌≡◌, ◌+◌, ℕ, ℤ, [], ◌∷◌, ◌++◌, List, None, IsTrue, IfOk, IfSome, OnOk};
+ghost use Rattle.sqlite_value.specs.Order.{Row as Values};
+ghost use Rattle.sqlite.specs.Effect.{Database};
 ghost use Rattle.sqlite.specs.Given.{IsPlain};
 ghost use Rattle.sqlite.specs.Held.{Held, state};
 ghost use Rattle.sqlite.specs.Listing.{understood};
 ghost use Rattle.sqlite.specs.State.{HasCleanDisk, IsUnchanged, Shown, Survives};
-ghost use Rattle.sql_tables.specs.Keyed.{IsStored};
 ghost use Rattle.sql_tables.specs.Schema.{book_schema};
-ghost use Rattle.sql_opening.specs.Opens.{Finds, HasStoredTo, IsNext, IsNoVersion};
+ghost use Rattle.sql_opening.specs.Opens.{Finds, HasStoredTo, IsNext, IsNoVersion, IsTold};
+ghost use Rattle.sql_opening.specs.Rises.{AreRising, Climbs, IsAbove};
 
 use crate::fault::OpenFault;
+use sqlite::types::ValueRef;
 use sqlite::{Alter, Connection, Error, ErrorCode, Row};
 
 /// The fault of a call of the store.
 pub(crate) fn fault_of(error: Error) -> OpenFault
-    ensures { IsNoVersion result }
+    ensures told { IsNoVersion result }
+    ensures means { (db : Database) → IsTold db result }
 {
     match error {
         Error::SqliteFailure(ErrorCode::OutOfMemory) => OpenFault::Memory,
@@ -26,9 +28,10 @@ pub(crate) fn fault_of(error: Error) -> OpenFault
 
 /// The first value of the row, if it is an integer above the last.
 fn next_id(row: &Row, last: Option<i64>) -> Option<i64>
-    ensures { IfSome result (λ id. (column row.now 0 ≡ Int id) × IfSome last (λ before. before <ℤ id)) }
+    ensures id { IfSome result (IsAbove last row.now) }
+    ensures none { result ≡ None → (id : ℤ) → ¬ IsAbove last row.now id }
 {
-    let Ok(id) = row.get::<i64>(0) else {
+    let Ok(ValueRef::Int(id)) = row.get_ref(0) else {
         return None;
     };
     match last {
@@ -37,27 +40,53 @@ fn next_id(row: &Row, last: Option<i64>) -> Option<i64>
     }
 }
 
+/// Whether the first values of the rows so far are integers that rise, and the last of them.
+#[derive(Clone, Copy)]
+struct Climb {
+    rises: bool,
+    last: Option<i64>,
+}
+
+impl Climb {
+    /// With one more row.
+    #[tactic(auto, using(crate::proofs::Ascents::still_falls, crate::proofs::Ascents::climbs_on))]
+    fn with(self, row: &Row) -> Climb
+        ensures { (given : List Values) → Climbs self.rises self.last given
+            → Climbs result.rises result.last (given ++ row.now ∷ []) }
+    {
+        if !self.rises {
+            return self;
+        }
+        let last = next_id(row, self.last);
+        Climb {
+            rises: last.is_some(),
+            last,
+        }
+    }
+}
+
 /// Whether the first value of each row of a selection is an integer above that of the row before.
+/// Each row is read, also after one that isn't above.
 fn are_rising<S: Alter>(conn: &mut Connection<S>, sql: &str) -> Result<bool, Error>
     requires { HasCleanDisk (state S.Store conn.old) → IsPlain (understood conn.old.schema sql.now) }
-    ensures rise { HasCleanDisk (state S.Store conn.new) → IfOk result (λ rises. IsTrue rises → (was : Held S) × (rows : List Values)
-        × IsUnchanged (state S.Store conn.old) (state S.Store was) × Shown sql.now [] (state S.Store was) (state S.Store conn.new) rows × IsStored rows) }
+    ensures rise { HasCleanDisk (state S.Store conn.new) → IfOk result (λ rises. (was : Held S) × (rows : List Values)
+        × IsUnchanged (state S.Store conn.old) (state S.Store was) × Shown sql.now [] (state S.Store was) (state S.Store conn.new) rows
+        × (IsTrue rises → AreRising rows) × (AreRising rows → IsTrue rises)) }
     ensures same { HasCleanDisk (state S.Store conn.new) → OnOk result (IsUnchanged (state S.Store conn.old) (state S.Store conn.new)) }
     ensures crash { Survives (state S.Store conn.old) (state S.Store conn.new) (λ _. ⊥) }
 {
-    let mut last = None;
+    let mut climb = Climb {
+        rises: true,
+        last: None,
+    };
     let mut rows = conn.query(sql, &[])?;
     'rows: for _ in 0..u64::MAX {
         let Some(row) = rows.next()? else {
-            return Ok(true);
+            return Ok(climb.rises);
         };
-        let next = next_id(row, last);
-        if next.is_none() {
-            return Ok(false);
-        }
-        last = next;
+        climb = climb.with(row);
     }
-    Ok(false)
+    Err(Error::SqliteFailure(ErrorCode::TooBig))
 }
 
 /// Tests that no rowid of one more table stands twice; `sql` selects its rowids in order.

@@ -1,4 +1,4 @@
-use Rattle.std.proofs.Common.{ℕ, List, [], ◌++◌, ◌∷◌, not, ap, ◌∙◌, refl, rules, arith}
+use Rattle.std.proofs.Common.{ℕ, List, [], ◌++◌, ◌∷◌, refl, rules, arith}
 use Rattle.sqlite_value.specs.Order.{Row}
 use Rattle.sqlite.specs.Given.{HasGiven}
 use Rattle.sqlite.specs.Listing.{understood}
@@ -6,7 +6,7 @@ use Rattle.sqlite.specs.State.{State, HasCleanDisk, Survives, CommitsShowing}
 use Rattle.sqlite.specs.Held.{state}
 use Rattle.sqlite.proofs.StateLemmas.{survives_weaker, survives_then}
 use Rattle.sqlite.proofs.Callers.{IsPlain, begun_plain, never_commits, unchanged_then}
-use Rattle.sql_opening.proofs.Ascents.{rises_next, risen}
+use Rattle.sql_opening.proofs.Ascents.{up_to}
 use Rattle.sql_opening.proofs.rising.are_rising.Goals as goal
 
 commits_nothing : (sql : List ℕ) (params : Row) (old new : State)
@@ -29,13 +29,14 @@ rows-init g c =
     (refl, commits_nothing _ _ _ _ c.requires made.survives, λ clean. let begun = begun_plain g.S.Store _ _ c.args.conn.now _ (c.requires (omega (arith, made.survives.clean, clean))) (made.begun clean) in ([], begun.0, begun.1, refl))
 
 pub returns-in_default-clause-rise : goal.returns-in_default-clause-rise
-returns-in_default-clause-rise g c clean yes' =
+returns-in_default-clause-rise g c clean =
     let moved = c.next.follows.holds-at-none in
     let now = c.next.follows.lender-at-none.conn.now in
     let late : HasCleanDisk (state g.S.Store now) = search rules in
     let was = c.rows.invariant.2 (omega (arith, moved.survives.clean)) in
     let shown = (rw (c.in_ok-row.was, c.in_default.is) at (moved.ok late)) c.args.sql.now [] was.0 was.1 in
-    (c.rows.rows.conn.now, was.0, was.2, search (rules, shown), risen c.rows.last was.0 was.3)
+    let up = up_to c.rows.climb.rises c.rows.climb.last was.0 was.3 in
+    (c.rows.rows.conn.now, was.0, was.2, search (rules, shown), up.0, up.1)
 
 pub rows-preserved : goal.rows-preserved
 rows-preserved g c =
@@ -48,5 +49,5 @@ rows-preserved g c =
       λ clean.
           let was = c.rows.invariant.2 (omega (arith, moved.survives.clean)) in
           let on : HasGiven g.S.Store c.args.sql.now [] now (was.0 ++ c.in-Some.row.now ∷ []) = (rw (c.in_ok-row.was, c.in-Some.is) at (moved.ok clean)) c.args.sql.now [] was.0 was.1 in
-          (was.0 ++ c.in-Some.row.now ∷ [], on, unchanged_then old mid (state g.S.Store now) was.2 (search (rules, moved.same)), rises_next c.rows.last c.next_id-next.result was.0 c.in-Some.row.now was.3 (c.is_none.ensures ∙ ap not c.if-is_none.false) c.next_id-next.ensures),
+          (was.0 ++ c.in-Some.row.now ∷ [], on, unchanged_then old mid (state g.S.Store now) was.2 (search (rules, moved.same)), c.with-climb.ensures was.0 was.3),
     )
