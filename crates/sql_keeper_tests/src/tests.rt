@@ -2,3 +2,4 @@
 
 mod changes;
 mod loads;
+mod sweeps;
