@@ -2,6 +2,7 @@ pub mod Overlays
 pub mod Groups
 pub mod InTurn
 pub mod Numbers
+pub mod Again
 pub mod Asked
 pub mod BookTexts
 pub mod DeadRows

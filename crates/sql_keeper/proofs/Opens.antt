@@ -5,28 +5,31 @@ use Rattle.std.specs.String.{string_bytes}
 use Rattle.tariffs.specs.Books.{Book}
 use Rattle.sqlite_trees.specs.declared.store.Store.{Ghosts}
 use Rattle.sqlite_trees.specs.Tree.{Trees}
+use Rattle.sqlite_trees.specs.Objects.{catalog_tree}
+use Rattle.sqlite_catalog.specs.Listing.{Lists}
 use Rattle.sqlite.specs.Effect.{Database}
 use Rattle.sqlite.specs.Held.{Held, state}
-use Rattle.sqlite.specs.State.{State, HasCleanDisk, Survives}
+use Rattle.sqlite.specs.State.{State, HasCleanDisk, IsLive, Survives}
 use Rattle.sqlite.proofs.StateLemmas.{survives_then}
-use Rattle.sql_tables.specs.Statements.{IsStill, OnlyReads}
+use Rattle.sql_tables.specs.Schema.{book_schema}
+use Rattle.sql_tables.specs.Statements.{HasIdleBook, IsStill, OnlyReads}
 use Rattle.sql_tables.specs.Texts.{stage}
 use Rattle.sql_rows.specs.Content.{content_of}
 use Rattle.sql_rows.specs.Texts.{meta_of}
 use Rattle.sql_rows.specs.declared.meta_rows.Meta.{Meta as MetaRow}
-use Rattle.sql_opening.specs.Opens.{IsFound, IsNoVersion}
+use Rattle.sql_opening.specs.Opens.{IsFound, IsNoVersion, IsTold}
 use Rattle.sql_opening.specs.declared.fault.OpenFault.{OpenFault}
-use Rattle.sql_opening.specs.declared.fault.OpenFault.TheVariants.{Version}
+use Rattle.sql_opening.specs.declared.fault.OpenFault.TheVariants.{Foreign, Version}
 use Rattle.sqlite_schema.specs.declared.schema.Schema.{Schema}
 use Rattle.sql_tables.specs.Ours.{has_ours}
 use Rattle.sql_keeper.specs.Books.{IsBookOf, IsBookText}
 use Rattle.keepers.specs.Tables.{no_tables}
 use Rattle.sql_keeper.specs.Content.{tables_of}
-use Rattle.sql_keeper.specs.Creates.{CreatesBook, IsNewBook}
+use Rattle.sql_keeper.specs.Creates.{CreatesBook, IsNewBook, first_meta}
 use Rattle.sql_keeper.specs.Faults.{IsCreateFault}
 use Rattle.sql_keeper.specs.Finds.{FindsBook, FindsMeta}
 use Rattle.sql_keeper.specs.Inside.{KeeperState, IsClean}
-use Rattle.sql_keeper.specs.Opened.{IsCreated, IsFresh, IsKept, IsNotCreated, IsOpened}
+use Rattle.sql_keeper.specs.Opened.{IsCreated, IsFresh, IsKept, IsLeft, IsNotCreated, IsOpened}
 use Rattle.sql_keeper.specs.declared.books.ReadBook.{ReadBook}
 use Rattle.sql_keeper.specs.declared.create_fault.CreateFault.{CreateFault}
 use Rattle.sql_keeper.specs.declared.create_fault.CreateFault.TheVariants.{Store, Memory}
@@ -71,13 +74,19 @@ store_told text schema f (inr is) none book = subst (IsCreateFault text schema) 
 module _ {S : Type 0} (g : Ghosts S) (k : KeeperState S) (conn : Held S) (book given own : Book)
     (text bytes : List ℕ) (connection : k.connection ≡ conn) (is : book ≡ given) (same : own ≡ given)
     (names : k.names ≡ own.periods) (told : k.text ≡ bytes) (none : k.failures ≡ 0)
-    (read : IsBookOf text given) (kept : bytes ≡ text) where
+    (read : IsBookOf text given) (kept : bytes ≡ text) (live : IsLive (state g conn)) where
   pub fresh : IsFresh k book
   fresh = record {
     read = subst (λ t. IsBookOf t book) (sym (told ∙ kept)) (subst (IsBookOf text) (sym is) read);
     names = names ∙ ap (λ (b : Book). b.periods) (same ∙ sym is);
     uncounted = none;
   }
+
+  -- the schema is the one that the database lists
+  listed : HasCleanDisk (state g conn) → IsTrue (state g conn).is_open → HasIdleBook (state g conn)
+      → Lists ((state g conn).now.trees catalog_tree) book_schema
+  listed clean on idle =
+      subst (Lists ((state g conn).now.trees catalog_tree)) (idle clean on).book.schema (live on).0.lists
 
   pub created : {A E : Type 0} (old : Held S) (u : A) → old.schema ≡ stage 0 → old.in_transaction ≡ false
       → CreatesBook {A = A} {E = E} text (state g old) (state g conn) (Ok u) → IsCreated g text old k book
@@ -92,16 +101,26 @@ module _ {S : Type 0} (g : Ghosts S) (k : KeeperState S) (conn : Held S) (book g
         (λ clean. (c.done clean).2);
     tables = subst (λ h. HasCleanDisk (state g h) → tables_of k.names (content_of (state g h).now.trees) ≡ no_tables)
         (sym connection) (λ clean. (c.done clean).2.tables k.names);
+    left = subst (λ h. HasCleanDisk (state g h) → IsLeft text (state g h).now.trees) (sym connection) (λ clean.
+        let made = c.done clean in
+        record {
+          lists = listed clean made.0 made.1;
+          kept = record { row = first_meta text; is = made.2.meta; version = refl; book = refl };
+        });
     survives = subst (λ h. Survives (state g old) (state g h) (IsNewBook text)) (sym connection) c.survives;
   }
 
   pub opened : (old : Held S) → (HasCleanDisk (state g conn) → IsKept (state g conn).now.trees bytes
       × IsStill (state g old) (state g conn) × IsTrue (state g conn).is_open)
-      → Survives (state g old) (state g conn) (λ _. ⊥) → IsOpened g old k book
-  opened old found survives = record {
+      → Survives (state g old) (state g conn) (λ _. ⊥) → HasIdleBook (state g conn) → IsOpened g old k book
+  opened old found survives idle = record {
     fresh = fresh;
-    kept = subst (λ h. HasCleanDisk (state g h) → IsKept (state g h).now.trees k.text) (sym connection)
-        (λ clean. subst (IsKept (state g conn).now.trees) (sym told) (found clean).0);
+    left = subst (λ h. HasCleanDisk (state g h) → IsLeft k.text (state g h).now.trees) (sym connection) (λ clean.
+        let it = found clean in
+        record {
+          lists = listed clean it.2 idle;
+          kept = subst (IsKept (state g conn).now.trees) (sym told) it.0;
+        });
     clean = subst (λ h. HasCleanDisk (state g h) → IsClean (state g h)) (sym connection)
         (λ clean. record { disk = clean; open_still = inr (found clean).2 });
     still = subst (λ h. HasCleanDisk (state g h) → IsStill (state g old) (state g h)) (sym connection)
@@ -138,8 +157,9 @@ module _ (old mid new : State) (found : HasCleanDisk mid → IsFound old mid) (o
 
   pub finds_meta : (r : Result MetaRow OpenFault)
       → (HasCleanDisk new → IfOk r (λ m. (content_of mid.now.trees).meta ≡ Some (meta_of m)))
-      → (HasCleanDisk new → OnOk r (IsTrue new.is_open)) → IfErr r IsNoVersion → FindsMeta old new r
-  finds_meta (Ok m) is on told = record {
+      → (HasCleanDisk new → OnOk r (IsTrue new.is_open)) → IfErr r IsNoVersion
+      → IfErr r (λ fault. ¬ (fault ≡ Foreign)) → FindsMeta old new r
+  finds_meta (Ok m) is on told ours = record {
     found = λ clean. (
       subst (λ (d : Database). (content_of d.trees).meta ≡ Some (meta_of m))
           (sym (only.still clean (on clean)).now_is) (is clean),
@@ -148,36 +168,50 @@ module _ (old mid new : State) (found : HasCleanDisk mid → IsFound old mid) (o
     );
     idle = only.idle;
     told = tt;
+    foreign = λ clean. tt;
     survives = reads_survived;
   }
-  finds_meta (Err e) is on told =
-      record { found = λ clean. tt; idle = tt; told = told; survives = reads_survived }
+  finds_meta (Err e) is on told ours = record {
+    found = λ clean. tt;
+    idle = tt;
+    told = told;
+    foreign = λ clean is. absurd (ours is);
+    survives = reads_survived;
+  }
 
 -- no table was found
-pub finds_none : (old new : State) (e : OpenFault) → IsNoVersion e → Survives old new (λ _. ⊥)
-    → FindsMeta old new (Err e)
-finds_none old new e told survives =
-    record { found = λ clean. tt; idle = tt; told = told; survives = survives }
+pub finds_none : (old new : State) (e : OpenFault) → IsNoVersion e → (HasCleanDisk new → IsTold old.now e)
+    → Survives old new (λ _. ⊥) → FindsMeta old new (Err e)
+finds_none old new e told means survives = record {
+  found = λ clean. tt;
+  idle = tt;
+  told = told;
+  foreign = λ clean is. subst (IsTold old.now) is (means clean);
+  survives = survives;
+}
 
 pub finds_book : (old new : State) (m : MetaRow) (r : Result ReadBook OpenFault) → FindsMeta old new (Ok m)
     → OnOk r (m.version ≡ 1) → IfOk r (λ b. IsBookOf (string_bytes b.text) b.given)
     → IfOk r (λ b. b.own ≡ b.given) → IfOk r (λ b. string_bytes b.text ≡ string_bytes m.book)
-    → IfErr r (λ fault. fault ≡ Version → ¬ (m.version ≡ 1)) → FindsBook old new r
-finds_book old new m (Ok b) finds version read same text told = record {
+    → IfErr r (λ fault. fault ≡ Version → ¬ (m.version ≡ 1)) → IfErr r (λ fault. ¬ (fault ≡ Foreign))
+    → FindsBook old new r
+finds_book old new m (Ok b) finds version read same text told ours = record {
   found = λ clean.
       let f = finds.found clean in
       (record { row = meta_of m; is = f.0; version = version; book = sym text }, f.1, f.2);
   read = read;
   same = same;
   idle = finds.idle;
+  foreign = λ clean. tt;
   version = λ clean. tt;
   survives = finds.survives;
 }
-finds_book old new m (Err e) finds version read same text told = record {
+finds_book old new m (Err e) finds version read same text told ours = record {
   found = λ clean. tt;
   read = tt;
   same = tt;
   idle = tt;
+  foreign = λ clean is. absurd (ours is);
   version = λ clean is.
       let f = finds.found clean in
       record {
@@ -194,6 +228,7 @@ finds_no_book old new e finds = record {
   read = tt;
   same = tt;
   idle = tt;
+  foreign = finds.foreign;
   version = λ clean is. absurd (finds.told is);
   survives = finds.survives;
 }

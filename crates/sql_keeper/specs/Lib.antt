@@ -1,3 +1,4 @@
+pub mod Again
 pub mod Asks
 pub mod Books
 pub mod Commits

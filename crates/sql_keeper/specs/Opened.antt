@@ -4,14 +4,17 @@ use Rattle.std.specs.Prelude.{◌≡◌, ℕ, false, List, Some, IsTrue}
 use Rattle.tariffs.specs.Books.{Book}
 use Rattle.sqlite_trees.specs.declared.store.Store.{Ghosts}
 use Rattle.sqlite_trees.specs.Tree.{Trees}
+use Rattle.sqlite_trees.specs.Objects.{catalog_tree}
+use Rattle.sqlite_catalog.specs.Listing.{Lists}
 use Rattle.sqlite.specs.Held.{Held, state}
 use Rattle.sqlite.specs.State.{HasCleanDisk, Survives}
+use Rattle.sql_tables.specs.Schema.{book_schema}
 use Rattle.sql_tables.specs.Statements.{IsStill}
 use Rattle.sql_tables.specs.Texts.{stage}
 use Rattle.sql_rows.specs.Values.{Meta}
 use Rattle.sql_rows.specs.Content.{content_of}
 use Rattle.sql_opening.specs.declared.fault.OpenFault.{OpenFault}
-use Rattle.sql_opening.specs.declared.fault.OpenFault.TheVariants.{Version}
+use Rattle.sql_opening.specs.declared.fault.OpenFault.TheVariants.{Foreign, Version}
 use Rattle.keepers.specs.Tables.{no_tables}
 use Rattle.sql_keeper.specs.Books.{IsBookOf}
 use Rattle.sql_keeper.specs.Creates.{IsNewBook}
@@ -26,6 +29,21 @@ pub record IsFresh {S : Type 0} (k : KeeperState S) (book : Book) : Type 0 where
   pub names : k.names ≡ book.periods
   pub uncounted : k.failures ≡ 0
 
+-- ---- left
+
+-- what is kept once: the first version of the tables, and the text of the book
+pub record IsKept (trees : Trees) (text : List ℕ) : Type 0 where
+  pub row : Meta
+  pub is : (content_of trees).meta ≡ Some row
+  pub version : row.version ≡ 1
+  pub book : row.book ≡ text
+
+-- the tables of a book as they are found again: the database lists ours, and keeps their first
+-- version with the text
+pub record IsLeft (text : List ℕ) (trees : Trees) : Type 0 where
+  pub lists : Lists (trees catalog_tree) book_schema
+  pub kept : IsKept trees text
+
 -- ---- made
 
 -- the tables were made in a database that had none, and hold nothing but what is kept once
@@ -38,6 +56,8 @@ pub record IsCreated {S : Type 0} (g : Ghosts S) (text : List ℕ) (old : Held S
   pub clean : HasCleanDisk (state g k.connection) → IsClean (state g k.connection)
   pub made : HasCleanDisk (state g k.connection) → IsNewBook text (trees_in g k)
   pub tables : HasCleanDisk (state g k.connection) → tables_in g k ≡ no_tables
+  -- as an open finds them again
+  pub left : HasCleanDisk (state g k.connection) → IsLeft text (trees_in g k)
   pub survives : Survives (state g old) (state g k.connection) (IsNewBook text)
 
 -- nothing is changed; a stop leaves what it left before, or the new tables
@@ -50,13 +70,6 @@ pub record IsNotCreated {S : Type 0} (g : Ghosts S) (text : List ℕ) (old new :
 
 -- ---- opened
 
--- what is kept once: the first version of the tables, and the text of the book
-pub record IsKept (trees : Trees) (text : List ℕ) : Type 0 where
-  pub row : Meta
-  pub is : (content_of trees).meta ≡ Some row
-  pub version : row.version ≡ 1
-  pub book : row.book ≡ text
-
 -- the tables are of another version
 pub record IsOtherVersion (trees : Trees) : Type 0 where
   pub row : Meta
@@ -67,7 +80,7 @@ pub record IsOtherVersion (trees : Trees) : Type 0 where
 pub record IsOpened {S : Type 0} (g : Ghosts S) (old : Held S) (k : KeeperState S) (book : Book) : Type 0
   where
     pub fresh : IsFresh k book
-    pub kept : HasCleanDisk (state g k.connection) → IsKept (trees_in g k) k.text
+    pub left : HasCleanDisk (state g k.connection) → IsLeft k.text (trees_in g k)
     pub clean : HasCleanDisk (state g k.connection) → IsClean (state g k.connection)
     pub still : HasCleanDisk (state g k.connection) → IsStill (state g old) (state g k.connection)
     pub survives : Survives (state g old) (state g k.connection) (λ _. ⊥)
@@ -75,4 +88,5 @@ pub record IsOpened {S : Type 0} (g : Ghosts S) (old : Held S) (k : KeeperState 
 -- nothing was written
 pub record IsNotOpened {S : Type 0} (g : Ghosts S) (old new : Held S) (fault : OpenFault) : Type 0 where
   pub survives : Survives (state g old) (state g new) (λ _. ⊥)
+  pub foreign : HasCleanDisk (state g new) → fault ≡ Foreign → ¬ ((state g old).now.schema ≡ book_schema)
   pub version : HasCleanDisk (state g new) → fault ≡ Version → IsOtherVersion (state g old).now.trees

@@ -1,6 +1,12 @@
+ghost use Rattle.std.specs.Prelude.{ℕ, List};
+ghost use Rattle.sqlite.specs.Held.{Held};
+ghost use Rattle.sql_opening.specs.declared.fault.OpenFault.{OpenFault};
+ghost use Rattle.sql_keeper.specs.Again.{AreLeftAgain, IsFoundAgain};
 ghost use Rattle.sql_keeper.specs.Laws.{AreChangesRead, AreNewTablesEmpty, AreSweepsRead};
 ghost use Rattle.sql_keeper.specs.LiveGroups.{AreOpenGroupsLoaded};
 ghost use Rattle.sql_keeper.specs.LiveRows.{AreLiveRowsLoaded};
+
+use sqlite::Alter;
 
 /// The rows that a change writes read as the change.
 #[tactic(auto, using(crate::proofs::Changed::changes_read))]
@@ -29,4 +35,15 @@ pub fn open_groups_are_loaded()
 #[tactic(auto, using(crate::proofs::LiveRows::live_loaded))]
 pub fn live_rows_are_loaded()
     ensures { AreLiveRowsLoaded }
+{}
+
+/// What a commit or a sweep makes of tables that are left is left again.
+#[tactic(auto, using(crate::proofs::Again::left_again))]
+pub fn tables_are_left_again()
+    ensures { AreLeftAgain }
+{}
+
+/// Where the connection shows what was left, neither fault 1 nor fault 2 is told.
+pub fn left_tables_are_found<S: Alter>()
+    ensures { (old new : Held S) (text : List ℕ) (fault : OpenFault) → IsFoundAgain S.Store old new text fault }
 {}

@@ -3,7 +3,7 @@
 ghost use Rattle.std.specs.Prelude.{◌≡◌, ◌⊎◌, false, Some, IfErr, IfOk, OnOk};
 ghost use Rattle.std.specs.String.{string_bytes};
 ghost use Rattle.sql_opening.specs.Opens.{IsNoVersion};
-ghost use Rattle.sql_opening.specs.declared.fault.OpenFault.TheVariants.{Version};
+ghost use Rattle.sql_opening.specs.declared.fault.OpenFault.TheVariants.{Foreign, Version};
 ghost use Rattle.sql_rows.specs.Content.{content_of};
 ghost use Rattle.sql_rows.specs.Texts.{meta_of};
 ghost use Rattle.sql_tables.specs.Statements.{HasIdleBook, Reads};
@@ -15,6 +15,7 @@ ghost use Rattle.sql_keeper.specs.Finds.{FindsBook, FindsMeta};
 ghost use Rattle.sql_keeper.specs.Inside.{StaysOpen};
 ghost use Rattle.sql_keeper.specs.Opened.{IsCreated, IsNotCreated, IsNotOpened, IsOpened};
 ghost use Rattle.sqlite.specs.Held.{state};
+ghost use Rattle.sqlite.specs.State.{IsLive};
 
 use crate::books::{ReadBook, read_book};
 use crate::create_fault::CreateFault;
@@ -41,7 +42,9 @@ fn keeper_of<S: Alter>(
     ensures names { result.0.names ≡ read.own.periods }
     ensures text { result.0.text ≡ string_bytes read.text }
     ensures uncounted { result.0.failures ≡ 0 }
+    ensures live { IsLive (state S.Store connection) }
 {
+    let _listed = connection.schema();
     let keeper = SqlKeeper {
         connection,
         book: read.own,
@@ -88,6 +91,7 @@ fn find_meta<S: Alter>(conn: &mut Connection<S>) -> Result<Meta, OpenFault>
     ensures reads { Reads (λ trees m. (content_of trees).meta ≡ Some (meta_of m))
         (state S.Store conn.old) (state S.Store conn.new) result }
     ensures told { IfErr result IsNoVersion }
+    ensures ours { IfErr result (λ fault. ¬ (fault ≡ Foreign)) }
 {
     match read_meta(conn) {
         Ok(Some(meta)) => Ok(meta),
@@ -117,6 +121,7 @@ fn find_book(alloc: Global, meta: &Meta) -> Result<ReadBook, OpenFault>
     ensures same { IfOk result (λ r. r.own ≡ r.given) }
     ensures text { IfOk result (λ r. string_bytes r.text ≡ string_bytes meta.now.book) }
     ensures told { IfErr result (λ fault. fault ≡ Version → ¬ (meta.now.version ≡ 1)) }
+    ensures ours { IfErr result (λ fault. ¬ (fault ≡ Foreign)) }
 {
     if meta.version != 1 {
         return Err(OpenFault::Version);
@@ -167,8 +172,8 @@ impl<S: Alter> SqlKeeper<S> {
     /// Opens the database of a book, and answers its keeper, and the book apart. It writes nothing.
     ///
     /// # Errors
-    /// The connection is given back. `Foreign`, the tables aren't exactly those of this system;
-    /// `Version`, the version of its tables isn't 1; `Rules`, there is no text of a book, or a rowid
+    /// The connection is given back. `Foreign`, the tables aren't exactly those of this system, and
+    /// only then; `Version`, the version of its tables isn't 1, and only then; `Rules`, there is no text of a book, or a rowid
     /// stands twice; `Store`, also where a transaction is open; `Memory`.
     pub fn open(
         alloc: Global,
