@@ -1,0 +1,74 @@
+-- Beginnings of texts that are written.
+use Rattle.std.proofs.Common.{◌≡◌, ℕ, List, [], ◌++◌, take, drop, refl, sym, ap, ◌∙◌, take-append-drop, append_assoc, append-nil, subst}
+use Rattle.std.specs.Prelude.{Option}
+use Rattle.std.specs.Io.KnownBytes.{Appends}
+use Rattle.std.proofs.KnownBytes.{Appends-nil, Appends-trans}
+use Rattle.statements.specs.Texts.{WritesBeginning}
+
+pub none_written : (a : Option (List ℕ)) (text : List ℕ) → WritesBeginning a a text
+none_written a text = record { part = []; rest = text; written = Appends-nil a; whole = refl }
+
+pub part_written : (a b : Option (List ℕ)) (text : List ℕ) →
+    (n : ℕ) × Appends a b (take n text) → WritesBeginning a b text
+part_written a b text h = record {
+  part = take h.0 text;
+  rest = drop h.0 text;
+  written = h.1;
+  whole = sym (take-append-drop h.0 text);
+}
+
+-- a beginning of the first text is one of both
+pub begun_first : {a b : Option (List ℕ)} {first : List ℕ} (more : List ℕ) →
+    WritesBeginning a b first → WritesBeginning a b (first ++ more)
+begun_first more h = record {
+  part = h.part;
+  rest = h.rest ++ more;
+  written = h.written;
+  whole = ap (λ l. l ++ more) h.whole ∙ append_assoc h.part h.rest more;
+}
+
+-- so are the first text and a beginning of the second
+pub begun_second : (a b c : Option (List ℕ)) (first second : List ℕ) → Appends a b first →
+    WritesBeginning b c second → WritesBeginning a c (first ++ second)
+begun_second a b c first second p h = record {
+  part = first ++ h.part;
+  rest = h.rest;
+  written = Appends-trans a b c first h.part p h.written;
+  whole = ap (λ l. first ++ l) h.whole ∙ sym (append_assoc first h.part h.rest);
+}
+
+-- of a text that is written in parts, this is left
+pub record Remains (old new : Option (List ℕ)) (text left : List ℕ) : Type 0 where
+  pub part : List ℕ
+  pub written : Appends old new part
+  pub whole : text ≡ part ++ left
+
+pub all_left : (a : Option (List ℕ)) (text : List ℕ) → Remains a a text text
+all_left a text = record { part = []; written = Appends-nil a; whole = refl }
+
+pub one_part : (a b c : Option (List ℕ)) (text next left : List ℕ) →
+    Remains a b text (next ++ left) → Appends b c next → Remains a c text left
+one_part a b c text next left h p = record {
+  part = h.part ++ next;
+  written = Appends-trans a b c h.part next h.written p;
+  whole = h.whole ∙ sym (append_assoc h.part next left);
+}
+
+pub part_begun : (a b c : Option (List ℕ)) (text next left : List ℕ) →
+    Remains a b text (next ++ left) → WritesBeginning b c next → WritesBeginning a c text
+part_begun a b c text next left h p = record {
+  part = h.part ++ p.part;
+  rest = p.rest ++ left;
+  written = Appends-trans a b c h.part p.part h.written p.written;
+  whole = h.whole ∙ ap (λ l. h.part ++ (l ++ left)) p.whole
+      ∙ ap (λ l. h.part ++ l) (append_assoc p.part p.rest left)
+      ∙ sym (append_assoc h.part p.part (p.rest ++ left));
+}
+
+pub part_only : {a b : Option (List ℕ)} {text left : List ℕ} → Remains a b text left →
+    WritesBeginning a b text
+part_only {a} {b} {text} {left} h =
+    record { part = h.part; rest = left; written = h.written; whole = h.whole }
+
+pub nothing_left : {a b : Option (List ℕ)} {text : List ℕ} → Remains a b text [] → Appends a b text
+nothing_left {a} {b} h = subst (Appends a b) (sym (h.whole ∙ append-nil h.part)) h.written

@@ -1,0 +1,36 @@
+use Rattle.std.proofs.KnownBytes.{Appends-trans}
+use Rattle.statements.specs.Records.{header_record}
+use Rattle.statements.specs.Texts.{charges_text, of_month}
+use Rattle.statements.specs.declared.rows.Form.TheVariants.{Records}
+use Rattle.statements.proofs.Beginnings.{begun_first, begun_second}
+use Rattle.statements.proofs.MonthLemmas.{err_writes}
+use Rattle.statements.proofs.stating.export.Goals as goal
+
+pub returns-in_err-write_header-clause-writes : goal.returns-in_err-write_header-clause-writes
+returns-in_err-write_header-clause-writes g c = λ clean.
+    err_writes _ _ _ _ c.from_residual.result c.from_residual.ensures.0 (λ rows are.
+    begun_first (charges_text Records (of_month c.args.book.now c.args.month rows))
+    c.in_err-write_header.ensures.err)
+
+pub returns-in_err-write_charges-clause-writes : goal.returns-in_err-write_charges-clause-writes
+returns-in_err-write_charges-clause-writes g c = λ clean.
+    err_writes _ _ _ _ c.from_residual-in_err-write_charges.result
+    c.from_residual-in_err-write_charges.ensures.0 (λ rows are.
+    begun_second (g.W.Write.contents c.args.writer.now)
+    (g.W.Write.contents c.write_header.new.writer)
+    (g.W.Write.contents c.write_charges.new.writer) header_record
+    (charges_text Records (of_month c.args.book.now c.args.month rows))
+    c.in_ok-write_header.ensures.written
+    ((c.in_err-write_charges.ensures.writes clean).beginning rows are))
+
+pub returns-clause-writes : goal.returns-clause-writes
+returns-clause-writes g c = λ clean. record {
+  whole = λ rows are.
+      Appends-trans (g.W.Write.contents c.args.writer.now)
+      (g.W.Write.contents c.write_header.new.writer)
+      (g.W.Write.contents c.write_charges.new.writer) header_record
+      (charges_text Records (of_month c.args.book.now c.args.month rows))
+      c.in_ok-write_header.ensures.written
+      ((c.in_ok-write_charges.ensures.writes clean).whole rows are);
+  beginning = λ rows are. tt;
+}

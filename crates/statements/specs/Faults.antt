@@ -1,0 +1,23 @@
+-- Why a statement isn't written whole.
+-- Source: profile.
+use Rattle.std.specs.Prelude.{ℕ}
+use Rattle.byte_streams.specs.declared.StreamFault.{StreamFault}
+use Rattle.byte_streams.specs.declared.StreamFault.TheVariants as stream
+use Rattle.keepers.specs.declared.fault.StoreFault.{StoreFault}
+use Rattle.keepers.specs.declared.fault.StoreFault.TheVariants as store
+use Rattle.statements.specs.declared.fault.StatementFault.{StatementFault}
+use Rattle.statements.specs.declared.fault.StatementFault.TheVariants.{Memory, Store, Write}
+
+abbrev pub fault_number : StatementFault → ℕ
+fault_number Memory = 1
+fault_number Store = 2
+fault_number Write = 3
+
+abbrev pub of_store : StoreFault → StatementFault
+of_store store.Memory = Memory
+of_store store.Store = Store
+
+abbrev pub of_stream : StreamFault → StatementFault
+of_stream stream.Memory = Memory
+of_stream stream.Read = Write
+of_stream stream.Write = Write

@@ -1,0 +1,38 @@
+-- The lines of a statement.
+-- Source: profile.
+use Rattle.std.specs.Prelude.{ℕ, ◌++◌, List, [], ◌∷◌, codes}
+use Rattle.std.specs.Fmt.{decimal}
+use Rattle.buckets.specs.Row.{Row}
+use Rattle.reserving.specs.ChargeColumns.{ChargeColumns}
+use Rattle.statements.specs.Columns.{column_text, columns_text, set}
+use Rattle.statements.specs.declared.rows.Sums.{Sums}
+
+abbrev pub title_line : List ℕ → ℕ → ℕ → List ℕ
+title_line account month moment =
+    codes "ACCOUNT " ++ (account ++ (codes " MONTH " ++ (decimal month ++ (codes " MOMENT " ++ (decimal moment ++ codes "\n")))))
+
+abbrev pub heading : List ℕ
+heading = codes "    MOMENT      GROUP     BLOCKS               RATED           COLLECTED         UNCOLLECTED\n"
+
+abbrev pub charge_line : ChargeColumns → List ℕ
+charge_line c =
+    column_text (set 10 c.moment)
+    ++ columns_text (set 10 c.group ∷ set 10 c.blocks.0 ∷ set 19 c.rated.0 ∷ set 19 c.collected.0
+    ∷ set 19 c.uncollected.0 ∷ [])
+
+abbrev pub total_line : Sums → List ℕ
+total_line s =
+    codes "                TOTAL"
+    ++ columns_text (set 10 s.blocks ∷ set 19 s.rated ∷ set 19 s.collected ∷ set 19 s.uncollected ∷ [])
+
+abbrev pub bucket_heading : List ℕ
+bucket_heading = codes "    BUCKET         CREDITED        AVAILABLE         RESERVED          CHARGED          EXPIRED\n"
+
+abbrev pub bucket_line : Row → List ℕ
+bucket_line b =
+    column_text (set 10 b.number)
+    ++ columns_text (set 16 b.credited ∷ set 16 b.available ∷ set 16 b.reserved ∷ set 16 b.charged
+    ∷ set 16 b.expired ∷ [])
+
+abbrev pub date_line : ℕ → List ℕ
+date_line n = codes "COLLECTED TO DATE " ++ (decimal n ++ codes "\n")

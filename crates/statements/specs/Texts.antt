@@ -1,0 +1,77 @@
+-- The text of a statement and of an export.
+-- Source: profile.
+use Rattle.std.specs.Prelude.{◌≡◌, ℕ, ◌+◌, ◌++◌, List, [], ◌∷◌, Option, sum_by}
+use Rattle.std.specs.List.{filter}
+use Rattle.std.specs.Io.KnownBytes.{Appends}
+use Rattle.buckets.specs.Row.{Row}
+use Rattle.tariffs.specs.Books.{Book}
+use Rattle.reserving.specs.ChargeColumns.{ChargeColumns}
+use Rattle.charge_sources.specs.Rows.{is_between}
+use Rattle.statements.specs.Months.{is_of_month}
+use Rattle.statements.specs.Records.{header_record, charge_record}
+use Rattle.statements.specs.Lines.{title_line, heading, charge_line, total_line, bucket_heading, bucket_line, date_line}
+use Rattle.statements.specs.declared.rows.Form.{Form}
+use Rattle.statements.specs.declared.rows.Form.TheVariants.{Lines, Records}
+use Rattle.statements.specs.declared.rows.Sums.{Sums}
+
+-- the rows of a month: charges have the moments of commands
+abbrev pub of_month : Book → ℕ → List ChargeColumns → List ChargeColumns
+of_month book month rows =
+    filter (is_of_month book month) (filter (is_between 0 4_102_444_800) rows)
+
+abbrev pub charge_text : Form → ChargeColumns → List ℕ
+charge_text Lines c = charge_line c
+charge_text Records c = charge_record c
+
+-- the texts of rows, one after another
+abbrev pub charges_text : Form → List ChargeColumns → List ℕ
+charges_text form [] = []
+charges_text form (c ∷ rest) = charge_text form c ++ charges_text form rest
+
+abbrev pub plus_charge : Sums → ChargeColumns → Sums
+plus_charge s c = record {
+  blocks = s.blocks + c.blocks.0;
+  rated = s.rated + c.rated.0;
+  collected = s.collected + c.collected.0;
+  uncollected = s.uncollected + c.uncollected.0;
+}
+
+abbrev pub sums_of : List ChargeColumns → Sums
+sums_of rows = record {
+  blocks = sum_by (λ c. c.blocks.0) rows;
+  rated = sum_by (λ c. c.rated.0) rows;
+  collected = sum_by (λ c. c.collected.0) rows;
+  uncollected = sum_by (λ c. c.uncollected.0) rows;
+}
+
+abbrev pub buckets_text : List Row → List ℕ
+buckets_text [] = []
+buckets_text (b ∷ rest) = bucket_line b ++ buckets_text rest
+
+-- what precedes the charges, and what follows them
+abbrev pub head_text : List ℕ → ℕ → ℕ → List ℕ
+head_text account month moment = title_line account month moment ++ heading
+
+abbrev pub foot_text : Sums → List Row → List ℕ
+foot_text sums buckets =
+    total_line sums ++ bucket_heading ++ buckets_text buckets
+    ++ date_line (sum_by (λ b. b.charged) buckets)
+
+-- an account's statement of a month: its charges in the month, their sums, its buckets at the
+-- moment, and what was collected to date
+abbrev pub statement_text : Book → List ℕ → ℕ → ℕ → List ChargeColumns → List Row → List ℕ
+statement_text book account month moment rows buckets =
+    head_text account month moment
+    ++ charges_text Lines (of_month book month rows)
+    ++ foot_text (sums_of (of_month book month rows)) buckets
+
+-- its export: a record for each of these charges
+abbrev pub export_text : Book → ℕ → List ChargeColumns → List ℕ
+export_text book month rows = header_record ++ charges_text Records (of_month book month rows)
+
+-- a beginning of a text is written
+pub record WritesBeginning (old new : Option (List ℕ)) (text : List ℕ) : Type 0 where
+  pub part : List ℕ
+  pub rest : List ℕ
+  pub written : Appends old new part
+  pub whole : text ≡ part ++ rest

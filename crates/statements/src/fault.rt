@@ -1,0 +1,56 @@
+ghost use Rattle.std.specs.Prelude.{◌≡◌};
+ghost use Rattle.statements.specs.Faults.{fault_number, of_store, of_stream};
+
+use byte_streams::StreamFault;
+use keepers::StoreFault;
+use thiserror::Error;
+
+/// Why a statement or an export wasn't written whole.
+#[derive(Clone, Copy, Debug, Drop, Error, PartialEq, Eq)]
+pub enum StatementFault {
+    /// A growth was refused.
+    #[error("out of memory")]
+    Memory,
+    /// The store of charges failed.
+    #[error("the store failed")]
+    Store,
+    /// The writer failed.
+    #[error("the writer failed")]
+    Write,
+}
+
+impl StatementFault {
+    /// Its number, 1 to 3.
+    pub fn number(self) -> u8
+        ensures { result ≡ fault_number self }
+    {
+        match self {
+            StatementFault::Memory => 1,
+            StatementFault::Store => 2,
+            StatementFault::Write => 3,
+        }
+    }
+}
+
+impl From<StoreFault> for StatementFault {
+    ghost from_gives = { λ fault e. e ≡ of_store fault };
+
+    fn from(fault: StoreFault) -> StatementFault {
+        match fault {
+            StoreFault::Memory => StatementFault::Memory,
+            StoreFault::Store => StatementFault::Store,
+        }
+    }
+}
+
+impl From<StreamFault> for StatementFault {
+    ghost from_gives = { λ fault e. e ≡ of_stream fault };
+
+    fn from(fault: StreamFault) -> StatementFault {
+        match fault {
+            StreamFault::Memory => StatementFault::Memory,
+            StreamFault::Read => StatementFault::Write,
+            StreamFault::Write => StatementFault::Write,
+        }
+    }
+}

@@ -1,0 +1,12 @@
+//! Statements and exports of an account's month, over any source of charges and any writer.
+#![tactic(auto)]
+
+mod columns;
+mod fault;
+mod lines;
+mod records;
+mod rows;
+mod stating;
+
+pub use crate::fault::StatementFault;
+pub use crate::stating::{export, statement};
