@@ -1,7 +1,7 @@
 -- How the program ends, by what its words say and by why they weren't read.
-use Rattle.std.proofs.Common.{◌≡◌, ℕ, ◌≤◌, ◌+◌, ◌++◌, ◌∷◌, Bool, true, false, List, [], take, sym, ap, subst, ◌∙◌, refl, inl, inr, Option, Some, None, Result, Ok, Err, arith}
+use Rattle.std.proofs.Common.{◌≡◌, ℕ, ◌≤◌, ◌+◌, ◌++◌, ◌∷◌, ◌⊎◌, Bool, true, false, List, [], take, sym, ap, subst, ◌∙◌, refl, inl, inr, Option, Some, None, Result, Ok, Err, arith}
 use Rattle.std.specs.Prelude.{IfErr, IfSome, min}
-use Rattle.std.specs.Io.KnownBytes.{Appends}
+use Rattle.std.specs.Io.KnownBytes.{Appends, Keeps}
 use Rattle.byte_streams.specs.declared.StreamFault.{StreamFault}
 use Rattle.byte_streams.specs.declared.StreamFault.TheVariants as stream
 use Rattle.clap.specs.Values.{kind_of}
@@ -20,7 +20,7 @@ use Rattle.operator.specs.declared.fault.WordsFault.TheVariants as fault
 use Rattle.operator.specs.declared.parsed.OnceWords.{OnceWords}
 use Rattle.operator.specs.declared.parsed.ProgramWords.{ProgramWords}
 use Rattle.operator.specs.declared.parsed.ProgramWords.TheVariants as words
-use Rattle.ocs.specs.Ends.{IfOnce, IsEnd, IsEndBy, IsEndOf, IsMemory, Runs, SaysWhatDoesNot}
+use Rattle.ocs.specs.Ends.{IfOnce, IsEnd, IsEndBy, IsEndOf, IsEnded, IsMemory, MayBeRefused, Runs, Says, SaysWhatDoesNot, Stores}
 use Rattle.ocs.specs.Told.{IsReached, IsReachedByLines, IsTextTold, IsTold, IsToldBy, IsToldOf, TellsFault, fault_line}
 use Rattle.ocs.specs.declared.fault.LinesFault.{LinesFault}
 use Rattle.ocs.specs.declared.fault.LinesFault.TheVariants.{Read, Store, Write}
@@ -33,7 +33,7 @@ use Rattle.ocs.specs.declared.fault.ProgramFault.TheVariants as program
 no_cause : min (0 + 1) max_failures ≤ 0 → ⊥
 no_cause h = omega (arith, h)
 
-pub reached_lines : {A : Type 0} (r : Result A LinesFault) → (r ≡ Err (Store store.Store) → min (0 + 1) max_failures ≤ 0) → IfErr r IsReachedByLines
+pub reached_lines : {A : Type 0} (r : Result A LinesFault) → (r ≡ Err (Store store.Store) → min (0 + 1) max_failures ≤ 0) → IfErr r (IsReachedByLines ⊥)
 reached_lines (Ok x) cause = tt
 reached_lines (Err (Read f)) cause = tt
 reached_lines (Err (Store store.Memory)) cause = tt
@@ -42,13 +42,28 @@ reached_lines (Err (Write f)) cause = tt
 
 -- ---- faults
 
-reached_from : (A B : Type 0) (f : ProgramFault) → (A → B) → IsReached A f → IsReached B f
-reached_from A B (program.Lines f) h is = is
-reached_from A B (program.Stream f) h is = is
-reached_from A B program.NotYet h is = h is
+over_from : (C D : Type 0) (f : LinesFault) → (C → D) → IsReachedByLines C f → IsReachedByLines D f
+over_from C D (Read f) h is = is
+over_from C D (Store store.Memory) h is = is
+over_from C D (Store store.Store) h is = h is
+over_from C D (Write f) h is = is
 
-pub tells_from : (A B : Type 0) (old new : Option (List ℕ)) → (A → B) → TellsFault A old new → TellsFault B old new
-tells_from A B old new h t = record { fault = t.fault; reached = reached_from A B t.fault h t.reached; written = t.written }
+reached_from : (A B C D : Type 0) (f : ProgramFault) → (A → B) → (C → D) → IsReached A C f → IsReached B D f
+reached_from A B C D (program.Lines f) h k is = over_from C D f k is
+reached_from A B C D (program.Stream f) h k is = is
+reached_from A B C D (program.Database f) h k is = k is
+reached_from A B C D program.NotYet h k is = h is
+
+pub tells_from : (A B C D : Type 0) (old new : Option (List ℕ)) → (A → B) → (C → D) → TellsFault A C old new → TellsFault B D old new
+tells_from A B C D old new h k t = record { fault = t.fault; reached = reached_from A B C D t.fault h k t.reached; written = t.written }
+
+-- lines over a store that may fail
+pub reached_over : {A : Type 0} (r : Result A LinesFault) → IfErr r (IsReachedByLines (Unit {0}))
+reached_over (Ok x) = tt
+reached_over (Err (Read f)) = tt
+reached_over (Err (Store store.Memory)) = tt
+reached_over (Err (Store store.Store)) = tt
+reached_over (Err (Write f)) = tt
 
 -- ---- words that are read
 
@@ -67,8 +82,9 @@ end_said texts said Unread h end = absurd end
 
 pub told_said : (texts : List Text) (said : ProgramWords) (status : Status) (old new : Option (List ℕ)) → IsSaid texts said → IsToldBy said status old new → IsTold texts status old new
 told_said texts said Done old new h told = told
-told_said texts said Failed old new h told =
-    tells_from (Runs said → ⊥) (SaysWhatDoesNot texts) old new (λ rests. record { said = said; says = h; rests = rests }) told
+told_said texts said Failed old new h (inl told) =
+    inl (tells_from (Runs said → ⊥) (SaysWhatDoesNot texts) (Stores said) (Says texts Stores) old new (λ rests. record { said = said; says = h; rests = rests }) (λ stores. record { said = said; says = h; is = stores }) told)
+told_said texts said Failed old new h (inr refused) = inr (record { said = said; says = h; is = refused.0 }, refused.1)
 told_said texts said Unread old new h told = absurd told
 
 -- what is so of the words of `once`
@@ -86,6 +102,41 @@ not_once texts (words.Replay replay) h other = tt
 
 pub ends_read : (said : ProgramWords) (status : Status) → IsEndBy said status → status ≡ Unread → ⊥
 ends_read said status end e = subst (IsEndBy said) e end
+
+-- ---- what is done
+
+keeps_same : (old : Option (List ℕ)) → Keeps old old
+keeps_same None = tt
+keeps_same (Some xs) = refl
+
+-- nothing is told of what ends by itself
+pub ended_told : (said : ProgramWords) (status : Status) (old : Option (List ℕ)) → IsEnded (MayBeRefused said) status → IsToldBy said status old old
+ended_told said Done old ended = keeps_same old
+ended_told said Failed old ended = inr (ended, keeps_same old)
+ended_told said Unread old ended = absurd ended
+
+-- a fault by its line
+pub fault_told : (said : ProgramWords) (f : ProgramFault) (status : Status) (old new : Option (List ℕ)) → status ≡ Failed → IsReached (Runs said → ⊥) (Stores said) f → WritesBeginning old new (fault_line f ++ 10 ∷ []) → IsToldBy said status old new
+fault_told said f status old new is reached written =
+    subst (λ (s : Status). IsToldBy said s old new) (sym is) (inl (record { fault = f; reached = reached; written = written }))
+
+pub fault_end : (said : ProgramWords) (status : Status) → status ≡ Failed → IsEndBy said status
+fault_end said status is = subst (IsEndBy said) (sym is) tt
+
+pub ended_end : (said : ProgramWords) (status : Status) → Runs said → IsEnded (MayBeRefused said) status → IsEndBy said status
+ended_end said Done runs ended = runs
+ended_end said Failed runs ended = tt
+ended_end said Unread runs ended = absurd ended
+
+-- the lines of `once` are never refused
+pub once_ends : (said : ProgramWords) (status : Status) (P : OnceWords → Type 0) → IsEnded (MayBeRefused said) status → status ≡ Failed → IfOnce said P
+once_ends (words.Once once) status P ended failed = absurd (subst (IsEnded ⊥) failed ended)
+once_ends (words.Init init) status P ended failed = tt
+once_ends (words.Serve serve) status P ended failed = tt
+once_ends (words.Import import) status P ended failed = tt
+once_ends (words.Office office) status P ended failed = tt
+once_ends (words.Statement statement) status P ended failed = tt
+once_ends (words.Replay replay) status P ended failed = tt
 
 -- ---- words that aren't read
 
@@ -118,18 +169,18 @@ end_unread texts fault.Memory Done unread end = absurd end
 end_unread texts fault.Memory Failed unread end = tt
 end_unread texts fault.Memory Unread unread end = absurd end
 
-none_tells : (B : Type 0) (old new : Option (List ℕ)) → TellsFault ⊥ old new → TellsFault B old new
-none_tells B old new t = tells_from ⊥ B old new (λ none. absurd none) t
+none_tells : (B D : Type 0) (old new : Option (List ℕ)) → TellsFault ⊥ ⊥ old new → TellsFault B D old new
+none_tells B D old new t = tells_from ⊥ B ⊥ D old new (λ none. absurd none) (λ none. absurd none) t
 
 pub told_unread : (texts : List Text) (f : WordsFault) (status : Status) (old new : Option (List ℕ)) → IsUnread texts f → IsEndOf f status → IsToldOf f status old new → IsTold texts status old new
 told_unread texts (fault.Unread error) Done old new unread end told = told
-told_unread texts (fault.Unread error) Failed old new unread end told = none_tells (SaysWhatDoesNot texts) old new told
+told_unread texts (fault.Unread error) Failed old new unread end told = inl (none_tells (SaysWhatDoesNot texts) (Says texts Stores) old new told)
 told_unread texts (fault.Unread error) Unread old new unread end told = λ invalid. absurd (not_among (kind_of error) (fault_of program_app texts) invalid.taken unread)
 told_unread texts fault.Invalid Done old new unread end told = absurd end
 told_unread texts fault.Invalid Failed old new unread end told = absurd end
 told_unread texts fault.Invalid Unread old new unread end told = λ invalid. told
 told_unread texts fault.Memory Done old new unread end told = absurd end
-told_unread texts fault.Memory Failed old new unread end told = none_tells (SaysWhatDoesNot texts) old new told
+told_unread texts fault.Memory Failed old new unread end told = inl (none_tells (SaysWhatDoesNot texts) (Says texts Stores) old new told)
 told_unread texts fault.Memory Unread old new unread end told = absurd end
 
 -- words that say something weren't read only for want of memory

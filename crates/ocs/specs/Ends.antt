@@ -30,12 +30,38 @@ IfOnce (words.Replay replay) says = Unit {0}
 -- their command runs
 abbrev pub Runs : ProgramWords → Type 0
 Runs (words.Once once) = Unit {0}
-Runs (words.Init init) = ⊥
+Runs (words.Init init) = Unit {0}
 Runs (words.Serve serve) = ⊥
 Runs (words.Import import) = ⊥
-Runs (words.Office office) = ⊥
+Runs (words.Office office) = Unit {0}
 Runs (words.Statement statement) = ⊥
-Runs (words.Replay replay) = ⊥
+Runs (words.Replay replay) = Unit {0}
+
+-- it works over a database
+abbrev pub Stores : ProgramWords → Type 0
+Stores (words.Once once) = ⊥
+Stores (words.Init init) = Unit {0}
+Stores (words.Serve serve) = Unit {0}
+Stores (words.Import import) = Unit {0}
+Stores (words.Office office) = Unit {0}
+Stores (words.Statement statement) = Unit {0}
+Stores (words.Replay replay) = Unit {0}
+
+-- it is an operator's, which may be refused
+abbrev pub MayBeRefused : ProgramWords → Type 0
+MayBeRefused (words.Once once) = ⊥
+MayBeRefused (words.Init init) = ⊥
+MayBeRefused (words.Serve serve) = ⊥
+MayBeRefused (words.Import import) = ⊥
+MayBeRefused (words.Office office) = Unit {0}
+MayBeRefused (words.Statement statement) = ⊥
+MayBeRefused (words.Replay replay) = ⊥
+
+-- the words say something that is so
+pub record Says (texts : List Text) (Is : ProgramWords → Type 0) : Type 0 where
+  pub said : ProgramWords
+  pub says : IsSaid texts said
+  pub is : Is said
 
 -- the words say this of a command that runs
 pub record SaysWhatRuns (texts : List Text) : Type 0 where
@@ -68,6 +94,14 @@ abbrev pub IsEnd : List Text → Status → Type 0
 IsEnd texts Done = SaysWhatRuns texts ⊎ HasError texts true
 IsEnd texts Failed = Unit {0}
 IsEnd texts Unread = IsInvalid texts ⊎ HasError texts false
+
+-- ---- what is done
+
+-- it ends well, or is refused where this is so
+abbrev pub IsEnded : Type 0 → Status → Type 0
+IsEnded Refused Done = Unit {0}
+IsEnded Refused Failed = Refused
+IsEnded Refused Unread = ⊥
 
 -- ---- the same by the fault of the words
 

@@ -1,6 +1,6 @@
 -- What the program tells on standard error.
 -- Source: profile.
-use Rattle.std.specs.Prelude.{◌++◌, ◌∷◌, ℕ, List, [], Option, codes}
+use Rattle.std.specs.Prelude.{◌⊎◌, ◌++◌, ◌∷◌, ℕ, List, [], Option, codes}
 use Rattle.std.specs.Io.KnownBytes.{Keeps}
 use Rattle.clap.specs.Words.{Text}
 use Rattle.keepers.specs.declared.fault.StoreFault.TheVariants as store
@@ -12,7 +12,8 @@ use Rattle.operator.specs.Read.{IsInvalid}
 use Rattle.operator.specs.declared.fault.WordsFault.{WordsFault}
 use Rattle.operator.specs.declared.fault.WordsFault.TheVariants as fault
 use Rattle.operator.specs.declared.parsed.ProgramWords.{ProgramWords}
-use Rattle.ocs.specs.Ends.{Runs, SaysWhatDoesNot}
+use Rattle.database_office.specs.Told.{fault_line as database_line}
+use Rattle.ocs.specs.Ends.{MayBeRefused, Runs, Says, SaysWhatDoesNot, Stores}
 use Rattle.ocs.specs.declared.fault.LinesFault.{LinesFault}
 use Rattle.ocs.specs.declared.fault.LinesFault.TheVariants.{Read, Store, Write}
 use Rattle.ocs.specs.declared.fault.ProgramFault.{ProgramFault}
@@ -30,6 +31,7 @@ lines_line (Write fault) = stream_line fault
 abbrev pub fault_line : ProgramFault → List ℕ
 fault_line (program.Lines fault) = lines_line fault
 fault_line (program.Stream fault) = stream_line fault
+fault_line (program.Database fault) = database_line fault
 fault_line program.NotYet = codes "ocs: this command does not run yet"
 
 -- a word isn't what its place takes
@@ -38,47 +40,51 @@ invalid_line = codes "ocs: a word is not one that its place takes"
 
 -- ---- what is told
 
--- memory is a store that never fails
-abbrev pub IsReachedByLines : LinesFault → Type 0
-IsReachedByLines (Read fault) = Unit {0}
-IsReachedByLines (Store store.Memory) = Unit {0}
-IsReachedByLines (Store store.Store) = ⊥
-IsReachedByLines (Write fault) = Unit {0}
+-- memory is a store that never fails; one that may fail there is only where this is so
+abbrev pub IsReachedByLines : Type 0 → LinesFault → Type 0
+IsReachedByLines Over (Read fault) = Unit {0}
+IsReachedByLines Over (Store store.Memory) = Unit {0}
+IsReachedByLines Over (Store store.Store) = Over
+IsReachedByLines Over (Write fault) = Unit {0}
 
--- a fault comes only so; that a command doesn't run yet, where this is so
-abbrev pub IsReached : Type 0 → ProgramFault → Type 0
-IsReached Rests (program.Lines fault) = IsReachedByLines fault
-IsReached Rests (program.Stream fault) = Unit {0}
-IsReached Rests program.NotYet = Rests
+-- a fault comes only so: that a command doesn't run yet, where the first is so; a database's, where
+-- the second is
+abbrev pub IsReached : Type 0 → Type 0 → ProgramFault → Type 0
+IsReached Rests Over (program.Lines fault) = IsReachedByLines Over fault
+IsReached Rests Over (program.Stream fault) = Unit {0}
+IsReached Rests Over (program.Database fault) = Over
+IsReached Rests Over program.NotYet = Rests
 
 -- a fault is told by its line, as far as it can be written
-pub record TellsFault (Rests : Type 0) (old new : Option (List ℕ)) : Type 0 where
+pub record TellsFault (Rests Over : Type 0) (old new : Option (List ℕ)) : Type 0 where
   pub fault : ProgramFault
-  pub reached : IsReached Rests fault
+  pub reached : IsReached Rests Over fault
   pub written : WritesBeginning old new (fault_line fault ++ 10 ∷ [])
 
--- nothing where all is done, a fault by its line; of words that aren't read the text is `clap`'s,
--- and where `clap` takes them a line
+-- nothing where all is done, or an operator's command is refused; a fault by its line; of words that
+-- aren't read the text is `clap`'s, and where `clap` takes them a line
 abbrev pub IsTold : List Text → Status → Option (List ℕ) → Option (List ℕ) → Type 0
 IsTold texts Done old new = Keeps old new
-IsTold texts Failed old new = TellsFault (SaysWhatDoesNot texts) old new
+IsTold texts Failed old new =
+    TellsFault (SaysWhatDoesNot texts) (Says texts Stores) old new ⊎ (Says texts MayBeRefused × Keeps old new)
 IsTold texts Unread old new = IsInvalid texts → WritesBeginning old new (invalid_line ++ 10 ∷ [])
 
 -- ---- the same by the fault of the words
 
 abbrev pub IsTextTold : Status → Option (List ℕ) → Option (List ℕ) → Type 0
 IsTextTold Done old new = Keeps old new
-IsTextTold Failed old new = TellsFault ⊥ old new
+IsTextTold Failed old new = TellsFault ⊥ ⊥ old new
 IsTextTold Unread old new = Unit {0}
 
 abbrev pub IsToldOf : WordsFault → Status → Option (List ℕ) → Option (List ℕ) → Type 0
 IsToldOf (fault.Unread error) status old new = IsTextTold status old new
 IsToldOf fault.Invalid status old new = WritesBeginning old new (invalid_line ++ 10 ∷ [])
-IsToldOf fault.Memory status old new = TellsFault ⊥ old new
+IsToldOf fault.Memory status old new = TellsFault ⊥ ⊥ old new
 
 -- ---- the same by what the words say
 
 abbrev pub IsToldBy : ProgramWords → Status → Option (List ℕ) → Option (List ℕ) → Type 0
 IsToldBy said Done old new = Keeps old new
-IsToldBy said Failed old new = TellsFault (Runs said → ⊥) old new
+IsToldBy said Failed old new =
+    TellsFault (Runs said → ⊥) (Stores said) old new ⊎ (MayBeRefused said × Keeps old new)
 IsToldBy said Unread old new = ⊥

@@ -1,34 +1,37 @@
-ghost use Rattle.std.specs.Prelude.{◌≡◌, ◌≢◌, Err, IfErr, IfSome, OnOk, OnErr};
+ghost use Rattle.std.specs.Prelude.{◌≡◌, ◌≢◌, ◌++◌, ◌∷◌, [], codes, Err, IfErr, IfOk, IfSome, OnOk, OnErr};
 ghost use Rattle.std.specs.Io.KnownBytes.{Appends};
 ghost use Rattle.keepers.specs.declared.fault.StoreFault.TheVariants.{Store as StoreFailed};
 ghost use Rattle.office.specs.Written.{WritesBeginning};
 ghost use Rattle.one_price.specs.OnceBook.{once_book};
 ghost use Rattle.operator.specs.Read.{IsInRange, IsOnceInRange};
-ghost use Rattle.ocs.specs.Ends.{IfOnce, Runs};
+ghost use Rattle.ocs.specs.Ends.{IfOnce, IsEnded, MayBeRefused, Runs, Stores};
 ghost use Rattle.ocs.specs.Served.{once_text};
 ghost use Rattle.ocs.specs.Told.{IsReached, IsReachedByLines};
 
 use crate::fault::{LinesFault, ProgramFault};
 use crate::lines::lines;
+use crate::storing::{answer_init, answer_office, answer_replay};
 use keepers::MemoryKeeper;
+use office::Status;
 use one_price::once_book;
 use operator::{OnceWords, ProgramWords};
 use std::alloc::Global;
 use std::io::{Read, Write};
 
-/// Does what the words say.
+/// Does what the words say. The status is `Failed` where an operator's command is refused.
 ///
 /// # Errors
 /// `NotYet` where their command doesn't run yet. What else is told is their command's.
 pub(crate) fn do_said<I: Read, O: Write>(
-    alloc: Global,
+    rt: &HostRuntime,
     said: ProgramWords,
     input: &mut I,
     output: &mut O,
-) -> Result<(), ProgramFault>
+) -> Result<Status, ProgramFault>
     requires { IsInRange said }
     ensures runs { OnOk result (Runs said) }
-    ensures reached { IfErr result (IsReached (Runs said → ⊥)) }
+    ensures ended { IfOk result (IsEnded (MayBeRefused said)) }
+    ensures reached { IfErr result (IsReached (Runs said → ⊥) (Stores said)) }
     ensures unread { IfOnce said (λ _. ⊥) → input.new ≡ input.old }
     ensures done { IfOnce said (λ once. OnOk result (IfSome (I.remaining input.old) (λ stream.
         Appends (O.contents output.old) (O.contents output.new)
@@ -38,13 +41,13 @@ pub(crate) fn do_said<I: Read, O: Write>(
         (once_text (once_book once.price once.block) once.credit stream)))) }
 {
     match said {
-        ProgramWords::Once(once) => answer_once(alloc, once, input, output),
-        ProgramWords::Init(_) => Err(ProgramFault::NotYet),
+        ProgramWords::Once(once) => answer_once(rt.alloc(), once, input, output),
+        ProgramWords::Init(init) => answer_init(rt, &init, output),
         ProgramWords::Serve(_) => Err(ProgramFault::NotYet),
         ProgramWords::Import(_) => Err(ProgramFault::NotYet),
-        ProgramWords::Office(_) => Err(ProgramFault::NotYet),
+        ProgramWords::Office(office) => answer_office(rt, office, output),
         ProgramWords::Statement(_) => Err(ProgramFault::NotYet),
-        ProgramWords::Replay(_) => Err(ProgramFault::NotYet),
+        ProgramWords::Replay(replay) => answer_replay(rt, &replay, output),
     }
 }
 
@@ -54,9 +57,10 @@ fn answer_once<I: Read, O: Write>(
     once: OnceWords,
     input: &mut I,
     output: &mut O,
-) -> Result<(), ProgramFault>
+) -> Result<Status, ProgramFault>
     requires { IsOnceInRange once }
-    ensures reached { IfErr result (IsReached ⊥) }
+    ensures ended { IfOk result (IsEnded ⊥) }
+    ensures reached { IfErr result (IsReached (Unit {0} → ⊥) ⊥) }
     ensures done { OnOk result (IfSome (I.remaining input.old) (λ stream.
         Appends (O.contents output.old) (O.contents output.new)
         (once_text (once_book once.price once.block) once.credit stream))) }
@@ -65,7 +69,7 @@ fn answer_once<I: Read, O: Write>(
         (once_text (once_book once.price once.block) once.credit stream))) }
 {
     match answer_lines(alloc, once, input, output) {
-        Ok(()) => Ok(()),
+        Ok(()) => Ok(Status::Done),
         Err(fault) => Err(ProgramFault::Lines(fault)),
     }
 }
@@ -78,7 +82,7 @@ fn answer_lines<I: Read, O: Write>(
     output: &mut O,
 ) -> Result<(), LinesFault>
     requires { IsOnceInRange once }
-    ensures reached { IfErr result IsReachedByLines }
+    ensures reached { IfErr result (IsReachedByLines ⊥) }
     ensures done { OnOk result (IfSome (I.remaining input.old) (λ stream.
         Appends (O.contents output.old) (O.contents output.new)
         (once_text (once_book once.price once.block) once.credit stream))) }

@@ -2,6 +2,7 @@ ghost use Rattle.std.specs.Prelude.{◌≡◌};
 ghost use Rattle.ocs.specs.Told.{fault_line, lines_line};
 
 use byte_streams::StreamFault;
+use database_office::DatabaseFault;
 use keepers::StoreFault;
 use office::{store_line, stream_line};
 use std::alloc::AllocError;
@@ -54,6 +55,9 @@ pub enum ProgramFault {
     /// Memory was refused, or a standard stream failed.
     #[error("{0}")]
     Stream(StreamFault),
+    /// A command over a database wasn't carried out.
+    #[error("{0}")]
+    Database(DatabaseFault),
     /// The words are the program's, and their command doesn't run yet.
     #[error("the command does not run yet")]
     NotYet,
@@ -67,6 +71,7 @@ impl ProgramFault {
         match self {
             ProgramFault::Lines(fault) => fault.line(),
             ProgramFault::Stream(fault) => stream_line(fault),
+            ProgramFault::Database(fault) => fault.line(),
             ProgramFault::NotYet => "ocs: this command does not run yet",
         }
     }

@@ -8,6 +8,7 @@ mod lines;
 mod opening;
 mod output;
 mod reading;
+mod storing;
 mod telling;
 
 ghost use Rattle.std.specs.Prelude.{◌≡◌, IfSome};
@@ -26,7 +27,6 @@ use crate::doing::do_said;
 use crate::telling::{tell_fault, tell_start, tell_unread};
 use office::Status;
 use operator::{ProgramWords, program_words};
-use std::alloc::Global;
 use std::io::{BufReader, Read, Write};
 use std::process::ExitCode;
 use std::{env, io};
@@ -51,11 +51,11 @@ fn run_own_words(rt: &HostRuntime) -> io::Result<Status> {
 }
 
 /// Runs the program's words. `Done` where what they say was done, or a text that they ask for was
-/// written: the help or the version. `Failed` at a fault, which is one line on `errors`. `Unread`
-/// where they aren't words of the program: then `output` gets nothing, and `errors` a text that
-/// says why.
-pub fn run_words<'a, R: AllocGlobal, I: Read, O: Write, E: Write>(
-    rt: &R,
+/// written: the help or the version. `Failed` where an operator's command is refused, and at a
+/// fault, which is one line on `errors`. `Unread` where they aren't words of the program: then
+/// `output` gets nothing, and `errors` a text that says why.
+pub fn run_words<'a, I: Read, O: Write, E: Write>(
+    rt: &HostRuntime,
     words: &'a [&'a str],
     input: &mut I,
     output: &mut O,
@@ -77,14 +77,15 @@ pub fn run_words<'a, R: AllocGlobal, I: Read, O: Write, E: Write>(
         (once_text (once_book once.price once.block) once.credit stream)) }
 {
     match program_words(rt.alloc(), words) {
-        Ok(said) => run_said(rt.alloc(), said, input, output, errors),
+        Ok(said) => run_said(rt, said, input, output, errors),
         Err(fault) => tell_unread(rt.alloc(), fault, output, errors),
     }
 }
 
 /// Does what the words say, and tells a fault.
+#[tactic(auto, using(crate::proofs::EndLemmas::ended_told, crate::proofs::EndLemmas::ended_end, crate::proofs::EndLemmas::fault_told, crate::proofs::EndLemmas::fault_end, crate::proofs::EndLemmas::once_ends))]
 fn run_said<I: Read, O: Write, E: Write>(
-    alloc: Global,
+    rt: &HostRuntime,
     said: ProgramWords,
     input: &mut I,
     output: &mut O,
@@ -101,8 +102,8 @@ fn run_said<I: Read, O: Write, E: Write>(
         WritesBeginning (O.contents output.old) (O.contents output.new)
         (once_text (once_book once.price once.block) once.credit stream))) }
 {
-    match do_said(alloc, said, input, output) {
-        Ok(()) => Status::Done,
+    match do_said(rt, said, input, output) {
+        Ok(status) => status,
         Err(fault) => tell_fault(errors, fault),
     }
 }

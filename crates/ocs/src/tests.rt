@@ -18,7 +18,7 @@ fn told(rt: &HostRuntime, line: &str) -> Result<String, Fail> {
 }
 
 /// Lines of words, and what they come to.
-const TOLD: [(&str, &str); 6] = [
+const TOLD: [(&str, &str); 7] = [
     (
         "ocs once --block 1 --price 0 --credit 1",
         "0|{\"Result-Code\":5012}\n|",
@@ -33,9 +33,10 @@ const TOLD: [(&str, &str); 6] = [
          Usage: ocs <COMMAND>\n\nFor more information, try '--help'.\n",
     ),
     ("ocs --version", "0|ocs 0.1.0\n|"),
-    ("ocs sweep db", "1||ocs: this command does not run yet\n"),
+    ("ocs sweep db --at 1", "1||ocs: open fault 1\n"),
+    ("ocs replay db file", "1||ocs: file fault\n"),
     (
-        "ocs replay db file",
+        "ocs import db file",
         "1||ocs: this command does not run yet\n",
     ),
 ];

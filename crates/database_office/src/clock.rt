@@ -1,0 +1,36 @@
+//! The moment of a command: that of the words, or the machine's.
+
+ghost use Rattle.std.specs.Prelude.{◌≡◌, Ok, Err, OnErr, IfSome};
+ghost use Rattle.database_office.specs.declared.fault.DatabaseFault.TheVariants.{Clock};
+
+use crate::fault::DatabaseFault;
+use std::time::{SystemTime, UNIX_EPOCH};
+use units::Moment;
+
+/// The machine's moment; None where its clock doesn't answer, or tells none of a command.
+pub fn machine_moment(rt: &HostRuntime) -> Option<Moment> {
+    let Ok(now) = SystemTime::now(rt) else {
+        return None;
+    };
+    let Ok(since) = now.duration_since(UNIX_EPOCH) else {
+        return None;
+    };
+    Moment::of_command(since.as_secs())
+}
+
+/// The moment of a command: that of the words, or the machine's where they say none.
+///
+/// # Errors
+/// `Clock` where the machine is asked and has none.
+pub fn command_moment(rt: &HostRuntime, at: Option<Moment>) -> Result<Moment, DatabaseFault>
+    ensures said { IfSome at (λ t. result ≡ Ok t) }
+    ensures told { OnErr result (result ≡ Err Clock) }
+{
+    match at {
+        Some(at) => Ok(at),
+        None => match machine_moment(rt) {
+            Some(moment) => Ok(moment),
+            None => Err(DatabaseFault::Clock),
+        },
+    }
+}

@@ -1,0 +1,55 @@
+//! An operator's command over a database.
+
+ghost use Rattle.std.specs.Prelude.{◌≡◌, IfErr};
+ghost use Rattle.database_office.specs.Opening.{IsUnanswered};
+
+use crate::clock::command_moment;
+use crate::fault::DatabaseFault;
+use crate::opening::{Office, open_office};
+use keepers::Keeper;
+use office::{Status, serve_office};
+use operator::{OfficeCommand, OfficeWords};
+use std::alloc::Global;
+use std::io::Write;
+use tariffs::TariffBook;
+use units::Moment;
+
+/// Carries out an operator's command over the database of the words, and writes its answer as a
+/// line. The status is `Failed` at a refusal, which changes nothing.
+///
+/// # Errors
+/// In this order: `Clock`; `File`, `Open` or `Memory`, as `open_office`; `Office` where the command
+/// wasn't carried out, or its answer not written.
+pub fn command_office<O: Write>(
+    rt: &HostRuntime,
+    words: OfficeWords,
+    output: &mut O,
+) -> Result<Status, DatabaseFault>
+    ensures unwritten { IfErr result (λ fault. IsUnanswered fault → output.new ≡ output.old) }
+{
+    let OfficeWords {
+        database,
+        command,
+        at,
+    } = words;
+    let moment = command_moment(rt, at)?;
+    let Office { mut keeper, book } = open_office(rt, &database)?;
+    carry_out(rt.alloc(), &mut keeper, &book, command, moment, output)
+}
+
+/// Carries out an operator's command over a keeper, as `serve_office`.
+fn carry_out<K: Keeper, O: Write>(
+    alloc: Global,
+    keeper: &mut K,
+    book: &TariffBook,
+    command: OfficeCommand,
+    moment: Moment,
+    output: &mut O,
+) -> Result<Status, DatabaseFault>
+    ensures { IfErr result (λ fault. IsUnanswered fault → output.new ≡ output.old) }
+{
+    match serve_office(alloc, keeper, book, command, moment, output) {
+        Ok(status) => Ok(status),
+        Err(fault) => Err(DatabaseFault::Office(fault)),
+    }
+}

@@ -1,0 +1,54 @@
+//! Files that the words name.
+
+use crate::fault::{DatabaseFault, file_fault, opening_fault};
+use database_files::{DatabaseFiles, open_database};
+use sql_opening::OpenFault;
+use sqlite::Connection;
+use sqlite_disk::Wary;
+use std::fs::{self, File};
+
+/// The file at a path, to be read.
+///
+/// # Errors
+/// `File`, also where there is none; `Memory`.
+pub fn open_file(rt: &HostRuntime, path: &str) -> Result<File, DatabaseFault> {
+    match fs::open(rt, path) {
+        Ok(file) => Ok(file),
+        Err(error) => Err(file_fault(error.kind())),
+    }
+}
+
+/// The bytes of the file at a path.
+pub(crate) fn read_file(rt: &HostRuntime, path: &str) -> Result<Vec<u8>, DatabaseFault> {
+    match fs::read(rt, path) {
+        Ok(bytes) => Ok(bytes),
+        Err(error) => Err(file_fault(error.kind())),
+    }
+}
+
+/// A connection to the database at a path, whose file is made where there is none. Nothing is
+/// supposed of a write that was torn.
+pub(crate) fn connect(
+    rt: &HostRuntime,
+    path: &str,
+) -> Result<Connection<DatabaseFiles<Wary>>, DatabaseFault> {
+    match open_database(rt, path, Wary) {
+        Ok(connection) => Ok(connection),
+        Err(error) => Err(opening_fault(error)),
+    }
+}
+
+/// A connection to the database at a path, where there is a file; none is made.
+///
+/// # Errors
+/// `Open`, there is none (`Foreign`, as of a database without tables); else as `connect`.
+pub(crate) fn connect_there(
+    rt: &HostRuntime,
+    path: &str,
+) -> Result<Connection<DatabaseFiles<Wary>>, DatabaseFault> {
+    match fs::exists(rt, path) {
+        Ok(true) => connect(rt, path),
+        Ok(false) => Err(DatabaseFault::Open(OpenFault::Foreign)),
+        Err(error) => Err(file_fault(error.kind())),
+    }
+}

@@ -1,0 +1,55 @@
+//! A database that is opened.
+
+ghost use Rattle.std.specs.Prelude.{IfErr, IfOk};
+ghost use Rattle.sql_keeper.specs.Opened.{IsFresh, IsOpened};
+ghost use Rattle.database_office.specs.Opening.{IsOpenFault};
+
+use crate::fault::DatabaseFault;
+use crate::files::connect_there;
+use database_files::DatabaseFiles;
+use operator::FilePath;
+use sql_keeper::SqlKeeper;
+use sqlite::{Alter, Connection};
+use sqlite_disk::Wary;
+use std::alloc::Global;
+use tariffs::TariffBook;
+
+/// An office: what keeps its accounts, and the tariff book that it goes by.
+#[derive(Drop)]
+pub struct Office<S: Alter + Drop> {
+    pub keeper: SqlKeeper<S>,
+    pub book: TariffBook,
+}
+
+/// Opens the office of the database at a path. No file is made.
+///
+/// # Errors
+/// `File` or `Memory` where it can't be opened as a database; `Open`, there is no file (`Foreign`),
+/// or as `open_tables`.
+pub fn open_office(
+    rt: &HostRuntime,
+    path: &FilePath,
+) -> Result<Office<DatabaseFiles<Wary>>, DatabaseFault>
+    ensures fresh { IfOk result (λ office. IsFresh office.keeper office.book) }
+{
+    let connection = connect_there(rt, path.as_str())?;
+    open_tables(rt.alloc(), connection)
+}
+
+/// Opens the office of a connection. It writes nothing.
+///
+/// # Errors
+/// `Open`: the tables aren't this system's, their version isn't known, a row is out of its rules,
+/// the store failed, or memory was refused.
+pub fn open_tables<S: Alter + Drop>(
+    alloc: Global,
+    connection: Connection<S>,
+) -> Result<Office<S>, DatabaseFault>
+    ensures opened { IfOk result (λ office. IsOpened S.Store connection office.keeper office.book) }
+    ensures told { IfErr result IsOpenFault }
+{
+    match SqlKeeper::open(alloc, connection) {
+        Ok((keeper, book)) => Ok(Office { keeper, book }),
+        Err((fault, _left)) => Err(DatabaseFault::Open(fault)),
+    }
+}

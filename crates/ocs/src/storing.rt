@@ -1,0 +1,96 @@
+//! What words say that work over a database.
+
+ghost use Rattle.std.specs.Prelude.{◌≡◌, ◌++◌, ◌∷◌, [], codes, IfErr, IfOk, OnErr, OnOk};
+ghost use Rattle.std.specs.Io.KnownBytes.{Appends};
+ghost use Rattle.ocs.specs.Ends.{IsEnded};
+ghost use Rattle.ocs.specs.Served.{ForEachList, IsContinued};
+ghost use Rattle.ocs.specs.Told.{IsReached, IsReachedByLines};
+
+use crate::fault::{LinesFault, ProgramFault};
+use crate::lines::lines;
+use byte_streams::{StreamFault, write_whole};
+use database_office::{Office, command_office, make_database, open_file, open_office};
+use keepers::Keeper;
+use office::Status;
+use operator::{InitWords, OfficeWords, ReplayWords};
+use std::alloc::Global;
+use std::io::{BufReader, Read, Write};
+use tariffs::TariffBook;
+
+/// Makes the database of a tariff book, and says that it is made.
+pub(crate) fn answer_init<O: Write>(
+    rt: &HostRuntime,
+    init: &InitWords,
+    output: &mut O,
+) -> Result<Status, ProgramFault>
+    ensures ended { IfOk result (IsEnded ⊥) }
+    ensures reached { IfErr result (IsReached (Unit {0} → ⊥) (Unit {0})) }
+    ensures done { OnOk result (Appends (O.contents output.old) (O.contents output.new)
+        (codes "ok\n")) }
+{
+    if let Err(fault) = make_database(rt, init) {
+        return Err(ProgramFault::Database(fault));
+    }
+    match write_whole(output, b"ok\n") {
+        Ok(()) => Ok(Status::Done),
+        Err(fault) => Err(ProgramFault::Stream(fault)),
+    }
+}
+
+/// Carries out an operator's command.
+pub(crate) fn answer_office<O: Write>(
+    rt: &HostRuntime,
+    words: OfficeWords,
+    output: &mut O,
+) -> Result<Status, ProgramFault>
+    ensures ended { IfOk result (IsEnded (Unit {0})) }
+    ensures reached { IfErr result (IsReached (Unit {0} → ⊥) (Unit {0})) }
+{
+    match command_office(rt, words, output) {
+        Ok(Status::Done) => Ok(Status::Done),
+        Ok(_) => Ok(Status::Failed),
+        Err(fault) => Err(ProgramFault::Database(fault)),
+    }
+}
+
+/// Answers the lines of a file. It is opened before the database is.
+pub(crate) fn answer_replay<O: Write>(
+    rt: &HostRuntime,
+    replay: &ReplayWords,
+    output: &mut O,
+) -> Result<Status, ProgramFault>
+    ensures ended { IfOk result (IsEnded ⊥) }
+    ensures reached { IfErr result (IsReached (Unit {0} → ⊥) (Unit {0})) }
+{
+    let file = match open_file(rt, replay.file.as_str()) {
+        Ok(file) => file,
+        Err(fault) => return Err(ProgramFault::Database(fault)),
+    };
+    let Office { mut keeper, book } = match open_office(rt, &replay.database) {
+        Ok(office) => office,
+        Err(fault) => return Err(ProgramFault::Database(fault)),
+    };
+    let Ok(mut reader) = BufReader::new(rt.alloc(), file) else {
+        return Err(ProgramFault::Stream(StreamFault::Memory));
+    };
+    match answer_requests(rt.alloc(), &mut keeper, &book, &mut reader, output) {
+        Ok(()) => Ok(Status::Done),
+        Err(fault) => Err(ProgramFault::Lines(fault)),
+    }
+}
+
+/// Answers the lines of a reader over a keeper, which may fail.
+#[tactic(auto, using(crate::proofs::EndLemmas::reached_over))]
+fn answer_requests<K: Keeper, R: Read, O: Write>(
+    alloc: Global,
+    keeper: &mut K,
+    book: &TariffBook,
+    reader: &mut R,
+    output: &mut O,
+) -> Result<(), LinesFault>
+    ensures reached { IfErr result (IsReachedByLines (Unit {0})) }
+    ensures continued { K.clean keeper.new →
+        ForEachList book.now (K.content keeper.old) (IsContinued book.now (K.content keeper.new)) }
+{
+    lines(alloc, keeper, book, None, reader, output)
+}
