@@ -1,0 +1,4 @@
+mod accounts;
+mod broken;
+mod failing;
+mod months;

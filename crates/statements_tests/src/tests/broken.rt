@@ -1,0 +1,114 @@
+//! A source whose store fails after so many rows, and at each other call.
+
+ghost use Rattle.std.specs.Prelude.{◌≡◌};
+ghost use Rattle.keepers.specs.Faults.{max_failures};
+ghost use Rattle.keepers.specs.Tables.{no_tables};
+
+use buckets::Bucket;
+use charge_sources::{ChargeSource, ChargeVisitor};
+use identifiers::{AccountNumber, SessionId};
+use keepers::{Change, Keeper, KeptAnswer, Key, Loaded, MemoryKeeper, StoreFault};
+use reserving::Account;
+use tariffs::TariffBook;
+use units::Moment;
+
+#[derive(Drop)]
+pub(crate) struct Broken {
+    pub(crate) keeper: MemoryKeeper,
+    pub(crate) left: usize,
+}
+
+impl Keeper for Broken {
+    ghost use Rattle.std.proofs.Common.{le_refl};
+
+    ghost content = { λ _. no_tables };
+
+    ghost failed = { λ _. max_failures };
+
+    ghost clean = { λ _. ⊥ };
+
+    ghost bounded = { λ _. le_refl max_failures };
+
+    fn failures(&self) -> u64 {
+        1_000_000_000_000_000_000
+    }
+
+    fn last(&mut self) -> Result<Moment, StoreFault> {
+        Err(StoreFault::Store)
+    }
+
+    fn load<'b>(
+        &mut self,
+        _book: &'b TariffBook,
+        _account: &AccountNumber,
+        _moment: Moment,
+    ) -> Result<Option<Loaded<'b>>, StoreFault> {
+        Err(StoreFault::Store)
+    }
+
+    fn view<'b>(
+        &mut self,
+        _book: &'b TariffBook,
+        _account: &AccountNumber,
+        _moment: Moment,
+    ) -> Result<Option<Account<'b>>, StoreFault> {
+        Err(StoreFault::Store)
+    }
+
+    fn has_account(&mut self, _account: &AccountNumber) -> Result<bool, StoreFault> {
+        Err(StoreFault::Store)
+    }
+
+    fn knows_session(
+        &mut self,
+        _account: &AccountNumber,
+        _session: &SessionId,
+    ) -> Result<bool, StoreFault> {
+        Err(StoreFault::Store)
+    }
+
+    fn dead_buckets(&mut self, _account: &AccountNumber) -> Result<Vec<Bucket>, StoreFault> {
+        Err(StoreFault::Store)
+    }
+
+    fn find_answer(
+        &mut self,
+        _account: &AccountNumber,
+        _key: &Key,
+    ) -> Result<Option<KeptAnswer>, StoreFault> {
+        Err(StoreFault::Store)
+    }
+
+    fn commit(&mut self, _change: Change) -> Result<(), StoreFault> {
+        Err(StoreFault::Store)
+    }
+
+    fn abandon<'b>(&mut self, loaded: Loaded<'b>) {
+        let Loaded {
+            number: _,
+            account: _,
+            before: _,
+        } = loaded;
+    }
+
+    fn sweep(&mut self, _book: &TariffBook, _moment: Moment) -> Result<u64, StoreFault> {
+        Err(StoreFault::Store)
+    }
+}
+
+impl ChargeSource for Broken {
+    fn each<V: ChargeVisitor>(
+        &mut self,
+        account: &AccountNumber,
+        _from: Moment,
+        _until: Moment,
+        visitor: &mut V,
+    ) -> Result<(), StoreFault> {
+        for row in self.keeper.charges(account).iter().take(self.left) {
+            if !visitor.row(row) {
+                return Ok(());
+            }
+        }
+        Err(StoreFault::Store)
+    }
+}
