@@ -1,4 +1,5 @@
 pub mod SharesAlong
+pub mod Meeting
 pub mod Kept
 pub mod Settling
 pub mod Parts

@@ -1,9 +1,10 @@
 //! Walks along buckets in order.
 
-ghost use Rattle.std.specs.Prelude.{◌≡◌, ◌-◌, ◌≤◌, min, length, map, IfOk, vec_len, vec_capacity};
+ghost use Rattle.std.specs.Prelude.{◌≡◌, ◌-◌, ◌≤◌, [], true, min, length, map, drop, IfOk, vec_len, vec_capacity};
 ghost use Rattle.buckets.specs.Row.{Row, eligible_amount, with_hold, with_charge, with_charge_of_hold, with_release, with_end};
 ghost use Rattle.buckets.specs.Holding.{held_in, held_sum, IsWithin, IsLeftWithin, with_rest_released};
-ghost use Rattle.buckets.specs.Spend.{funds, place};
+ghost use Rattle.buckets.specs.Merged.{first_held, next_of, unmet};
+ghost use Rattle.buckets.specs.Spend.{funds, place, AreDistinct};
 ghost use Rattle.buckets.specs.Share.{along, parts_along};
 
 use crate::bucket::Bucket;
@@ -116,6 +117,65 @@ pub(crate) fn held_in(holds: &[Hold], bucket: &Bucket) -> u128
     total
 }
 
+/// Whether several holds stand in the order of the buckets, each of one of them. One hold is looked
+/// at for each bucket as soon as in order, so no walk tells it.
+fn stand_in_order(holds: &[Hold], buckets: &[Bucket]) -> bool
+    ensures { result ≡ true → unmet holds.now buckets.now ≡ [] }
+{
+    1 < holds.len() && are_met(holds, buckets)
+}
+
+/// Whether a walk along both meets each hold.
+fn are_met(holds: &[Hold], buckets: &[Bucket]) -> bool
+    ensures { result ≡ true → unmet holds.now buckets.now ≡ [] }
+{
+    let mut next = 0;
+    for bucket in buckets {
+        next = place_after(holds, next, bucket);
+    }
+    next == holds.len()
+}
+
+/// The place behind the next hold, where that is of the bucket.
+fn place_after(holds: &[Hold], next: usize, bucket: &Bucket) -> usize
+    requires { next ≤ length holds.now }
+    ensures within { result ≤ length holds.now }
+    ensures rest { drop result holds.now ≡ next_of bucket.now (drop next holds.now) }
+{
+    if next < holds.len() && holds[next].bucket == bucket.number() {
+        next + 1
+    } else {
+        next
+    }
+}
+
+/// The next hold, where it is of the bucket.
+fn amount_at(holds: &[Hold], next: usize, bucket: &Bucket) -> u128
+    requires { next ≤ length holds.now }
+    ensures { result ≡ first_held bucket.now (drop next holds.now) }
+{
+    if next < holds.len() && holds[next].bucket == bucket.number() {
+        holds[next].amount as u128
+    } else {
+        0
+    }
+}
+
+/// What the holds have of a bucket: the next of them, where they stand in the order of the buckets,
+/// else by a search.
+fn held_next(holds: &[Hold], next: usize, in_order: bool, bucket: &Bucket) -> u128
+    requires within { next ≤ length holds.now }
+    requires first { in_order ≡ true →
+        held_in holds.now bucket.now ≡ first_held bucket.now (drop next holds.now) }
+    ensures { result ≡ held_in holds.now bucket.now }
+{
+    if in_order {
+        amount_at(holds, next, bucket)
+    } else {
+        held_in(holds, bucket)
+    }
+}
+
 /// What is left of the holds after an amount is taken from them.
 pub(crate) fn rest_of(
     alloc: Global,
@@ -131,7 +191,7 @@ pub(crate) fn rest_of(
     let mut rest = Vec::new(alloc);
     let mut left = amount;
     for bucket in buckets {
-        let held = held_within(holds, bucket);
+        let held = held_within(held_in(holds, bucket), bucket);
         let part = part_of(held, left);
         if part < held {
             rest.push(Hold {
@@ -144,24 +204,29 @@ pub(crate) fn rest_of(
     Ok(rest)
 }
 
-/// What the holds have of a bucket, where that is no more than it has reserved.
-fn held_within(holds: &[Hold], bucket: &Bucket) -> u64
-    requires { held_in holds.now bucket.now ≤ bucket.now.reserved }
-    ensures { result ≡ held_in holds.now bucket.now }
+/// What is held of a bucket, where that is no more than it has reserved.
+fn held_within(held: u128, bucket: &Bucket) -> u64
+    requires { held ≤ bucket.now.reserved }
+    ensures { result ≡ held }
 {
     let _reserved = bucket.reserved();
-    held_in(holds, bucket) as u64
+    held as u64
 }
 
 pub(crate) fn charge_holds_along(buckets: &mut Vec<Bucket>, holds: &[Hold], amount: u128) -> u128
-    requires { IsWithin holds.now buckets.old.items }
+    requires within { IsWithin holds.now buckets.old.items }
+    requires distinct { AreDistinct buckets.old.items }
     ensures rows { buckets.new.items
         ≡ along with_charge_of_hold (held_in holds.now) amount buckets.old.items }
     ensures left { result ≡ amount - held_sum holds.now buckets.old.items }
 {
+    let in_order = stand_in_order(holds, buckets);
     let mut left = amount;
+    let mut next = 0;
     for bucket in buckets.iter_mut() {
-        let part = part_of(held_within(holds, bucket), left);
+        let held = held_within(held_next(holds, next, in_order, bucket), bucket);
+        next = place_after(holds, next, bucket);
+        let part = part_of(held, left);
         bucket.charge_hold(part);
         left -= part as u128;
     }
@@ -169,36 +234,45 @@ pub(crate) fn charge_holds_along(buckets: &mut Vec<Bucket>, holds: &[Hold], amou
 }
 
 pub(crate) fn release_all(buckets: &mut Vec<Bucket>, holds: &[Hold], at: Moment)
-    requires { IsWithin holds.now buckets.old.items }
+    requires within { IsWithin holds.now buckets.old.items }
+    requires distinct { AreDistinct buckets.old.items }
     ensures { buckets.new.items
         ≡ map (λ b. with_release at b (held_in holds.now b)) buckets.old.items }
 {
+    let in_order = stand_in_order(holds, buckets);
+    let mut next = 0;
     for bucket in buckets.iter_mut() {
-        let amount = held_within(holds, bucket);
+        let amount = held_within(held_next(holds, next, in_order, bucket), bucket);
+        next = place_after(holds, next, bucket);
         bucket.release(amount, at);
     }
 }
 
 /// What a part leaves of what is held of a bucket.
-fn rest_within(holds: &[Hold], bucket: &Bucket, part: u128) -> u64
-    requires rest { held_in holds.now bucket.now - part ≤ bucket.now.reserved }
-    requires within { part ≤ held_in holds.now bucket.now }
-    ensures { result ≡ held_in holds.now bucket.now - part }
+fn rest_within(held: u128, part: u128, bucket: &Bucket) -> u64
+    requires rest { held - part ≤ bucket.now.reserved }
+    requires within { part ≤ held }
+    ensures { result ≡ held - part }
 {
     let _reserved = bucket.reserved();
-    (held_in(holds, bucket) - part) as u64
+    (held - part) as u64
 }
 
 /// Gives up what an amount that was charged to the holds leaves of them.
 pub(crate) fn release_rest(buckets: &mut Vec<Bucket>, holds: &[Hold], at: Moment, amount: u128)
-    requires { IsLeftWithin holds.now amount buckets.old.items }
+    requires within { IsLeftWithin holds.now amount buckets.old.items }
+    requires distinct { AreDistinct buckets.old.items }
     ensures { buckets.new.items
         ≡ along (with_rest_released holds.now at) (held_in holds.now) amount buckets.old.items }
 {
+    let in_order = stand_in_order(holds, buckets);
     let mut left = amount;
+    let mut next = 0;
     for bucket in buckets.iter_mut() {
-        let part = held_in(holds, bucket).min(left);
-        let rest = rest_within(holds, bucket, part);
+        let held = held_next(holds, next, in_order, bucket);
+        next = place_after(holds, next, bucket);
+        let part = held.min(left);
+        let rest = rest_within(held, part, bucket);
         bucket.release(rest, at);
         left -= part;
     }

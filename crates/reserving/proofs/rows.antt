@@ -1,6 +1,8 @@
 pub mod Lapsing
 pub mod TwoAdvances
 pub mod LaterFunds
+pub mod LapsedFunds
+pub mod Followed
 pub mod Touching
 pub mod Closing
 pub mod Empty

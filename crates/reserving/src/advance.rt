@@ -1,7 +1,7 @@
 ghost use Rattle.std.specs.Prelude.{◌≡◌, ◌≤◌, ◌+◌, ◌*◌, ◌&&◌, nat_lt, map, not, true, false, None, if◌then◌else◌};
 ghost use Rattle.reserving.specs.Ledger.{Ledger};
-ghost use Rattle.reserving.specs.Sessions.{is_live_in, holds_in, held_by, is_open};
-ghost use Rattle.reserving.specs.Rows.{IsRowsOf};
+ghost use Rattle.reserving.specs.Sessions.{is_session, is_live_in, holds_in, held_by, is_open};
+ghost use Rattle.reserving.specs.Rows.{AreApart, IsRowsOf};
 ghost use Rattle.reserving.specs.Left.{LeftRows, IsWith};
 ghost use Rattle.reserving.specs.Changes.{advanced, lapse, lapse_group, lapse_from, lapsed_rows, AreLapsable};
 ghost use Rattle.reserving.specs.Stored.{advanced_stored};
@@ -10,6 +10,7 @@ ghost use Rattle.buckets.specs.Spend.{Each};
 ghost use Rattle.buckets.specs.Holding.{IsWithin};
 
 use crate::account::Account;
+use crate::following::is_live_from;
 use crate::kept_rows::KeptRows;
 use crate::session::{Session, SessionGroup, SessionState};
 use buckets::Purse;
@@ -38,8 +39,9 @@ impl KeptRows {
 
     /// Brings the rows to a moment.
     pub(crate) fn advance(&mut self, book: &TariffBook, moment: Moment)
-        requires { Each (λ b. held_by (λ s. true) self.old.groups.items b ≡ b.reserved)
+        requires held { Each (λ b. held_by (λ s. true) self.old.groups.items b ≡ b.reserved)
             self.old.purse }
+        requires apart { AreApart (λ x y. is_session x.id y) self.old.sessions.items }
         ensures book { IsBook book.now }
         ensures rows { stored_of self.new ≡ advanced_stored book.now moment (stored_of self.old) }
     {
@@ -70,7 +72,7 @@ pub(crate) fn is_live(sessions: &[Session], id: &SessionId, validity: u32, at: M
     false
 }
 
-fn is_live_session(session: &Session, validity: u32, at: Moment) -> bool
+pub(crate) fn is_live_session(session: &Session, validity: u32, at: Moment) -> bool
     ensures { result
         ≡ (is_open session.now.state && nat_lt at (session.now.touched + 2 * validity)) }
 {
@@ -102,28 +104,33 @@ pub(crate) fn lapse_groups(
     validity: u32,
     at: Moment,
 )
-    requires { AreLapsable (λ s. not (is_live_in validity at sessions.now s)) groups.old.items
-        purse.old }
+    requires within { AreLapsable (λ s. not (is_live_in validity at sessions.now s))
+        groups.old.items purse.old }
+    requires apart { AreApart (λ x y. is_session x.id y) sessions.now }
     ensures purse { purse.new
         ≡ lapsed_rows (is_live_in validity at sessions.now) at groups.old.items purse.old }
     ensures groups { groups.new.items
         ≡ map (lapse_group (is_live_in validity at sessions.now)) groups.old.items }
 {
+    let mut place = 0;
     for group in groups.iter_mut() {
-        lapse_group(purse, group, sessions, validity, at);
+        lapse_group(purse, group, sessions, &mut place, validity, at);
     }
 }
 
-/// Gives up the reservation of a group whose session has ended by the moment.
+/// Gives up the reservation of a group whose session has ended by the moment. The session's row is
+/// looked for from a place on.
 fn lapse_group(
     purse: &mut Purse,
     group: &mut SessionGroup,
     sessions: &[Session],
+    place: &mut usize,
     validity: u32,
     at: Moment,
 )
-    requires { is_live_in validity at sessions.now group.old.session ≡ false →
+    requires within { is_live_in validity at sessions.now group.old.session ≡ false →
         IsWithin (holds_in group.old.reservation) purse.old }
+    requires apart { AreApart (λ x y. is_session x.id y) sessions.now }
     ensures purse { purse.new
         ≡ lapse_from (is_live_in validity at sessions.now group.old.session) at
         group.old.reservation purse.old }
@@ -132,7 +139,7 @@ fn lapse_group(
     if group.reservation.is_none() {
         return;
     }
-    let live = is_live(sessions, &group.session, validity, at);
+    let live = is_live_from(sessions, place, &group.session, validity, at);
     lapse_reservation(purse, group, live, at);
 }
 

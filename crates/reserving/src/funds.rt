@@ -1,18 +1,19 @@
-ghost use Rattle.std.specs.Prelude.{◌≡◌, ◌≤◌, true, not, if◌then◌else◌};
-ghost use Rattle.buckets.specs.Spend.{funds};
+ghost use Rattle.std.specs.Prelude.{◌≡◌, ◌≤◌, ◌<◌, ◌^◌, true, if◌then◌else◌};
+ghost use Rattle.buckets.specs.Spend.{Each, IsSound, funds};
+ghost use Rattle.buckets.specs.Row.{eligible_amount, is_eligible};
 ghost use Rattle.buckets.specs.Holding.{held_in};
 ghost use Rattle.reserving.specs.Ledger.{Ledger};
 ghost use Rattle.reserving.specs.Balance.{buckets_at};
-ghost use Rattle.reserving.specs.Sessions.{held_by, holds_in, is_live_in};
-ghost use Rattle.reserving.specs.Rows.{IsRowsOf};
+ghost use Rattle.reserving.specs.Sessions.{held_by, is_live_in, is_session};
+ghost use Rattle.reserving.specs.Rows.{AreApart, IsRowsOf};
 ghost use Rattle.reserving.specs.Left.{LeftRows, IsWith};
-ghost use Rattle.reserving.specs.Changes.{advanced, lapsed_in, amount_later};
+ghost use Rattle.reserving.specs.Changes.{advanced};
+ghost use Rattle.reserving.specs.Lapsed.{held_for, lapsed_for, lapsed_funds};
 
 use crate::account::Account;
-use crate::advance::is_live;
-use crate::kept_rows::KeptRows;
+use crate::following::is_live_from;
 use crate::session::{Session, SessionGroup};
-use buckets::Bucket;
+use buckets::{Bucket, Holds};
 use units::{Amount, Moment};
 
 impl<'b> Account<'b> {
@@ -28,93 +29,114 @@ impl<'b> Account<'b> {
             result.0 ≡ funds group moment (buckets_at self.now.book.validity moment ledger) }
     {
         let validity = self.book.validity();
-        let mut total = 0;
-        for bucket in self.rows.purse.buckets() {
-            total += self.rows.available_later(bucket, group, validity, moment);
-        }
-        Amount(total)
+        let buckets = self.rows.purse.buckets();
+        let given_up = lapsed_funds(
+            buckets,
+            &self.rows.groups,
+            &self.rows.sessions,
+            group,
+            validity,
+            moment,
+        );
+        Amount(free_funds(buckets, group, moment) + given_up)
     }
 }
 
-impl KeptRows {
-    /// What an eligible bucket has available at a later moment: also what ended sessions held of
-    /// it.
-    fn available_later(&self, bucket: &Bucket, group: u32, validity: u32, at: Moment) -> u128
-        requires { held_by (λ s. true) self.now.groups.items bucket.now ≡ bucket.now.reserved }
-        ensures value { result
-            ≡ amount_later group validity at self.now.sessions.items self.now.groups.items
-            bucket.now }
-        ensures most { result ≤ 2_000_000_000_000_000 }
-    {
-        let _reserved = bucket.reserved();
-        if bucket.is_eligible(group, at) {
-            bucket.available() as u128 + self.lapsed_part(bucket, validity, at)
-        } else {
-            0
-        }
-    }
-
-    /// What the reservations of sessions that have ended by the moment hold of a bucket. Where
-    /// nothing of it is reserved they hold nothing of it, and no group is asked.
-    fn lapsed_part(&self, bucket: &Bucket, validity: u32, at: Moment) -> u128
-        requires { held_by (λ s. true) self.now.groups.items bucket.now ≡ bucket.now.reserved }
-        ensures value { result
-            ≡ lapsed_in (is_live_in validity at self.now.sessions.items) self.now.groups.items
-            bucket.now }
-        ensures most { result ≤ 1_000_000_000_000_000 }
-    {
-        let reserved = bucket.reserved();
-        if reserved == 0 {
-            return 0;
-        }
-        lapsed(bucket, &self.groups, &self.sessions, validity, at)
-    }
-}
-
-/// The same, by a walk over the groups.
-fn lapsed(
-    bucket: &Bucket,
-    groups: &[SessionGroup],
-    sessions: &[Session],
-    validity: u32,
-    at: Moment,
-) -> u128
-    requires { held_by (λ s. true) groups.now bucket.now ≤ 1_000_000_000_000_000 }
-    ensures value { result ≡ lapsed_in (is_live_in validity at sessions.now) groups.now bucket.now }
-    ensures most { result ≤ 1_000_000_000_000_000 }
+/// What the eligible buckets have available.
+fn free_funds(buckets: &[Bucket], group: u32, at: Moment) -> u128
+    ensures value { result ≡ funds group at buckets.now }
+    ensures most { result < 2 ^ 126 }
 {
     let mut total = 0;
-    for group in groups {
-        total += lapsed_of(bucket, group, sessions, validity, at);
+    for bucket in buckets {
+        total += free_of(bucket, group, at);
     }
     total
 }
 
-/// What a group's reservation holds of a bucket, where its session has ended by the moment.
-fn lapsed_of(
-    bucket: &Bucket,
-    group: &SessionGroup,
-    sessions: &[Session],
-    validity: u32,
-    at: Moment,
-) -> u128
-    ensures { result ≡ if not (is_live_in validity at sessions.now group.now.session)
-        then held_in (holds_in group.now.reservation) bucket.now else 0 }
+/// What an eligible bucket has available.
+fn free_of(bucket: &Bucket, group: u32, at: Moment) -> u128
+    ensures value { result ≡ eligible_amount group at bucket.now }
+    ensures most { result ≤ 1_000_000_000_000_000 }
 {
-    let held = held_of(bucket, group);
-    if held == 0 || is_live(sessions, &group.session, validity, at) {
-        0
+    let available = bucket.available() as u128;
+    if bucket.is_eligible(group, at) {
+        available
     } else {
-        held
+        0
     }
 }
 
-/// What a group's reservation holds of a bucket.
-pub(crate) fn held_of(bucket: &Bucket, group: &SessionGroup) -> u128
-    ensures { result ≡ held_in (holds_in group.now.reservation) bucket.now }
+/// What the reservations of sessions that have ended by the moment hold of the eligible buckets.
+fn lapsed_funds(
+    buckets: &[Bucket],
+    groups: &[SessionGroup],
+    sessions: &[Session],
+    group: u32,
+    validity: u32,
+    at: Moment,
+) -> u128
+    requires sound { IsSound buckets.now }
+    requires held { Each (λ b. held_by (λ s. true) groups.now b ≡ b.reserved) buckets.now }
+    requires apart { AreApart (λ x y. is_session x.id y) sessions.now }
+    ensures value { result
+        ≡ lapsed_funds (is_live_in validity at sessions.now) group at groups.now buckets.now }
+    ensures most { result < 2 ^ 126 }
 {
-    match &group.reservation {
-        None => 0,
-        Some(reservation) => reservation.holds.of(bucket),
+    let _count = buckets.len();
+    let mut total = 0;
+    let mut place = 0;
+    for row in groups {
+        total += lapsed_of(buckets, row, sessions, &mut place, group, validity, at);
+    }
+    total
+}
+
+/// What a group's reservation holds of the eligible buckets, where its session has ended by the
+/// moment. The session's row is looked for from a place on.
+fn lapsed_of(
+    buckets: &[Bucket],
+    row: &SessionGroup,
+    sessions: &[Session],
+    place: &mut usize,
+    group: u32,
+    validity: u32,
+    at: Moment,
+) -> u128
+    requires within { lapsed_for (is_live_in validity at sessions.now) group at row.now buckets.now
+        < 2 ^ 126 }
+    requires apart { AreApart (λ x y. is_session x.id y) sessions.now }
+    ensures { result ≡ lapsed_for (is_live_in validity at sessions.now) group at row.now
+        buckets.now }
+{
+    let Some(reservation) = &row.reservation else {
+        return 0;
+    };
+    if is_live_from(sessions, place, &row.session, validity, at) {
+        return 0;
+    }
+    held_for(buckets, &reservation.holds, group, at)
+}
+
+/// What holds have of the eligible buckets.
+fn held_for(buckets: &[Bucket], holds: &Holds, group: u32, at: Moment) -> u128
+    requires { held_for group at holds.now buckets.now < 2 ^ 126 }
+    ensures { result ≡ held_for group at holds.now buckets.now }
+{
+    let mut total = 0;
+    for bucket in buckets {
+        total += held_if(bucket, holds, group, at);
+    }
+    total
+}
+
+/// What holds have of a bucket, where it is eligible.
+fn held_if(bucket: &Bucket, holds: &Holds, group: u32, at: Moment) -> u128
+    ensures { result ≡ if is_eligible group at bucket.now then held_in holds.now bucket.now else 0 }
+{
+    if bucket.is_eligible(group, at) {
+        holds.of(bucket)
+    } else {
+        0
     }
 }

@@ -9,6 +9,7 @@ mod copy;
 mod credit;
 mod debit;
 mod fault;
+mod following;
 mod funds;
 mod grouping;
 mod kept_rows;

@@ -1,22 +1,22 @@
 //! What of an account's rows may still change.
 
-ghost use Rattle.std.specs.Prelude.{◌≡◌, ◌≤◌, ◌==◌, ◌&&◌, ◌++◌, not, filter, IfOk, is_some, Err};
+ghost use Rattle.std.specs.Prelude.{◌≡◌, ◌≤◌, ◌==◌, ◌++◌, filter, IfOk, is_some, Err};
 ghost use Rattle.reserving.specs.Pricing.{cycle_at};
-ghost use Rattle.reserving.specs.Sessions.{is_open, session_in, is_counter};
+ghost use Rattle.reserving.specs.Sessions.{is_open, is_session, is_counter};
 ghost use Rattle.reserving.specs.Ledger.{Ledger};
 ghost use Rattle.reserving.specs.Rows.{EachIn, AreApart, IsRowsOf};
-ghost use Rattle.reserving.specs.Left.{is_open_row, left_of, IsWith};
+ghost use Rattle.reserving.specs.Left.{left_of, IsWith};
 ghost use Rattle.reserving.specs.Live.{is_live_group, live_part, with_counters};
 ghost use Rattle.reserving.specs.Placed.{ArePlaced};
 
 use crate::account::Account;
-use crate::copy::{copy_of_groups, copy_of_purse, copy_of_sessions};
+use crate::copy::{copy_of_purse, copy_of_sessions};
 use crate::fault::LoadFault;
+use crate::following::is_open_from;
 use crate::kept_rows::KeptRows;
 use crate::placing::are_placed;
 use crate::session::{Counter, Session, SessionGroup, SessionState};
 use crate::stored::StoredAccount;
-use identifiers::SessionId;
 use std::alloc::{AllocError, Global};
 use tariffs::TariffBook;
 use units::Moment;
@@ -62,25 +62,13 @@ impl StoredAccount {
             purse,
             counters: live_counters(self.rows.alloc, book, moment, &self.rows.counters, others)?,
             sessions: open_sessions(&self.rows.sessions)?,
-            groups: live_groups(&self.rows.groups, &self.rows.sessions)?,
+            groups: live_groups(self.rows.alloc, &self.rows.groups, &self.rows.sessions)?,
             next_bucket: self.rows.next_bucket,
             next_charge: self.rows.next_charge,
             alloc: self.rows.alloc,
         };
         Ok(Account { book, rows })
     }
-}
-
-/// Whether a session is open by the rows.
-fn is_open(sessions: &[Session], id: &SessionId) -> bool
-    ensures { result ≡ is_open_row (session_in id.now sessions.now) }
-{
-    for session in sessions {
-        if session.id == *id {
-            return session.state == SessionState::Open;
-        }
-    }
-    false
 }
 
 /// A copy of the open sessions.
@@ -92,16 +80,37 @@ fn open_sessions(sessions: &Vec<Session>) -> Result<Vec<Session>, AllocError>
     Ok(rows)
 }
 
+/// A copy of a group's row.
+fn copy_of_group(group: &SessionGroup) -> Result<SessionGroup, AllocError>
+    ensures { IfOk result (λ copy. copy ≡ group.now) }
+{
+    group.clone()
+}
+
+/// Whether a group may still change. Its session's row is looked for from a place on.
+fn is_live_group(group: &SessionGroup, sessions: &[Session], place: &mut usize) -> bool
+    requires { AreApart (λ x y. is_session x.id y) sessions.now }
+    ensures { result ≡ is_live_group sessions.now group.now }
+{
+    is_open_from(sessions, place, &group.session) || group.reservation.is_some()
+}
+
 /// A copy of the groups that may still change.
 fn live_groups(
-    groups: &Vec<SessionGroup>,
+    alloc: Global,
+    groups: &[SessionGroup],
     sessions: &[Session],
 ) -> Result<Vec<SessionGroup>, AllocError>
-    ensures { IfOk result
-        (λ rows. rows.items ≡ filter (is_live_group sessions.now) groups.now.items) }
+    requires { AreApart (λ x y. is_session x.id y) sessions.now }
+    ensures { IfOk result (λ rows. rows.items ≡ filter (is_live_group sessions.now) groups.now) }
 {
-    let mut rows = copy_of_groups(groups)?;
-    rows.retain(|row| is_open(sessions, &row.session) || row.reservation.is_some());
+    let mut rows = Vec::with_capacity(alloc, groups.len())?;
+    let mut place = 0;
+    for group in groups {
+        if is_live_group(group, sessions, &mut place) {
+            rows.push(copy_of_group(group)?)?;
+        }
+    }
     Ok(rows)
 }
 

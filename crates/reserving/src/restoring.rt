@@ -9,7 +9,6 @@ ghost use Rattle.reserving.specs.Restored.{are_along, are_apart, are_holds_kept,
 ghost use Rattle.reserving.specs.Sessions.{holds_in, is_counter, is_of, is_session};
 ghost use Rattle.reserving.specs.Stored.{IsStored};
 
-use crate::funds::held_of;
 use crate::kept_rows::KeptRows;
 use crate::session::{Counter, Session, SessionGroup};
 use crate::stored::StoredAccount;
@@ -132,6 +131,16 @@ fn are_counts_in_range(counters: &[Counter]) -> bool
     counters
         .iter()
         .all(|counter| counter.blocks <= 4_000_000_000_000_000_000)
+}
+
+/// What a group's reservation holds of a bucket.
+fn held_of(bucket: &Bucket, group: &SessionGroup) -> u128
+    ensures { result ≡ held_in (holds_in group.now.reservation) bucket.now }
+{
+    match &group.reservation {
+        None => 0,
+        Some(reservation) => reservation.holds.of(bucket),
+    }
 }
 
 /// Whether the reservations hold of a bucket what it has reserved.

@@ -90,11 +90,11 @@ IsAccount-live book t others w ranges is apart counted = record {
 -- the account that is made of what was copied
 pub live_made : (book : Book) (t : ℕ) (others : List Counter) (w : StoredRows)
     {copied buckets : List Row} {given counters : List Counter} {sessions all : List Session}
-    {groups : List SessionGroup} →
+    {groups listed : List SessionGroup} →
     buckets ≡ filter (λ b. not (is_dead b)) copied → copied ≡ w.buckets →
     counters ≡ filter (λ r. r.cycle == cycle_at book r.group t) (others ++ given) →
     given ≡ w.counters → sessions ≡ filter (λ r. is_open r.state) w.sessions →
-    groups ≡ filter (is_live_group all) w.groups → all ≡ w.sessions →
+    groups ≡ filter (is_live_group all) listed → listed ≡ w.groups → all ≡ w.sessions →
     (let a : AccountRows =
     record (live_part book t others w) {
       buckets = buckets;
@@ -102,11 +102,12 @@ pub live_made : (book : Book) (t : ℕ) (others : List Counter) (w : StoredRows)
       sessions = sessions;
       groups = groups;
     } in a) ≡ live_part book t others w
-live_made book t others w buckets_are copied_is counters_are given_is open_are groups_are all_is =
+live_made book t others w buckets_are copied_is counters_are given_is open_are groups_are listed_is
+    all_is =
     λ i. record (live_part book t others w) {
       buckets = (buckets_are ∙ ap (filter (λ b. not (is_dead b))) copied_is) i;
       counters = (counters_are ∙ ap (λ xs. filter
           (λ (r : Counter). r.cycle == cycle_at book r.group t) (others ++ xs)) given_is) i;
       sessions = open_are i;
-      groups = (groups_are ∙ ap (λ xs. filter (is_live_group xs) w.groups) all_is) i;
+      groups = (groups_are ∙ (λ j. filter (is_live_group (all_is j)) (listed_is j))) i;
     }

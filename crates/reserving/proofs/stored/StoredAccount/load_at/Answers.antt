@@ -17,7 +17,7 @@ invariant_of-result c =
     (sym (live_made c.args.book.now c.args.moment c.args.others.now
     (stored_of c.self.inside.rows) c.drop_dead.ensures c.in_ok-purse.ensures
     c.in_ok-live_counters.ensures c.deref-2.ensures.value c.in_ok-open_sessions.ensures
-    c.in_ok-live_groups.ensures c.deref-3.ensures.value))
+    c.in_ok-live_groups.ensures c.deref-3.ensures.value c.deref-4.ensures.value))
     (IsPriced-live c.args.book.now c.args.moment c.args.others.now (stored_of c.self.inside.rows)
     c.validity-ranges.ensures.book c.self.invariant
     (placed_by c.args.book.now c.deref.result.now c.self.inside.rows.groups.items
@@ -31,7 +31,7 @@ returns-clause-rows c =
     live_made c.args.book.now c.args.moment c.args.others.now (stored_of c.self.inside.rows)
     c.drop_dead.ensures c.in_ok-purse.ensures c.in_ok-live_counters.ensures
     c.deref-2.ensures.value c.in_ok-open_sessions.ensures c.in_ok-live_groups.ensures
-    c.deref-3.ensures.value
+    c.deref-3.ensures.value c.deref-4.ensures.value
     ∙ ap (live_part c.args.book.now c.args.moment c.args.others.now) c.self.view_is
 
 pub returns-clause-left : goal.returns-clause-left

@@ -1,0 +1,14 @@
+use Rattle.std.proofs.Common.{◌<◌, ◌^◌, length, arith}
+use Rattle.reserving.specs.Sessions.{is_live_in}
+use Rattle.reserving.proofs.rows.LapsedFunds.{lapsed_funds-most}
+use Rattle.reserving.proofs.funds.lapsed_funds.Goals as goal
+
+pub loop-row-init : goal.loop-row-init
+loop-row-init c =
+    let short : length c.args.buckets.now < 2 ^ 64 = omega arith in
+    record {
+      total = omega arith;
+      most =
+          lapsed_funds-most (is_live_in c.args.validity c.args.at c.args.sessions.now) c.args.group
+          c.args.at c.args.groups.now c.args.buckets.now short c.requires.sound c.requires.held;
+    }

@@ -1,0 +1,159 @@
+-- The funds at a later moment: what is available, and what ended sessions held.
+use Rattle.std.proofs.Common.{◌≡◌, ℕ, ◌+◌, ◌*◌, ◌<◌, ◌≤◌, ◌^◌, Bool, true, false, List, [], ◌∷◌, length, drop, get_or, map, refl, sym, ap, ◌∙◌, arith, None}
+use Rattle.std.specs.Prelude.{if◌then◌else◌, not, sum_by}
+use Rattle.std.proofs.lemmas.List.{drop_more}
+use Rattle.std.proofs.lemmas.List.Sums.{sum_by-cons}
+use Rattle.buckets.specs.declared.holds.Hold.{Hold}
+use Rattle.buckets.specs.Row.{Row, IsBalanced, is_eligible, eligible_amount, with_end, with_release}
+use Rattle.buckets.specs.Spend.{Each, IsSound, funds}
+use Rattle.buckets.specs.Holding.{held_in}
+use Rattle.reserving.specs.declared.session.Session.{Session}
+use Rattle.reserving.specs.declared.session.SessionGroup.{SessionGroup}
+use Rattle.reserving.specs.Sessions.{holds_in, held_by, is_live_in}
+use Rattle.reserving.specs.Changes.{lapsed_in, amount_later}
+use Rattle.reserving.specs.Lapsed.{held_for, lapsed_for, lapsed_funds}
+use Rattle.reserving.proofs.Advancing.{held_by-split}
+use Rattle.reserving.proofs.rows.LaterFunds.{funds_later-is}
+
+-- ---- sums
+
+sums_none : (f : Row → ℕ) (rows : List Row) → ((b : Row) → f b ≡ 0) → sum_by f rows ≡ 0
+sums_none f [] h = refl
+sums_none f (b ∷ bs) h = omega (arith, sum_by-cons f b bs, h b, sums_none f bs h)
+
+sums_add : (f g h : Row → ℕ) (rows : List Row) → ((b : Row) → f b + g b ≡ h b) →
+    sum_by f rows + sum_by g rows ≡ sum_by h rows
+sums_add f g h [] e = refl
+sums_add f g h (b ∷ bs) e =
+    omega (
+      arith,
+      sum_by-cons f b bs,
+      sum_by-cons g b bs,
+      sum_by-cons h b bs,
+      e b,
+      sums_add f g h bs e,
+    )
+
+either_way : (e : Bool) (n : ℕ) → (if e then n else n) ≡ n
+either_way true n = refl
+either_way false n = refl
+
+-- ---- nothing is given up where nothing is reserved
+
+held_nothing : (group t : ℕ) (rows : List Row) → held_for group t [] rows ≡ 0
+held_nothing group t rows =
+    sums_none (λ b. if is_eligible group t b then held_in [] b else 0) rows
+    (λ b. either_way (is_eligible group t b) 0)
+
+unheld : (k : Bool) (group t : ℕ) (rows : List Row) →
+    (if k then 0 else held_for group t [] rows) ≡ 0
+unheld true group t rows = refl
+unheld false group t rows = held_nothing group t rows
+
+pub lapsed_for-none : (keeps : List ℕ → Bool) (group t : ℕ) (r : SessionGroup) (rows : List Row) →
+    r.reservation ≡ None → 0 ≡ lapsed_for keeps group t r rows
+lapsed_for-none keeps group t r rows e =
+    sym (ap (λ o. if keeps r.session then 0 else held_for group t (holds_in o) rows) e
+    ∙ unheld (keeps r.session) group t rows)
+
+-- ---- one reservation after another is one bucket after another
+
+abbrev lapsed_amount : (List ℕ → Bool) → ℕ → ℕ → List SessionGroup → Row → ℕ
+lapsed_amount keeps group t groups b =
+    if is_eligible group t b then lapsed_in keeps groups b else 0
+
+first_amount : (k e : Bool) (m n : ℕ) →
+    (if k then 0 else (if e then m else 0)) + (if e then n else 0)
+    ≡ (if e then (if not k then m else 0) + n else 0)
+first_amount true true m n = refl
+first_amount true false m n = refl
+first_amount false true m n = refl
+first_amount false false m n = refl
+
+first_held : (k : Bool) (group t : ℕ) (holds : List Hold) (rows : List Row) →
+    (if k then 0 else held_for group t holds rows)
+    ≡ sum_by (λ b. if k then 0 else (if is_eligible group t b then held_in holds b else 0)) rows
+first_held true group t holds rows = sym (sums_none (λ b. 0) rows (λ b. refl))
+first_held false group t holds rows = refl
+
+lapsed_sum : (keeps : List ℕ → Bool) (group t : ℕ) (groups : List SessionGroup)
+    (rows : List Row) →
+    lapsed_funds keeps group t groups rows ≡ sum_by (lapsed_amount keeps group t groups) rows
+lapsed_sum keeps group t [] rows =
+    sym (sums_none (lapsed_amount keeps group t []) rows
+    (λ b. either_way (is_eligible group t b) 0))
+lapsed_sum keeps group t (r ∷ rs) rows =
+    (λ i. first_held (keeps r.session) group t (holds_in r.reservation) rows i
+    + lapsed_sum keeps group t rs rows i)
+    ∙ sums_add
+    (λ b. if keeps r.session then 0
+    else (if is_eligible group t b then held_in (holds_in r.reservation) b else 0))
+    (lapsed_amount keeps group t rs) (lapsed_amount keeps group t (r ∷ rs)) rows
+    (λ b. first_amount (keeps r.session) (is_eligible group t b) (held_in (holds_in r.reservation) b)
+    (lapsed_in keeps rs b))
+
+-- what is available and what ended sessions held are what is available later
+later_amount : (e : Bool) (m n : ℕ) →
+    (if e then m else 0) + (if e then n else 0) ≡ (if e then m + n else 0)
+later_amount true m n = refl
+later_amount false m n = refl
+
+pub lapsed_funds-is : (group v t : ℕ) (sessions : List Session) (groups : List SessionGroup)
+    (rows : List Row) →
+    funds group t rows + lapsed_funds (is_live_in v t sessions) group t groups rows
+    ≡ funds group t
+    (map (λ b. with_end t (with_release t b (lapsed_in (is_live_in v t sessions) groups b))) rows)
+lapsed_funds-is group v t sessions groups rows =
+    ap (λ n. funds group t rows + n) (lapsed_sum (is_live_in v t sessions) group t groups rows)
+    ∙ sums_add (eligible_amount group t) (lapsed_amount (is_live_in v t sessions) group t groups)
+    (amount_later group v t sessions groups) rows
+    (λ b. later_amount (is_eligible group t b) b.available
+    (lapsed_in (is_live_in v t sessions) groups b))
+    ∙ funds_later-is group v t sessions groups rows
+
+-- ---- it is a number of the type
+
+lapsed_most : (keeps : List ℕ → Bool) (group t : ℕ) (groups : List SessionGroup) (b : Row) →
+    IsBalanced b → held_by (λ s. true) groups b ≡ b.reserved →
+    lapsed_amount keeps group t groups b ≤ 1000000000000000
+lapsed_most keeps group t groups b balanced held = at (is_eligible group t b)
+  where
+    most : lapsed_in keeps groups b ≤ 1000000000000000
+    most = omega (arith, held, held_by-split keeps b groups, balanced.sum, balanced.most)
+
+    at : (e : Bool) → (if e then lapsed_in keeps groups b else 0) ≤ 1000000000000000
+    at true = most
+    at false = omega arith
+
+sum_most : (keeps : List ℕ → Bool) (group t : ℕ) (groups : List SessionGroup) (rows : List Row) →
+    Each IsBalanced rows → Each (λ b. held_by (λ s. true) groups b ≡ b.reserved) rows →
+    sum_by (lapsed_amount keeps group t groups) rows ≤ length rows * 1000000000000000
+sum_most keeps group t groups [] balanced held = omega arith
+sum_most keeps group t groups (b ∷ bs) balanced held =
+    omega (
+      arith,
+      sum_by-cons (lapsed_amount keeps group t groups) b bs,
+      lapsed_most keeps group t groups b balanced.0 held.0,
+      sum_most keeps group t groups bs balanced.1 held.1,
+    )
+
+pub lapsed_funds-most : (keeps : List ℕ → Bool) (group t : ℕ) (groups : List SessionGroup)
+    (rows : List Row) → length rows < 2 ^ 64 → IsSound rows →
+    Each (λ b. held_by (λ s. true) groups b ≡ b.reserved) rows →
+    lapsed_funds keeps group t groups rows < 2 ^ 126
+lapsed_funds-most keeps group t groups rows short sound held =
+    omega (
+      arith,
+      short,
+      lapsed_sum keeps group t groups rows,
+      sum_most keeps group t groups rows sound.balanced held,
+    )
+
+-- the next reservation is a part of what is left
+pub lapsed_funds-next : (keeps : List ℕ → Bool) (group t : ℕ) (groups : List SessionGroup)
+    (i : ℕ) (d : SessionGroup) (rows : List Row) → i < length groups →
+    lapsed_funds keeps group t (drop i groups) rows
+    ≡ lapsed_for keeps group t (get_or groups i d) rows
+    + lapsed_funds keeps group t (drop (i + 1) groups) rows
+lapsed_funds-next keeps group t groups i d rows lt =
+    ap (λ rs. lapsed_funds keeps group t rs rows) (drop_more groups i d lt)
