@@ -1,13 +1,13 @@
 -- What a walk along holds and buckets meets is what the holds have of each bucket.
-use Rattle.std.proofs.Common.{◌≡◌, ◌≢◌, ℕ, ◌+◌, ◌-◌, ◌<◌, Bool, true, false, List, [], ◌∷◌, length, get_or, drop, refl, sym, ap, ◌∙◌, subst, arith}
+use Rattle.std.proofs.Common.{◌≡◌, ◌≢◌, ℕ, ◌+◌, ◌-◌, ◌<◌, Bool, true, false, List, [], ◌∷◌, length, get_or, set, drop, refl, sym, ap, ◌∙◌, subst, arith}
 use Rattle.std.specs.Prelude.{if◌then◌else◌, ◌==◌}
 use Rattle.std.proofs.lemmas.Bool.{eqb-true}
-use Rattle.std.proofs.lemmas.List.{drop_more}
-use Rattle.std.proofs.lemmas.List.Sums.{sum_by-cons}
+use Rattle.std.proofs.lemmas.List.{drop_more, drop-set-lt}
+use Rattle.std.proofs.lemmas.List.Sums.{sum_by-cons, sum_by-drop_more}
 use Rattle.buckets.specs.declared.holds.Hold.{Hold}
 use Rattle.buckets.specs.Row.{Row}
 use Rattle.buckets.specs.Spend.{Each, DiffersFromAll, AreDistinct}
-use Rattle.buckets.specs.Holding.{held_in, IsWithin, IsLeftWithin}
+use Rattle.buckets.specs.Holding.{held_in, held_sum, IsWithin, IsLeftWithin}
 use Rattle.buckets.specs.Merged.{first_held, next_of, unmet, AreMet}
 
 held_more : (h : Hold) (hs : List Hold) (b : Row) →
@@ -108,20 +108,30 @@ met_at holds rest rows i d lt h =
     one_met holds rest (get_or rows i d) (drop (i + 1) rows)
     (subst (AreMet holds rest) (drop_more rows i d lt) h)
 
-pub met_after : (holds rest : List Hold) (rows : List Row) (i : ℕ) (d : Row) → i < length rows →
-    AreMet holds rest (drop i rows) →
-    AreMet holds (next_of (get_or rows i d) rest) (drop (i + 1) rows)
-met_after holds rest rows i d lt h =
-    others_met holds rest (get_or rows i d) (drop (i + 1) rows)
-    (subst (AreMet holds rest) (drop_more rows i d lt) h)
+-- ---- behind a bucket, whatever is written there
 
--- ---- what is within what is reserved, behind a bucket
+pub met_after : (holds rest after : List Hold) (rows : List Row) (i : ℕ) (d new : Row) →
+    i < length rows → after ≡ next_of (get_or rows i d) rest → AreMet holds rest (drop i rows) →
+    AreMet holds after (drop (i + 1) (set rows i new))
+met_after holds rest after rows i d new lt is h =
+    rw (drop-set-lt (i + 1) rows i new (omega arith), is)
+    (others_met holds rest (get_or rows i d) (drop (i + 1) rows)
+    (subst (AreMet holds rest) (drop_more rows i d lt) h))
 
-pub within_after : (holds : List Hold) (rows : List Row) (i : ℕ) (d : Row) → i < length rows →
-    IsWithin holds (drop i rows) → IsWithin holds (drop (i + 1) rows)
-within_after holds rows i d lt h = (rw (drop_more rows i d lt) at h).1
+pub within_after : (holds : List Hold) (rows : List Row) (i : ℕ) (d new : Row) → i < length rows →
+    IsWithin holds (drop i rows) → IsWithin holds (drop (i + 1) (set rows i new))
+within_after holds rows i d new lt h =
+    rw (drop-set-lt (i + 1) rows i new (omega arith)) ((rw (drop_more rows i d lt) at h).1)
 
-pub left_within_after : (holds : List Hold) (left : ℕ) (rows : List Row) (i : ℕ) (d : Row) →
-    i < length rows → IsLeftWithin holds left (drop i rows) →
-    IsLeftWithin holds (left - held_in holds (get_or rows i d)) (drop (i + 1) rows)
-left_within_after holds left rows i d lt h = (rw (drop_more rows i d lt) at h).1
+pub left_within_after : (holds : List Hold) (left after : ℕ) (rows : List Row) (i : ℕ)
+    (d new : Row) → i < length rows → after ≡ left - held_in holds (get_or rows i d) →
+    IsLeftWithin holds left (drop i rows) →
+    IsLeftWithin holds after (drop (i + 1) (set rows i new))
+left_within_after holds left after rows i d new lt is h =
+    rw (drop-set-lt (i + 1) rows i new (omega arith), is) ((rw (drop_more rows i d lt) at h).1)
+
+pub sum_after : (holds : List Hold) (rows : List Row) (i : ℕ) (d new : Row) → i < length rows →
+    held_sum holds (drop i rows)
+    ≡ held_in holds (get_or rows i d) + held_sum holds (drop (i + 1) (set rows i new))
+sum_after holds rows i d new lt =
+    rw (drop-set-lt (i + 1) rows i new (omega arith)) (sum_by-drop_more (held_in holds) rows i d lt)

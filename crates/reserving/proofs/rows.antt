@@ -1,5 +1,7 @@
 pub mod Lapsing
 pub mod TwoAdvances
+pub mod Calm
+pub mod CalmEvents
 pub mod LaterFunds
 pub mod LapsedFunds
 pub mod Followed

@@ -21,11 +21,13 @@ use units::Moment;
 pub struct Account<'b> {
     pub(crate) book: &'b TariffBook,
     pub(crate) rows: KeptRows,
+    /// Set only where nothing is left to end at the moment of its last change.
+    pub(crate) calm: bool,
 }
 
 impl<'b> Model for Account<'b> {
     ghost use Rattle.reserving.specs.Rows.{AccountRows};
-    ghost use Rattle.reserving.specs.Placed.{IsPriced};
+    ghost use Rattle.reserving.specs.Calm.{IsKept};
 
     ghost Value = { AccountRows };
 
@@ -33,7 +35,7 @@ impl<'b> Model for Account<'b> {
 
     ghost view = { rows_of };
 
-    ghost invariant = { λ a. IsPriced (rows_of a) };
+    ghost invariant = { λ a. IsKept (rows_of a) a.calm };
 }
 
 impl<'b> Account<'b> {
@@ -64,7 +66,11 @@ impl<'b> Account<'b> {
             next_charge: 1,
             alloc,
         };
-        Account { book, rows }
+        Account {
+            book,
+            rows,
+            calm: false,
+        }
     }
 
     /// The tariff book that prices it.

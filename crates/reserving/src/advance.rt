@@ -22,7 +22,7 @@ impl<'b> Account<'b> {
     /// Brings the account to a moment: sessions whose supervision time is over end, what their
     /// reservations held is given up, and what is left of buckets that ended is expired. It takes
     /// no memory, and the ledger stays as it is (profile; TS 32.296, account balance management
-    /// function).
+    /// function). A second call for one moment finds the account calm, and walks nothing.
     pub fn advance(&mut self, moment: Moment)
         requires { self.old.as_of ≤ moment }
         ensures rows { self.new ≡ advanced moment self.old }
@@ -30,7 +30,11 @@ impl<'b> Account<'b> {
         ensures left { (ledger : Ledger) (left : LeftRows) → IsWith ledger left moment self.old →
             IsWith ledger left moment self.new }
     {
+        if self.calm && self.rows.as_of == moment {
+            return;
+        }
         self.rows.advance(self.book, moment);
+        self.calm = true;
     }
 }
 

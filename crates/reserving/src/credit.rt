@@ -62,6 +62,7 @@ impl<'b> Account<'b> {
             return Err(AccountFault::Memory);
         };
         self.rows.next_bucket += 1;
+        self.calm = false;
         Ok(number)
     }
 }

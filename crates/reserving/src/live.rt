@@ -67,7 +67,11 @@ impl StoredAccount {
             next_charge: self.rows.next_charge,
             alloc: self.rows.alloc,
         };
-        Ok(Account { book, rows })
+        Ok(Account {
+            book,
+            rows,
+            calm: false,
+        })
     }
 }
 

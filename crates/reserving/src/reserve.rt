@@ -205,6 +205,8 @@ impl<'b> Account<'b> {
         requires tariff { is_some (tariff_of self.old.book group) ≡ true }
         requires there { is_some (group_in session.now group self.old.groups) ≡ true }
         requires free { reservation_in session.now group self.old.groups ≡ None }
+        requires live { is_live_in self.old.book.validity self.old.as_of self.old.sessions
+            session.now ≡ true }
         requires room { length self.old.buckets ≤ room }
         requires covered { amount.0 ≤ funds group self.old.as_of self.old.buckets }
         ensures { self.new ≡ reserved_account session.now group amount.0 self.old }

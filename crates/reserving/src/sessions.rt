@@ -98,6 +98,7 @@ impl<'b> Account<'b> {
             IsWith (closed moment session.now ledger) left moment self.new }
     {
         self.advance(moment);
+        self.calm = false;
         close_groups(&mut self.rows.purse, &mut self.rows.groups, session, moment);
         close_session(&mut self.rows.sessions, session);
     }
@@ -109,7 +110,8 @@ impl<'b> Account<'b> {
         moment: Moment,
         state: SessionState,
     ) -> Result<(), AccountFault>
-        requires { session_in session.now self.old.sessions ≡ None }
+        requires later { self.old.as_of ≤ moment }
+        requires new { session_in session.now self.old.sessions ≡ None }
         ensures rows { OnOk result
             (self.new ≡ with_session session.now number moment state self.old) }
         ensures memory { OnErr result (result ≡ Err AccountFault.Memory) }

@@ -108,7 +108,11 @@ impl StoredAccount {
             return Err(LoadFault::OtherBook);
         }
         let rows = self.rows.copy()?;
-        Ok(Account { book, rows })
+        Ok(Account {
+            book,
+            rows,
+            calm: false,
+        })
     }
 
     /// Brings the rows to a moment, as `Account::advance` does. It takes no memory.
@@ -124,7 +128,11 @@ impl<'b> Account<'b> {
     pub fn into_stored(self) -> StoredAccount
         ensures { result ≡ stored self.entry }
     {
-        let Account { book: _, rows } = self;
+        let Account {
+            book: _,
+            rows,
+            calm: _,
+        } = self;
         StoredAccount { rows }
     }
 }

@@ -18,7 +18,7 @@ use Rattle.reserving.proofs.Advancing.{held_by-split}
 
 -- ---- what is given up of a bucket
 
-released_none : (t : ℕ) (b : Row) → with_release t b 0 ≡ b
+pub released_none : (t : ℕ) (b : Row) → with_release t b 0 ≡ b
 released_none t b =
     elim (nat_lt t b.until) as
     (λ e. (if e then record b { reserved = b.reserved - 0; available = b.available + 0 }

@@ -27,7 +27,7 @@ map_over f g h (x ∷ xs) e = λ i. e x i ∷ map_over f g h xs e i
 over_later : (t u x : ℕ) → t ≤ u → nat_lt t x ≡ false → nat_lt u x ≡ false
 over_later t u x le h = grind (arith, nat_tests)
 
-lapse_twice : (v t u : ℕ) → t ≤ u → (r : Session) → lapse v u (lapse v t r) ≡ lapse v u r
+pub lapse_twice : (v t u : ℕ) → t ≤ u → (r : Session) → lapse v u (lapse v t r) ≡ lapse v u r
 lapse_twice v t u le r = at (is_open r.state) (nat_lt t (r.touched + 2 * v)) refl refl
   where
     at : (o p : Bool) → is_open r.state ≡ o → nat_lt t (r.touched + 2 * v) ≡ p →
@@ -49,7 +49,7 @@ live_lapsed v t u le (Some r) = at (is_open r.state) (nat_lt t (r.touched + 2 * 
     at true false eo ep = sym (rw (eo, over_later t u (r.touched + 2 * v) le ep) refl)
 
 -- who is live at the later moment is read alike from the sessions at the first
-live_alike : (v t u : ℕ) (rows : List Session) → t ≤ u → (s : List ℕ) →
+pub live_alike : (v t u : ℕ) (rows : List Session) → t ≤ u → (s : List ℕ) →
     is_live_in v u (map (lapse v t) rows) s ≡ is_live_in v u rows s
 live_alike v t u rows le s =
     ap (is_live_row v u) (find-map (is_session s) (lapse v t) rows (lapse-id v t s))

@@ -8,6 +8,8 @@ use Rattle.reserving.proofs.calls.Debited.{debited_parts}
 use Rattle.reserving.specs.Inside.{rows_of}
 use Rattle.reserving.specs.Placed.{IsPriced}
 use Rattle.reserving.proofs.kept.Placed.{IsPriced-debited}
+use Rattle.reserving.specs.Calm.{IsCalm}
+use Rattle.reserving.proofs.rows.CalmEvents.{calm_debited}
 use Rattle.reserving.proofs.account.Account.charge_use.Goals as goal
 
 pub settle-charged-requires : goal.settle-charged-requires
@@ -19,8 +21,8 @@ pub invariant_of-self : goal.invariant_of-self
 invariant_of-self c =
     let a : AccountRows = rows_of c.self.inside in
     let now : AccountRows = c.args.self.now in
-    subst IsPriced
-    (sym (debited_parts a c.args.session.now c.args.group c.args.cycle c.args.rated.units.0
+    let is =
+    debited_parts a c.args.session.now c.args.group c.args.cycle c.args.rated.units.0
     c.args.rated.blocks.0 c.args.rated.amount.0 c.none-none_held.result
     c.settle-charged.new.self c.count_blocks.new.counters.items c.count_units.new.groups.items
     (c.requires.cycle
@@ -28,9 +30,16 @@ invariant_of-self c =
     c.none-none_held.ensures c.settle-charged.ensures.rows c.count_blocks.ensures
     c.count_units.ensures
     ∙ ap (debited_account c.args.session.now c.args.group c.args.rated.units.0 c.args.rated.blocks.0
-    c.args.rated.amount.0) c.self.view_is))
-    (IsPriced-debited now c.args.session.now c.args.group c.args.rated.units.0
-    c.args.rated.blocks.0 c.args.rated.amount.0 c.requires.used
-    (subst (λ x. count_in c.args.group x now.counters + c.args.rated.blocks.0 ≤ 4000000000000000000)
-    c.requires.cycle c.requires.counted) c.requires.charges
-    (subst IsPriced c.self.view_is c.self.invariant))
+    c.args.rated.amount.0) c.self.view_is in
+    record {
+      priced = subst IsPriced (sym is)
+          (IsPriced-debited now c.args.session.now c.args.group c.args.rated.units.0
+          c.args.rated.blocks.0 c.args.rated.amount.0 c.requires.used
+          (subst (λ x. count_in c.args.group x now.counters + c.args.rated.blocks.0 ≤ 4000000000000000000)
+          c.requires.cycle c.requires.counted) c.requires.charges
+          (subst IsPriced c.self.view_is c.self.invariant.priced));
+      calm = λ e. subst IsCalm (sym is)
+          (calm_debited now c.args.session.now c.args.group c.args.rated.units.0
+          c.args.rated.blocks.0 c.args.rated.amount.0
+          (subst IsCalm c.self.view_is (c.self.invariant.calm e)));
+    }

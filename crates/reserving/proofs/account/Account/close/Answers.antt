@@ -12,12 +12,13 @@ use Rattle.reserving.proofs.left.Sessions.{with_closed}
 use Rattle.reserving.specs.Inside.{rows_of}
 use Rattle.reserving.specs.Placed.{IsPriced}
 use Rattle.reserving.proofs.kept.Placed.{IsPriced-closed}
+use Rattle.reserving.proofs.Lists.{not_both}
 use Rattle.reserving.proofs.account.Account.close.Goals as goal
 
 pub close_groups-requires : goal.close_groups-requires
 close_groups-requires c =
     lapsable_of (λ s. not (is_other c.args.session.now s)) c.self.inside.rows.groups.items
-    c.self.inside.rows.purse c.self.invariant.account.held
+    c.self.inside.rows.purse c.self.invariant.priced.account.held
 
 -- the account after time went on
 advanced_is : (c : goal.After-close_session) →
@@ -44,12 +45,15 @@ after_is c =
     moment = sym (ap (λ (a : AccountRows). a.as_of) (advanced_is c))
 
 account_of : (c : goal.After-close_session) → IsPriced (advanced c.args.moment c.args.self.now)
-account_of c = subst IsPriced (advanced_is c) c.self.invariant
+account_of c = subst IsPriced (advanced_is c) c.self.invariant.priced
 
 pub invariant_of-self : goal.invariant_of-self
 invariant_of-self c =
-    subst IsPriced (sym (after_is c))
-    (IsPriced-closed (advanced c.args.moment c.args.self.now) c.args.session.now (account_of c))
+    record {
+      priced = subst IsPriced (sym (after_is c))
+          (IsPriced-closed (advanced c.args.moment c.args.self.now) c.args.session.now (account_of c));
+      calm = λ e. absurd (not_both e);
+    }
 
 pub returns-clause-rows : goal.returns-clause-rows
 returns-clause-rows c = after_is c

@@ -6,9 +6,10 @@ use Rattle.reserving.specs.Changes.{credited_account}
 use Rattle.reserving.specs.Inside.{rows_of}
 use Rattle.reserving.specs.Placed.{IsPriced}
 use Rattle.reserving.proofs.kept.Placed.{IsPriced-credited}
+use Rattle.reserving.proofs.Lists.{not_both}
 use Rattle.reserving.proofs.account.Account.credit_now.Goals as goal
 
-after_is : (c : goal.After-self-1) →
+after_is : (c : goal.After-self-2-1) →
     (let a : AccountRows =
     record (rows_of c.self.inside) {
       buckets = c.credit.new.self;
@@ -31,9 +32,12 @@ invariant_of-self-2 c =
     let le : c.self.inside.rows.next_bucket ≤ 4294967295 = omega (arith, c.in-Ok.ensures.0) in
     let most : c.args.amount ≤ 1000000000000000 =
     omega (arith, c.micros-in_range.ensures.value, c.micros-in_range.ensures.in_range) in
-    subst IsPriced (sym (after_is c))
-    (IsPriced-credited (rows_of c.self.inside) c.args.from c.args.until c.args.scope
-    c.args.amount le most c.self.invariant)
+    record {
+      priced = subst IsPriced (sym (after_is c))
+          (IsPriced-credited (rows_of c.self.inside) c.args.from c.args.until c.args.scope
+          c.args.amount le most c.self.invariant.priced);
+      calm = λ e. absurd (not_both e);
+    }
 
 pub returns-clause-rows : goal.returns-clause-rows
 returns-clause-rows c =
@@ -41,4 +45,4 @@ returns-clause-rows c =
     ∙ ap (credited_account c.args.from c.args.until c.args.scope c.args.amount) c.self.view_is
 
 pub returns-clause-account : goal.returns-clause-account
-returns-clause-account c = (subst IsPriced c.self.view_is c.self.invariant).account
+returns-clause-account c = (subst IsPriced c.self.view_is c.self.invariant.priced).account

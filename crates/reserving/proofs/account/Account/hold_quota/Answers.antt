@@ -8,6 +8,9 @@ use Rattle.reserving.proofs.ReservedCall.{reserved_parts}
 use Rattle.reserving.specs.Inside.{rows_of}
 use Rattle.reserving.specs.Placed.{AreOfBook, IsPriced}
 use Rattle.reserving.proofs.kept.Placed.{IsPriced-reserved}
+use Rattle.reserving.specs.Calm.{IsCalm}
+use Rattle.reserving.specs.Sessions.{is_live_in}
+use Rattle.reserving.proofs.rows.Calm.{calm_reserved}
 use Rattle.reserving.proofs.account.Account.hold_quota.Goals as goal
 
 pub invariant_of-self : goal.invariant_of-self
@@ -25,12 +28,20 @@ invariant_of-self c =
     let some : is_some (tariff_of a.book c.args.group) ≡ true =
     subst (λ (x : AccountRows). is_some (tariff_of x.book c.args.group) ≡ true)
     (sym c.self.view_is) c.requires.tariff in
-    subst IsPriced
-    (sym (reserved_parts a c.args.session.now c.args.group c.args.amount.0 c.args.periods
+    let is =
+    reserved_parts a c.args.session.now c.args.group c.args.amount.0 c.args.periods
     c.hold_in-holds.result c.hold_in-holds.new.self c.reserve_group.new.groups.items periods
-    c.hold_in-holds.ensures.rows c.hold_in-holds.ensures.holds c.reserve_group.ensures))
-    (IsPriced-reserved a c.args.session.now c.args.group c.args.amount.0 none
-    (subst (AreOfBook a.book) periods same) some c.self.invariant)
+    c.hold_in-holds.ensures.rows c.hold_in-holds.ensures.holds c.reserve_group.ensures in
+    record {
+      priced = subst IsPriced (sym is)
+          (IsPriced-reserved a c.args.session.now c.args.group c.args.amount.0 none
+          (subst (AreOfBook a.book) periods same) some c.self.invariant.priced);
+      calm = λ e. subst IsCalm (sym is)
+          (calm_reserved a c.args.session.now c.args.group c.args.amount.0
+          (subst (λ (x : AccountRows). is_live_in x.book.validity x.as_of x.sessions
+          c.args.session.now ≡ true) (sym c.self.view_is) c.requires.live)
+          (c.self.invariant.calm e));
+    }
 
 pub returns : goal.returns
 returns c =

@@ -9,7 +9,7 @@ use Rattle.reserving.proofs.account.Account.open.Goals as goal
 
 pub returns-clause-ledger : goal.returns-clause-ledger
 returns-clause-ledger c = λ ledger rows.
-    let account : IsAccount c.args.self.now = (subst IsPriced c.self.view_is c.self.invariant).account in
+    let account : IsAccount c.args.self.now = (subst IsPriced c.self.view_is c.self.invariant.priced).account in
     let some : 0 < c.args.self.now.book.validity = omega (arith, account.book.some_validity) in
     c.advance.ensures.ledger (touched c.args.moment c.args.session.now c.args.number ledger)
     (subst (IsRowsOf (touched c.args.moment c.args.session.now c.args.number ledger))
@@ -19,7 +19,7 @@ returns-clause-ledger c = λ ledger rows.
 
 pub returns-clause-left : goal.returns-clause-left
 returns-clause-left c = λ ledger left gone h.
-    let account : IsAccount c.args.self.now = (subst IsPriced c.self.view_is c.self.invariant).account in
+    let account : IsAccount c.args.self.now = (subst IsPriced c.self.view_is c.self.invariant.priced).account in
     let some : 0 < c.args.self.now.book.validity = omega (arith, account.book.some_validity) in
     c.advance.ensures.left (touched c.args.moment c.args.session.now c.args.number ledger) left
     (subst (IsWith (touched c.args.moment c.args.session.now c.args.number ledger) left

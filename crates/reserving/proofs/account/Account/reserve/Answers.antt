@@ -10,6 +10,7 @@ use Rattle.reserving.proofs.ReservedCall.{group_there, free_middle, covered_midd
 use Rattle.reserving.proofs.calls.StillFree.{others_advanced, others_reserved}
 use Rattle.reserving.specs.Left.{IsWith}
 use Rattle.reserving.proofs.left.Granted.{nothing_beside, grant_beside}
+use Rattle.reserving.proofs.rows.Calm.{live_middle}
 use Rattle.reserving.proofs.account.Account.reserve.Goals as goal
 
 -- where nothing is granted, the quota was reckoned with the window's periods
@@ -41,6 +42,11 @@ pub hold_quota-requires-clause-free : goal.hold_quota-requires-clause-free
 hold_quota-requires-clause-free c =
     free_middle c.args.self.now c.advance-2.new.self c.args.session.now c.args.group c.args.moment
     c.requires.free (c.advance-2.ensures.rows ∙ ap (advanced c.args.moment) c.in_ok-room.ensures.ok)
+
+pub hold_quota-requires-clause-live : goal.hold_quota-requires-clause-live
+hold_quota-requires-clause-live c =
+    live_middle c.args.self.now c.advance-2.new.self c.args.session.now c.args.group c.args.moment
+    c.requires.live (c.advance-2.ensures.rows ∙ ap (advanced c.args.moment) c.in_ok-room.ensures.ok)
 
 pub hold_quota-requires-clause-covered : goal.hold_quota-requires-clause-covered
 hold_quota-requires-clause-covered c =

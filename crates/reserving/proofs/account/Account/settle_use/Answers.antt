@@ -8,20 +8,22 @@ use Rattle.reserving.proofs.calls.RowParts.{settled_parts}
 use Rattle.reserving.specs.Inside.{rows_of}
 use Rattle.reserving.specs.Placed.{IsPriced}
 use Rattle.reserving.proofs.kept.Placed.{IsPriced-settled}
+use Rattle.reserving.specs.Calm.{IsCalm}
+use Rattle.reserving.proofs.rows.Calm.{calm_settled}
 use Rattle.reserving.proofs.account.Account.settle_use.Goals as goal
 
 pub settle-charged-requires : goal.settle-charged-requires
 settle-charged-requires c =
     subst (λ h. IsWithin h c.self.inside.rows.purse) (sym c.use_group-holds.ensures.holds)
     (within_of c.args.session.now c.args.group c.self.inside.rows.groups.items
-    c.self.inside.rows.purse c.self.invariant.account.held)
+    c.self.inside.rows.purse c.self.invariant.priced.account.held)
 
 pub invariant_of-self : goal.invariant_of-self
 invariant_of-self c =
     let a : AccountRows = rows_of c.self.inside in
     let now : AccountRows = c.args.self.now in
-    subst IsPriced
-    (sym (settled_parts a c.args.session.now c.args.group c.args.cycle c.args.rated.units.0
+    let is =
+    settled_parts a c.args.session.now c.args.group c.args.cycle c.args.rated.units.0
     c.args.rated.blocks.0 c.args.rated.amount.0 c.use_group-holds.result
     c.settle-charged.new.self c.count_blocks.new.counters.items
     c.use_group-holds.new.groups.items
@@ -30,9 +32,16 @@ invariant_of-self c =
     c.use_group-holds.ensures.holds c.settle-charged.ensures.rows c.count_blocks.ensures
     c.use_group-holds.ensures.groups
     ∙ ap (settled_account c.args.session.now c.args.group c.args.rated.units.0 c.args.rated.blocks.0
-    c.args.rated.amount.0) c.self.view_is))
-    (IsPriced-settled now c.args.session.now c.args.group c.args.rated.units.0
-    c.args.rated.blocks.0 c.args.rated.amount.0 c.requires.used
-    (subst (λ x. count_in c.args.group x now.counters + c.args.rated.blocks.0 ≤ 4000000000000000000)
-    c.requires.cycle c.requires.counted) c.requires.charges
-    (subst IsPriced c.self.view_is c.self.invariant))
+    c.args.rated.amount.0) c.self.view_is in
+    record {
+      priced = subst IsPriced (sym is)
+          (IsPriced-settled now c.args.session.now c.args.group c.args.rated.units.0
+          c.args.rated.blocks.0 c.args.rated.amount.0 c.requires.used
+          (subst (λ x. count_in c.args.group x now.counters + c.args.rated.blocks.0 ≤ 4000000000000000000)
+          c.requires.cycle c.requires.counted) c.requires.charges
+          (subst IsPriced c.self.view_is c.self.invariant.priced));
+      calm = λ e. subst IsCalm (sym is)
+          (calm_settled now c.args.session.now c.args.group c.args.rated.units.0
+          c.args.rated.blocks.0 c.args.rated.amount.0
+          (subst IsCalm c.self.view_is (c.self.invariant.calm e)));
+    }

@@ -9,6 +9,8 @@ use Rattle.reserving.proofs.left.Sessions.{with_touched}
 use Rattle.reserving.specs.Inside.{rows_of}
 use Rattle.reserving.specs.Placed.{IsPriced}
 use Rattle.reserving.proofs.kept.Placed.{IsPriced-touched}
+use Rattle.reserving.specs.Calm.{IsCalm}
+use Rattle.reserving.proofs.rows.Calm.{calm_touched}
 use Rattle.reserving.proofs.account.Account.touch.Goals as goal
 
 -- the account after time went on
@@ -34,10 +36,16 @@ after_is c =
 pub invariant_of-self : goal.invariant_of-self
 invariant_of-self c =
     let account : IsPriced (advanced c.args.moment c.args.self.now) =
-    subst IsPriced (advanced_is c) c.self.invariant in
-    subst IsPriced (sym (after_is c))
-    (IsPriced-touched (advanced c.args.moment c.args.self.now) c.args.session.now c.args.number
-    account)
+    subst IsPriced (advanced_is c) c.self.invariant.priced in
+    record {
+      priced = subst IsPriced (sym (after_is c))
+          (IsPriced-touched (advanced c.args.moment c.args.self.now) c.args.session.now c.args.number
+          account);
+      calm = λ e. subst IsCalm (sym (after_is c))
+          (calm_touched (advanced c.args.moment c.args.self.now) c.args.session.now c.args.number
+          account.account.book.some_validity
+          (subst IsCalm (advanced_is c) (c.self.invariant.calm e)));
+    }
 
 pub returns-clause-rows : goal.returns-clause-rows
 returns-clause-rows c = after_is c
@@ -45,7 +53,7 @@ returns-clause-rows c = after_is c
 positive : (c : goal.After-touch_session) → 0 < c.args.self.now.book.validity
 positive c =
     let account : IsPriced (advanced c.args.moment c.args.self.now) =
-    subst IsPriced (advanced_is c) c.self.invariant in
+    subst IsPriced (advanced_is c) c.self.invariant.priced in
     omega (arith, account.account.book.some_validity)
 
 pub returns-clause-ledger : goal.returns-clause-ledger

@@ -38,7 +38,7 @@ returns-clause-ledger c = λ ledger rows.
     ap (λ (x : Grant). nat_lt 0 x.units.0)
     (new_told ledger c.args.self.now c.args.group c.args.moment (requested c)
     c.quota_after-quota.result.wanted (grant c)
-    (subst IsPriced c.self.view_is c.self.invariant).account rows c.requires (quota_told c))
+    (subst IsPriced c.self.view_is c.self.invariant.priced).account rows c.requires (quota_told c))
 
 pub returns-clause-left : goal.returns-clause-left
 returns-clause-left c = λ ledger left h.

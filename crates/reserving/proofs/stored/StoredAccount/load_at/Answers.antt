@@ -9,22 +9,26 @@ use Rattle.reserving.proofs.kept.LivePart.{live_made}
 use Rattle.reserving.proofs.kept.Placed.{placed_by, rows_placed, not_placed, IsPriced-live}
 use Rattle.reserving.proofs.left.Loaded.{loaded}
 use Rattle.reserving.specs.Inside.{stored_of}
+use Rattle.reserving.proofs.Lists.{not_both}
 use Rattle.reserving.proofs.stored.StoredAccount.load_at.Goals as goal
 
 pub invariant_of-result : goal.invariant_of-result
 invariant_of-result c =
-    subst IsPriced
-    (sym (live_made c.args.book.now c.args.moment c.args.others.now
-    (stored_of c.self.inside.rows) c.drop_dead.ensures c.in_ok-purse.ensures
-    c.in_ok-live_counters.ensures c.deref-2.ensures.value c.in_ok-open_sessions.ensures
-    c.in_ok-live_groups.ensures c.deref-3.ensures.value c.deref-4.ensures.value))
-    (IsPriced-live c.args.book.now c.args.moment c.args.others.now (stored_of c.self.inside.rows)
-    c.validity-ranges.ensures.book c.self.invariant
-    (placed_by c.args.book.now c.deref.result.now c.self.inside.rows.groups.items
-    c.are_placed.result c.deref.ensures.value c.are_placed.ensures c.if-not-are_placed.false)
-    (subst (λ (w : StoredRows). AreApart (λ x y. is_counter x.group x.cycle y)
-    (c.args.others.now ++ w.counters)) (sym c.self.view_is) c.requires.apart)
-    c.requires.counted)
+    record {
+      priced = subst IsPriced
+          (sym (live_made c.args.book.now c.args.moment c.args.others.now
+          (stored_of c.self.inside.rows) c.drop_dead.ensures c.in_ok-purse.ensures
+          c.in_ok-live_counters.ensures c.deref-2.ensures.value c.in_ok-open_sessions.ensures
+          c.in_ok-live_groups.ensures c.deref-3.ensures.value c.deref-4.ensures.value))
+          (IsPriced-live c.args.book.now c.args.moment c.args.others.now (stored_of c.self.inside.rows)
+          c.validity-ranges.ensures.book c.self.invariant
+          (placed_by c.args.book.now c.deref.result.now c.self.inside.rows.groups.items
+          c.are_placed.result c.deref.ensures.value c.are_placed.ensures c.if-not-are_placed.false)
+          (subst (λ (w : StoredRows). AreApart (λ x y. is_counter x.group x.cycle y)
+          (c.args.others.now ++ w.counters)) (sym c.self.view_is) c.requires.apart)
+          c.requires.counted);
+      calm = λ e. absurd (not_both e);
+    }
 
 pub returns-clause-rows : goal.returns-clause-rows
 returns-clause-rows c =
