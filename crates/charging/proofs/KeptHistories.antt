@@ -85,6 +85,7 @@ module _ (b : Book) (P : List Report → Ledger → Type 0) (k : Keeps b P) wher
   kept_opened h (command.Unbar n) t reports p =
       k.quiet t (Barred false) reports h.ledger refl refl p
   kept_opened h command.Sweep t reports p = p
+  kept_opened h (command.Balance n) t reports p = p
 
   kept_unopened : (h : History) (c : Command) (t : ℕ) (reports : List Report) → P reports h.ledger →
       IsKept c t reports (unopened_outcome h c)
@@ -94,6 +95,7 @@ module _ (b : Book) (P : List Report → Ledger → Type 0) (k : Keeps b P) wher
   kept_unopened h (command.Bar n) t reports p = p
   kept_unopened h (command.Unbar n) t reports p = p
   kept_unopened h command.Sweep t reports p = p
+  kept_unopened h (command.Balance n) t reports p = p
 
   kept_outcome : (h : History) (c : Command) (t : ℕ) (reports : List Report) → P reports h.ledger →
       IsKept c t reports (outcome b h c t)

@@ -8,6 +8,8 @@ pub mod NeverOpened
 pub mod KeptKeys
 pub mod Requested
 pub mod Operated
+pub mod ByNumber
+pub mod Stated
 pub mod RunLemmas
 pub mod BucketSums
 pub mod Steps

@@ -78,6 +78,7 @@ opened_stays b h (command.Credit c) t =
 opened_stays b h (command.Bar n) t = refl
 opened_stays b h (command.Unbar n) t = refl
 opened_stays b h command.Sweep t = refl
+opened_stays b h (command.Balance n) t = refl
 
 -- ---- before it is opened nothing is written
 
@@ -91,6 +92,7 @@ unopened_empty h (command.Credit c) e = e
 unopened_empty h (command.Bar n) e = e
 unopened_empty h (command.Unbar n) e = e
 unopened_empty h command.Sweep e = e
+unopened_empty h (command.Balance n) e = e
 
 outcome_empty : (b : Book) (h : History) (c : Command) (t : ℕ) → (h.opened ≡ false → IsEmpty h) →
     (outcome b h c t).after.opened ≡ false → IsEmpty (outcome b h c t).after

@@ -132,6 +132,7 @@ keeps_opened b kept h (command.Bar n) t keeps = record { there = keeps.there; fo
 keeps_opened b kept h (command.Unbar n) t keeps =
     record { there = keeps.there; found = keeps.found }
 keeps_opened b kept h command.Sweep t keeps = keeps
+keeps_opened b kept h (command.Balance n) t keeps = keeps
 
 keeps_after : (b : Book) (kept : KeptAnswer) (h : History) (c : Command) (t : ℕ) → Keeps kept h →
     Keeps kept (outcome b h c t).after
@@ -274,3 +275,4 @@ answers-once b list (command.OpenAccount n) t between u key taken = no key
 answers-once b list (command.Bar n) t between u key taken = no key
 answers-once b list (command.Unbar n) t between u key taken = no key
 answers-once b list command.Sweep t between u key taken = no key
+answers-once b list (command.Balance n) t between u key taken = no key

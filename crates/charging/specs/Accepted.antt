@@ -37,6 +37,7 @@ concerned_by (command.Credit c) = one c.account
 concerned_by (command.Bar n) = one n
 concerned_by (command.Unbar n) = one n
 concerned_by command.Sweep = each
+concerned_by (command.Balance n) = one n
 
 -- a command names an account where it concerns that one alone
 abbrev pub names : List ℕ → Concerned → Bool
@@ -55,6 +56,7 @@ is_opening (command.Credit c) = false
 is_opening (command.Bar n) = false
 is_opening (command.Unbar n) = false
 is_opening command.Sweep = false
+is_opening (command.Balance n) = false
 
 -- the moment of the last accepted command
 abbrev pub last_moment : List Accepted → ℕ

@@ -1,8 +1,10 @@
 pub mod Histories
 pub mod Accepted
+pub mod Balances
 pub mod Outcomes
 pub mod Served
 pub mod Stepping
+pub mod States
 pub mod Runs
 pub mod SessionReports
 pub mod Paid

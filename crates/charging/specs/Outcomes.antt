@@ -23,6 +23,7 @@ use Rattle.decisions.specs.Decided.{Decision}
 use Rattle.decisions.specs.Decisions.{decision, answer_of, is_read}
 use Rattle.keepers.specs.declared.key.KeptAnswer.{KeptAnswer}
 use Rattle.keepers.specs.Keys.{key_of}
+use Rattle.charging.specs.Balances.{account_balance}
 use Rattle.charging.specs.Histories.{History, kept_under}
 use Rattle.charging.specs.Accepted.{Outcome}
 
@@ -119,6 +120,8 @@ opened_outcome b h (command.Bar n) t = done answer.Done (with_ledger (with_bar t
 opened_outcome b h (command.Unbar n) t =
     done answer.Done (with_ledger (with_bar t false h.ledger) h)
 opened_outcome b h command.Sweep t = told answer.Done h
+opened_outcome b h (command.Balance n) t =
+    told (answer.Balance (account_balance b n t h.ledger)) h
 
 -- of an account that isn't: it can be opened
 abbrev pub unopened_outcome : History → Command → Outcome
@@ -129,6 +132,7 @@ unopened_outcome h (command.Credit c) = told (answer.Refused AccountUnknown) h
 unopened_outcome h (command.Bar n) = told (answer.Refused AccountUnknown) h
 unopened_outcome h (command.Unbar n) = told (answer.Refused AccountUnknown) h
 unopened_outcome h command.Sweep = told answer.Done h
+unopened_outcome h (command.Balance n) = told (answer.Refused AccountUnknown) h
 
 abbrev pub outcome : Book → History → Command → ℕ → Outcome
 outcome b h c t = if h.opened then opened_outcome b h c t else unopened_outcome h c

@@ -21,6 +21,7 @@ has_key (command.OpenAccount n) = false
 has_key (command.Bar n) = false
 has_key (command.Unbar n) = false
 has_key command.Sweep = false
+has_key (command.Balance n) = false
 
 -- the command comes again after these
 pub record IsRepeated (b : Book) (before after : List Accepted) (c : Command)

@@ -50,6 +50,7 @@ with_reports b t (command.Credit c) reports = reports
 with_reports b t (command.Bar n) reports = reports
 with_reports b t (command.Unbar n) reports = reports
 with_reports b t command.Sweep reports = reports
+with_reports b t (command.Balance n) reports = reports
 
 -- the reports of an account's sessions, the newest first
 abbrev pub reports_of : Book → List ℕ → List Accepted → List Report

@@ -3,6 +3,7 @@
 #![tactic(auto)]
 
 mod answers;
+mod balances;
 mod committing;
 mod laws;
 mod operators;
@@ -12,6 +13,7 @@ mod running;
 mod stepping;
 
 pub use crate::answers::Run;
+pub use crate::balances::{AccountState, account_state};
 pub use crate::laws::{beginning, isolation, payment, quota, repeats};
 pub use crate::running::{DatedCommand, run};
 pub use crate::stepping::step;

@@ -4,6 +4,7 @@ ghost use Rattle.std.specs.Prelude.{◌≡◌, IfOk, OnErr};
 ghost use Rattle.charging.specs.Served.{Serves};
 ghost use Rattle.charging.specs.Repeats.{IsAnsweredAgain};
 
+use crate::balances::tell_balance;
 use crate::operators::{open_account, serve_credit, set_barred, sweep};
 use crate::requests::serve_request;
 use commands::{Answer, Command};
@@ -58,5 +59,6 @@ fn serve<K: Keeper>(
         Command::Bar(number) => set_barred(alloc, keeper, book, number, true, moment),
         Command::Unbar(number) => set_barred(alloc, keeper, book, number, false, moment),
         Command::Sweep => sweep(keeper, book, moment),
+        Command::Balance(number) => tell_balance(alloc, keeper, book, number, moment),
     }
 }

@@ -1,3 +1,4 @@
+mod balances;
 mod book;
 mod deciding;
 mod denials;

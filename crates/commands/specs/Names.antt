@@ -95,3 +95,35 @@ accounts = codes "Accounts"
 
 abbrev pub refusal : List ℕ
 refusal = codes "Refusal"
+
+-- ---- a balance
+
+abbrev pub account : List ℕ
+account = codes "Account"
+
+abbrev pub barred : List ℕ
+barred = codes "Barred"
+
+abbrev pub buckets : List ℕ
+buckets = codes "Buckets"
+
+abbrev pub moment : List ℕ
+moment = codes "Moment"
+
+abbrev pub number : List ℕ
+number = codes "Number"
+
+abbrev pub credited : List ℕ
+credited = codes "Credited"
+
+abbrev pub available : List ℕ
+available = codes "Available"
+
+abbrev pub reserved : List ℕ
+reserved = codes "Reserved"
+
+abbrev pub charged : List ℕ
+charged = codes "Charged"
+
+abbrev pub expired : List ℕ
+expired = codes "Expired"

@@ -4,6 +4,7 @@ ghost use Rattle.std.specs.Cmp.Lexicographic.{pointwise};
 ghost use Rattle.commands.specs.Codes.{failure_number, service_failure_number, service_failure_numbered, refusal_name, refusal_named, balance_number, balance_numbered};
 
 use crate::avp::Avp;
+use crate::balance::AccountBalance;
 use crate::quantity::Quantity;
 use crate::request::RequestKind;
 use identifiers::{RedirectAddress, SessionId};
@@ -298,6 +299,8 @@ pub enum Answer {
     Bucket(u32),
     /// To a sweep: the number of accounts.
     Swept(u64),
+    /// To a balance.
+    Balance(AccountBalance),
     /// To an operator's command that is refused.
     Refused(Refusal),
 }

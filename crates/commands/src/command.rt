@@ -206,6 +206,8 @@ pub enum Command {
     Unbar(AccountNumber),
     /// Brings each account to the moment of the command.
     Sweep,
+    /// Asks what became of an account's money. It is a read: it changes nothing.
+    Balance(AccountNumber),
 }
 
 /// What is kept of an accepted command beside its answer, so that a repeat of it is known.

@@ -6,6 +6,7 @@
 
 mod answer;
 mod avp;
+mod balance;
 mod command;
 pub mod names;
 mod quantity;
@@ -18,6 +19,7 @@ pub use crate::answer::{
     ServiceAnswer, ServiceAnswers, ServiceFailure, ServiceOutcome,
 };
 pub use crate::avp::Avp;
+pub use crate::balance::{AccountBalance, BucketBalance, BucketBalances};
 pub use crate::command::{
     Command, Content, Credit, CreditEnd, CreditStart, KeptCredit, is_kept_credit, same_content,
     same_credit,

@@ -35,6 +35,26 @@ pub const ACCOUNTS: &str = "Accounts";
 
 pub const REFUSAL: &str = "Refusal";
 
+pub const ACCOUNT: &str = "Account";
+
+pub const BARRED: &str = "Barred";
+
+pub const BUCKETS: &str = "Buckets";
+
+pub const MOMENT: &str = "Moment";
+
+pub const NUMBER: &str = "Number";
+
+pub const CREDITED: &str = "Credited";
+
+pub const AVAILABLE: &str = "Available";
+
+pub const RESERVED: &str = "Reserved";
+
+pub const CHARGED: &str = "Charged";
+
+pub const EXPIRED: &str = "Expired";
+
 /// Each name and each number is that of one value: what is written is found again, and what is
 /// found is written so.
 pub fn tables_are_inverse()

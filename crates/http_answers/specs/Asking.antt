@@ -11,14 +11,15 @@ use Rattle.json_fields.specs.declared.fault.WireFault.TheVariants.{Invalid}
 use Rattle.json_fields.specs.Gives.{Fails, ◌>>=◌}
 use Rattle.wire.specs.Requests.{command_of}
 use Rattle.wire.specs.Credits.{credit_of}
+use Rattle.http_heads.specs.declared.method.Method.{Method}
 use Rattle.http_heads.specs.declared.status.Status.{Status}
 use Rattle.http_heads.specs.declared.status.Status.TheVariants.{NotFound, MethodNotAllowed}
 use Rattle.http_heads.specs.Requests.{Ask}
 use Rattle.http_answers.specs.declared.asking.Asked.{Asked}
 use Rattle.http_answers.specs.declared.asking.Asked.TheVariants as told
 use Rattle.http_answers.specs.declared.routes.Route.{Route}
-use Rattle.http_answers.specs.declared.routes.Route.TheVariants.{Ccr, Account, Credits}
-use Rattle.http_answers.specs.Routes.{route_of, serves}
+use Rattle.http_answers.specs.declared.routes.Route.TheVariants.{Ccr, Account, Credits, Sweep}
+use Rattle.http_answers.specs.Routes.{is_get, route_of, serves}
 
 -- a request is refused, or read as a command or with a fault
 pub data Asking : Type 0 where
@@ -36,16 +37,21 @@ account_part target = before_first is_slash (after_first is_slash (after_first i
 abbrev pub account_in : List ℕ → Result (List ℕ) WireFault
 account_in target = if is_account_number (account_part target) then Ok (account_part target) else Err (Invalid SubscriptionIdData)
 
+-- of an account GET asks for the balance, PUT opens it
+abbrev pub account_command : Method → List ℕ → Command
+account_command method a = if is_get method then command.Balance a else command.OpenAccount a
+
 -- the command of a row, by the path and then by the body
-abbrev pub command_by : Route → List ℕ → List ℕ → Result Command WireFault
-command_by Ccr target body = command_of body
-command_by Account target body = account_in target >>= λ a. Ok (command.OpenAccount a)
-command_by Credits target body = account_in target >>= λ a. credit_of a body >>= λ c. Ok (command.Credit c)
+abbrev pub command_by : Route → Method → List ℕ → List ℕ → Result Command WireFault
+command_by Ccr method target body = command_of body
+command_by Account method target body = account_in target >>= λ a. Ok (account_command method a)
+command_by Sweep method target body = Ok command.Sweep
+command_by Credits method target body = account_in target >>= λ a. credit_of a body >>= λ c. Ok (command.Credit c)
 
 -- first the path, then the method, then what is read
 abbrev pub asked_by : Option Route → Ask → Asking
 asked_by None ask = refuses NotFound
-asked_by (Some route) ask = if serves route ask.method then reads (command_by route ask.target ask.body) else refuses MethodNotAllowed
+asked_by (Some route) ask = if serves route ask.method then reads (command_by route ask.method ask.target ask.body) else refuses MethodNotAllowed
 
 abbrev pub asked_of : Ask → Asking
 asked_of ask = asked_by (route_of ask.target) ask

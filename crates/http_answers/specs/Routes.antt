@@ -1,6 +1,6 @@
 -- The table of routes: what a path names, and its method.
 -- Source: profile.
-use Rattle.std.specs.Prelude.{ℕ, Bool, true, false, List, [], ◌∷◌, ◌==◌, Option, None, Result, Ok, Err, codes, option_map, if◌then◌else◌}
+use Rattle.std.specs.Prelude.{ℕ, Bool, true, false, List, [], ◌∷◌, ◌==◌, ◌||◌, Option, None, Result, Ok, Err, codes, option_map, if◌then◌else◌}
 use Rattle.std.specs.List.{list_any}
 use Rattle.matchit.specs.Rows.{RowsOf}
 use Rattle.matchit.specs.Seek.{first}
@@ -11,7 +11,7 @@ use Rattle.matchit.specs.declared.InsertError.{InsertError}
 use Rattle.http_heads.specs.declared.method.Method.{Method}
 use Rattle.http_heads.specs.declared.method.Method.TheVariants.{Get, Post, Put, Other}
 use Rattle.http_answers.specs.declared.routes.Route.{Route}
-use Rattle.http_answers.specs.declared.routes.Route.TheVariants.{Ccr, Account, Credits}
+use Rattle.http_answers.specs.declared.routes.Route.TheVariants.{Ccr, Account, Credits, Sweep}
 
 abbrev pub Routes : Type 0
 Routes = RowsOf (RouteOf Route)
@@ -26,9 +26,16 @@ added text value rows = added_read (parse_route text) value rows
 
 -- the table; a part in braces is any that isn't empty
 unfoldable pub table : Routes
-table = added (codes "/accounts/{a}/credits") Credits
+table = added (codes "/sweep") Sweep
+    (added (codes "/accounts/{a}/credits") Credits
     (added (codes "/accounts/{a}") Account
-    (added (codes "/ccr") Ccr []))
+    (added (codes "/ccr") Ccr [])))
+
+abbrev pub is_get : Method → Bool
+is_get Get = true
+is_get Post = false
+is_get Put = false
+is_get Other = false
 
 abbrev pub is_post : Method → Bool
 is_post Get = false
@@ -42,11 +49,12 @@ is_put Post = false
 is_put Put = true
 is_put Other = false
 
--- the method of each row
+-- the methods of each row
 abbrev pub serves : Route → Method → Bool
 serves Ccr method = is_post method
-serves Account method = is_put method
+serves Account method = is_get method || is_put method
 serves Credits method = is_post method
+serves Sweep method = is_post method
 
 -- the row of a path
 abbrev pub row_of : List ℕ → Option Route

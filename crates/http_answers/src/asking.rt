@@ -3,11 +3,11 @@ ghost use Rattle.json_fields.specs.Gives.{Gives};
 ghost use Rattle.http_heads.specs.Requests.{seen};
 ghost use Rattle.http_answers.specs.Routes.{table};
 ghost use Rattle.std.specs.List.{before_first, after_first};
-ghost use Rattle.http_answers.specs.Asking.{is_slash, account_part, account_in, command_by, asked_of, IsAsked};
+ghost use Rattle.http_answers.specs.Asking.{is_slash, account_part, account_command, account_in, command_by, asked_of, IsAsked};
 
-use crate::routes::{Route, route_of};
+use crate::routes::{Route, is_get, route_of};
 use commands::{Avp, Command};
-use http_heads::{Request, Status};
+use http_heads::{Method, Request, Status};
 use identifiers::AccountNumber;
 use matchit::Router;
 use std::alloc::Global;
@@ -61,18 +61,31 @@ fn account_in(alloc: Global, target: &str) -> Result<AccountNumber, WireFault>
     }
 }
 
+/// What a method asks of an account: GET its balance, PUT that it is opened.
+fn account_command(method: Method, account: AccountNumber) -> Command
+    ensures { result ≡ account_command method account }
+{
+    if is_get(method) {
+        Command::Balance(account)
+    } else {
+        Command::OpenAccount(account)
+    }
+}
+
 /// The command that a request is read as, or its first fault: first of the path, then of the body.
 fn read_command(
     alloc: Global,
     route: Route,
+    method: Method,
     target: &str,
     body: &[u8],
 ) -> Result<Command, WireFault>
-    ensures { Gives (λ c. c) result (command_by route target.now body.now) }
+    ensures { Gives (λ c. c) result (command_by route method target.now body.now) }
 {
     match route {
         Route::Ccr => read_request(alloc, body),
-        Route::Account => Ok(Command::OpenAccount(account_in(alloc, target)?)),
+        Route::Account => Ok(account_command(method, account_in(alloc, target)?)),
+        Route::Sweep => Ok(Command::Sweep),
         Route::Credits => {
             let account = account_in(alloc, target)?;
             Ok(Command::Credit(read_credit(alloc, account, body)?))
@@ -94,6 +107,7 @@ pub fn ask(alloc: Global, router: &Router<Route>, request: &Request) -> Asked
     match read_command(
         alloc,
         route,
+        request.method,
         request.target.as_str(),
         request.body.as_slice(),
     ) {

@@ -1,5 +1,5 @@
 ghost use Rattle.std.specs.Prelude.{◌≡◌, IfOk, OnOk};
-ghost use Rattle.http_answers.specs.Routes.{added, table, row_of, has_query, route_of, is_post, is_put, serves};
+ghost use Rattle.http_answers.specs.Routes.{added, table, row_of, has_query, route_of, is_get, is_post, is_put, serves};
 
 use byte_streams::StreamFault;
 use http_heads::Method;
@@ -15,6 +15,20 @@ pub enum Route {
     Account,
     /// `/accounts/{a}/credits`: the credits of an account.
     Credits,
+    /// `/sweep`: a sweep.
+    Sweep,
+}
+
+/// Whether a method is GET.
+pub(crate) fn is_get(method: Method) -> bool
+    ensures { result ≡ is_get method }
+{
+    match method {
+        Method::Get => true,
+        Method::Post => false,
+        Method::Put => false,
+        Method::Other => false,
+    }
 }
 
 /// Whether a method is POST.
@@ -48,8 +62,9 @@ impl Route {
     {
         match self {
             Route::Ccr => is_post(method),
-            Route::Account => is_put(method),
+            Route::Account => is_get(method) || is_put(method),
             Route::Credits => is_post(method),
+            Route::Sweep => is_post(method),
         }
     }
 }
@@ -70,6 +85,7 @@ fn api_router(alloc: Global) -> Result<Router<Route>, InsertError>
     add(&mut router, "/ccr", Route::Ccr)?;
     add(&mut router, "/accounts/{a}", Route::Account)?;
     add(&mut router, "/accounts/{a}/credits", Route::Credits)?;
+    add(&mut router, "/sweep", Route::Sweep)?;
     Ok(router)
 }
 

@@ -106,7 +106,7 @@ differs_placed n b (x ∷ xs) h = at (precedes b x) h (differs_placed n b xs)
     at true k rest = (k.0, k.1)
     at false k rest = let r = rest k.1 in (r.0, (k.0, r.1))
 
-distinct_placed : (b : Row) (xs : List Row) → AreDistinct (placed b xs) →
+pub distinct_placed : (b : Row) (xs : List Row) → AreDistinct (placed b xs) →
     DiffersFromAll b.number xs × AreDistinct xs
 distinct_placed b [] h = (tt, tt)
 distinct_placed b (x ∷ xs) h = at (precedes b x) h (distinct_placed b xs)

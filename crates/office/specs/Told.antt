@@ -23,6 +23,7 @@ status_of (answer.Request given) = Done
 status_of answer.Done = Done
 status_of (answer.Bucket number) = Done
 status_of (answer.Swept count) = Done
+status_of (answer.Balance balance) = Done
 status_of (answer.Refused refusal) = Failed
 
 abbrev pub status_number : Status → ℕ

@@ -36,6 +36,7 @@ pub(crate) fn status_of(answer: &Answer) -> Status
         Answer::Done => Status::Done,
         Answer::Bucket(_) => Status::Done,
         Answer::Swept(_) => Status::Done,
+        Answer::Balance(_) => Status::Done,
         Answer::Refused(_) => Status::Failed,
     }
 }

@@ -59,8 +59,10 @@ use Rattle.wire_requests.proofs.RequestsAgain.{and_three, session_utf8, visible_
 use Rattle.commands.proofs.Inverses.{are_tables}
 use Rattle.wire_answers.specs.Members.{number_in, text_in, object_in}
 use Rattle.wire_answers.specs.Spelled.{granted_data, server_data, final_data, final_of, granted_of, validity_of, service_code, service_data, service_items, failure_named, outcome_named, outcome_code, request_answer_data, code_member, answer_data, answer_text}
+use Rattle.wire_answers.specs.SpelledBalances.{balance_data}
+use Rattle.wire_answers.proofs.BalancesAgain.{balance_members, account_balance_again, account_balance_fit}
 use Rattle.wire_answers.specs.Rules.{IsFinal, IsGrant, IsServiceOutcome, IsServiceAnswer, IsCost, IsOutcome, IsRequestAnswer, IsAnswer}
-use Rattle.wire_answers.specs.ReadingAnswers.{redirect_at, final_told, final_in, final_when, final_at, quantity_in, granted_when, session_grant_in, granted_in, success_when, service_told, service_answer_at, services_from, services_in, failed_at, failure_told, cost_in, priced_when, checked_when, unserved_in, served_when, outcome_told, request_answer_at, refusal_at, swept_when, bucket_when, done_at, refused_when, answer_when, answer_of, AnswersReadAgain, ReadsWritten, AnswersAreInOrder}
+use Rattle.wire_answers.specs.ReadingAnswers.{redirect_at, final_told, final_in, final_when, final_at, quantity_in, granted_when, session_grant_in, granted_in, success_when, service_told, service_answer_at, services_from, services_in, failed_at, failure_told, cost_in, priced_when, checked_when, unserved_in, served_when, outcome_told, request_answer_at, refusal_at, swept_when, bucket_when, done_at, refused_when, balance_when, answer_when, answer_of, AnswersReadAgain, ReadsWritten, AnswersAreInOrder}
 
 -- ---- members
 
@@ -469,7 +471,7 @@ unfolding refusal_at
 refusal_again r = rw (text_in_found refusal (object (member refusal (string (refusal_name r)) no_members)) (refusal_name r) refl, are_tables.refusals.there r) refl
 
 pub answers_again : AnswersReadAgain answer_text
-unfolding answer_of answer_text answer_data request_answer_data done_at
+unfolding answer_of answer_text answer_data request_answer_data done_at balance_data
 answers_again (answer.Request a) is =
     let ms = request_members a.number (kind_number a.kind) a.outcome a.session in
     rw (document_again ms (request_fit a is), session_found a.number (kind_number a.kind) a.outcome a.session, request_again a is) refl
@@ -485,6 +487,8 @@ answers_again (answer.Swept n) is =
     let ms = member accounts (whole n) (code_member 2001) in
     let d = object ms in
     rw (document_again ms (flat ms (fit_member 0 _ (whole n) _ refl (fit_whole 0 n is) (refl, tt) code_fit)), done_found d refl, optional_in_found bucket NotRequest 0 4294967295 d None refl tt, optional_in_found accounts NotRequest 0 18446744073709551615 d (Some n) refl (omega arith, is)) refl
+answers_again (answer.Balance a) is =
+    rw (document_again (balance_members a) (account_balance_fit a is), account_balance_again a is) refl
 answers_again (answer.Refused r) is =
     let ms = member refusal (string (refusal_name r)) no_members in
     rw (document_again ms (flat ms (fit_member 0 _ (string (refusal_name r)) no_members refl (fit_text 0 (refusal_name r) (name (refusal_name r) (refusal_ascii r))) tt (fit_none 0))), refusal_again r) refl
@@ -513,11 +517,12 @@ never_written bytes a returned given other b is text =
 -- ---- the order of members
 
 answer_fit : (a : Answer) → IsAnswer a → Fit 127 (answer_data a)
-unfolding answer_data request_answer_data
+unfolding answer_data request_answer_data balance_data
 answer_fit (answer.Request a) is = request_fit a is
 answer_fit answer.Done is = flat (code_member 2001) code_fit
 answer_fit (answer.Bucket n) is = flat _ (fit_member 0 _ (whole n) _ refl (fit_whole 0 n (omega (arith, is))) (refl, tt) code_fit)
 answer_fit (answer.Swept n) is = flat _ (fit_member 0 _ (whole n) _ refl (fit_whole 0 n is) (refl, tt) code_fit)
+answer_fit (answer.Balance a) is = account_balance_fit a is
 answer_fit (answer.Refused r) is = flat _ (fit_member 0 _ (string (refusal_name r)) no_members refl (fit_text 0 (refusal_name r) (name (refusal_name r) (refusal_ascii r))) tt (fit_none 0))
 
 pub answers_in_order : AnswersAreInOrder answer_data

@@ -1,1 +1,2 @@
+pub mod BalancesAgain
 pub mod AnswersAgain

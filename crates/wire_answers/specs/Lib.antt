@@ -1,4 +1,6 @@
+pub mod Members
+pub mod SpelledBalances
 pub mod Spelled
 pub mod Rules
-pub mod Members
+pub mod ReadingBalances
 pub mod ReadingAnswers

@@ -5,7 +5,7 @@ use Rattle.serde_json.specs.Find.{get}
 use Rattle.identifiers.specs.Texts.{is_redirect_address}
 use Rattle.units.specs.declared.blocks.UnitKind.{UnitKind}
 use Rattle.commands.specs.declared.avp.Avp.TheVariants as avp
-use Rattle.commands.specs.Names.{name_of, accounts, bucket, check_balance_result, cost_information, failed_avp, final_unit, final_unit_action, granted_unit, redirect_server, redirect_server_address, refusal, result_code, tariff_time_change, validity_time, avp_named}
+use Rattle.commands.specs.Names.{name_of, account, accounts, bucket, check_balance_result, cost_information, failed_avp, final_unit, final_unit_action, granted_unit, redirect_server, redirect_server_address, refusal, result_code, tariff_time_change, validity_time, avp_named}
 use Rattle.commands.specs.Codes.{service_failure_numbered, balance_numbered, refusal_named}
 use Rattle.commands.specs.Measured.{Measured}
 use Rattle.commands.specs.declared.request.RequestKind.{RequestKind}
@@ -33,6 +33,7 @@ use Rattle.json_fields.specs.Unit.{kind_told, units_at}
 use Rattle.json_fields.specs.Order.{AreInByteOrder}
 use Rattle.wire_requests.specs.Reading.{session_at, kind_at}
 use Rattle.wire_answers.specs.Members.{number_in, text_in, object_in}
+use Rattle.wire_answers.specs.ReadingBalances.{balance_at}
 use Rattle.wire_answers.specs.Rules.{IsAnswer}
 use Rattle.wire_answers.specs.Spelled.{answer_text}
 
@@ -195,8 +196,12 @@ done_at d = do
   number ← optional_in bucket NotRequest 0 4294967295 d
   bucket_when d number
 
+abbrev pub balance_when : Data → Option Data → Result Answer WireFault
+balance_when d None = done_at d
+balance_when d (Some v) = balance_at d >>= λ a. Ok (answer.Balance a)
+
 abbrev pub refused_when : Data → Option Data → Result Answer WireFault
-refused_when d None = done_at d
+refused_when d None = balance_when d (get (account) d)
 refused_when d (Some v) = refusal_at d
 
 abbrev pub answer_when : Data → Option Data → Result Answer WireFault

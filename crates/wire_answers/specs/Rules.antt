@@ -1,7 +1,7 @@
 -- What the types of an answer's parts keep: each value of the program keeps it.
 use Rattle.std.specs.Prelude.{◌≡◌, ℕ, ◌≤◌, List, Bool, true, IfSome, ⊤}
 use Rattle.std.specs.List.{AllByRecursion}
-use Rattle.identifiers.specs.Texts.{is_session_id, is_redirect_address}
+use Rattle.identifiers.specs.Texts.{is_account_number, is_session_id, is_redirect_address}
 use Rattle.commands.specs.Measured.{Measured}
 use Rattle.commands.specs.Quantities.{is_quantity}
 use Rattle.commands.specs.declared.answer.FinalUnit.{FinalUnit}
@@ -16,6 +16,8 @@ use Rattle.commands.specs.declared.answer.Outcome.TheVariants as outcome
 use Rattle.commands.specs.declared.answer.RequestAnswer.{RequestAnswer}
 use Rattle.commands.specs.declared.answer.Answer.{Answer}
 use Rattle.commands.specs.declared.answer.Answer.TheVariants as answer
+use Rattle.commands.specs.declared.balance.AccountBalance.{AccountBalance}
+use Rattle.commands.specs.declared.balance.BucketBalance.{BucketBalance}
 use Rattle.wire_answers.specs.Spelled.{validity_of}
 
 abbrev pub IsFinal : FinalUnit → Type 0
@@ -54,9 +56,26 @@ pub record IsRequestAnswer (a : RequestAnswer) : Type 0 where
   pub number : a.number ≤ 4294967295
   pub outcome : IsOutcome a.outcome
 
+pub record IsBucketBalance (b : BucketBalance) : Type 0 where
+  pub number : b.number ≤ 4294967295
+  pub from : b.from ≤ 4102488000
+  pub until : b.until ≤ 4102488000
+  pub scope : IfSome b.scope (λ g. g ≤ 4294967295)
+  pub credited : b.credited ≤ 18446744073709551615
+  pub available : b.available ≤ 18446744073709551615
+  pub reserved : b.reserved ≤ 18446744073709551615
+  pub charged : b.charged ≤ 18446744073709551615
+  pub expired : b.expired ≤ 18446744073709551615
+
+pub record IsAccountBalance (a : AccountBalance) : Type 0 where
+  pub account : is_account_number a.account ≡ true
+  pub buckets : AllByRecursion IsBucketBalance a.buckets
+  pub moment : a.moment ≤ 4102488000
+
 abbrev pub IsAnswer : Answer → Type 0
 IsAnswer (answer.Request a) = IsRequestAnswer a
 IsAnswer answer.Done = ⊤
 IsAnswer (answer.Bucket n) = n ≤ 4294967295
 IsAnswer (answer.Swept accounts) = accounts ≤ 18446744073709551615
+IsAnswer (answer.Balance balance) = IsAccountBalance balance
 IsAnswer (answer.Refused refusal) = ⊤

@@ -1,6 +1,6 @@
 -- How an answer is spelled: compact JSON, with the members in the byte order of their names.
 use Rattle.std.specs.Prelude.{ℕ, negsuc, List, [], ◌∷◌, Option, Some, None, option_map}
-use Rattle.serde_json.specs.Data.{Data, number, negative, string, array, object, Items, no_items, item, Members, no_members, member}
+use Rattle.serde_json.specs.Data.{Data, negative, string, array, object, Items, no_items, item, Members, no_members, member}
 use Rattle.serde_json.specs.Written.{compact_text}
 use Rattle.commands.specs.declared.avp.Avp.TheVariants as avp
 use Rattle.commands.specs.Names.{name_of, cost_information, validity_time, final_unit, redirect_server_address, final_unit_action, refusal, tariff_time_change, granted_unit, failed_avp, redirect_address_type, check_balance_result, bucket, accounts, redirect_server, result_code}
@@ -20,6 +20,7 @@ use Rattle.commands.specs.declared.answer.Outcome.TheVariants as outcome
 use Rattle.commands.specs.declared.answer.RequestAnswer.{RequestAnswer}
 use Rattle.commands.specs.declared.answer.Answer.{Answer}
 use Rattle.commands.specs.declared.answer.Answer.TheVariants as answer
+use Rattle.wire_answers.specs.SpelledBalances.{balance_data}
 use Rattle.json_fields.specs.declared.fault.WireFault.{WireFault}
 use Rattle.json_fields.specs.declared.fault.WireFault.TheVariants.{NotRequest, Missing, Invalid, Memory}
 use Rattle.json_fields.specs.Spelling.{whole, perhaps, with_members, money_data}
@@ -126,6 +127,7 @@ answer_data (answer.Request a) = request_answer_data a
 answer_data answer.Done = object (code_member 2001)
 answer_data (answer.Bucket n) = object (member bucket (whole n) (code_member 2001))
 answer_data (answer.Swept count) = object (member accounts (whole count) (code_member 2001))
+answer_data (answer.Balance balance) = balance_data balance
 answer_data (answer.Refused reason) =
     object (member refusal (string (refusal_name reason)) no_members)
 

@@ -1,8 +1,10 @@
 //! Answers as JSON.
 #![tactic(auto)]
 
+mod balances;
 mod members;
 mod reading;
+mod reading_balances;
 mod reading_services;
 mod services;
 mod writing;

@@ -7,7 +7,8 @@ ghost use Rattle.wire_answers.specs.Members.{member_in, number_in, text_in, obje
 use json_fields::{WireFault, optional_in, whole_in};
 use serde_json::Value;
 
-fn member<'v>(parent: &'v Value, name: &str) -> Result<&'v Value, WireFault>
+/// The member of this name.
+pub(crate) fn member<'v>(parent: &'v Value, name: &str) -> Result<&'v Value, WireFault>
     ensures { Says (λ v. view v.now) result (member_in name.now (view parent.now)) }
 {
     parent.get(name).ok_or(WireFault::NotRequest)

@@ -1,16 +1,18 @@
 ghost use Rattle.std.specs.Prelude.{◌≡◌, ◌≤◌, ◌⊎◌, IfOk, Ok};
 ghost use Rattle.serde_json.specs.View.{view};
 ghost use Rattle.serde_json.specs.Find.{get};
-ghost use Rattle.commands.specs.Names.{name_of, cost_information, refusal};
+ghost use Rattle.commands.specs.Names.{name_of, account, cost_information, refusal};
 ghost use Rattle.json_fields.specs.Gives.{Gives, Says};
 ghost use Rattle.wire_answers.specs.Spelled.{answer_data, answer_text};
-ghost use Rattle.wire_answers.specs.ReadingAnswers.{failed_at, failure_told, cost_in, priced_when, checked_when, unserved_in, served_when, outcome_told, request_answer_at, refusal_at, done_at, answer_when, refused_when, answer_of, AnswersReadAgain, ReadsWritten, AnswersAreInOrder};
+ghost use Rattle.wire_answers.specs.ReadingAnswers.{failed_at, failure_told, cost_in, priced_when, checked_when, unserved_in, served_when, outcome_told, request_answer_at, refusal_at, done_at, answer_when, balance_when, refused_when, answer_of, AnswersReadAgain, ReadsWritten, AnswersAreInOrder};
 
 use crate::members;
+use crate::reading_balances::balance;
 use crate::reading_services::services_in;
 use crate::writing::write_answer;
 use commands::names::{
-    ACCOUNTS, BUCKET, CHECK_BALANCE_RESULT, COST_INFORMATION, FAILED_AVP, REFUSAL, RESULT_CODE,
+    ACCOUNT, ACCOUNTS, BUCKET, CHECK_BALANCE_RESULT, COST_INFORMATION, FAILED_AVP, REFUSAL,
+    RESULT_CODE,
 };
 use commands::{
     Answer, Avp, Balance, Cost, Failure, Outcome, Refusal, RequestAnswer, ServiceFailure,
@@ -145,12 +147,22 @@ fn done(parent: &Value) -> Result<Answer, WireFault>
     }
 }
 
-fn refused(parent: &Value) -> Result<Answer, WireFault>
-    ensures { Says (λ a. a) result
+fn balance_told(alloc: Global, parent: &Value) -> Result<Answer, WireFault>
+    ensures { Gives (λ a. a) result
+        (balance_when (view parent.now) (get account (view parent.now))) }
+{
+    match parent.get(ACCOUNT) {
+        None => done(parent),
+        Some(_) => Ok(Answer::Balance(balance(alloc, parent)?)),
+    }
+}
+
+fn refused(alloc: Global, parent: &Value) -> Result<Answer, WireFault>
+    ensures { Gives (λ a. a) result
         (refused_when (view parent.now) (get refusal (view parent.now))) }
 {
     match parent.get(REFUSAL) {
-        None => done(parent),
+        None => balance_told(alloc, parent),
         Some(_) => refusal(parent),
     }
 }
@@ -161,7 +173,7 @@ fn answered(alloc: Global, parent: &Value) -> Result<Answer, WireFault>
 {
     match parent.get(Avp::SessionId.name()) {
         Some(_) => Ok(Answer::Request(request_answer(alloc, parent)?)),
-        None => refused(parent),
+        None => refused(alloc, parent),
     }
 }
 

@@ -8,6 +8,7 @@ ghost use Rattle.wire_answers.specs.Spelled.{service_items, failure_named, outco
 ghost use Rattle.wire_answers.specs.Rules.{IsServiceAnswer, IsCost, IsOutcome, IsRequestAnswer, IsAnswer};
 ghost use Rattle.wire_answers.specs.ReadingAnswers.{answer_of};
 
+use crate::balances::put_balance;
 use crate::services::put_services;
 use commands::names::{
     ACCOUNTS, BUCKET, CHECK_BALANCE_RESULT, COST_INFORMATION, FAILED_AVP, REFUSAL, RESULT_CODE,
@@ -127,6 +128,7 @@ fn put_answer(out: &mut Writer, answer: &Answer) -> Result<(), AllocError>
         Answer::Done => put_code(out, 2001),
         Answer::Bucket(number) => put_counted(out, BUCKET, *number as u64),
         Answer::Swept(accounts) => put_counted(out, ACCOUNTS, *accounts),
+        Answer::Balance(balance) => put_balance(out, balance),
         Answer::Refused(refusal) => put_refusal(out, refusal.name()),
     }
 }

@@ -389,7 +389,7 @@ digit_small b h = omega (arith, leb-true b 57 (and_parts (nat_le 48 b) (nat_le b
 pub session_utf8 : (s : List ℕ) → is_session_id s ≡ true → IsUtf8 s
 session_utf8 s h = IsUtf8-are_ascii s (ascii_text is_visible visible_small s (and_three (nat_le 1 (length s)) (nat_le (length s) 128) (list_all is_visible s) h).2)
 
-account_utf8 : (s : List ℕ) → is_account_number s ≡ true → IsUtf8 s
+pub account_utf8 : (s : List ℕ) → is_account_number s ≡ true → IsUtf8 s
 account_utf8 s h = IsUtf8-are_ascii s (ascii_text is_digit digit_small s (and_three (nat_le 1 (length s)) (nat_le (length s) 15) (list_all is_digit s) h).2)
 
 unit_ascii : (k : UnitKind) → are_ascii (name_of_unit k) ≡ true

@@ -1,6 +1,6 @@
 //! Commands as lines of text: `MOMENT open ACCOUNT`, `MOMENT credit ACCOUNT BODY`, `MOMENT
 //! credit-nothing ACCOUNT REFERENCE`, `MOMENT bar ACCOUNT`, `MOMENT unbar ACCOUNT`, `MOMENT sweep`,
-//! and a request as `MOMENT BODY`.
+//! `MOMENT balance ACCOUNT`, and a request as `MOMENT BODY`.
 
 use charging::DatedCommand;
 use commands::{Command, Credit};
@@ -45,6 +45,7 @@ fn command(alloc: Global, name: &str, words: &str) -> Result<Command, Fail> {
         "credit-nothing" => nothing(alloc, words),
         "bar" => Ok(Command::Bar(account(alloc, words)?)),
         "unbar" => Ok(Command::Unbar(account(alloc, words)?)),
+        "balance" => Ok(Command::Balance(account(alloc, words)?)),
         _ => Ok(Command::Sweep),
     }
 }

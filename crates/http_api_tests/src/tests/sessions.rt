@@ -8,8 +8,8 @@ use std::alloc::Global;
 use std::test::Fail;
 
 /// An account is opened and credited; a session begins and reports; the report comes again and is
-/// answered with the same bytes, and with other content it is refused; so are credits; and a price
-/// is told.
+/// answered with the same bytes, and with other content it is refused; so are credits; a price
+/// is told, and what became of the money; and the accounts are swept.
 const SESSION: &str = r##"PUT /accounts/49151  => 200 OK: {"Result-Code":2001}
 POST /accounts/49151/credits {"Amount":1000000,"Reference":"c1"} => 200 OK: {"Bucket":1,"Result-Code":2001}
 POST /ccr {"Session-Id":"s11","CC-Request-Type":1,"CC-Request-Number":0,"Subscription-Id":{"Subscription-Id-Type":0,"Subscription-Id-Data":"49151"},"Multiple-Services-Credit-Control":[{"Rating-Group":10,"Requested-Service-Unit":{"CC-Time":600}}]} => 200 OK: {"CC-Request-Number":0,"CC-Request-Type":1,"Multiple-Services-Credit-Control":[{"Granted-Service-Unit":{"CC-Time":600},"Rating-Group":10,"Result-Code":2001,"Validity-Time":3600}],"Result-Code":2001,"Session-Id":"s11"}
@@ -18,7 +18,9 @@ POST /ccr {"Session-Id":"s11","CC-Request-Type":2,"CC-Request-Number":1,"Subscri
 POST /ccr {"Session-Id":"s11","CC-Request-Type":2,"CC-Request-Number":1,"Subscription-Id":{"Subscription-Id-Type":0,"Subscription-Id-Data":"49151"},"Multiple-Services-Credit-Control":[{"Rating-Group":10,"Requested-Service-Unit":{"CC-Time":60},"Used-Service-Unit":[{"CC-Time":61}]}]} => 200 OK: {"CC-Request-Number":1,"CC-Request-Type":2,"Failed-AVP":"CC-Request-Number","Result-Code":5004,"Session-Id":"s11"}
 POST /accounts/49151/credits {"Amount":1000000,"Reference":"c1"} => 200 OK: {"Bucket":1,"Result-Code":2001}
 POST /accounts/49151/credits {"Amount":2,"Reference":"c1"} => 200 OK: {"Refusal":"O5"}
-POST /ccr {"Session-Id":"p1","CC-Request-Type":4,"CC-Request-Number":0,"Subscription-Id":{"Subscription-Id-Type":0,"Subscription-Id-Data":"49151"},"Requested-Action":3,"Multiple-Services-Credit-Control":[{"Rating-Group":30,"Requested-Service-Unit":{"CC-Service-Specific-Units":1}}]} => 200 OK: {"CC-Request-Number":0,"CC-Request-Type":4,"Cost-Information":{"Currency-Code":978,"Unit-Value":{"Exponent":-6,"Value-Digits":90000}},"Result-Code":2001,"Session-Id":"p1"}"##;
+POST /ccr {"Session-Id":"p1","CC-Request-Type":4,"CC-Request-Number":0,"Subscription-Id":{"Subscription-Id-Type":0,"Subscription-Id-Data":"49151"},"Requested-Action":3,"Multiple-Services-Credit-Control":[{"Rating-Group":30,"Requested-Service-Unit":{"CC-Service-Specific-Units":1}}]} => 200 OK: {"CC-Request-Number":0,"CC-Request-Type":4,"Cost-Information":{"Currency-Code":978,"Unit-Value":{"Exponent":-6,"Value-Digits":90000}},"Result-Code":2001,"Session-Id":"p1"}
+GET /accounts/49151  => 200 OK: {"Account":"49151","Barred":false,"Buckets":[{"Available":800000,"Charged":100000,"Credited":1000000,"Expired":0,"From":1767607200,"Number":1,"Reserved":100000,"Until":4102444800}],"Moment":1767607200}
+POST /sweep  => 200 OK: {"Accounts":1,"Result-Code":2001}"##;
 
 /// A credit of 10^15 micro-units is taken, one of more isn't.
 const CREDITS: &str = r##"PUT /accounts/49151  => 200 OK: {"Result-Code":2001}

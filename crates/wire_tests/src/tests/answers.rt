@@ -2,10 +2,11 @@
 
 use crate::tests::tables::{Told, try_told};
 use commands::{
-    Answer, Avp, Balance, Cost, Failure, FinalUnit, Granted, Outcome, Quantity, Refusal,
-    RequestAnswer, RequestKind, ServiceAnswer, ServiceAnswers, ServiceFailure, ServiceOutcome,
+    AccountBalance, Answer, Avp, Balance, BucketBalance, BucketBalances, Cost, Failure, FinalUnit,
+    Granted, Outcome, Quantity, Refusal, RequestAnswer, RequestKind, ServiceAnswer, ServiceAnswers,
+    ServiceFailure, ServiceOutcome,
 };
-use identifiers::{RedirectAddress, SessionId};
+use identifiers::{AccountNumber, RedirectAddress, SessionId};
 use std::alloc::Global;
 use std::test::Fail;
 use units::{Moment, UnitKind};
@@ -163,6 +164,46 @@ fn failed(alloc: Global, code: &str) -> Result<String, Fail> {
     )
 }
 
+/// A bucket of 150,000 micro-units until 10:10, and one without an end for group 30.
+fn two_buckets(alloc: Global) -> Result<Vec<BucketBalance>, Fail> {
+    let mut list = Vec::new(alloc);
+    let from = Moment::new(1_767_571_200).ok_or("a moment")?;
+    list.push(BucketBalance {
+        number: 1,
+        from,
+        until: Moment::new(1_767_607_800).ok_or("a moment")?,
+        scope: None,
+        credited: 150_000,
+        available: 0,
+        reserved: 0,
+        charged: 100_000,
+        expired: 50_000,
+    })?;
+    list.push(BucketBalance {
+        number: u32::MAX,
+        from,
+        until: Moment::no_end(),
+        scope: Some(30),
+        credited: 1_000_000_000_000_000,
+        available: 999_999_999_999_999,
+        reserved: 1,
+        charged: 0,
+        expired: 0,
+    })?;
+    Ok(list)
+}
+
+/// The text of a balance.
+fn balance(alloc: Global, barred: bool, list: Vec<BucketBalance>) -> Result<String, Fail> {
+    let answer = Answer::Balance(AccountBalance {
+        account: AccountNumber::new(alloc, "49151")?.ok_or("an account")?,
+        barred,
+        buckets: BucketBalances::new(list),
+        moment: Moment::new(1_767_608_100).ok_or("a moment")?,
+    });
+    Ok(write_answer(alloc, &answer)?)
+}
+
 /// The answer to a command of an operator.
 fn to_operator(alloc: Global, name: &str) -> Result<String, Fail> {
     let answer = match name {
@@ -192,6 +233,8 @@ pub(crate) fn named(alloc: Global, name: &str) -> Result<String, Fail> {
         "no credit" => to_event(alloc, "c10", Outcome::Checked(Balance::NoCredit)),
         "refunded" => to_event(alloc, "r9", Outcome::Refunded),
         "a changed repeat" => changed_repeat(alloc),
+        "no buckets" => balance(alloc, false, Vec::new(alloc)),
+        "two buckets" => balance(alloc, true, two_buckets(alloc)?),
         "4010" | "4012" | "5002" | "5012" | "5030" | "5031" => failed(alloc, name),
         _ => to_operator(alloc, name),
     }
@@ -249,6 +292,12 @@ the first bucket -> {"Bucket":1,"Result-Code":2001}
 the last bucket -> {"Bucket":4294967295,"Result-Code":2001}
 no account swept -> {"Accounts":0,"Result-Code":2001}
 the most accounts swept -> {"Accounts":18446744073709551615,"Result-Code":2001}
+no buckets -> {"Account":"49151","Barred":false,"Buckets":[],"Moment":1767608100}
+two buckets -> {"Account":"49151","Barred":true,"Buckets":[{"Available":0,"Charged":100000,
+  "Credited":150000,"Expired":50000,"From":1767571200,"Number":1,"Reserved":0,
+  "Until":1767607800},{"Available":999999999999999,"Charged":0,"Credited":1000000000000000,
+  "Expired":0,"From":1767571200,"Number":4294967295,"Reserved":1,"Scope":30,
+  "Until":4102444800}],"Moment":1767608100}
 O1 -> {"Refusal":"O1"}
 O2 -> {"Refusal":"O2"}
 O3 -> {"Refusal":"O3"}

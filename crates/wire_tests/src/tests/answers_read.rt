@@ -198,6 +198,12 @@ const SHOWN: &str = r##"{"CC-Request-Number":0,"CC-Request-Type":1,
 {"Result-Code":2001} -> Done
 {"Bucket":1,"Result-Code":2001} -> Bucket(1)
 {"Accounts":7,"Result-Code":2001} -> Swept(7)
+{"Account":"49151","Barred":true,"Buckets":[{"Available":1,"Charged":2,"Credited":15,"Expired":8,
+  "From":5,"Number":1,"Reserved":4,"Scope":30,"Until":9}],"Moment":7} -> Balance(AccountBalance {
+   account: AccountNumber { text: "49151" }, barred: true, buckets: BucketBalances { list:
+   [BucketBalance { number: 1, from: Moment { seconds: 5 }, until: Moment { seconds: 9 },
+   scope: Some(30), credited: 15, available: 1, reserved: 4, charged: 2, expired: 8 }] },
+   moment: Moment { seconds: 7 } })
 {"Refusal":"O1"} -> Refused(AccountExists)
 {"Refusal":"O2"} -> Refused(AccountUnknown)
 {"Refusal":"O4"} -> Refused(VoucherSpent)
@@ -212,6 +218,11 @@ x -> no JSON object
 {"Result-Code":2001,"Bucket":1} -> no JSON object
 {"Bucket":4294967296,"Result-Code":2001} -> no JSON object
 {"Accounts":-1,"Result-Code":2001} -> no JSON object
+{"Account":"49x","Barred":true,"Buckets":[],"Moment":7} -> no JSON object
+{"Account":"49151","Barred":1,"Buckets":[],"Moment":7} -> no JSON object
+{"Account":"49151","Barred":true,"Buckets":{},"Moment":7} -> no JSON object
+{"Account":"49151","Barred":true,"Buckets":[{}],"Moment":7} -> no JSON object
+{"Account":"49151","Barred":true,"Buckets":[]} -> no JSON object
 {"Refusal":"O8"} -> no JSON object
 {"Refusal":1} -> no JSON object
 {"CC-Request-Type":4,"Result-Code":2001,"Session-Id":"r9"} -> no JSON object

@@ -1,0 +1,47 @@
+-- An account's balance: its buckets at a moment, by number.
+-- Source: TS 32.296, account balance management function; the order by number: profile.
+use Rattle.std.specs.Prelude.{◌≡◌, ℕ, List, [], ◌∷◌, map, nat_lt, if◌then◌else◌}
+use Rattle.std.specs.List.Sorted.{IsNonDecreasingBy, IsPermutation}
+use Rattle.buckets.specs.Row.{Row}
+use Rattle.commands.specs.declared.balance.AccountBalance.{AccountBalance}
+use Rattle.commands.specs.declared.balance.BucketBalance.{BucketBalance}
+use Rattle.tariffs.specs.Books.{Book}
+use Rattle.reserving.specs.Ledger.{Ledger, is_barred}
+use Rattle.reserving.specs.Balance.{buckets_at}
+
+-- a bucket stands before the first of a greater number
+abbrev pub numbered : Row → List Row → List Row
+numbered b [] = b ∷ []
+numbered b (x ∷ xs) = if nat_lt b.number x.number then b ∷ x ∷ xs else x ∷ numbered b xs
+
+abbrev pub by_number : List Row → List Row
+by_number [] = []
+by_number (b ∷ bs) = numbered b (by_number bs)
+
+-- a bucket as it is told
+abbrev pub bucket_balance : Row → BucketBalance
+bucket_balance b = record {
+  number = b.number;
+  from = b.from;
+  until = b.until;
+  scope = b.scope;
+  credited = b.credited;
+  available = b.available;
+  reserved = b.reserved;
+  charged = b.charged;
+  expired = b.expired;
+}
+
+-- the balance at a moment of the account of this number, by its ledger
+abbrev pub account_balance : Book → List ℕ → ℕ → Ledger → AccountBalance
+account_balance b n t ledger = record {
+  account = n;
+  barred = is_barred ledger;
+  buckets = map bucket_balance (by_number (buckets_at b.validity t ledger));
+  moment = t;
+}
+
+-- the same buckets, whose numbers don't fall
+pub record AreByNumber (buckets told : List Row) : Type 0 where
+  pub same : IsPermutation buckets told
+  pub order : IsNonDecreasingBy (λ b. b.number) told

@@ -1,0 +1,75 @@
+ghost use Rattle.std.specs.Prelude.{◌≡◌};
+
+use identifiers::AccountNumber;
+use std::marker::Model;
+use units::Moment;
+
+/// What became of a bucket's money (TS 32.296, account balance management function). All amounts
+/// are micro-units.
+#[derive(Clone, Copy, Debug)]
+pub struct BucketBalance {
+    /// Its number within the account.
+    pub number: u32,
+    /// The first moment at which it may be used.
+    pub from: Moment,
+    /// Its end: the first moment at which what is left of it is expired.
+    pub until: Moment,
+    /// The one rating group that it pays for, or none where it pays for all.
+    pub scope: Option<u32>,
+    /// What was credited.
+    pub credited: u64,
+    /// What may still be used.
+    pub available: u64,
+    /// What reservations of live sessions hold.
+    pub reserved: u64,
+    /// What was charged.
+    pub charged: u64,
+    /// What was left at its end.
+    pub expired: u64,
+}
+
+/// The buckets of an account.
+///
+/// Contracts see the list.
+#[derive(Clone, Debug, Drop)]
+pub struct BucketBalances {
+    list: Vec<BucketBalance>,
+}
+
+impl Model for BucketBalances {
+    ghost use Rattle.std.specs.Prelude.{List};
+    ghost use Rattle.commands.specs.declared.balance.BucketBalance.{BucketBalance};
+
+    ghost Value = { List BucketBalance };
+
+    ghost view = { λ s. s.list.items };
+}
+
+impl BucketBalances {
+    /// These buckets.
+    pub fn new(list: Vec<BucketBalance>) -> BucketBalances
+        ensures { result ≡ list.items }
+    {
+        BucketBalances { list }
+    }
+
+    /// The buckets, one after another.
+    pub fn as_slice(&self) -> &[BucketBalance]
+        ensures { result.now ≡ self.now }
+    {
+        self.list.as_slice()
+    }
+}
+
+/// What became of an account's money, as of a moment.
+#[derive(Clone, Debug, Drop)]
+pub struct AccountBalance {
+    /// The account's number (Subscription-Id-Data, RFC 8506 section 8.48).
+    pub account: AccountNumber,
+    /// Whether it is barred (profile).
+    pub barred: bool,
+    /// Its buckets, by number.
+    pub buckets: BucketBalances,
+    /// The moment.
+    pub moment: Moment,
+}
