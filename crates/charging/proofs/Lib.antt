@@ -20,3 +20,4 @@ pub mod Guaranteed
 pub mod KeptDecisions
 pub mod KeptHistories
 pub mod Accounted
+pub mod Collecting

@@ -10,3 +10,4 @@ pub mod Quotas
 pub mod Isolation
 pub mod Repeats
 pub mod Headline
+pub mod Collected

@@ -12,7 +12,7 @@ mod running;
 mod stepping;
 
 pub use crate::answers::Run;
-pub use crate::laws::{beginning, isolation, payment, quota, repeats};
+pub use crate::laws::{beginning, collection, isolation, payment, quota, repeats};
 pub use crate::running::{DatedCommand, run};
 pub use crate::stepping::step;
 pub use commands::{Answer, Command};
