@@ -17,3 +17,4 @@ pub mod Stops
 pub mod Sweeps
 pub mod Tests
 pub mod Writes
+pub mod ChargePages
