@@ -17,7 +17,7 @@ TOP = pathlib.Path(__file__).resolve().parent.parent
 DEPLOY = TOP / "deploy"
 BOOK = TOP / "examples/book.toml"
 SECONDS = 30
-KINDS = {"ccr": "POST", "credits": "POST", "redeem": "POST", "sweep": "POST"}
+given = [20000 + os.getpid() % 8000]
 
 
 def program():
@@ -37,8 +37,8 @@ def need(*commands):
 
 
 def free_ports(count):
-    """The first of so many ports in a row that nobody listens on."""
-    for first in range(20000 + os.getpid() % 8000, 32000, count):
+    """The first of so many ports in a row that nobody listens on, past those that were given."""
+    for first in range(given[-1], 32000):
         with contextlib.ExitStack() as opened:
             try:
                 for port in range(first, first + count):
@@ -47,6 +47,7 @@ def free_ports(count):
                     listener.bind(("127.0.0.1", port))
             except OSError:
                 continue
+            given.append(first + count)
             return first
     raise OSError("no free ports")
 
