@@ -17,5 +17,6 @@ pub mod Puts
 pub mod Whole
 pub mod Commits
 pub mod Committed
+pub mod Repeating
 pub mod Swept
 pub mod SweptReads
