@@ -1,5 +1,5 @@
 -- What is committed of a change.
-use Rattle.std.proofs.Common.{◌≡◌, ◌∙◌, ap, refl, subst, ℕ, List, [], ◌∷◌, Option, Some, None, IsTrue}
+use Rattle.std.proofs.Common.{◌≡◌, ◌≤◌, ◌∙◌, ap, refl, subst, ℕ, List, [], ◌∷◌, Option, Some, None, IsTrue}
 use Rattle.keepers.specs.declared.key.Key.{Key}
 use Rattle.keepers.specs.declared.key.Key.TheVariants.{Request, Reference}
 use Rattle.keepers.specs.declared.key.KeptAnswer.{KeptAnswer}
@@ -74,7 +74,7 @@ change_meta names m change texts c =
 module _ (names : List (List ℕ)) (text : List ℕ) (change : Change) (texts : Option Kept) (head : Option HeadColumns)
     (stored : IsStored change.after) (may : AreWritable names change.after.sessions change.after.groups)
     (numbers : AreNumbered (first_number head) change.after.next_charge change.charges.items)
-    (told : AreTexts change.number change.kept texts) where
+    (told : AreTexts change.number change.kept texts) (last : change.moment ≤ 4_102_488_000) where
   become : (old new : Trees) → head ≡ (rows_in old change.number).head
       → Turns (with_change names (meta_with text change) change texts) old new → Becomes names text change old new
   become old new is turns = record {
@@ -85,7 +85,9 @@ module _ (names : List (List ℕ)) (text : List ℕ) (change : Change) (texts : 
         made;
     meta = ap (λ (c : Content). c.meta) turns.content
         ∙ change_meta names (meta_with text change) change texts (content_of old);
+    last = last;
     catalog = turns.catalog;
+    stored = turns.stored;
   }
 
   pub become_at : (old mid : State) → OnlyReads old mid

@@ -1,5 +1,5 @@
 -- New tables hold nothing.
-use Rattle.std.proofs.Common.{◌≡◌, ℕ, List, [], None, refl, ap, ◌∙◌, subst, Ok, arith}
+use Rattle.std.proofs.Common.{◌≡◌, ℕ, List, [], None, refl, ap, sym, ◌∙◌, subst, Ok, arith}
 use Rattle.std.specs.Prelude.{length, option_map}
 use Rattle.std.specs.FinMap.{get, get-empty}
 use Rattle.sqlite_value.specs.Order.{Row, row_cmp}
@@ -8,7 +8,9 @@ use Rattle.keepers.specs.declared.key.Key.{Key}
 use Rattle.keepers.specs.declared.key.Key.TheVariants.{Request, Reference}
 use Rattle.sqlite.specs.State.{State}
 use Rattle.sqlite.proofs.StateLemmas.{survives_then}
+use Rattle.sqlite_trees.specs.Objects.{catalog_tree}
 use Rattle.sqlite_trees.specs.Tree.{Trees}
+use Rattle.sqlite_catalog.specs.Listing.{Lists}
 use Rattle.sql_tables.specs.Keyed.{look, table_of}
 use Rattle.sql_tables.specs.Schema.{book_schema}
 use Rattle.sql_tables.specs.Stages.{AreEmpty, BuildsAll}
@@ -87,8 +89,10 @@ new_empty names =
 
 -- the row of meta in tables without rows
 new_book : (text : List ℕ) (old new : Trees) → AreEmpty book_schema.tables old
-    → Turns (with_meta (first_meta text)) old new → IsNewBook text new
-new_book text old new e turns = record {
+    → Lists (old catalog_tree) book_schema → Turns (with_meta (first_meta text)) old new → IsNewBook text new
+new_book text old new e lists turns = record {
+  lists = subst (λ rows. Lists rows book_schema) (sym turns.catalog) lists;
+  stored = turns.stored;
   meta = ap (λ (c : Content). c.meta) turns.content;
   tables = λ names.
       ap (tables_of names) (turns.content ∙ ap (with_meta (first_meta text)) (empty_content old e))
@@ -106,7 +110,7 @@ builds_book text first is a b c u v w one two = record {
       let put : Makes (with_meta (first_meta text)) b c =
       subst (λ n. Makes (with_meta (record { version = 1; book = text; last = n })) b c) is (two.done clean) in
       record {
-        made = new_book text b.now.trees c.now.trees built.empty put.turns;
+        made = new_book text b.now.trees c.now.trees built.empty built.lists put.turns;
         book = put.book;
         shows = record {
           was_open = built.shows.was_open;

@@ -17,6 +17,7 @@ pub mod Numbers
 pub mod Opens
 pub mod Overlays
 pub mod Puts
+pub mod Repeating
 pub mod Swept
 pub mod SweptReads
 pub mod Whole

@@ -13,7 +13,7 @@ use Rattle.reserving.specs.Rows.{AccountRows}
 use Rattle.reserving.specs.Stored.{StoredRows, stored}
 use Rattle.reserving.proofs.Keys.{first_true, second_true, same_number}
 use Rattle.sql_rows.specs.Content.{Rows as Stored}
-use Rattle.sql_rows.specs.Lists.{AreBuckets, AreCounters, is_live}
+use Rattle.sql_rows.specs.Lists.{AreBuckets, is_live}
 use Rattle.keepers.specs.declared.loaded.Loaded.{Loaded}
 use Rattle.keepers.specs.declared.fault.StoreFault.{StoreFault}
 use Rattle.keepers.specs.declared.fault.StoreFault.TheVariants.{Store}
@@ -49,7 +49,7 @@ none true o e = refl
 none false o e = e
 
 -- a test that tells all rows of a key alike keeps what is found, or none of it
-find_kept : {A : Type 0} (q p : A → Bool) (b : Bool) → ((x : A) → q x ≡ true → p x ≡ b) → (xs : List A)
+pub find_kept : {A : Type 0} (q p : A → Bool) (b : Bool) → ((x : A) → q x ≡ true → p x ≡ b) → (xs : List A)
     → find q (filter p xs) ≡ (if b then find q xs else None)
 find_kept q p b same [] = none b (find q []) refl
 find_kept q p b same (x ∷ xs) = at b (p x) (q x) refl refl (same x) (find_kept q p b same xs)
@@ -63,20 +63,6 @@ find_kept q p b same (x ∷ xs) = at b (p x) (q x) refl refl (same x) (find_kept
     at false false true e k is rest = rest
     at b true false e k is rest = rw k rest
     at b false false e k is rest = rest
-
-cycle_is : (book : Book) (t g c : ℕ) (x : Counter) → is_counter g c x ≡ true
-    → (x.cycle == cycle_at book x.group t) ≡ (c == cycle_at book g t)
-cycle_is book t g c x e = λ i.
-    same_number x.cycle c (second_true (x.group == g) (x.cycle == c) e) i == cycle_at book
-    (same_number x.group g (first_true (x.group == g) (x.cycle == c) e) i) t
-
-pub counters_at : (book : Book) (t : ℕ) (rows : Stored) (all cs : List Counter) → AreCounters rows all
-    → cs ≡ filter (λ r. r.cycle == cycle_at book r.group t) all → AreCountersAt book t rows cs
-counters_at book t rows all cs found is g c =
-    ap (counter_in g c) is
-    ∙ find_kept (is_counter g c) (λ r. r.cycle == cycle_at book r.group t) (c == cycle_at book g t)
-    (cycle_is book t g c) all
-    ∙ ap (λ o. if c == cycle_at book g t then o else None) (found g c)
 
 -- ---- all of it
 

@@ -1,6 +1,7 @@
 -- A keeper that is made or opened, and what was read of its database.
-use Rattle.std.proofs.Common.{◌≡◌, ◌⊎◌, inl, inr, ◌∙◌, ap, refl, sym, subst, ℕ, List, Some, IsTrue, false, arith}
+use Rattle.std.proofs.Common.{◌≡◌, ◌≤◌, ◌⊎◌, inl, inr, ◌∙◌, ap, refl, sym, subst, ℕ, List, Some, None, IsTrue, false, arith}
 use Rattle.std.specs.Prelude.{Ok, Err, Result, IfErr, IfOk, OnOk}
+use Rattle.std.specs.Str.{IsUtf8}
 use Rattle.std.specs.String.{string_bytes}
 use Rattle.tariffs.specs.Books.{Book}
 use Rattle.sqlite_trees.specs.declared.store.Store.{Ghosts}
@@ -15,21 +16,25 @@ use Rattle.sql_tables.specs.Schema.{book_schema}
 use Rattle.sql_tables.specs.Statements.{HasIdleBook, IsStill, OnlyReads}
 use Rattle.sql_tables.specs.Texts.{stage}
 use Rattle.sql_rows.specs.Content.{content_of}
+use Rattle.sql_rows.specs.Ruled.{IsRefusedMeta}
 use Rattle.sql_rows.specs.Texts.{meta_of}
+use Rattle.sql_rows.specs.Values.{Meta}
 use Rattle.sql_rows.specs.declared.meta_rows.Meta.{Meta as MetaRow}
 use Rattle.sql_opening.specs.Opens.{IsFound, IsNoVersion, IsTold}
 use Rattle.sql_opening.specs.declared.fault.OpenFault.{OpenFault}
-use Rattle.sql_opening.specs.declared.fault.OpenFault.TheVariants.{Foreign, Version}
+use Rattle.sql_opening.specs.declared.fault.OpenFault.TheVariants.{Foreign, Version, Rules}
 use Rattle.sqlite_schema.specs.declared.schema.Schema.{Schema}
 use Rattle.sql_tables.specs.Ours.{has_ours}
-use Rattle.sql_keeper.specs.Books.{IsBookOf, IsBookText}
+use Rattle.book_fields.specs.declared.fault.BookFault.{BookFault}
+use Rattle.book_fields.specs.declared.fault.BookFault.TheVariants.{Memory as WantOfMemory}
+use Rattle.sql_keeper.specs.Books.{IsBookFault, IsBookOf, IsBookText}
 use Rattle.keepers.specs.Tables.{no_tables}
 use Rattle.sql_keeper.specs.Content.{tables_of}
 use Rattle.sql_keeper.specs.Creates.{CreatesBook, IsNewBook, first_meta}
 use Rattle.sql_keeper.specs.Faults.{IsCreateFault}
-use Rattle.sql_keeper.specs.Finds.{FindsBook, FindsMeta}
+use Rattle.sql_keeper.specs.Finds.{FindsBook, FindsMeta, IsUnruledAt}
 use Rattle.sql_keeper.specs.Inside.{KeeperState, IsClean}
-use Rattle.sql_keeper.specs.Opened.{IsCreated, IsFresh, IsKept, IsLeft, IsNotCreated, IsOpened}
+use Rattle.sql_keeper.specs.Opened.{IsCreated, IsFresh, IsKept, IsLeft, IsNotCreated, IsOpened, IsRuled}
 use Rattle.sql_keeper.specs.declared.books.ReadBook.{ReadBook}
 use Rattle.sql_keeper.specs.declared.create_fault.CreateFault.{CreateFault}
 use Rattle.sql_keeper.specs.declared.create_fault.CreateFault.TheVariants.{Store, Memory}
@@ -74,7 +79,7 @@ store_told text schema f (inr is) none book = subst (IsCreateFault text schema) 
 module _ {S : Type 0} (g : Ghosts S) (k : KeeperState S) (conn : Held S) (book given own : Book)
     (text bytes : List ℕ) (connection : k.connection ≡ conn) (is : book ≡ given) (same : own ≡ given)
     (names : k.names ≡ own.periods) (told : k.text ≡ bytes) (none : k.failures ≡ 0)
-    (read : IsBookOf text given) (kept : bytes ≡ text) (live : IsLive (state g conn)) where
+    (read : IsBookOf text given) (kept : bytes ≡ text) (live : IsLive (state g conn)) (utf8 : IsUtf8 bytes) where
   pub fresh : IsFresh k book
   fresh = record {
     read = subst (λ t. IsBookOf t book) (sym (told ∙ kept)) (subst (IsBookOf text) (sym is) read);
@@ -105,7 +110,10 @@ module _ {S : Type 0} (g : Ghosts S) (k : KeeperState S) (conn : Held S) (book g
         let made = c.done clean in
         record {
           lists = listed clean made.0 made.1;
-          kept = record { row = first_meta text; is = made.2.meta; version = refl; book = refl };
+          stored = made.2.stored;
+          kept = record { row = first_meta text; is = made.2.meta; version = refl; book = refl; last = omega arith };
+          utf8 = subst IsUtf8 kept utf8;
+          book = (given, read);
         });
     survives = subst (λ h. Survives (state g old) (state g h) (IsNewBook text)) (sym connection) c.survives;
   }
@@ -119,7 +127,10 @@ module _ {S : Type 0} (g : Ghosts S) (k : KeeperState S) (conn : Held S) (book g
         let it = found clean in
         record {
           lists = listed clean it.2 idle;
+          stored = (idle clean it.2).book.stored;
           kept = subst (IsKept (state g conn).now.trees) (sym told) it.0;
+          utf8 = subst IsUtf8 (sym told) utf8;
+          book = subst IsBookText (sym (told ∙ kept)) (given, read);
         });
     clean = subst (λ h. HasCleanDisk (state g h) → IsClean (state g h)) (sym connection)
         (λ clean. record { disk = clean; open_still = inr (found clean).2 });
@@ -133,6 +144,29 @@ pub not_created : {S A E : Type 0} (g : Ghosts S) (text : List ℕ) (old new : H
     → CreatesBook {A = A} {E = E} text (state g old) (state g new) (Err e) → IsNotCreated g text old new fault
 not_created g text old new fault e told mode c =
     record { told = told; mode = mode; still = c.kept; survives = c.survives }
+
+-- ---- the row that is kept once
+
+-- there is none
+pub none_ruled : (s : State) (fault : OpenFault) → None ≡ (content_of s.now.trees).meta → IsUnruledAt s fault
+none_ruled s fault none is ruled = absurd (let no : Some ruled.row ≡ None = sym ruled.is ∙ sym none in cc)
+
+-- it is refused
+pub refused_ruled : (s : State) (fault : OpenFault) → IsRefusedMeta (content_of s.now.trees).meta
+    → IsUnruledAt s fault
+refused_ruled s fault refused is ruled = subst IsRefusedMeta ruled.is refused ruled.ruled
+
+-- its text is no book
+pub book_refused : (text bytes : List ℕ) → text ≡ bytes → (fault : BookFault) → IsBookFault text fault
+    → (told : OpenFault) → (told ≡ Rules → ¬ (fault ≡ WantOfMemory)) → (version : ℕ) → version ≡ 1
+    → told ≡ Rules → (version ≡ 1) × ¬ IsBookText bytes
+book_refused text bytes same fault means told other version first is = (
+  first,
+  λ book.
+      let of_text = subst (λ t. IsBookText t) (sym same) book in
+      let no : Err fault ≡ Ok of_text.0 = sym (means.document of_text.1.0 of_text.1.1 (other is)) ∙ of_text.1.2 in
+      absurd (cc),
+)
 
 -- ---- what is read before
 
@@ -158,8 +192,8 @@ module _ (old mid new : State) (found : HasCleanDisk mid → IsFound old mid) (o
   pub finds_meta : (r : Result MetaRow OpenFault)
       → (HasCleanDisk new → IfOk r (λ m. (content_of mid.now.trees).meta ≡ Some (meta_of m)))
       → (HasCleanDisk new → OnOk r (IsTrue new.is_open)) → IfErr r IsNoVersion
-      → IfErr r (λ fault. ¬ (fault ≡ Foreign)) → FindsMeta old new r
-  finds_meta (Ok m) is on told ours = record {
+      → IfErr r (λ fault. ¬ (fault ≡ Foreign)) → (HasCleanDisk new → IfErr r (IsUnruledAt mid)) → FindsMeta old new r
+  finds_meta (Ok m) is on told ours rules = record {
     found = λ clean. (
       subst (λ (d : Database). (content_of d.trees).meta ≡ Some (meta_of m))
           (sym (only.still clean (on clean)).now_is) (is clean),
@@ -169,13 +203,16 @@ module _ (old mid new : State) (found : HasCleanDisk mid → IsFound old mid) (o
     idle = only.idle;
     told = tt;
     foreign = λ clean. tt;
+    rules = λ clean. tt;
     survives = reads_survived;
   }
-  finds_meta (Err e) is on told ours = record {
+  finds_meta (Err e) is on told ours rules = record {
     found = λ clean. tt;
     idle = tt;
     told = told;
     foreign = λ clean is. absurd (ours is);
+    rules = λ clean is ruled. rules clean is (subst (λ (d : Database). IsRuled d.trees)
+        (sym (found (only.cleanness clean)).unchanged.0.now_is) ruled);
     survives = reads_survived;
   }
 
@@ -187,6 +224,7 @@ finds_none old new e told means survives = record {
   idle = tt;
   told = told;
   foreign = λ clean is. subst (IsTold old.now) is (means clean);
+  rules = λ clean is ruled. subst (IsTold old.now) is (means clean) ruled.stored;
   survives = survives;
 }
 
@@ -194,19 +232,22 @@ pub finds_book : (old new : State) (m : MetaRow) (r : Result ReadBook OpenFault)
     → OnOk r (m.version ≡ 1) → IfOk r (λ b. IsBookOf (string_bytes b.text) b.given)
     → IfOk r (λ b. b.own ≡ b.given) → IfOk r (λ b. string_bytes b.text ≡ string_bytes m.book)
     → IfErr r (λ fault. fault ≡ Version → ¬ (m.version ≡ 1)) → IfErr r (λ fault. ¬ (fault ≡ Foreign))
+    → m.last ≤ 4_102_488_000
+    → IfErr r (λ fault. fault ≡ Rules → (m.version ≡ 1) × ¬ IsBookText (string_bytes m.book))
     → FindsBook old new r
-finds_book old new m (Ok b) finds version read same text told ours = record {
+finds_book old new m (Ok b) finds version read same text told ours last rules = record {
   found = λ clean.
       let f = finds.found clean in
-      (record { row = meta_of m; is = f.0; version = version; book = sym text }, f.1, f.2);
+      (record { row = meta_of m; is = f.0; version = version; book = sym text; last = last }, f.1, f.2);
   read = read;
   same = same;
   idle = finds.idle;
   foreign = λ clean. tt;
   version = λ clean. tt;
+  rules = λ clean. tt;
   survives = finds.survives;
 }
-finds_book old new m (Err e) finds version read same text told ours = record {
+finds_book old new m (Err e) finds version read same text told ours last rules = record {
   found = λ clean. tt;
   read = tt;
   same = tt;
@@ -219,6 +260,15 @@ finds_book old new m (Err e) finds version read same text told ours = record {
         is = subst (λ (d : Database). (content_of d.trees).meta ≡ Some (meta_of m)) f.1.now_is f.0;
         other = told is;
       };
+  rules = λ clean is ruled.
+      let f = finds.found clean in
+      let refused = rules is in
+      let at : (content_of old.now.trees).meta ≡ Some (meta_of m) =
+      subst (λ (d : Database). (content_of d.trees).meta ≡ Some (meta_of m)) f.1.now_is f.0 in
+      let same : Some ruled.row ≡ Some (meta_of m) = sym ruled.is ∙ at in
+      let row : ruled.row ≡ meta_of m = cc same in
+      refused.1 (subst (λ (x : Meta). IsBookText x.book) row
+      (ruled.book (ap (λ (x : Meta). x.version) row ∙ refused.0)));
   survives = finds.survives;
 }
 
@@ -230,5 +280,6 @@ finds_no_book old new e finds = record {
   idle = tt;
   foreign = finds.foreign;
   version = λ clean is. absurd (finds.told is);
+  rules = finds.rules;
   survives = finds.survives;
 }

@@ -13,6 +13,7 @@ made_then f g a b c one two = record {
   turns = record {
     content = two.turns.content ∙ ap g one.turns.content;
     catalog = two.turns.catalog ∙ one.turns.catalog;
+    stored = two.turns.stored;
   };
   book = two.book;
   shows = record {

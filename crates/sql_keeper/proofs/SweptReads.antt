@@ -139,18 +139,20 @@ module _ (names : List (List ℕ)) (book : Book) (t : ℕ) where
 -- ---- what is written
 
 become : (names : List (List ℕ)) (text : List ℕ) (book : Book) (t : ℕ) (xs : List SweptAccount) → IsBook book
-    → (old new : Trees) → AreAllSwept names book t (content_of old) xs → Turns (with_sweep names text t xs) old new
+    → t ≤ 4_102_488_000 → (old new : Trees) → AreAllSwept names book t (content_of old) xs → Turns (with_sweep names text t xs) old new
     → BecomesSwept names text book t old new
-become names text book t xs ranges old new all turns = record {
+become names text book t xs ranges last old new all turns = record {
   tables = subst (λ (c : Content). IsSwept book t (tables_of names (content_of old)) (tables_of names c))
       (sym turns.content) (sweeps_read names text book t (content_of old) xs ranges all);
   meta = ap (λ (c : Content). c.meta) turns.content
       ∙ swept_meta names text book t (content_of old) xs ranges all;
+  last = last;
   catalog = turns.catalog;
+  stored = turns.stored;
 }
 
 module _ {V E : Type 0} (items : V → List SweptAccount) (names : List (List ℕ)) (text : List ℕ) (book : Book) (t : ℕ)
-    (v : V) (xs : List SweptAccount) (is : xs ≡ items v) (ranges : IsBook book) (old mid : State)
+    (v : V) (xs : List SweptAccount) (is : xs ≡ items v) (ranges : IsBook book) (last : t ≤ 4_102_488_000) (old mid : State)
     (reads : Gathers {A = V} {E = E} (λ trees v. AreAllSwept names book t (content_of trees) (items v)) old mid (Ok v)) where
   all_of : HasCleanDisk mid → IsTrue mid.is_open → AreAllSwept names book t (content_of old.now.trees) xs
   all_of clean on = subst (AreAllSwept names book t (content_of old.now.trees)) (sym is) (reads.found clean on)
@@ -158,7 +160,7 @@ module _ {V E : Type 0} (items : V → List SweptAccount) (names : List (List �
   pub become_swept : HasCleanDisk mid → IsTrue mid.is_open → (db : Trees)
       → Turns (with_sweep names text t xs) mid.now.trees db → BecomesSwept names text book t old.now.trees db
   become_swept clean on db turns =
-      become names text book t xs ranges old.now.trees db (all_of clean on) (subst (λ (d : Database).
+      become names text book t xs ranges last old.now.trees db (all_of clean on) (subst (λ (d : Database).
       Turns (with_sweep names text t xs) d.trees db) (reads.only.still clean on).now_is turns)
 
   -- how many there are

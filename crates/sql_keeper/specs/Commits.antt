@@ -1,13 +1,13 @@
 -- A change, committed whole or not at all.
 -- Source: profile.
-use Rattle.std.specs.Prelude.{◌≡◌, ℕ, List, Some, IsTrue, OnOk, OnErr, Result}
+use Rattle.std.specs.Prelude.{◌≡◌, ◌≤◌, ℕ, List, Some, IsTrue, OnOk, OnErr, Result}
 use Rattle.sqlite_trees.specs.Tree.{Trees}
 use Rattle.sqlite_trees.specs.Objects.{catalog_tree}
 use Rattle.sqlite.specs.State.{State, HasCleanDisk, Survives}
 use Rattle.reserving.specs.Stored.{StoredRows}
 use Rattle.keepers.specs.declared.loaded.Change.{Change}
 use Rattle.keepers.specs.Change.{IsMadeFrom, changed}
-use Rattle.sql_tables.specs.Statements.{HasIdleBook, IsStill}
+use Rattle.sql_tables.specs.Statements.{AreStored, HasIdleBook, IsStill}
 use Rattle.sql_rows.specs.Content.{Content, content_of, with_account}
 use Rattle.sql_rows.specs.Each.{with_buckets, with_counters}
 use Rattle.sql_rows.specs.Makes.{Commits, Turns}
@@ -32,14 +32,17 @@ pub record Transacts {A E : Type 0} (change : Content → Content) (old new : St
     pub survives : Survives old new (λ db. IsTrue old.is_open × Turns change old.now.trees db)
 
 -- the tables hold the change, if it is one of the rows that were there; they would be found again:
--- the catalog is the same, and so are the version and the text of the book
+-- the catalog is the same, and so are the version and the text of the book, no rowid stands twice, and
+-- the moment is in the range of moments
 pub record Becomes (names : List (List ℕ)) (text : List ℕ) (change : Change) (old new : Trees) : Type 0
   where
     pub tables : IsMadeFrom change.before change.after
         ((tables_of names (content_of old)).rows change.number)
         → tables_of names (content_of new) ≡ changed change (tables_of names (content_of old))
     pub meta : (content_of new).meta ≡ Some (meta_with text change)
+    pub last : change.moment ≤ 4_102_488_000
     pub catalog : new catalog_tree ≡ old catalog_tree
+    pub stored : AreStored new
 
 -- what the tables become is committed whole, or they are as before; a stop leaves one or the other
 pub record CommitsWhole {A E : Type 0} (Become : Trees → Trees → Type 0) (old new : State)

@@ -10,14 +10,18 @@ use Rattle.sql_rows.specs.Content.{content_of}
 use Rattle.sql_rows.specs.Texts.{meta_of}
 use Rattle.sql_opening.specs.Opens.{IsNoVersion}
 use Rattle.sql_opening.specs.declared.fault.OpenFault.{OpenFault}
-use Rattle.sql_opening.specs.declared.fault.OpenFault.TheVariants.{Foreign, Version}
+use Rattle.sql_opening.specs.declared.fault.OpenFault.TheVariants.{Foreign, Version, Rules}
 use Rattle.sql_keeper.specs.Books.{IsBookOf}
-use Rattle.sql_keeper.specs.Opened.{IsKept, IsOtherVersion}
+use Rattle.sql_keeper.specs.Opened.{IsKept, IsOtherVersion, IsRuled}
 use Rattle.sql_keeper.specs.declared.books.ReadBook.{ReadBook}
 
 -- the fault is told of tables that aren't ours alone
 abbrev pub IsForeignAt : State → OpenFault → Type 0
 IsForeignAt s fault = fault ≡ Foreign → ¬ (s.now.schema ≡ book_schema)
+
+-- the fault is told of rows out of their rules alone
+abbrev pub IsUnruledAt : State → OpenFault → Type 0
+IsUnruledAt s fault = fault ≡ Rules → ¬ IsRuled s.now.trees
 
 -- the tables are ours, and this is kept once; nothing was written
 pub record FindsMeta (old new : State) (result : Result MetaRow OpenFault) : Type 0 where
@@ -26,6 +30,7 @@ pub record FindsMeta (old new : State) (result : Result MetaRow OpenFault) : Typ
   pub idle : OnOk result (HasIdleBook new)
   pub told : IfErr result IsNoVersion
   pub foreign : HasCleanDisk new → IfErr result (IsForeignAt old)
+  pub rules : HasCleanDisk new → IfErr result (IsUnruledAt old)
   pub survives : Survives old new (λ _. ⊥)
 
 -- the same with the book of the text that is kept
@@ -37,4 +42,5 @@ pub record FindsBook (old new : State) (result : Result ReadBook OpenFault) : Ty
   pub idle : OnOk result (HasIdleBook new)
   pub foreign : HasCleanDisk new → IfErr result (IsForeignAt old)
   pub version : HasCleanDisk new → IfErr result (λ fault. fault ≡ Version → IsOtherVersion old.now.trees)
+  pub rules : HasCleanDisk new → IfErr result (IsUnruledAt old)
   pub survives : Survives old new (λ _. ⊥)

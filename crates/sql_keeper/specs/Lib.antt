@@ -13,6 +13,7 @@ pub mod Laws
 pub mod LiveGroups
 pub mod LiveRows
 pub mod Opened
+pub mod Repeating
 pub mod Stops
 pub mod Sweeps
 pub mod Tests

@@ -1,6 +1,7 @@
 -- A keeper that was just made over a database, and what is left where none was made.
 -- Source: profile.
-use Rattle.std.specs.Prelude.{◌≡◌, ℕ, false, List, Some, IsTrue}
+use Rattle.std.specs.Prelude.{◌≡◌, ◌≤◌, ℕ, false, List, Some, IsTrue}
+use Rattle.std.specs.Str.{IsUtf8}
 use Rattle.tariffs.specs.Books.{Book}
 use Rattle.sqlite_trees.specs.declared.store.Store.{Ghosts}
 use Rattle.sqlite_trees.specs.Tree.{Trees}
@@ -9,14 +10,15 @@ use Rattle.sqlite_catalog.specs.Listing.{Lists}
 use Rattle.sqlite.specs.Held.{Held, state}
 use Rattle.sqlite.specs.State.{HasCleanDisk, Survives}
 use Rattle.sql_tables.specs.Schema.{book_schema}
-use Rattle.sql_tables.specs.Statements.{IsStill}
+use Rattle.sql_tables.specs.Statements.{AreStored, IsStill}
 use Rattle.sql_tables.specs.Texts.{stage}
+use Rattle.sql_rows.specs.Ruled.{IsRuledMeta}
 use Rattle.sql_rows.specs.Values.{Meta}
 use Rattle.sql_rows.specs.Content.{content_of}
 use Rattle.sql_opening.specs.declared.fault.OpenFault.{OpenFault}
-use Rattle.sql_opening.specs.declared.fault.OpenFault.TheVariants.{Foreign, Version}
+use Rattle.sql_opening.specs.declared.fault.OpenFault.TheVariants.{Foreign, Version, Rules}
 use Rattle.keepers.specs.Tables.{no_tables}
-use Rattle.sql_keeper.specs.Books.{IsBookOf}
+use Rattle.sql_keeper.specs.Books.{IsBookOf, IsBookText}
 use Rattle.sql_keeper.specs.Creates.{IsNewBook}
 use Rattle.sql_keeper.specs.Faults.{IsCreateFault}
 use Rattle.sql_keeper.specs.declared.create_fault.CreateFault.{CreateFault}
@@ -31,18 +33,22 @@ pub record IsFresh {S : Type 0} (k : KeeperState S) (book : Book) : Type 0 where
 
 -- ---- left
 
--- what is kept once: the first version of the tables, and the text of the book
+-- what is kept once: the first version of the tables, the text of the book, and a moment
 pub record IsKept (trees : Trees) (text : List ℕ) : Type 0 where
   pub row : Meta
   pub is : (content_of trees).meta ≡ Some row
   pub version : row.version ≡ 1
   pub book : row.book ≡ text
+  pub last : row.last ≤ 4_102_488_000
 
--- the tables of a book as they are found again: the database lists ours, and keeps their first
--- version with the text
+-- the tables of a book as they are found again: the database lists ours, no rowid stands twice there,
+-- and it keeps their first version with the text, which is one of characters and a book's
 pub record IsLeft (text : List ℕ) (trees : Trees) : Type 0 where
   pub lists : Lists (trees catalog_tree) book_schema
+  pub stored : AreStored trees
   pub kept : IsKept trees text
+  pub utf8 : IsUtf8 text
+  pub book : IsBookText text
 
 -- ---- made
 
@@ -76,6 +82,15 @@ pub record IsOtherVersion (trees : Trees) : Type 0 where
   pub is : (content_of trees).meta ≡ Some row
   pub other : ¬ (row.version ≡ 1)
 
+-- in the rules of who opens it: no rowid stands twice, and what is kept once is there and in its rules,
+-- with the text of a book where it is of the first version
+pub record IsRuled (trees : Trees) : Type 0 where
+  pub stored : AreStored trees
+  pub row : Meta
+  pub is : (content_of trees).meta ≡ Some row
+  pub ruled : IsRuledMeta row
+  pub book : row.version ≡ 1 → IsBookText row.book
+
 -- the keeper holds what was there, and nothing was written
 pub record IsOpened {S : Type 0} (g : Ghosts S) (old : Held S) (k : KeeperState S) (book : Book) : Type 0
   where
@@ -90,3 +105,4 @@ pub record IsNotOpened {S : Type 0} (g : Ghosts S) (old new : Held S) (fault : O
   pub survives : Survives (state g old) (state g new) (λ _. ⊥)
   pub foreign : HasCleanDisk (state g new) → fault ≡ Foreign → ¬ ((state g old).now.schema ≡ book_schema)
   pub version : HasCleanDisk (state g new) → fault ≡ Version → IsOtherVersion (state g old).now.trees
+  pub rules : HasCleanDisk (state g new) → fault ≡ Rules → ¬ IsRuled (state g old).now.trees

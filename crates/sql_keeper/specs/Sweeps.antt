@@ -1,8 +1,9 @@
 -- A sweep: each account's rows at a later moment, written one account after another.
 -- Source: profile.
-use Rattle.std.specs.Prelude.{◌≡◌, ℕ, List, Option, Some, None, map, nat_le, if◌then◌else◌}
+use Rattle.std.specs.Prelude.{◌≡◌, ◌≤◌, ℕ, List, Option, Some, None, map, nat_le, if◌then◌else◌}
 use Rattle.sqlite_trees.specs.Tree.{Trees}
 use Rattle.sqlite_trees.specs.Objects.{catalog_tree}
+use Rattle.sql_tables.specs.Statements.{AreStored}
 use Rattle.tariffs.specs.Books.{Book}
 use Rattle.reserving.specs.Rows.{EachIn}
 use Rattle.reserving.specs.Stored.{StoredRows, IsStored, advanced_stored}
@@ -79,9 +80,12 @@ with_sweep names text t xs c = with_accounts names xs (with_meta (meta_at text t
 -- ---- what becomes of the tables
 
 -- each account is brought to the moment; the tables would be found again: the catalog is the same,
--- and so are the version and the text of the book
+-- and so are the version and the text of the book, no rowid stands twice, and the moment is in the range
+-- of moments
 pub record BecomesSwept (names : List (List ℕ)) (text : List ℕ) (book : Book) (t : ℕ) (old new : Trees)
     : Type 0 where
   pub tables : IsSwept book t (tables_of names (content_of old)) (tables_of names (content_of new))
   pub meta : (content_of new).meta ≡ Some (meta_at text t)
+  pub last : t ≤ 4_102_488_000
   pub catalog : new catalog_tree ≡ old catalog_tree
+  pub stored : AreStored new

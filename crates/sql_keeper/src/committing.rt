@@ -62,6 +62,7 @@ fn make_change<S: Alter>(
         (state S.Store conn.old) (state S.Store conn.new) result }
 {
     let _stored = change.after.as_of();
+    let _moment = change.moment.seconds();
     let head = read_account(conn, &change.number)?;
     if !may_be_written(book, &head, change) {
         return Err(ReadFault::Rules);

@@ -1,8 +1,9 @@
 //! What may still change of an account, read from the tables.
 
-ghost use Rattle.std.specs.Prelude.{◌≡◌, ◌==◌, map, filter, IfOk};
-ghost use Rattle.reserving.specs.Pricing.{cycle_at};
+ghost use Rattle.std.specs.Prelude.{◌≡◌, ◌++◌, map, filter, IfOk};
+ghost use Rattle.calendar.specs.contracts.cycle.CyclePartialEq.TheImpl.{ghosts as cycles};
 ghost use Rattle.sql_keeper.specs.LiveGroups.{Gathers};
+ghost use Rattle.sql_keeper.specs.Repeating.{AreEachRepeating, AreRepeating, repeats_in};
 ghost use Rattle.sql_keeper.specs.LiveRows.{account_with, AreCountersAt, AreLiveBuckets, AreLiveRows, IsLiveAccount};
 ghost use Rattle.sql_rows.specs.Content.{rows_in};
 ghost use Rattle.sql_rows.specs.Texts.{bucket_row};
@@ -12,10 +13,11 @@ ghost use Rattle.sqlite.specs.Held.{state};
 use crate::live_groups::read_live_groups;
 use crate::rebuilding::buckets_of;
 use buckets::Purse;
+use calendar::Cycle;
 use identifiers::AccountNumber;
 use reserving::{Counter, GivenRows, Session, SessionGroup, StoredAccount};
 use sql_rows::{
-    BucketColumns, Head, read_account, read_buckets_live, read_counters, read_sessions_open,
+    BucketColumns, Head, read_account, read_buckets_live, read_counters_in, read_sessions_open,
 };
 use sql_tables::ReadFault;
 use sqlite::{Alter, Connection};
@@ -60,27 +62,95 @@ fn read_purse<S: Alter>(
     purse_of(alloc, &rows)
 }
 
-/// The cycle of the counter of a rating group at a moment.
-fn cycle_of(book: &TariffBook, group: u32, moment: Moment) -> u32
-    ensures { result ≡ cycle_at book.now group moment }
+/// How often the counter of a rating group begins again: never for a group that the book doesn't
+/// have.
+fn repeats_of(book: &TariffBook, group: u32) -> Cycle
+    ensures { result ≡ repeats_in book.now group }
 {
     let Some(tariff) = book.tariff(group) else {
-        return 0;
+        return Cycle::None;
     };
-    book.cycle_of(tariff.cycle(), moment)
+    tariff.cycle()
 }
 
-/// Those of the cycles at a moment.
-fn counters_at(counters: Vec<Counter>, book: &TariffBook, moment: Moment) -> Vec<Counter>
+/// Those of the groups whose counters begin again so often.
+fn counters_repeating(counters: Vec<Counter>, book: &TariffBook, repeats: Cycle) -> Vec<Counter>
     ensures { result.items
-        ≡ filter (λ r. r.cycle == cycle_at book.now r.group moment) counters.items }
+        ≡ filter (λ r. cycles.eq (repeats_in book.now r.group) repeats) counters.items }
 {
     let mut rows = counters;
-    rows.retain(|row| row.cycle == cycle_of(book, row.group, moment));
+    rows.retain(|row| repeats_of(book, row.group) == repeats);
     rows
 }
 
-/// The counters of an account of the cycles at a moment. It reads those of other cycles too.
+/// The counters of an account, at a moment, of the groups whose counters begin again so often.
+fn read_repeating<S: Alter>(
+    conn: &mut Connection<S>,
+    alloc: Global,
+    account: &AccountNumber,
+    book: &TariffBook,
+    repeats: Cycle,
+    moment: Moment,
+) -> Result<Vec<Counter>, ReadFault>
+    requires idle { HasIdleBook (state S.Store conn.old) }
+    ensures { Reads (λ trees xs. AreRepeating book.now repeats moment (rows_in trees account.now) xs.items)
+        (state S.Store conn.old) (state S.Store conn.new) result }
+{
+    let cycle = book.cycle_of(repeats, moment);
+    let counters = read_counters_in(conn, alloc, account, cycle)?;
+    Ok(counters_repeating(counters, book, repeats))
+}
+
+/// Counters of a moment, by how often they begin again.
+#[derive(Drop)]
+struct RepeatingCounters {
+    never: Vec<Counter>,
+    daily: Vec<Counter>,
+    monthly: Vec<Counter>,
+}
+
+/// The counters of an account at a moment; no other cycle is read.
+fn read_each_repeating<S: Alter>(
+    conn: &mut Connection<S>,
+    alloc: Global,
+    account: &AccountNumber,
+    book: &TariffBook,
+    moment: Moment,
+) -> Result<RepeatingCounters, ReadFault>
+    requires idle { HasIdleBook (state S.Store conn.old) }
+    ensures { Gathers (λ trees x. AreEachRepeating book.now moment (rows_in trees account.now)
+        x.never.items x.daily.items x.monthly.items)
+        (state S.Store conn.old) (state S.Store conn.new) result }
+{
+    let never = read_repeating(conn, alloc, account, book, Cycle::None, moment)?;
+    let daily = read_repeating(conn, alloc, account, book, Cycle::Day, moment)?;
+    let monthly = read_repeating(conn, alloc, account, book, Cycle::Month, moment)?;
+    Ok(RepeatingCounters {
+        never,
+        daily,
+        monthly,
+    })
+}
+
+/// All of them in one list.
+fn joined_counters(counters: RepeatingCounters) -> Result<Vec<Counter>, ReadFault>
+    ensures { IfOk result (λ xs. xs.items
+        ≡ (counters.never.items ++ counters.daily.items) ++ counters.monthly.items) }
+{
+    let RepeatingCounters {
+        never,
+        daily,
+        monthly,
+    } = counters;
+    let mut all = never;
+    let mut second = daily;
+    let mut third = monthly;
+    all.append(&mut second)?;
+    all.append(&mut third)?;
+    Ok(all)
+}
+
+/// The counters of an account of the cycles at a moment; no other cycle is read.
 fn read_counters_at<S: Alter>(
     conn: &mut Connection<S>,
     alloc: Global,
@@ -89,11 +159,11 @@ fn read_counters_at<S: Alter>(
     moment: Moment,
 ) -> Result<Vec<Counter>, ReadFault>
     requires idle { HasIdleBook (state S.Store conn.old) }
-    ensures { Reads (λ trees xs. AreCountersAt book.now moment (rows_in trees account.now) xs.items)
+    ensures { Gathers (λ trees xs. AreCountersAt book.now moment (rows_in trees account.now) xs.items)
         (state S.Store conn.old) (state S.Store conn.new) result }
 {
-    let counters = read_counters(conn, alloc, account)?;
-    Ok(counters_at(counters, book, moment))
+    let counters = read_each_repeating(conn, alloc, account, book, moment)?;
+    joined_counters(counters)
 }
 
 /// What may still change of an account, whatever the moment. The periods of reservations have the

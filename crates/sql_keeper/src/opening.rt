@@ -1,9 +1,9 @@
 //! A keeper over a database: of one that is made for it, or of one that was.
 
-ghost use Rattle.std.specs.Prelude.{◌≡◌, ◌⊎◌, false, Some, IfErr, IfOk, OnOk};
+ghost use Rattle.std.specs.Prelude.{◌≡◌, ◌≤◌, ◌⊎◌, false, Some, IfErr, IfOk, OnOk};
 ghost use Rattle.std.specs.String.{string_bytes};
 ghost use Rattle.sql_opening.specs.Opens.{IsNoVersion};
-ghost use Rattle.sql_opening.specs.declared.fault.OpenFault.TheVariants.{Foreign, Version};
+ghost use Rattle.sql_opening.specs.declared.fault.OpenFault.TheVariants.{Foreign, Rules, Version};
 ghost use Rattle.sql_rows.specs.Content.{content_of};
 ghost use Rattle.sql_rows.specs.Texts.{meta_of};
 ghost use Rattle.sql_tables.specs.Statements.{HasIdleBook, Reads};
@@ -11,11 +11,11 @@ ghost use Rattle.sql_tables.specs.Texts.{stage};
 ghost use Rattle.sql_keeper.specs.Books.{IsBookOf, IsBookText};
 ghost use Rattle.sql_keeper.specs.Creates.{CreatesBook};
 ghost use Rattle.sql_keeper.specs.Faults.{IsCreateFault};
-ghost use Rattle.sql_keeper.specs.Finds.{FindsBook, FindsMeta};
+ghost use Rattle.sql_keeper.specs.Finds.{FindsBook, FindsMeta, IsUnruledAt};
 ghost use Rattle.sql_keeper.specs.Inside.{StaysOpen};
 ghost use Rattle.sql_keeper.specs.Opened.{IsCreated, IsNotCreated, IsNotOpened, IsOpened};
 ghost use Rattle.sqlite.specs.Held.{state};
-ghost use Rattle.sqlite.specs.State.{IsLive};
+ghost use Rattle.sqlite.specs.State.{HasCleanDisk, IsLive};
 
 use crate::books::{ReadBook, read_book};
 use crate::create_fault::CreateFault;
@@ -92,6 +92,7 @@ fn find_meta<S: Alter>(conn: &mut Connection<S>) -> Result<Meta, OpenFault>
         (state S.Store conn.old) (state S.Store conn.new) result }
     ensures told { IfErr result IsNoVersion }
     ensures ours { IfErr result (λ fault. ¬ (fault ≡ Foreign)) }
+    ensures rules { HasCleanDisk (state S.Store conn.new) → IfErr result (IsUnruledAt (state S.Store conn.old)) }
 {
     match read_meta(conn) {
         Ok(Some(meta)) => Ok(meta),
@@ -114,6 +115,17 @@ fn meta_in<S: Alter>(alloc: Global, conn: &mut Connection<S>) -> Result<Meta, Op
     find_meta(conn)
 }
 
+/// The fault of a text that is no book.
+fn book_fault(fault: BookFault) -> OpenFault
+    ensures told { ¬ (result ≡ Version) × ¬ (result ≡ Foreign) }
+    ensures rules { result ≡ Rules → ¬ (fault ≡ BookFault.Memory) }
+{
+    match fault {
+        BookFault::Memory => OpenFault::Memory,
+        _ => OpenFault::Rules,
+    }
+}
+
 /// The book of what is kept once.
 fn find_book(alloc: Global, meta: &Meta) -> Result<ReadBook, OpenFault>
     ensures version { OnOk result (meta.now.version ≡ 1) }
@@ -122,14 +134,17 @@ fn find_book(alloc: Global, meta: &Meta) -> Result<ReadBook, OpenFault>
     ensures text { IfOk result (λ r. string_bytes r.text ≡ string_bytes meta.now.book) }
     ensures told { IfErr result (λ fault. fault ≡ Version → ¬ (meta.now.version ≡ 1)) }
     ensures ours { IfErr result (λ fault. ¬ (fault ≡ Foreign)) }
+    ensures last { meta.now.last ≤ 4_102_488_000 }
+    ensures rules { IfErr result (λ fault. fault ≡ Rules →
+        (meta.now.version ≡ 1) × ¬ IsBookText (string_bytes meta.now.book)) }
 {
+    let _moment = meta.last.seconds();
     if meta.version != 1 {
         return Err(OpenFault::Version);
     }
     match read_book(alloc, meta.book.as_str()) {
         Ok(read) => Ok(read),
-        Err(BookFault::Memory) => Err(OpenFault::Memory),
-        Err(_) => Err(OpenFault::Rules),
+        Err(fault) => Err(book_fault(fault)),
     }
 }
 
@@ -173,8 +188,9 @@ impl<S: Alter> SqlKeeper<S> {
     ///
     /// # Errors
     /// The connection is given back. `Foreign`, the tables aren't exactly those of this system, and
-    /// only then; `Version`, the version of its tables isn't 1, and only then; `Rules`, there is no text of a book, or a rowid
-    /// stands twice; `Store`, also where a transaction is open; `Memory`.
+    /// only then; `Version`, the version of its tables isn't 1, and only then; `Rules`, a rowid stands
+    /// twice, or what is kept once isn't there, is out of its rules or has no text of a book, and only
+    /// then; `Store`, also where a transaction is open; `Memory`.
     pub fn open(
         alloc: Global,
         mut connection: Connection<S>,

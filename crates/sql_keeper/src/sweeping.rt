@@ -99,6 +99,7 @@ fn make_sweep<S: Alter>(
         IfOk result (λ n. n ≡ (content_of (state S.Store conn.old).now.trees).count) }
 {
     let _ranges = book.validity();
+    let _moment = moment.seconds();
     let accounts = read_sweep(conn, alloc, names, book, moment)?;
     write_sweep(conn, names, text, moment, &accounts)?;
     Ok(accounts.len() as u64)

@@ -144,7 +144,7 @@ fn other_tables_differ<S: Alter>(conn: &mut Connection<S>) -> Result<(), OpenFau
     Ok(())
 }
 
-/// Tests that the database has this system's ten tables and their index, and no other table, and
+/// Tests that the database has this system's ten tables and their indexes, and no other table, and
 /// that no rowid of theirs stands twice: then each statement of this system does what it says. Each
 /// row is looked at once.
 ///

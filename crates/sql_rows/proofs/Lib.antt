@@ -1,6 +1,7 @@
 pub mod AccountsApart
 pub mod Dead
 pub mod Each
+pub mod MetaRules
 pub mod Periods
 pub mod PutAccount
 pub mod PutAnswer

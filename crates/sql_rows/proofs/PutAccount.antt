@@ -115,7 +115,11 @@ module _ (a : List ℕ) (h : Head) where
       → Attempts (Makes (with_account a h)) old new r
   makes_account = writes put_account_text values (Puts accounts values) (with_account a h) puts
       (λ old new p. record {
-        turns = record { content = turns old.now.trees new.now.trees p.changes p.counts; catalog = p.changes.catalog };
+        turns = record {
+          content = turns old.now.trees new.now.trees p.changes p.counts;
+          catalog = p.changes.catalog;
+          stored = p.book.stored;
+        };
         book = p.book;
         shows = p.shows;
       })

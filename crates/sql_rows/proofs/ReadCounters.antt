@@ -1,16 +1,20 @@
--- What the text of `read_counters` answers.
-use Rattle.std.specs.Prelude.{codes}
+-- What the text of `read_counters_in` answers.
+use Rattle.std.specs.Prelude.{codes, if◌then◌else◌}
 use Rattle.std.proofs.Common.{◌≡◌, inl, inr, ℕ, pos, List, [], ◌∷◌, ◌++◌, map, drop, Bool, true, false, ◌&&◌}
 use Rattle.std.proofs.Common.{Some, None, Option, is_eq, refl, sym, ap, ap₂, subst, ◌∙◌, nat_eq}
+use Rattle.std.proofs.lemmas.Bool.{and_parts, cases_Bool}
+use Rattle.std.specs.Cmp.{unsigned_Decides}
+use Rattle.std.specs.List.{find}
 use Rattle.sqlite_value.specs.declared.value.Value.TheVariants.{Null, Int, Text}
 use Rattle.sqlite_value.specs.declared.keys.Collation.TheVariants.{Binary}
 use Rattle.sqlite_value.specs.declared.keys.Key.{Key}
-use Rattle.sqlite_value.specs.Order.{Row, column, row_cmp, value_cmp}
+use Rattle.sqlite_value.specs.Order.{Row, column, value_cmp}
 use Rattle.sqlite_sql.specs.declared.ops.BinaryOp.TheVariants.{Compare}
 use Rattle.sqlite_sql.specs.declared.ops.CompareOp.TheVariants.{Eq}
-use Rattle.sqlite_sql.specs.Term.{Term, lit, col, op2, holds as holds_in}
+use Rattle.sqlite_sql.specs.Term.{Term, col, op2}
 use Rattle.sqlite_schema.specs.declared.command.Command.TheVariants.{Select}
 use Rattle.sqlite_schema.specs.Rules.{equal}
+use Rattle.sqlite_rules.proofs.ListLemmas.{has_found}
 use Rattle.sqlite_tied.specs.Compute.{everything}
 use Rattle.sqlite.specs.Given.{IsPlain}
 use Rattle.sqlite.specs.Listing.{understood, reads_listing}
@@ -22,13 +26,13 @@ use Rattle.sql_tables.specs.Statements.{Answers}
 use Rattle.sql_tables.proofs.ByKey.{listed_told, only_all}
 use Rattle.sql_tables.proofs.Columns.{equal_turned}
 use Rattle.sql_tables.proofs.Keys.{keys_split, int_tie}
-use Rattle.sql_tables.proofs.Selected.{select_from, told}
+use Rattle.sql_tables.proofs.Selected.{select_from, selected_from, told}
 use Rattle.sql_tables.proofs.Selections.{meets}
-use Rattle.sql_tables.proofs.Steps.{and_true}
+use Rattle.sql_tables.proofs.Steps.{and_last, and_true, mapped_to}
 use Rattle.reserving.specs.declared.session.Counter.{Counter}
 use Rattle.sql_rows.specs.Values.{nat, counter_key, counter_in, counter_cells}
 use Rattle.sql_rows.specs.Content.{rows_in}
-use Rattle.sql_rows.specs.Lists.{AreCounters}
+use Rattle.sql_rows.specs.Lists.{AreCountersIn}
 
 abbrev project : List Term
 project = col 1 2 ∷ col 1 3 ∷ col 1 4 ∷ []
@@ -46,24 +50,24 @@ same_columns (v ∷ vs) = refl
 back : (x : Counter) (r : Row) → counter_cells x ≡ columns r → counter_in (drop 1 r) ≡ x
 back x r is = same_columns r ∙ ap (λ w. counter_in (Null ∷ w)) (sym is) ∙ refl
 
-abbrev pub read_counters_text : List ℕ
-read_counters_text = codes "SELECT rating_group, cycle, blocks FROM counters WHERE account = ?1"
+abbrev pub read_counters_in_text : List ℕ
+read_counters_in_text = codes "SELECT rating_group, cycle, blocks FROM counters WHERE account = ?1 AND cycle = ?2"
 
 abbrev terms : List Term
-terms = op2 (Compare Eq Binary) (col 1 1) (col 0 0) ∷ []
+terms = op2 (Compare Eq Binary) (col 1 1) (col 0 0) ∷ op2 (Compare Eq Binary) (col 1 3) (col 0 1) ∷ []
 
 abbrev order : List (Term × Key)
 order = []
 
-text_is : (command_of (understood book_schema read_counters_text)
+text_is : (command_of (understood book_schema read_counters_in_text)
     ≡ Select (record { lets = []; body = select_from 6 terms project order }) names) ×
-    (reads_listing book_schema read_counters_text ≡ false)
+    (reads_listing book_schema read_counters_in_text ≡ false)
 unfolding understood everything
 text_is = (refl, refl)
 
-pub read_counters_plain : IsPlain (understood book_schema read_counters_text)
+pub read_counters_in_plain : IsPlain (understood book_schema read_counters_in_text)
 unfolding understood everything
-read_counters_plain = (refl, refl)
+read_counters_in_plain = (refl, refl)
 
 module _ (a : List ℕ) where
   abbrev front : Row → Bool
@@ -85,17 +89,62 @@ module _ (a : List ℕ) where
       ap₂ ◌&&◌ (ap (λ (w : Row). is_eq (value_cmp (nat g) (column w 0))) (sym is) ∙ int_tie x.group g)
       (ap (λ (w : Row). is_eq (value_cmp (nat y) (column w 1))) (sym is) ∙ int_tie x.cycle y)
 
-  pub counters_read : (old new : State) (rows : List Row) (xs : List Counter) → Answers read_counters_text
-      (Text a ∷ []) old new rows
-      → map counter_cells xs ≡ rows → AreCounters (rows_in old.now.trees a) xs
-  counters_read old new rows xs got is g y =
-      listed_told counters (inr (inr (inr (inl refl)))) (inr (inr (inr (inl refl)))) refl old.now.trees got.fits
-      (got.book.stored.1.1.1.0) counter_in counter_cells columns
-      (λ r. front r && true) (counter_key a g y) (refl, (refl, (refl, tt))) (λ x r m. back x r)
-      (λ x. nat_eq x.group g && nat_eq x.cycle y) (λ x. true) front (rest g y) (λ r. true) (λ r. refl)
-      (splits g y) (wanted g y) (λ r m h. refl) (λ x r e same. refl) xs
-      (subst (Selects (λ r. front r && true) columns (old.now.trees 6)) (sym is)
-      (told read_counters_text names 6 terms project order text_is read_counters_plain
-      (Text a ∷ [])
-      (λ r. front r && true) columns (λ r. refl) (λ r. refl) old new rows got))
-      ∙ only_all _
+module _ (a : List ℕ) (cycle : ℕ) where
+  abbrev extra : Row → Bool
+  extra r = equal Binary (column r 3) (nat cycle)
+
+  -- a row under the key of a counter of the cycle passes the test
+  lives : (g : ℕ) (r : Row) → meets (1 ∷ 2 ∷ 3 ∷ []) (counter_key a g cycle) r ≡ true → extra r ≡ true
+  lives g r m =
+      let parts = and_parts (front a r) (rest a g cycle r) (sym (splits a g cycle r) ∙ m) in
+      let last = and_parts (is_eq (value_cmp (nat g) (column r 2))) (is_eq (value_cmp (nat cycle) (column r 3))) parts.1 in
+      equal_turned (column r 3) (nat cycle) refl ∙ last.1
+
+  -- each that was read is of the cycle
+  of_cycle : (x : Counter) (r : Row) → extra r ≡ true → counter_cells x ≡ columns r → x.cycle ≡ cycle
+  of_cycle x r e is = (unsigned_Decides x.cycle cycle).0 (sym (int_tie x.cycle cycle)
+      ∙ ap (λ (w : Row). is_eq (value_cmp (nat cycle) (column w 1))) is
+      ∙ sym (equal_turned (column r 3) (nat cycle) refl) ∙ e)
+
+  abbrev AreSelected : List Row → List Counter → Type 0
+  AreSelected stored xs = Selects (λ r. front a r && extra r) columns stored (map counter_cells xs)
+
+  none_other : (stored : List Row) (xs : List Counter) → AreSelected stored xs → (g c : ℕ) → nat_eq c cycle ≡ false
+      → find (λ x. nat_eq x.group g && nat_eq x.cycle c) xs ≡ None
+  none_other stored xs selects g c other = go (find (λ x. nat_eq x.group g && nat_eq x.cycle c) xs) refl
+    where
+      go : (o : Option Counter) → find (λ x. nat_eq x.group g && nat_eq x.cycle c) xs ≡ o
+          → find (λ x. nat_eq x.group g && nat_eq x.cycle c) xs ≡ None
+      go None e = e
+      go (Some x) e =
+          let h = has_found (λ x. nat_eq x.group g && nat_eq x.cycle c) xs x e in
+          let it = selected_from (λ r. front a r && extra r) columns stored (map counter_cells xs) selects
+          (counter_cells x) (mapped_to counter_cells xs x h.0) in
+          let both = and_parts (front a it.0) (extra it.0) it.2 in
+          let named = and_parts (nat_eq x.group g) (nat_eq x.cycle c) h.1 in
+          let same : c ≡ cycle = sym ((unsigned_Decides x.cycle c).0 named.1) ∙ of_cycle x it.0 both.1 it.3 in
+          absurd (let no : true ≡ false = sym ((unsigned_Decides c cycle).1 same) ∙ other in cc)
+
+  pub counters_read : (old new : State) (rows : List Row) (xs : List Counter) → Answers read_counters_in_text
+      (Text a ∷ nat cycle ∷ []) old new rows
+      → map counter_cells xs ≡ rows → AreCountersIn cycle (rows_in old.now.trees a) xs
+  counters_read old new rows xs got is g c = elim (cases_Bool (nat_eq c cycle)) [
+    | inl here ↦ rw here (subst (λ y. find (λ x. nat_eq x.group g && nat_eq x.cycle y) xs
+        ≡ (rows_in old.now.trees a).counters g y) (sym ((unsigned_Decides c cycle).0 here)) at)
+    | inr other ↦ rw other (none_other (old.now.trees 6) xs selects g c other)
+  ]
+    where
+      selects : AreSelected (old.now.trees 6) xs
+      selects = subst (Selects (λ r. front a r && extra r) columns (old.now.trees 6)) (sym is)
+          (told read_counters_in_text names 6 terms project order text_is read_counters_in_plain
+          (Text a ∷ nat cycle ∷ [])
+          (λ r. front a r && extra r) columns (λ r. and_last (front a r) (extra r)) (λ r. refl) old new rows got)
+
+      at : find (λ x. nat_eq x.group g && nat_eq x.cycle cycle) xs ≡ (rows_in old.now.trees a).counters g cycle
+      at =
+          listed_told counters (inr (inr (inr (inl refl)))) (inr (inr (inr (inl refl)))) refl old.now.trees got.fits
+          (got.book.stored.1.1.1.0) counter_in counter_cells columns
+          (λ r. front a r && extra r) (counter_key a g cycle) (refl, (refl, (refl, tt))) (λ x r m. back x r)
+          (λ x. nat_eq x.group g && nat_eq x.cycle cycle) (λ x. true) (front a) (rest a g cycle) extra (λ r. refl)
+          (splits a g cycle) (wanted a g cycle) (λ r m h. lives g r m) (λ x r e same. refl) xs selects
+          ∙ only_all _

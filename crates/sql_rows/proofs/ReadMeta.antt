@@ -55,7 +55,7 @@ pub read_meta_plain : IsPlain (understood book_schema read_meta_text)
 unfolding understood everything
 read_meta_plain = (refl, refl)
 
-abbrev columns : Row → Row
+abbrev pub columns : Row → Row
 columns r = column r 2 ∷ column r 3 ∷ column r 4 ∷ []
 
 same_columns : (r : Row) → meta_in (drop 1 r) ≡ meta_in (Null ∷ columns r)
@@ -70,6 +70,12 @@ unfolding first_key
 means r = and_true (equal Binary (column r 1) (nat 1)) ∙ equal_present (column r 1) (nat 1) refl ∙ sym (and_true _)
     ∙ tie_parts (value_cmp (column r 1) (nat 1)) Equal
 
+pub meta_selected : (old new : State) (rows : List Row) → Answers read_meta_text [] old new rows
+    → Selects (λ r. eq_by_cmp row_cmp (key_of places r) (meta_key)) columns (old.now.trees 0) rows
+meta_selected old new rows got =
+    told read_meta_text names 0 terms project [] text_is read_meta_plain []
+    (λ r. eq_by_cmp row_cmp (key_of places r) (meta_key)) columns means (λ r. refl) old new rows got
+
 pub meta_read : (old new : State) (rows : List Row) (o : Option Meta) → Answers read_meta_text [] old new rows
     → rows ≡ map meta_cells (one_or_none o) → o ≡ (content_of old.now.trees).meta
 meta_read old new rows o got is =
@@ -78,6 +84,4 @@ meta_read old new rows o got is =
     (meta_key) (refl, tt)
     (λ x r m. back x r) (λ r. refl) o
     (subst (Selects (λ r. eq_by_cmp row_cmp (key_of places r) (meta_key)) columns (old.now.trees 0)) is
-    (told read_meta_text names 0 terms project [] text_is read_meta_plain []
-    (λ r. eq_by_cmp row_cmp (key_of places r) (meta_key)) columns
-    means (λ r. refl) old new rows got))
+    (meta_selected old new rows got))

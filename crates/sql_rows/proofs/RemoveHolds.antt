@@ -111,7 +111,11 @@ module _ (a s : List ℕ) (g : ℕ) where
       → Attempts (Makes (with_rows a (without_holds s g))) old new r
   makes_none = writes remove_holds_text wanted (Removes holds wanted) (with_rows a (without_holds s g)) removes
       (λ old new p. record {
-        turns = record { content = turns old.now.trees new.now.trees p.changes; catalog = p.changes.catalog };
+        turns = record {
+          content = turns old.now.trees new.now.trees p.changes;
+          catalog = p.changes.catalog;
+          stored = p.book.stored;
+        };
         book = p.book;
         shows = p.shows;
       })

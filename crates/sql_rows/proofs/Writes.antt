@@ -28,7 +28,11 @@ pub puts_make : (table : Table) (values : Row) (change : Content → Content)
     → ((old new : Trees) → Changes table values old new → content_of new ≡ change (content_of old))
     → (old new : State) → Puts table values old new → Makes change old new
 puts_make table values change turns old new p = record {
-  turns = record { content = turns old.now.trees new.now.trees p.changes; catalog = p.changes.catalog };
+  turns = record {
+    content = turns old.now.trees new.now.trees p.changes;
+    catalog = p.changes.catalog;
+    stored = p.book.stored;
+  };
   book = p.book;
   shows = p.shows;
 }

@@ -1,6 +1,6 @@
 -- What lists that are read tell of an account's rows: the row under each key, or that there is none.
 -- Source: profile.
-use Rattle.std.specs.Prelude.{◌≡◌, ℕ, ◌&&◌, ◌||◌, nat_eq, nat_lt, nat_le, ◌<◌, Bool, not, List, [], ◌∷◌, length, Option, option_map, is_some}
+use Rattle.std.specs.Prelude.{◌≡◌, ℕ, ◌&&◌, ◌||◌, nat_eq, nat_lt, nat_le, ◌<◌, Bool, not, List, [], ◌∷◌, length, Option, None, option_map, is_some, if◌then◌else◌}
 use Rattle.std.specs.List.{find}
 use Rattle.sqlite_value.specs.Order.{Row as Values}
 use Rattle.buckets.specs.Row.{Row as Bucket}
@@ -80,7 +80,7 @@ NumbersRise xs = Rises (λ x. x.number) xs
 abbrev pub BucketsRise : List Bucket → Type 0
 BucketsRise bs = Rises (λ b. b.number) bs
 
--- all counters of the account
-abbrev pub AreCounters : Rows → List Counter → Type 0
-AreCounters rows xs = (g c : ℕ) →
-    find (λ x. nat_eq x.group g && nat_eq x.cycle c) xs ≡ rows.counters g c
+-- the counters of one cycle
+abbrev pub AreCountersIn : ℕ → Rows → List Counter → Type 0
+AreCountersIn cycle rows xs = (g c : ℕ) →
+    find (λ x. nat_eq x.group g && nat_eq x.cycle c) xs ≡ (if nat_eq c cycle then rows.counters g c else None)

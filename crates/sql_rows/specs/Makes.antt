@@ -4,13 +4,15 @@ use Rattle.std.specs.Prelude.{◌≡◌, true, IsTrue}
 use Rattle.sqlite_trees.specs.Objects.{catalog_tree}
 use Rattle.sqlite_trees.specs.Tree.{Trees}
 use Rattle.sqlite.specs.State.{State, Shows}
-use Rattle.sql_tables.specs.Statements.{IsBook, IsIdle}
+use Rattle.sql_tables.specs.Statements.{AreStored, IsBook, IsIdle}
 use Rattle.sql_rows.specs.Content.{Content, content_of}
 
--- the trees after have the content that the change makes of that before, and the same catalog
+-- the trees after have the content that the change makes of that before, and the same catalog, and no
+-- rowid stands twice there
 pub record Turns (change : Content → Content) (old new : Trees) : Type 0 where
   pub content : content_of new ≡ change (content_of old)
   pub catalog : new catalog_tree ≡ old catalog_tree
+  pub stored : AreStored new
 
 -- inside a transaction
 pub record Makes (change : Content → Content) (old new : State) : Type 0 where

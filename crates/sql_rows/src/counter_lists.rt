@@ -1,32 +1,35 @@
 ghost use Rattle.std.specs.Prelude.{◌≡◌, map, IfOk};
 ghost use Rattle.sql_rows.specs.Content.{rows_in};
 ghost use Rattle.sql_rows.specs.Values.{counter_cells};
-ghost use Rattle.sql_rows.specs.Lists.{AreCounters};
+ghost use Rattle.sql_rows.specs.Lists.{AreCountersIn};
 ghost use Rattle.sql_tables.specs.Statements.{HasIdleBook, Reads};
 ghost use Rattle.sqlite.specs.Held.{state};
 
 use crate::counter_rows::counter_from;
 use identifiers::AccountNumber;
 use reserving::Counter;
-use sql_tables::{ReadFault, read, text};
+use sql_tables::{ReadFault, read, text, whole};
 use sqlite::{Alter, Connection, Row};
 use std::alloc::Global;
 
-/// The counters of an account, of each rating group and cycle.
-pub fn read_counters<S: Alter>(
+/// The counters of an account of a cycle, of each rating group; the index finds them without those
+/// of other cycles.
+pub fn read_counters_in<S: Alter>(
     conn: &mut Connection<S>,
     alloc: Global,
     account: &AccountNumber,
+    cycle: u32,
 ) -> Result<Vec<Counter>, ReadFault>
     requires idle { HasIdleBook (state S.Store conn.old) }
-    ensures reads { Reads (λ trees xs. AreCounters (rows_in trees account.now) xs.items)
+    ensures reads { Reads (λ trees xs. AreCountersIn cycle (rows_in trees account.now) xs.items)
         (state S.Store conn.old) (state S.Store conn.new) result }
 {
     let of_account = text(account.as_str());
+    let of_cycle = whole(cycle);
     let rows = read(
         conn,
-        "SELECT rating_group, cycle, blocks FROM counters WHERE account = ?1",
-        &[of_account],
+        "SELECT rating_group, cycle, blocks FROM counters WHERE account = ?1 AND cycle = ?2",
+        &[of_account, of_cycle],
     )?;
     counters_from(alloc, &rows)
 }

@@ -1,4 +1,4 @@
-ghost use Rattle.std.specs.Prelude.{◌≡◌, IfOk, pos, if◌then◌else◌};
+ghost use Rattle.std.specs.Prelude.{◌≡◌, ◌≤◌, ℕ, IfOk, MatchResult, pos, if◌then◌else◌};
 ghost use Rattle.sqlite.specs.Values.{or_null};
 ghost use Rattle.sqlite_value.specs.Order.{column};
 ghost use Rattle.sqlite_value.specs.declared.value.Value.TheVariants.{Int, Text};
@@ -13,7 +13,8 @@ use units::Moment;
 
 /// The moment in a column.
 pub(crate) fn moment_at(row: &Row, at: usize) -> Result<Moment, ReadFault>
-    ensures { IfOk result (λ m. column row.now at ≡ nat m) }
+    ensures { MatchResult result (λ m. column row.now at ≡ nat m)
+        (λ e. e ≡ ReadFault.Rules → (n : ℕ) → n ≤ 4_102_488_000 → ¬ (column row.now at ≡ nat n)) }
 {
     let seconds = number_at(row, at)?;
     match Moment::new(seconds) {

@@ -1,11 +1,13 @@
-ghost use Rattle.std.specs.Prelude.{◌≡◌, map, option_map, IfOk};
+ghost use Rattle.std.specs.Prelude.{◌≡◌, map, option_map, IfErr, MatchResult, Option};
 ghost use Rattle.sql_rows.specs.Content.{content_of, with_meta};
-ghost use Rattle.sql_rows.specs.Values.{meta_cells};
+ghost use Rattle.sql_rows.specs.Ruled.{IsRefusedMeta, IsRuledMeta};
+ghost use Rattle.sql_rows.specs.Values.{Meta as KeptOnce, meta_cells};
 ghost use Rattle.sql_rows.specs.Texts.{meta_of};
 ghost use Rattle.sql_rows.specs.Makes.{Makes};
 ghost use Rattle.sql_tables.specs.Statements.{Attempts, HasBook, HasIdleBook, Reads};
 ghost use Rattle.sql_tables.specs.Selects.{one_or_none};
 ghost use Rattle.sqlite.specs.Held.{state};
+ghost use Rattle.sqlite.specs.State.{HasCleanDisk};
 
 use crate::decoding::moment_at;
 use sql_tables::{
@@ -57,6 +59,9 @@ pub fn read_meta<S: Alter>(conn: &mut Connection<S>) -> Result<Option<Meta>, Rea
     requires idle { HasIdleBook (state S.Store conn.old) }
     ensures reads { Reads (λ trees o. option_map meta_of o ≡ (content_of trees).meta)
         (state S.Store conn.old) (state S.Store conn.new) result }
+    // A row that is there and in the rules is answered.
+    ensures refused { HasCleanDisk (state S.Store conn.new) → IfErr result (λ e. e ≡ ReadFault.Rules →
+        IsRefusedMeta (content_of (state S.Store conn.old).now.trees).meta) }
 {
     let rows = read(
         conn,
@@ -67,7 +72,9 @@ pub fn read_meta<S: Alter>(conn: &mut Connection<S>) -> Result<Option<Meta>, Rea
 }
 
 fn meta_among(rows: &[Row]) -> Result<Option<Meta>, ReadFault>
-    ensures { IfOk result (λ o. rows.now ≡ map meta_cells (one_or_none (option_map meta_of o))) }
+    ensures { MatchResult result (λ o. rows.now ≡ map meta_cells (one_or_none (option_map meta_of o)))
+        (λ e. e ≡ ReadFault.Rules → (o : Option KeptOnce) →
+        rows.now ≡ map meta_cells (one_or_none o) → IsRefusedMeta o) }
 {
     let row = one_of(rows)?;
     match row {
@@ -77,7 +84,8 @@ fn meta_among(rows: &[Row]) -> Result<Option<Meta>, ReadFault>
 }
 
 fn meta_from(row: &Row) -> Result<Meta, ReadFault>
-    ensures { IfOk result (λ m. row.now ≡ meta_cells (meta_of m)) }
+    ensures { MatchResult result (λ m. row.now ≡ meta_cells (meta_of m))
+        (λ e. e ≡ ReadFault.Rules → (m : KeptOnce) → row.now ≡ meta_cells m → ¬ IsRuledMeta m) }
 {
     has_columns(row, 3)?;
     let version = small_at(row, 0)?;

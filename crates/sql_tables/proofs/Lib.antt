@@ -11,6 +11,7 @@ pub mod Keys
 pub mod Removes
 pub mod Selected
 pub mod Selections
+pub mod Single
 pub mod Stages
 pub mod Steps
 pub mod Stored

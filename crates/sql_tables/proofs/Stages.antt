@@ -13,9 +13,9 @@ use Rattle.sql_tables.specs.Schema.{book_schema}
 use Rattle.sql_tables.specs.Statements.{AreStored, IsBook, Attempts}
 use Rattle.sql_tables.specs.Stages.{AreEmpty, HasStage, IsBlank, IsStage, Builds, BuildsAll}
 use Rattle.sqlite.specs.Steps.{IsEmpty}
-use Rattle.sql_tables.specs.Texts.{stage, sessions_state_text}
+use Rattle.sql_tables.specs.Texts.{stage, counters_cycle_text, sessions_state_text}
 use Rattle.sql_tables.proofs.Creates.{IsText, makes}
-use Rattle.sql_tables.proofs.Indexed.{makes_index}
+use Rattle.sql_tables.proofs.Indexed.{makes_cycle, makes_state}
 use Rattle.sql_tables.proofs.Keeps.{done_as}
 
 same_some : {A : Type 0} {x y : A} → ◌≡◌ {A = Option A} (Some x) (Some y) → x ≡ y
@@ -63,21 +63,41 @@ none_stored : (ts : List Table) (trees : Trees) → AreEmpty ts trees → AllByR
 none_stored [] trees h = tt
 none_stored (t ∷ ts) trees h = (subst IsStored (sym h.0) (tt, tt), none_stored ts trees h.1)
 
-builds_all : (old new : State) (r : Result ℕ Error) → (IsTrue old.is_open → IsStage 10 old)
-    → OnOk r (ExecutesInside 0 sessions_state_text [] old new r) → OnOk r (BuildsAll old new)
+builds_state : (old new : State) (r : Result ℕ Error) → (IsTrue old.is_open → IsStage 10 old)
+    → OnOk r (ExecutesInside 0 sessions_state_text [] old new r) → OnOk r (Builds 11 old new)
+builds_state old new (Err e) has x = tt
+builds_state old new (Ok count) has x =
+    let before = has x.1.was_open in
+    let m = makes_state old new count before.schema x.0 in
+    record {
+      made = record {
+        schema = m.schema;
+        empty = still_empty (stage 10).tables old.now.trees new.now.trees m.rows before.empty;
+      };
+      shows = x.1;
+    }
+
+pub makes_first : (old new : State) (r : Result ℕ Error) → HasStage 10 old
+    → Attempts (λ old new. ExecutesInside 0 sessions_state_text [] old new r) old new r
+    → Attempts (Builds 11) old new r
+makes_first old new r has = done_as _ (Builds 11) old new r (λ clean. builds_state old new r (has clean))
+
+builds_all : (old new : State) (r : Result ℕ Error) → (IsTrue old.is_open → IsStage 11 old)
+    → OnOk r (ExecutesInside 0 counters_cycle_text [] old new r) → OnOk r (BuildsAll old new)
 builds_all old new (Err e) has x = tt
 builds_all old new (Ok count) has x =
     let before = has x.1.was_open in
-    let m = makes_index old new count before.schema x.0 in
-    let empty = still_empty (stage 10).tables old.now.trees new.now.trees m.rows before.empty in
+    let m = makes_cycle old new count before.schema x.0 in
+    let empty = still_empty (stage 11).tables old.now.trees new.now.trees m.rows before.empty in
     record {
       book = record { schema = m.schema; stored = none_stored book_schema.tables new.now.trees empty };
+      lists = m.lists;
       empty = empty;
       shows = x.1;
     }
 
-pub makes_all : (old new : State) (r : Result ℕ Error) → HasStage 10 old
-    → Attempts (λ old new. ExecutesInside 0 sessions_state_text [] old new r) old new r → Attempts BuildsAll old new r
+pub makes_all : (old new : State) (r : Result ℕ Error) → HasStage 11 old
+    → Attempts (λ old new. ExecutesInside 0 counters_cycle_text [] old new r) old new r → Attempts BuildsAll old new r
 makes_all old new r has = done_as _ BuildsAll old new r (λ clean. builds_all old new r (has clean))
 
 pub blank_from : (s : State) → IsEmpty s → IsBlank s

@@ -1,4 +1,4 @@
--- The ten tables of a database, and its index.
+-- The ten tables of a database, and its two indexes.
 -- Source: profile.
 use Rattle.std.specs.Prelude.{suc, true, false, List, [], ◌∷◌, ◌++◌, Some, None, codes, ℕ, pos}
 use Rattle.sqlite_value.specs.declared.keys.Collation.TheVariants.{Binary}
@@ -207,6 +207,17 @@ sessions_state = record {
   is_unique = false;
 }
 
+-- the counters of a cycle without those of other cycles
+abbrev pub counters_cycle : Index
+counters_cycle = record {
+  name = codes "counters_cycle";
+  tree = 21;
+  table = counters.tree;
+  columns = 1 ∷ 3 ∷ [];
+  order = plain;
+  is_unique = false;
+}
+
 -- ---- the schema
 
 abbrev pub book_schema : Schema
@@ -223,6 +234,7 @@ book_schema = record {
       ∷ key_index answers
       ∷ key_index vouchers
       ∷ key_index charges
-      ∷ sessions_state ∷ [];
+      ∷ sessions_state
+      ∷ counters_cycle ∷ [];
   views = [];
 }

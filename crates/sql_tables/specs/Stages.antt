@@ -2,8 +2,10 @@
 -- Source: profile.
 use Rattle.std.specs.Prelude.{◌≡◌, ℕ, true, List, [], IsTrue}
 use Rattle.std.specs.List.{AllByRecursion}
+use Rattle.sqlite_trees.specs.Objects.{catalog_tree}
 use Rattle.sqlite_trees.specs.Tree.{Trees}
 use Rattle.sqlite_schema.specs.declared.schema.Table.{Table}
+use Rattle.sqlite_catalog.specs.Listing.{Lists}
 use Rattle.sqlite.specs.State.{State, HasCleanDisk, Shows}
 use Rattle.sql_tables.specs.Schema.{book_schema}
 use Rattle.sql_tables.specs.Statements.{IsBook, IsIdle}
@@ -33,6 +35,7 @@ pub record Builds (k : ℕ) (old new : State) : Type 0 where
 -- inside a transaction: all tables and the index
 pub record BuildsAll (old new : State) : Type 0 where
   pub book : IsBook new
+  pub lists : Lists (new.now.trees catalog_tree) book_schema
   pub empty : AreEmpty book_schema.tables new.now.trees
   pub shows : Shows old new new.now old.committed true
 

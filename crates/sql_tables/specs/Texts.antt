@@ -137,6 +137,9 @@ charges_text =
 abbrev pub sessions_state_text : List ℕ
 sessions_state_text = codes "CREATE INDEX sessions_state ON sessions (account, state)"
 
--- the first of the tables, with the indexes of their keys
+abbrev pub counters_cycle_text : List ℕ
+counters_cycle_text = codes "CREATE INDEX counters_cycle ON counters (account, cycle)"
+
+-- the first of the tables, with the indexes of their keys; 11: all of them, with the first index more
 abbrev pub stage : ℕ → Schema
 stage tables = record { tables = take tables book_schema.tables; indexes = take tables book_schema.indexes; views = [] }

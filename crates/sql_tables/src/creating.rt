@@ -234,11 +234,24 @@ fn create_charges<S: Alter>(tx: &mut Transaction<'_, S>) -> Result<usize, Error>
 fn create_sessions_state<S: Alter>(tx: &mut Transaction<'_, S>) -> Result<usize, Error>
     requires stage { HasStage 10 (state S.Store tx.old.conn.now) }
     ensures same_reference { tx.new.conn.ghost_name ≡ tx.old.conn.ghost_name }
-    ensures makes { Attempts BuildsAll (state S.Store tx.old.conn.now) (state S.Store tx.new.conn.now) result }
+    ensures makes { Attempts (Builds 11) (state S.Store tx.old.conn.now) (state S.Store tx.new.conn.now) result }
 {
     write(
         tx,
         "CREATE INDEX sessions_state ON sessions (account, state)",
+        &[],
+    )
+}
+
+/// Makes the index by which the counters of a cycle are found.
+fn create_counters_cycle<S: Alter>(tx: &mut Transaction<'_, S>) -> Result<usize, Error>
+    requires stage { HasStage 11 (state S.Store tx.old.conn.now) }
+    ensures same_reference { tx.new.conn.ghost_name ≡ tx.old.conn.ghost_name }
+    ensures makes { Attempts BuildsAll (state S.Store tx.old.conn.now) (state S.Store tx.new.conn.now) result }
+{
+    write(
+        tx,
+        "CREATE INDEX counters_cycle ON counters (account, cycle)",
         &[],
     )
 }
@@ -269,7 +282,7 @@ fn create_sessions_tables<S: Alter>(tx: &mut Transaction<'_, S>) -> Result<(), E
     Ok(())
 }
 
-/// Makes the other tables, and the index last.
+/// Makes the other tables, and the indexes last.
 fn create_rest<S: Alter>(tx: &mut Transaction<'_, S>) -> Result<(), Error>
     requires stage { HasStage 8 (state S.Store tx.old.conn.now) }
     ensures same_reference { tx.new.conn.ghost_name ≡ tx.old.conn.ghost_name }
@@ -278,10 +291,11 @@ fn create_rest<S: Alter>(tx: &mut Transaction<'_, S>) -> Result<(), Error>
     create_vouchers(tx)?;
     create_charges(tx)?;
     create_sessions_state(tx)?;
+    create_counters_cycle(tx)?;
     Ok(())
 }
 
-/// Makes each table and the index, within a transaction, in a database that has none.
+/// Makes each table and the indexes, within a transaction, in a database that has none.
 pub fn create_each<S: Alter>(tx: &mut Transaction<'_, S>) -> Result<(), Error>
     requires stage { HasStage 0 (state S.Store tx.old.conn.now) }
     ensures same_reference { tx.new.conn.ghost_name ≡ tx.old.conn.ghost_name }
@@ -293,7 +307,7 @@ pub fn create_each<S: Alter>(tx: &mut Transaction<'_, S>) -> Result<(), Error>
     Ok(())
 }
 
-/// Makes the ten tables and their index in a database that has none: all of them or nothing, also over a crash.
+/// Makes the ten tables and their indexes in a database that has none: all of them or nothing, also over a crash.
 pub fn create_tables<S: Alter>(conn: &mut Connection<S>) -> Result<(), Error>
     requires idle { conn.old.in_transaction ≡ false }
     requires blank { HasCleanDisk (state S.Store conn.old) → IsTrue (state S.Store conn.old).is_open → IsBlank (state S.Store conn.old) }

@@ -1,4 +1,4 @@
-ghost use Rattle.std.specs.Prelude.{◌≡◌, false, IfOk, OnOk, pos, length, option_map};
+ghost use Rattle.std.specs.Prelude.{◌≡◌, ◌<◌, ◌^◌, ℕ, List, Option, false, IfErr, IfOk, IfSome, MatchResult, pos, length, option_map};
 ghost use Rattle.sql_tables.specs.Schema.{book_schema};
 ghost use Rattle.sql_tables.specs.Selects.{one_or_none};
 ghost use Rattle.sql_tables.specs.Statements.{Answers, HasIdleBook, OnlyReads};
@@ -7,8 +7,9 @@ ghost use Rattle.sqlite.specs.Held.{state};
 ghost use Rattle.sqlite.specs.Listing.{understood};
 ghost use Rattle.sqlite.specs.State.{HasCleanDisk, Survives};
 ghost use Rattle.sqlite.specs.Values.{bound, or_null};
-ghost use Rattle.sqlite_value.specs.Order.{column};
+ghost use Rattle.sqlite_value.specs.Order.{Row as Values, column};
 ghost use Rattle.sqlite_value.specs.declared.value.Value.TheVariants.{Int, Null, Text};
+ghost use Rattle.std.specs.Str.{IsUtf8};
 ghost use Rattle.std.specs.String.{string_bytes};
 
 use sqlite::types::ValueRef;
@@ -52,6 +53,7 @@ pub fn read<S: Alter>(
     // A stop leaves what it left before.
     ensures stops { Survives (state S.Store conn.old) (state S.Store conn.new)
         (λ _. (state S.Store conn.old).is_open ≡ false) }
+    ensures fault { IfErr result (λ e. ¬ (e ≡ ReadFault.Rules)) }
 {
     let _ours = conn.schema();
     match conn.query_all(sql, params) {
@@ -62,7 +64,8 @@ pub fn read<S: Alter>(
 
 /// The row, if there is one; more than one is out of the rules.
 pub fn one_of(rows: &[Row]) -> Result<Option<&Row>, ReadFault>
-    ensures { IfOk result (λ o. rows.now ≡ one_or_none (option_map (λ r. r.now) o)) }
+    ensures { MatchResult result (λ o. rows.now ≡ one_or_none (option_map (λ r. r.now) o))
+        (λ _. (o : Option Values) → ¬ (rows.now ≡ one_or_none o)) }
 {
     match rows {
         [] => Ok(None),
@@ -73,7 +76,7 @@ pub fn one_of(rows: &[Row]) -> Result<Option<&Row>, ReadFault>
 
 /// Tests that a row has this many columns.
 pub fn has_columns(row: &Row, count: usize) -> Result<(), ReadFault>
-    ensures { OnOk result (length row.now ≡ count) }
+    ensures { MatchResult result (λ _. length row.now ≡ count) (λ _. ¬ (length row.now ≡ count)) }
 {
     if row.column_count() == count {
         Ok(())
@@ -84,7 +87,8 @@ pub fn has_columns(row: &Row, count: usize) -> Result<(), ReadFault>
 
 /// The number in a column.
 pub fn number_at(row: &Row, at: usize) -> Result<u64, ReadFault>
-    ensures { IfOk result (λ n. column row.now at ≡ Int (pos n)) }
+    ensures { MatchResult result (λ n. column row.now at ≡ Int (pos n))
+        (λ e. e ≡ ReadFault.Rules → (n : ℕ) → ¬ (column row.now at ≡ Int (pos n))) }
 {
     match row.get::<u64>(at) {
         Ok(number) => Ok(number),
@@ -94,7 +98,8 @@ pub fn number_at(row: &Row, at: usize) -> Result<u64, ReadFault>
 
 /// The number below 2^32 in a column.
 pub fn small_at(row: &Row, at: usize) -> Result<u32, ReadFault>
-    ensures { IfOk result (λ n. column row.now at ≡ Int (pos n)) }
+    ensures { MatchResult result (λ n. column row.now at ≡ Int (pos n))
+        (λ e. e ≡ ReadFault.Rules → (n : ℕ) → n < 2 ^ 32 → ¬ (column row.now at ≡ Int (pos n))) }
 {
     match row.get::<u32>(at) {
         Ok(number) => Ok(number),
@@ -104,7 +109,9 @@ pub fn small_at(row: &Row, at: usize) -> Result<u32, ReadFault>
 
 /// The number in a column, none where it is NULL.
 pub fn optional_at(row: &Row, at: usize) -> Result<Option<u32>, ReadFault>
-    ensures { IfOk result (λ o. column row.now at ≡ or_null (λ n. Int (pos n)) o) }
+    ensures { MatchResult result (λ o. column row.now at ≡ or_null (λ n. Int (pos n)) o)
+        (λ e. e ≡ ReadFault.Rules → at < length row.now → (o : Option ℕ) → IfSome o (λ n. n < 2 ^ 32) →
+        ¬ (column row.now at ≡ or_null (λ n. Int (pos n)) o)) }
 {
     match row.get::<Option<u32>>(at) {
         Ok(number) => Ok(number),
@@ -114,7 +121,8 @@ pub fn optional_at(row: &Row, at: usize) -> Result<Option<u32>, ReadFault>
 
 /// Tests that a column is NULL.
 pub fn null_at(row: &Row, at: usize) -> Result<(), ReadFault>
-    ensures { OnOk result (column row.now at ≡ Null) }
+    ensures { MatchResult result (λ _. column row.now at ≡ Null)
+        (λ e. e ≡ ReadFault.Rules → at < length row.now → ¬ (column row.now at ≡ Null)) }
 {
     match row.get::<Option<i64>>(at) {
         Ok(None) => Ok(()),
@@ -125,7 +133,8 @@ pub fn null_at(row: &Row, at: usize) -> Result<(), ReadFault>
 
 /// The text in a column.
 pub fn text_at(row: &Row, at: usize) -> Result<String, ReadFault>
-    ensures { IfOk result (λ s. column row.now at ≡ Text (string_bytes s)) }
+    ensures { MatchResult result (λ s. column row.now at ≡ Text (string_bytes s))
+        (λ e. e ≡ ReadFault.Rules → (t : List ℕ) → IsUtf8 t → ¬ (column row.now at ≡ Text t)) }
 {
     match row.get::<String>(at) {
         Ok(text) => Ok(text),
@@ -133,7 +142,10 @@ pub fn text_at(row: &Row, at: usize) -> Result<String, ReadFault>
     }
 }
 
-fn fault_of(error: Error) -> ReadFault {
+/// The fault of a value that wasn't read.
+fn fault_of(error: Error) -> ReadFault
+    ensures { result ≡ ReadFault.Rules → ¬ (error ≡ Error.SqliteFailure ErrorCode.OutOfMemory) }
+{
     match error {
         Error::SqliteFailure(ErrorCode::OutOfMemory) => ReadFault::Memory,
         _ => ReadFault::Rules,

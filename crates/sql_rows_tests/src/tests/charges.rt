@@ -10,7 +10,7 @@ use identifiers::AccountNumber;
 use reserving::{ChargeRow, Counter};
 use sql_rows::{
     Head, put_charge, put_charges, put_counter, put_counters, read_charges_within, read_counter,
-    read_counters,
+    read_counters_in,
 };
 use sqlite::{Alter, Error};
 use std::alloc::{AllocError, Global};
@@ -70,11 +70,11 @@ impl<S: Alter> Page<S> {
         Ok(self.push(piece.as_str())?)
     }
 
-    fn note_counters(&mut self, account: &AccountNumber) -> Result<(), Fail>
+    fn note_counters(&mut self, account: &AccountNumber, cycle: u32) -> Result<(), Fail>
         requires ready { IsReady (state S.Store self.old.conn) }
         ensures ready { IsReady (state S.Store self.new.conn) }
     {
-        let rows = read_counters(&mut self.conn, self.alloc, account)?;
+        let rows = read_counters_in(&mut self.conn, self.alloc, account, cycle)?;
         Ok(push_counters(self.alloc, &rows, &mut self.text)?)
     }
 
@@ -124,18 +124,18 @@ fn try_counters<S: Alter>(
     page.keep_account(account, head)?;
     page.keep_account(other, head)?;
     page.keep_counter(other, &counter(5, 1))?;
-    page.note_counters(account)?;
+    page.note_counters(account, 5)?;
     page.keep_counters(account, &[counter(3, 7), counter(4, 8)])?;
     page.keep_counter(account, &counter(3, 4_000_000_000_000_000_000))?;
     page.note_counter(account, 2)?;
     page.note_counter(account, 3)?;
     page.note_counter(account, 4)?;
-    page.note_counters(account)
+    page.note_counters(account, 3)
 }
 
-/// The other account has a counter of its own.
+/// The other account has a counter of its own, of the first cycle that is asked for.
 const COUNTED: &str = "
-none; 10 3 4000000000000000000; 10 4 8; 10 3 4000000000000000000; 10 4 8; 
+none; 10 3 4000000000000000000; 10 4 8; 10 3 4000000000000000000; 
 ";
 
 #[test]

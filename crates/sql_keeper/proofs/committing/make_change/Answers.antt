@@ -1,4 +1,4 @@
-use Rattle.std.proofs.Common.{option_map, refl}
+use Rattle.std.proofs.Common.{arith, option_map, refl}
 use Rattle.std.proofs.lemmas.Result.{err_from_is_err_and}
 use Rattle.sqlite.specs.Held.{state}
 use Rattle.sql_rows.specs.Texts.{kept_of}
@@ -22,7 +22,7 @@ returns-in_err-write_change-clause-commits g c =
     (state g.S.Store c.write_change.new.conn) c.in_ok-head.ensures.reads.only c.in_ok-head.ensures.reads.survives
     (become_at names text change texts c.in_ok-head.head c.as_of-stored.ensures.kept
     (c.if-not-may_be_written.ensures.reservations refl) (c.if-not-may_be_written.ensures.numbers refl)
-    c.in_ok-texts.ensures old mid c.in_ok-head.ensures.reads.only c.in_ok-head.ensures.reads.found) _ _
+    c.in_ok-texts.ensures (omega (arith, c.seconds-moment.ensures.in_range, c.seconds-moment.ensures.value)) old mid c.in_ok-head.ensures.reads.only c.in_ok-head.ensures.reads.found) _ _
     c.in_err-write_change.ensures.transacts)
 
 pub returns-clause-commits : goal.returns-clause-commits
@@ -37,5 +37,5 @@ returns-clause-commits g c =
     (state g.S.Store c.write_change.new.conn) c.in_ok-head.ensures.reads.only c.in_ok-head.ensures.reads.survives
     (become_at names text change texts c.in_ok-head.head c.as_of-stored.ensures.kept
     (c.if-not-may_be_written.ensures.reservations refl) (c.if-not-may_be_written.ensures.numbers refl)
-    c.in_ok-texts.ensures old mid c.in_ok-head.ensures.reads.only c.in_ok-head.ensures.reads.found) _ _
+    c.in_ok-texts.ensures (omega (arith, c.seconds-moment.ensures.in_range, c.seconds-moment.ensures.value)) old mid c.in_ok-head.ensures.reads.only c.in_ok-head.ensures.reads.found) _ _
     c.in_ok-write_change.ensures.transacts

@@ -1,9 +1,13 @@
+use Rattle.std.proofs.Common.{List, IfOk}
+use Rattle.reserving.specs.declared.session.Counter.{Counter}
 use Rattle.sql_rows.specs.Content.{rows_in}
-use Rattle.sql_keeper.proofs.InTurn.{reads_made}
-use Rattle.sql_keeper.proofs.LiveRows.{counters_at}
+use Rattle.sql_tables.proofs.ByKey.{told_if_ok}
+use Rattle.sql_keeper.proofs.InTurn.{gathers_made}
+use Rattle.sql_keeper.proofs.Repeating.{counters_joined}
 use Rattle.sql_keeper.proofs.live_rows.read_counters_at.Goals as goal
 
 pub returns : goal.returns
-returns g c = reads_made _ _ _ _ c.in_ok-counters.counters _ c.in_ok-counters.ensures.reads
-    (λ trees found. counters_at c.args.book.now c.args.moment (rows_in trees c.args.account.now)
-    c.in_ok-counters.counters.items c.counters_at.result.items found c.counters_at.ensures)
+returns g c = gathers_made _ _ _ _ c.in_ok-counters.counters c.joined_counters.result c.in_ok-counters.ensures
+    (λ trees found. told_if_ok c.joined_counters.result (λ xs is. counters_joined c.args.book.now c.args.moment
+    (rows_in trees c.args.account.now) c.in_ok-counters.counters.never.items c.in_ok-counters.counters.daily.items
+    c.in_ok-counters.counters.monthly.items xs.items found is) c.joined_counters.ensures)

@@ -20,7 +20,8 @@ returns-in_err-write_sweep-clause-commits g c =
     rw p.1 (not_written (with_sweep names text t c.deref.result.now) (BecomesSwept names text book t) old mid
     (state g.S.Store c.write_sweep.new.conn) reads.only reads.survives
     (become_swept (λ xs. xs.items) names text book t c.in_ok-accounts.accounts c.deref.result.now
-    c.deref.ensures.value c.validity-ranges.ensures.book old mid reads) _ _
+    c.deref.ensures.value c.validity-ranges.ensures.book
+    (omega (arith, c.seconds-moment.ensures.in_range, c.seconds-moment.ensures.value)) old mid reads) _ _
     c.in_err-write_sweep.ensures.transacts)
 
 pub returns-clause-commits : goal.returns-clause-commits
@@ -35,7 +36,8 @@ returns-clause-commits g c =
     written (with_sweep names text t c.deref.result.now) (BecomesSwept names text book t) old mid
     (state g.S.Store c.write_sweep.new.conn) reads.only reads.survives
     (become_swept (λ xs. xs.items) names text book t c.in_ok-accounts.accounts c.deref.result.now
-    c.deref.ensures.value c.validity-ranges.ensures.book old mid reads) _ _
+    c.deref.ensures.value c.validity-ranges.ensures.book
+    (omega (arith, c.seconds-moment.ensures.in_range, c.seconds-moment.ensures.value)) old mid reads) _ _
     c.in_ok-write_sweep.ensures.transacts
 
 pub returns-clause-count : goal.returns-clause-count
@@ -44,5 +46,5 @@ returns-clause-count g c =
     λ clean. n
     ∙ count_swept (λ xs. xs.items) c.args.names.now.periods c.args.text.now c.args.book.now
     c.args.moment c.in_ok-accounts.accounts c.deref.result.now c.deref.ensures.value c.validity-ranges.ensures.book
-    (state g.S.Store c.args.conn.now) (state g.S.Store c.read_sweep.new.conn) c.in_ok-accounts.ensures
+    (omega (arith, c.seconds-moment.ensures.in_range, c.seconds-moment.ensures.value)) (state g.S.Store c.args.conn.now) (state g.S.Store c.read_sweep.new.conn) c.in_ok-accounts.ensures
     (state g.S.Store c.write_sweep.new.conn) _ c.in_ok-write_sweep.ensures.transacts clean

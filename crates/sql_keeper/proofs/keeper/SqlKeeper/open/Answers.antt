@@ -1,5 +1,6 @@
 use Rattle.std.proofs.Common.{refl}
 use Rattle.std.specs.String.{string_bytes}
+use Rattle.std.proofs.lemmas.Str.{IsUtf8-string_bytes}
 use Rattle.sql_keeper.proofs.Opens.{opened}
 use Rattle.sql_keeper.proofs.keeper.SqlKeeper.open.Goals as goal
 
@@ -9,5 +10,6 @@ returns-in-Ok-clause-opened g c =
     opened g.S.Store c.keeper_of.result.0 c.book_in.new.conn c.keeper_of.result.1 c.in-Ok.read.given
     c.in-Ok.read.own (string_bytes c.in-Ok.read.text) (string_bytes c.in-Ok.read.text) c.keeper_of.ensures.connection
     c.keeper_of.ensures.book finds.same c.keeper_of.ensures.names c.keeper_of.ensures.text
-    c.keeper_of.ensures.uncounted finds.read refl c.keeper_of.ensures.live c.args.connection
+    c.keeper_of.ensures.uncounted finds.read refl c.keeper_of.ensures.live
+    (IsUtf8-string_bytes c.in-Ok.read.text) c.args.connection
     finds.found finds.survives finds.idle

@@ -1,0 +1,159 @@
+-- What is kept once, as it is read: where it is in its rules, no fault of the rules is told of it.
+use Rattle.std.proofs.Common.{◌≡◌, inl, inr, ℕ, ℤ, pos, negsuc, List, [], ◌∷◌, map, drop, Bool, true, false, not, ◌&&◌}
+use Rattle.std.proofs.Common.{Some, None, Option, refl, sym, ap, ap₂, subst, ◌∙◌}
+use Rattle.std.specs.Prelude.{slice_index_or, Result, Ok, Err, IfErr, IfOk, MatchResult}
+use Rattle.std.proofs.lemmas.Bool.{and_parts}
+use Rattle.std.specs.Ordering.{eq_by_cmp, is_ge}
+use Rattle.sqlite_value.specs.declared.value.Value.{Value}
+use Rattle.sqlite_value.specs.declared.value.Value.TheVariants.{Null, Int, Real, Text, Blob}
+use Rattle.sqlite_value.specs.declared.keys.Collation.TheVariants.{Binary}
+use Rattle.sqlite_value.specs.Order.{Row, column, row_cmp}
+use Rattle.sqlite_value.proofs.OrderLemmas.{value_cmp-Int}
+use Rattle.sqlite_sql.specs.declared.ops.BinaryOp.TheVariants.{Compare}
+use Rattle.sqlite_sql.specs.declared.ops.CompareOp.TheVariants.{Ge}
+use Rattle.sqlite_sql.specs.Ops.{binary, from_truth, is_false, is_null}
+use Rattle.sqlite_schema.specs.declared.schema.Kind.{Kind}
+use Rattle.sqlite_schema.specs.declared.schema.Kind.TheVariants as kind
+use Rattle.sqlite_schema.specs.declared.schema.Constraint.TheVariants.{Datatype, NotNull, Check}
+use Rattle.sqlite_schema.specs.Rules.{Fits, are_present, are_typed, is_of, passes_checks}
+use Rattle.sqlite_trees.specs.Tree.{Trees}
+use Rattle.sqlite_rules.specs.Lists.{Has}
+use Rattle.sqlite_rules.proofs.ListLemmas.{all_has}
+use Rattle.sqlite.specs.State.{State}
+use Rattle.sql_tables.specs.Keyed.{key_of}
+use Rattle.sql_tables.specs.Schema.{meta, book_schema}
+use Rattle.sql_tables.specs.Selects.{one_or_none}
+use Rattle.sql_tables.specs.Statements.{Answers}
+use Rattle.sql_tables.proofs.Selected.{told}
+use Rattle.sql_tables.proofs.Single.{one_selected}
+use Rattle.sql_rows.specs.Values.{nat, nat_in, text_in, Meta, meta_key, meta_in, meta_cells}
+use Rattle.sql_rows.specs.Content.{content_of}
+use Rattle.sql_rows.specs.Ruled.{IsRefusedMeta, IsRuledMeta}
+use Rattle.sql_rows.proofs.ReadMeta.{read_meta_text, columns, meta_read, meta_selected}
+
+-- ---- values of their kind
+
+below_zero : (n : ℕ) → is_false (binary (Compare Ge Binary) (Int (negsuc n)) (Int (pos 0))) ≡ true
+unfolding binary
+below_zero n = ap (λ o. is_false (from_truth (Some (is_ge o)))) (value_cmp-Int (negsuc n) (pos 0))
+
+whole_in : (v : Value) → is_of kind.Integer v ≡ true → not (is_null v) ≡ true
+    → not (is_false (binary (Compare Ge Binary) v (Int (pos 0)))) ≡ true → v ≡ nat (nat_in v)
+whole_in Null kinds full rule = absurd (cc)
+whole_in (Int (pos n)) kinds full rule = refl
+whole_in (Int (negsuc n)) kinds full rule =
+    absurd (let no : false ≡ true = sym (ap not (below_zero n)) ∙ rule in cc)
+whole_in (Real x) kinds full rule = absurd (cc)
+whole_in (Text t) kinds full rule = absurd (cc)
+whole_in (Blob b) kinds full rule = absurd (cc)
+
+text_of : (v : Value) → is_of kind.Text v ≡ true → not (is_null v) ≡ true → v ≡ Text (text_in v)
+text_of Null kinds full = absurd (cc)
+text_of (Int n) kinds full = absurd (cc)
+text_of (Real x) kinds full = absurd (cc)
+text_of (Text t) kinds full = refl
+text_of (Blob b) kinds full = absurd (cc)
+
+-- ---- the row
+
+abbrev full_at : Row → ℕ → Bool
+full_at row at = not (is_null (column row at))
+
+abbrev right_at : Row → ℕ → Bool
+right_at row at = not (is_false (binary (Compare Ge Binary) (column row at) (Int (pos 0))))
+
+abbrev AreFull : Row → Type 0
+AreFull row = (full_at row 2 ≡ true) × (full_at row 3 ≡ true) × (full_at row 4 ≡ true)
+
+full : (row : Row) → are_present None 0 meta.columns row ≡ true → AreFull row
+full row p =
+    let one = and_parts (full_at row 1) (full_at row 2 && (full_at row 3 && (full_at row 4 && true))) p in
+    let two = and_parts (full_at row 2) (full_at row 3 && (full_at row 4 && true)) one.1 in
+    let three = and_parts (full_at row 3) (full_at row 4 && true) two.1 in
+    let four = and_parts (full_at row 4) true three.1 in
+    (two.0, three.0, four.0)
+
+right : (row : Row) → passes_checks meta row ≡ true → (right_at row 2 ≡ true) × (right_at row 4 ≡ true)
+right row p =
+    let one = and_parts (right_at row 1) (right_at row 2 && (right_at row 4 && true)) p in
+    let two = and_parts (right_at row 2) (right_at row 4 && true) one.1 in
+    let three = and_parts (right_at row 4) true two.1 in
+    (two.0, three.0)
+
+typed : (x : Value) (vs : Row) → are_typed None 0 meta.columns vs ≡ true → AreFull (x ∷ vs)
+    → (right_at (x ∷ vs) 2 ≡ true) × (right_at (x ∷ vs) 4 ≡ true) → columns (x ∷ vs) ≡ meta_cells (meta_in vs)
+typed x [] kinds fulls rules = absurd (let no : false ≡ true = fulls.0 in cc)
+typed x (a ∷ []) kinds fulls rules = absurd (let no : false ≡ true = fulls.0 in cc)
+typed x (a ∷ b ∷ []) kinds fulls rules = absurd (let no : false ≡ true = fulls.1 in cc)
+typed x (a ∷ b ∷ c ∷ []) kinds fulls rules = absurd (let no : false ≡ true = fulls.2 in cc)
+typed x (a ∷ b ∷ c ∷ d ∷ more) kinds fulls rules =
+    let rest = are_typed None 4 [] more in
+    let one = and_parts (is_of kind.Integer a) (is_of kind.Integer b && (is_of kind.Text c && (is_of kind.Integer d && rest)))
+    kinds in
+    let two = and_parts (is_of kind.Integer b) (is_of kind.Text c && (is_of kind.Integer d && rest)) one.1 in
+    let three = and_parts (is_of kind.Text c) (is_of kind.Integer d && rest) two.1 in
+    let four = and_parts (is_of kind.Integer d) rest three.1 in
+    ap₂ ◌∷◌ (whole_in b two.0 fulls.0 rules.0) (ap₂ ◌∷◌ (text_of c three.0 fulls.1)
+    (ap (λ v. v ∷ []) (whole_in d four.0 fulls.2 rules.1)))
+
+row_in : (row : Row) → are_typed None 0 meta.columns (drop 1 row) ≡ true → are_present None 0 meta.columns row ≡ true
+    → passes_checks meta row ≡ true → columns row ≡ meta_cells (meta_in (drop 1 row))
+row_in [] kinds there rules = absurd (let no : false ≡ true = (full [] there).0 in cc)
+row_in (x ∷ vs) kinds there rules = typed x vs kinds (full (x ∷ vs) there) (right (x ∷ vs) rules)
+
+fitting : (trees : Trees) → Fits book_schema trees → (row : Row) → Has (trees 0) row
+    → columns row ≡ meta_cells (meta_in (drop 1 row))
+fitting trees fits row has =
+    row_in row
+    (and_parts (are_typed None 0 meta.columns (drop 1 row)) true
+    (all_has _ (trees 0) row (fits.rules Datatype (λ e. cc)).0 has)).0
+    (all_has _ (trees 0) row (fits.rules NotNull (λ e. cc)).0 has)
+    (all_has _ (trees 0) row (fits.rules Check (λ e. cc)).0 has)
+
+-- ---- what is read
+
+-- none, or one row that is in the order of its columns
+there : (old new : State) (rows : List Row) → Answers read_meta_text [] old new rows
+    → (o : Option Meta) × (rows ≡ map meta_cells (one_or_none o))
+there old new rows got =
+    elim (one_selected meta (inl refl) (inl refl) refl old.now.trees got.fits got.book.stored.0 columns
+    (λ r. eq_by_cmp row_cmp (key_of meta.primary r) meta_key) meta_key (refl, tt) (λ r. refl) rows
+    (meta_selected old new rows got)) [
+      | inl none ↦ (None, none)
+      | inr one ↦ (
+        Some (meta_in (drop 1 one.0)),
+        one.3 ∙ ap (λ v. v ∷ []) (fitting old.now.trees got.fits one.0 one.1),
+      )
+    ]
+
+-- the one row that was read is refused
+pub one_refused : (rows : List Row) (row : Row) → rows ≡ row ∷ [] → ((m : Meta) → row ≡ meta_cells m → ¬ IsRuledMeta m)
+    → (o : Option Meta) → rows ≡ map meta_cells (one_or_none o) → IsRefusedMeta o
+one_refused rows row is refused None none = absurd (let no : row ∷ [] ≡ [] = sym is ∙ none in cc)
+one_refused rows row is refused (Some m) some =
+    refused m (ap (λ (l : List Row). slice_index_or l 0 row) (sym is ∙ some))
+
+-- several are none's
+pub several_refused : (rows : List Row) → ((o : Option Row) → ¬ (rows ≡ one_or_none o)) → (o : Option Meta)
+    → rows ≡ map meta_cells (one_or_none o) → IsRefusedMeta o
+several_refused rows several None none = absurd (several None none)
+several_refused rows several (Some m) some = absurd (several (Some (meta_cells m)) some)
+
+-- what was refused of the rows that were read is refused of the tables
+pub meta_refused : (old new : State) (rows : List Row) → Answers read_meta_text [] old new rows
+    → ((o : Option Meta) → rows ≡ map meta_cells (one_or_none o) → IsRefusedMeta o)
+    → IsRefusedMeta (content_of old.now.trees).meta
+meta_refused old new rows got refused =
+    let it = there old new rows got in
+    subst IsRefusedMeta (meta_read old new rows it.0 got it.1) (refused it.0 it.1)
+
+-- ---- one end of a clause of both
+
+pub at_ok : {T E : Type 0} (P : T → Type 0) (Q : E → Type 0) (r : Result T E) → MatchResult r P Q → IfOk r P
+at_ok P Q (Ok x) h = h
+at_ok P Q (Err e) h = tt
+
+pub at_err : {T E : Type 0} (P : T → Type 0) (Q : E → Type 0) (R : E → Type 0) (r : Result T E)
+    → ((e : E) → Q e → R e) → MatchResult r P Q → IfErr r R
+at_err P Q R (Ok x) to h = tt
+at_err P Q R (Err e) to h = to e h
