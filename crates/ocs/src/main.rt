@@ -90,7 +90,7 @@ pub fn run_words<'a, I: Read, O: Write, E: Write>(
 }
 
 /// Does what the words say, and tells a fault.
-#[tactic(auto, using(crate::proofs::EndLemmas::ended_told, crate::proofs::EndLemmas::ended_end, crate::proofs::EndLemmas::fault_told, crate::proofs::EndLemmas::fault_end, crate::proofs::EndLemmas::once_ends))]
+#[tactic(auto, using(crate::proofs::EndLemmas::ended_told, crate::proofs::EndLemmas::ended_end, crate::proofs::EndLemmas::fault_end, crate::proofs::EndLemmas::once_ends, crate::proofs::EndLemmas::line_ends))]
 fn run_said<I: Read, O: Write, E: Write>(
     rt: &HostRuntime,
     said: ProgramWords,

@@ -19,6 +19,7 @@ use std::io::{BufReader, Read, Write};
 use tariffs::TariffBook;
 
 /// Makes the database of a tariff book, and says that it is made.
+#[tactic(auto, using(office::proofs::Beginnings::nothing_written, office::proofs::Beginnings::some_written))]
 pub(crate) fn answer_init<O: Write>(
     rt: &HostRuntime,
     init: &InitWords,

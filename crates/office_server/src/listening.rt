@@ -62,11 +62,7 @@ fn listening_line(alloc: Global, port: u16) -> Result<String, AllocError>
 }
 
 /// Tells that a port is listened to.
-fn tell_listening<O: Write>(
-    alloc: Global,
-    port: u16,
-    output: &mut O,
-) -> Result<(), DatabaseFault>
+fn tell_listening<O: Write>(alloc: Global, port: u16, output: &mut O) -> Result<(), DatabaseFault>
     ensures ok { OnOk result (Appends (O.contents output.old) (O.contents output.new)
         (listening_line port)) }
     ensures err { OnErr result (WritesBeginning (O.contents output.old) (O.contents output.new)

@@ -50,9 +50,14 @@ fn told(rt: &HostRuntime, line: &str) -> Result<String, Fail> {
 /// over that.
 fn told_in_turn(rt: &HostRuntime, port: u16) -> Result<String, Fail> {
     let alloc = rt.alloc();
-    let serve = format!(in alloc; "ocs serve office_server_tests/db --port {port} --connections 1")?;
+    let serve = format!(in alloc;
+        "ocs serve office_server_tests/db --port {port} --connections 1"
+    )?;
     let absent = told(rt, serve.as_str())?;
-    let init = told(rt, "ocs init office_server_tests/db office_server_tests/book.toml")?;
+    let init = told(
+        rt,
+        "ocs init office_server_tests/db office_server_tests/book.toml",
+    )?;
     let taken = told(rt, serve.as_str())?;
     Ok(format!(in alloc; "{}{}{}", absent.as_str(), init.as_str(), taken.as_str())?)
 }
@@ -65,6 +70,9 @@ fn a_port_that_is_taken(rt: HostRuntime) -> Result<(), Fail> {
     let listener = TcpListener::bind(&rt, "127.0.0.1:0")?;
     let told = told_in_turn(&rt, listener.local_addr()?.port())?;
     fs::remove_dir_all(&rt, FOLDER)?;
-    assert_eq!(rt; told.as_str(), "ocs: open fault 1||\ndone||\nocs: net fault||\n");
+    assert_eq!(rt;
+        told.as_str(),
+        "ocs: open fault 1||\ndone||\nocs: net fault||\n"
+    );
     Ok(())
 }
