@@ -15,6 +15,16 @@ IsOpenFault Net = ⊥
 IsOpenFault Memory = ⊥
 IsOpenFault (Office fault) = ⊥
 
+-- one of a file, of the tables of its database, or of memory
+abbrev pub IsUnopened : DatabaseFault → Type 0
+IsUnopened File = Unit {0}
+IsUnopened Clock = ⊥
+IsUnopened (Book fault) = ⊥
+IsUnopened (Open fault) = Unit {0}
+IsUnopened Net = ⊥
+IsUnopened Memory = Unit {0}
+IsUnopened (Office fault) = ⊥
+
 -- the command wasn't carried out, so it has no answer
 abbrev pub IsUncarried : OfficeFault → Type 0
 IsUncarried (office.Store fault) = Unit {0}

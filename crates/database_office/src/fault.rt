@@ -1,4 +1,5 @@
 ghost use Rattle.std.specs.Prelude.{◌≡◌};
+ghost use Rattle.database_office.specs.Opening.{IsUnopened};
 ghost use Rattle.database_office.specs.Told.{book_line, fault_line, making_fault, open_line};
 
 use office::OfficeFault;
@@ -84,7 +85,9 @@ fn open_line(fault: OpenFault) -> &'static str
 }
 
 /// The fault of a call of the system that failed on a file.
-pub(crate) fn file_fault(kind: io::ErrorKind) -> DatabaseFault {
+pub(crate) fn file_fault(kind: io::ErrorKind) -> DatabaseFault
+    ensures { IsUnopened result }
+{
     match kind {
         io::ErrorKind::OutOfMemory => DatabaseFault::Memory,
         _ => DatabaseFault::File,
@@ -92,7 +95,9 @@ pub(crate) fn file_fault(kind: io::ErrorKind) -> DatabaseFault {
 }
 
 /// The fault of a database that isn't opened.
-pub(crate) fn opening_fault(error: Error) -> DatabaseFault {
+pub(crate) fn opening_fault(error: Error) -> DatabaseFault
+    ensures { IsUnopened result }
+{
     match error {
         Error::SqliteFailure(ErrorCode::OutOfMemory) => DatabaseFault::Memory,
         _ => DatabaseFault::File,

@@ -1,5 +1,8 @@
 //! Files that the words name.
 
+ghost use Rattle.std.specs.Prelude.{IfErr};
+ghost use Rattle.database_office.specs.Opening.{IsUnopened};
+
 use crate::fault::{DatabaseFault, file_fault, opening_fault};
 use database_files::{DatabaseFiles, open_database};
 use sql_opening::OpenFault;
@@ -31,7 +34,9 @@ pub(crate) fn read_file(rt: &HostRuntime, path: &str) -> Result<Vec<u8>, Databas
 pub(crate) fn connect(
     rt: &HostRuntime,
     path: &str,
-) -> Result<Connection<DatabaseFiles<Wary>>, DatabaseFault> {
+) -> Result<Connection<DatabaseFiles<Wary>>, DatabaseFault>
+    ensures { IfErr result IsUnopened }
+{
     match open_database(rt, path, Wary) {
         Ok(connection) => Ok(connection),
         Err(error) => Err(opening_fault(error)),
@@ -45,7 +50,9 @@ pub(crate) fn connect(
 pub(crate) fn connect_there(
     rt: &HostRuntime,
     path: &str,
-) -> Result<Connection<DatabaseFiles<Wary>>, DatabaseFault> {
+) -> Result<Connection<DatabaseFiles<Wary>>, DatabaseFault>
+    ensures { IfErr result IsUnopened }
+{
     match fs::exists(rt, path) {
         Ok(true) => connect(rt, path),
         Ok(false) => Err(DatabaseFault::Open(OpenFault::Foreign)),

@@ -2,7 +2,7 @@
 
 ghost use Rattle.std.specs.Prelude.{IfErr, IfOk};
 ghost use Rattle.sql_keeper.specs.Opened.{IsFresh, IsOpened};
-ghost use Rattle.database_office.specs.Opening.{IsOpenFault};
+ghost use Rattle.database_office.specs.Opening.{IsOpenFault, IsUnopened};
 
 use crate::fault::DatabaseFault;
 use crate::files::connect_there;
@@ -31,6 +31,7 @@ pub fn open_office(
     path: &FilePath,
 ) -> Result<Office<DatabaseFiles<Wary>>, DatabaseFault>
     ensures fresh { IfOk result (λ office. IsFresh office.keeper office.book) }
+    ensures told { IfErr result IsUnopened }
 {
     let connection = connect_there(rt, path.as_str())?;
     open_tables(rt.alloc(), connection)

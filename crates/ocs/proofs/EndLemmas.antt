@@ -21,7 +21,7 @@ use Rattle.operator.specs.declared.parsed.OnceWords.{OnceWords}
 use Rattle.operator.specs.declared.parsed.ProgramWords.{ProgramWords}
 use Rattle.operator.specs.declared.parsed.ProgramWords.TheVariants as words
 use Rattle.ocs.specs.Ends.{IfOnce, IsEnd, IsEndBy, IsEndOf, IsEnded, IsMemory, MayBeRefused, Runs, Says, SaysWhatDoesNot, Stores}
-use Rattle.ocs.specs.Told.{IsReached, IsReachedByLines, IsTextTold, IsTold, IsToldBy, IsToldOf, TellsFault, fault_line}
+use Rattle.ocs.specs.Told.{IsReached, IsReachedByLines, IsTextTold, IsTold, IsToldAtEnd, IsToldBy, IsToldOf, ServesConnections, TellsFault, fault_line, line_of}
 use Rattle.ocs.specs.declared.fault.LinesFault.{LinesFault}
 use Rattle.ocs.specs.declared.fault.LinesFault.TheVariants.{Read, Store, Write}
 use Rattle.ocs.specs.declared.fault.ProgramFault.{ProgramFault}
@@ -80,8 +80,25 @@ end_said texts said Done h runs = inl (record { said = said; says = h; runs = ru
 end_said texts said Failed h end = tt
 end_said texts said Unread h end = absurd end
 
+keeps_same : (old : Option (List ℕ)) → Keeps old old
+keeps_same None = tt
+keeps_same (Some xs) = refl
+
+keeps_of : (old new : Option (List ℕ)) → new ≡ old → Keeps old new
+keeps_of old new e = subst (Keeps old) (sym e) (keeps_same old)
+
+-- nothing is told of what is done, but the faults of connections
+done_said : (texts : List Text) (said : ProgramWords) (old new : Option (List ℕ)) → IsSaid texts said → IsToldAtEnd said old new → Keeps old new ⊎ ServesConnections texts old new
+done_said texts (words.Once once) old new h told = inl (keeps_of old new told)
+done_said texts (words.Init init) old new h told = inl (keeps_of old new told)
+done_said texts (words.Serve serve) old new h told = inr (record { serve = serve; says = h; told = told })
+done_said texts (words.Import import) old new h told = inl (keeps_of old new told)
+done_said texts (words.Office office) old new h told = inl (keeps_of old new told)
+done_said texts (words.Statement statement) old new h told = inl (keeps_of old new told)
+done_said texts (words.Replay replay) old new h told = inl (keeps_of old new told)
+
 pub told_said : (texts : List Text) (said : ProgramWords) (status : Status) (old new : Option (List ℕ)) → IsSaid texts said → IsToldBy said status old new → IsTold texts status old new
-told_said texts said Done old new h told = told
+told_said texts said Done old new h told = done_said texts said old new h told
 told_said texts said Failed old new h (inl told) =
     inl (tells_from (Runs said → ⊥) (SaysWhatDoesNot texts) (Stores said) (Says texts Stores) old new (λ rests. record { said = said; says = h; rests = rests }) (λ stores. record { said = said; says = h; is = stores }) told)
 told_said texts said Failed old new h (inr refused) = inr (record { said = said; says = h; is = refused.0 }, refused.1)
@@ -105,20 +122,27 @@ ends_read said status end e = subst (IsEndBy said) e end
 
 -- ---- what is done
 
-keeps_same : (old : Option (List ℕ)) → Keeps old old
-keeps_same None = tt
-keeps_same (Some xs) = refl
+refused_told : (said : ProgramWords) (old new : Option (List ℕ)) → MayBeRefused said → IsToldAtEnd said old new → Keeps old new
+refused_told (words.Once once) old new may told = absurd may
+refused_told (words.Init init) old new may told = absurd may
+refused_told (words.Serve serve) old new may told = absurd may
+refused_told (words.Import import) old new may told = absurd may
+refused_told (words.Office office) old new may told = keeps_of old new told
+refused_told (words.Statement statement) old new may told = absurd may
+refused_told (words.Replay replay) old new may told = absurd may
 
--- nothing is told of what ends by itself
-pub ended_told : (said : ProgramWords) (status : Status) (old : Option (List ℕ)) → IsEnded (MayBeRefused said) status → IsToldBy said status old old
-ended_told said Done old ended = keeps_same old
-ended_told said Failed old ended = inr (ended, keeps_same old)
-ended_told said Unread old ended = absurd ended
+-- what ends by itself
+pub ended_told : (said : ProgramWords) (status : Status) (old new : Option (List ℕ)) → IsEnded (MayBeRefused said) status → IsToldAtEnd said old new → IsToldBy said status old new
+ended_told said Done old new ended told = told
+ended_told said Failed old new ended told = inr (ended, refused_told said old new ended told)
+ended_told said Unread old new ended told = absurd ended
 
 -- a fault by its line
-pub fault_told : (said : ProgramWords) (f : ProgramFault) (status : Status) (old new : Option (List ℕ)) → status ≡ Failed → IsReached (Runs said → ⊥) (Stores said) f → WritesBeginning old new (fault_line f ++ 10 ∷ []) → IsToldBy said status old new
-fault_told said f status old new is reached written =
-    subst (λ (s : Status). IsToldBy said s old new) (sym is) (inl (record { fault = f; reached = reached; written = written }))
+pub fault_told : (said : ProgramWords) (f : ProgramFault) (status : Status) (old mid new : Option (List ℕ)) → status ≡ Failed → IsReached (Runs said → ⊥) (Stores said) f → mid ≡ old →
+    WritesBeginning mid new (fault_line f ++ 10 ∷ []) → IsToldBy said status old new
+fault_told said f status old mid new is reached same written =
+    subst (λ (s : Status). IsToldBy said s old new) (sym is)
+    (inl (record { fault = f; reached = reached; written = subst (λ (w : Option (List ℕ)). WritesBeginning w new (fault_line f ++ 10 ∷ [])) same written }))
 
 pub fault_end : (said : ProgramWords) (status : Status) → status ≡ Failed → IsEndBy said status
 fault_end said status is = subst (IsEndBy said) (sym is) tt
@@ -137,6 +161,20 @@ once_ends (words.Import import) status P ended failed = tt
 once_ends (words.Office office) status P ended failed = tt
 once_ends (words.Statement statement) status P ended failed = tt
 once_ends (words.Replay replay) status P ended failed = tt
+
+-- words that print one line are never refused
+pub line_ends : (said : ProgramWords) (status : Status) (P : List ℕ → Type 0) → IsEnded (MayBeRefused said) status → status ≡ Failed → IfSome (line_of said) P
+line_ends (words.Once once) status P ended failed = tt
+line_ends (words.Init init) status P ended failed = absurd (subst (IsEnded ⊥) failed ended)
+line_ends (words.Serve serve) status P ended failed = absurd (subst (IsEnded ⊥) failed ended)
+line_ends (words.Import import) status P ended failed = tt
+line_ends (words.Office office) status P ended failed = tt
+line_ends (words.Statement statement) status P ended failed = tt
+line_ends (words.Replay replay) status P ended failed = tt
+
+-- what is so of one said of all that the words say
+pub line_said : (texts : List Text) (said other : ProgramWords) (P : List ℕ → Type 0) → IsSaid texts said → IsSaid texts other → IfSome (line_of said) P → IfSome (line_of other) P
+line_said texts said other P h k is = subst (λ (s : ProgramWords). IfSome (line_of s) P) (same_said texts said other h k) is
 
 -- ---- words that aren't read
 
@@ -173,7 +211,7 @@ none_tells : (B D : Type 0) (old new : Option (List ℕ)) → TellsFault ⊥ ⊥
 none_tells B D old new t = tells_from ⊥ B ⊥ D old new (λ none. absurd none) (λ none. absurd none) t
 
 pub told_unread : (texts : List Text) (f : WordsFault) (status : Status) (old new : Option (List ℕ)) → IsUnread texts f → IsEndOf f status → IsToldOf f status old new → IsTold texts status old new
-told_unread texts (fault.Unread error) Done old new unread end told = told
+told_unread texts (fault.Unread error) Done old new unread end told = inl told
 told_unread texts (fault.Unread error) Failed old new unread end told = inl (none_tells (SaysWhatDoesNot texts) (Says texts Stores) old new told)
 told_unread texts (fault.Unread error) Unread old new unread end told = λ invalid. absurd (not_among (kind_of error) (fault_of program_app texts) invalid.taken unread)
 told_unread texts fault.Invalid Done old new unread end told = absurd end
@@ -205,6 +243,10 @@ part_told a b line more h = beginning_before a b line more (some_written a b lin
 pub unwritten_begins : (r old new : Option (List ℕ)) (text : List ℕ → List ℕ) → new ≡ old → IfSome r (λ stream. WritesBeginning old new (text stream))
 unwritten_begins None old new text same = tt
 unwritten_begins (Some stream) old new text same = subst (λ (w : Option (List ℕ)). WritesBeginning old w (text stream)) (sym same) (nothing_written old (text stream))
+
+pub unwritten_line : (line old new : Option (List ℕ)) → new ≡ old → IfSome line (WritesBeginning old new)
+unwritten_line None old new same = tt
+unwritten_line (Some text) old new same = subst (λ (w : Option (List ℕ)). WritesBeginning old w text) (sym same) (nothing_written old text)
 
 -- ---- want of memory, and streams
 

@@ -31,7 +31,7 @@ IfOnce (words.Replay replay) says = Unit {0}
 abbrev pub Runs : ProgramWords → Type 0
 Runs (words.Once once) = Unit {0}
 Runs (words.Init init) = Unit {0}
-Runs (words.Serve serve) = ⊥
+Runs (words.Serve serve) = Unit {0}
 Runs (words.Import import) = ⊥
 Runs (words.Office office) = Unit {0}
 Runs (words.Statement statement) = ⊥

@@ -1,6 +1,6 @@
 -- What the program tells on standard error.
 -- Source: profile.
-use Rattle.std.specs.Prelude.{◌⊎◌, ◌++◌, ◌∷◌, ℕ, List, [], Option, codes}
+use Rattle.std.specs.Prelude.{◌≡◌, ◌≤◌, ◌⊎◌, ◌++◌, ◌∷◌, ℕ, List, [], Option, Some, None, codes}
 use Rattle.std.specs.Io.KnownBytes.{Keeps}
 use Rattle.clap.specs.Words.{Text}
 use Rattle.keepers.specs.declared.fault.StoreFault.TheVariants as store
@@ -8,11 +8,14 @@ use Rattle.office.specs.Told.{store_line, stream_line}
 use Rattle.office.specs.Written.{WritesBeginning}
 use Rattle.office.specs.declared.status.Status.{Status}
 use Rattle.office.specs.declared.status.Status.TheVariants.{Done, Failed, Unread}
-use Rattle.operator.specs.Read.{IsInvalid}
+use Rattle.operator.specs.Read.{IsInvalid, IsSaid}
 use Rattle.operator.specs.declared.fault.WordsFault.{WordsFault}
 use Rattle.operator.specs.declared.fault.WordsFault.TheVariants as fault
 use Rattle.operator.specs.declared.parsed.ProgramWords.{ProgramWords}
+use Rattle.operator.specs.declared.parsed.ProgramWords.TheVariants as words
+use Rattle.operator.specs.declared.parsed.ServeWords.{ServeWords}
 use Rattle.database_office.specs.Told.{fault_line as database_line}
+use Rattle.office_server.specs.Told.{TellsFaults, listening_line}
 use Rattle.ocs.specs.Ends.{MayBeRefused, Runs, Says, SaysWhatDoesNot, Stores}
 use Rattle.ocs.specs.declared.fault.LinesFault.{LinesFault}
 use Rattle.ocs.specs.declared.fault.LinesFault.TheVariants.{Read, Store, Write}
@@ -38,6 +41,18 @@ fault_line program.NotYet = codes "ocs: this command does not run yet"
 abbrev pub invalid_line : List ℕ
 invalid_line = codes "ocs: a word is not one that its place takes"
 
+-- ---- what is printed
+
+-- the line of words that print one alone
+abbrev pub line_of : ProgramWords → Option (List ℕ)
+line_of (words.Once once) = None
+line_of (words.Init init) = Some (codes "ok\n")
+line_of (words.Serve serve) = Some (listening_line serve.port)
+line_of (words.Import import) = None
+line_of (words.Office office) = None
+line_of (words.Statement statement) = None
+line_of (words.Replay replay) = None
+
 -- ---- what is told
 
 -- memory is a store that never fails; one that may fail there is only where this is so
@@ -61,10 +76,23 @@ pub record TellsFault (Rests Over : Type 0) (old new : Option (List ℕ)) : Type
   pub reached : IsReached Rests Over fault
   pub written : WritesBeginning old new (fault_line fault ++ 10 ∷ [])
 
--- nothing where all is done, or an operator's command is refused; a fault by its line; of words that
--- aren't read the text is `clap`'s, and where `clap` takes them a line
+-- connections were served: the faults of some of them, each by its line
+pub record ConnectionsTold (connections : ℕ) (old new : Option (List ℕ)) : Type 0 where
+  pub failed : ℕ
+  pub few : failed ≤ connections
+  pub told : TellsFaults failed old new
+
+-- so it is where the words say `serve`
+pub record ServesConnections (texts : List Text) (old new : Option (List ℕ)) : Type 0 where
+  pub serve : ServeWords
+  pub says : IsSaid texts (words.Serve serve)
+  pub told : ConnectionsTold serve.connections old new
+
+-- nothing where all is done, but faults of connections that were served, or where an operator's
+-- command is refused; a fault by its line; of words that aren't read the text is `clap`'s, and where
+-- `clap` takes them a line
 abbrev pub IsTold : List Text → Status → Option (List ℕ) → Option (List ℕ) → Type 0
-IsTold texts Done old new = Keeps old new
+IsTold texts Done old new = Keeps old new ⊎ ServesConnections texts old new
 IsTold texts Failed old new =
     TellsFault (SaysWhatDoesNot texts) (Says texts Stores) old new ⊎ (Says texts MayBeRefused × Keeps old new)
 IsTold texts Unread old new = IsInvalid texts → WritesBeginning old new (invalid_line ++ 10 ∷ [])
@@ -83,8 +111,18 @@ IsToldOf fault.Memory status old new = TellsFault ⊥ ⊥ old new
 
 -- ---- the same by what the words say
 
+-- what is told of what ends well, or is refused
+abbrev pub IsToldAtEnd : ProgramWords → Option (List ℕ) → Option (List ℕ) → Type 0
+IsToldAtEnd (words.Once once) old new = new ≡ old
+IsToldAtEnd (words.Init init) old new = new ≡ old
+IsToldAtEnd (words.Serve serve) old new = ConnectionsTold serve.connections old new
+IsToldAtEnd (words.Import import) old new = new ≡ old
+IsToldAtEnd (words.Office office) old new = new ≡ old
+IsToldAtEnd (words.Statement statement) old new = new ≡ old
+IsToldAtEnd (words.Replay replay) old new = new ≡ old
+
 abbrev pub IsToldBy : ProgramWords → Status → Option (List ℕ) → Option (List ℕ) → Type 0
-IsToldBy said Done old new = Keeps old new
+IsToldBy said Done old new = IsToldAtEnd said old new
 IsToldBy said Failed old new =
     TellsFault (Runs said → ⊥) (Stores said) old new ⊎ (MayBeRefused said × Keeps old new)
 IsToldBy said Unread old new = ⊥

@@ -6,10 +6,11 @@ ghost use Rattle.one_price.specs.OnceBook.{once_book};
 ghost use Rattle.operator.specs.Read.{IsInRange, IsOnceInRange};
 ghost use Rattle.ocs.specs.Ends.{IfOnce, IsEnded, MayBeRefused, Runs, Stores};
 ghost use Rattle.ocs.specs.Served.{once_text};
-ghost use Rattle.ocs.specs.Told.{IsReached, IsReachedByLines};
+ghost use Rattle.ocs.specs.Told.{IsReached, IsReachedByLines, IsToldAtEnd, line_of};
 
 use crate::fault::{LinesFault, ProgramFault};
 use crate::lines::lines;
+use crate::serving::answer_serve;
 use crate::storing::{answer_init, answer_office, answer_replay};
 use keepers::MemoryKeeper;
 use office::Status;
@@ -22,16 +23,23 @@ use std::io::{Read, Write};
 ///
 /// # Errors
 /// `NotYet` where their command doesn't run yet. What else is told is their command's.
-pub(crate) fn do_said<I: Read, O: Write>(
+pub(crate) fn do_said<I: Read, O: Write, E: Write>(
     rt: &HostRuntime,
     said: ProgramWords,
     input: &mut I,
     output: &mut O,
+    errors: &mut E,
 ) -> Result<Status, ProgramFault>
     requires { IsInRange said }
     ensures runs { OnOk result (Runs said) }
     ensures ended { IfOk result (IsEnded (MayBeRefused said)) }
     ensures reached { IfErr result (IsReached (Runs said → ⊥) (Stores said)) }
+    ensures told { OnOk result (IsToldAtEnd said (E.contents errors.old) (E.contents errors.new)) }
+    ensures untold { OnErr result (errors.new ≡ errors.old) }
+    ensures printed { IfSome (line_of said) (λ line. OnOk result
+        (Appends (O.contents output.old) (O.contents output.new) line)) }
+    ensures begun { IfSome (line_of said) (λ line. OnErr result
+        (WritesBeginning (O.contents output.old) (O.contents output.new) line)) }
     ensures unread { IfOnce said (λ _. ⊥) → input.new ≡ input.old }
     ensures done { IfOnce said (λ once. OnOk result (IfSome (I.remaining input.old) (λ stream.
         Appends (O.contents output.old) (O.contents output.new)
@@ -43,7 +51,7 @@ pub(crate) fn do_said<I: Read, O: Write>(
     match said {
         ProgramWords::Once(once) => answer_once(rt.alloc(), once, input, output),
         ProgramWords::Init(init) => answer_init(rt, &init, output),
-        ProgramWords::Serve(_) => Err(ProgramFault::NotYet),
+        ProgramWords::Serve(serve) => answer_serve(rt, &serve, output, errors),
         ProgramWords::Import(_) => Err(ProgramFault::NotYet),
         ProgramWords::Office(office) => answer_office(rt, office, output),
         ProgramWords::Statement(_) => Err(ProgramFault::NotYet),

@@ -8,6 +8,7 @@ mod lines;
 mod opening;
 mod output;
 mod reading;
+mod serving;
 mod storing;
 mod telling;
 
@@ -18,10 +19,11 @@ ghost use Rattle.office.specs.declared.status.Status.TheVariants.{Done, Failed, 
 ghost use Rattle.one_price.specs.OnceBook.{once_book};
 ghost use Rattle.operator.specs.Read.{IsInRange, IsSaid, texts_of};
 ghost use Rattle.operator.specs.declared.parsed.OnceWords.{OnceWords};
+ghost use Rattle.operator.specs.declared.parsed.ProgramWords.{ProgramWords};
 ghost use Rattle.operator.specs.declared.parsed.ProgramWords.TheVariants.{Once};
 ghost use Rattle.ocs.specs.Ends.{IfOnce, IsEnd, IsEndBy};
 ghost use Rattle.ocs.specs.Served.{once_text};
-ghost use Rattle.ocs.specs.Told.{IsTold, IsToldBy};
+ghost use Rattle.ocs.specs.Told.{IsTold, IsToldBy, line_of};
 
 use crate::doing::do_said;
 use crate::telling::{tell_fault, tell_start, tell_unread};
@@ -51,9 +53,10 @@ fn run_own_words(rt: &HostRuntime) -> io::Result<Status> {
 }
 
 /// Runs the program's words. `Done` where what they say was done, or a text that they ask for was
-/// written: the help or the version. `Failed` where an operator's command is refused, and at a
-/// fault, which is one line on `errors`. `Unread` where they aren't words of the program: then
-/// `output` gets nothing, and `errors` a text that says why.
+/// written: the help or the version; of connections that were served, each one's fault is one line
+/// on `errors`. `Failed` where an operator's command is refused, and at a fault, which is one line on
+/// `errors`. `Unread` where they aren't words of the program: then `output` gets nothing, and
+/// `errors` a text that says why.
 pub fn run_words<'a, I: Read, O: Write, E: Write>(
     rt: &HostRuntime,
     words: &'a [&'a str],
@@ -67,6 +70,10 @@ pub fn run_words<'a, I: Read, O: Write, E: Write>(
     ensures unread { ((once : OnceWords) → IsSaid (texts_of words.entry.now) (Once once) → ⊥) →
         input.new ≡ input.old }
     ensures unwritten { result ≡ Unread → output.new ≡ output.old }
+    ensures printed { (said : ProgramWords) → IsSaid (texts_of words.entry.now) said → result ≡ Done →
+        IfSome (line_of said) (Appends (O.contents output.old) (O.contents output.new)) }
+    ensures begun { (said : ProgramWords) → IsSaid (texts_of words.entry.now) said → result ≡ Failed →
+        IfSome (line_of said) (WritesBeginning (O.contents output.old) (O.contents output.new)) }
     ensures done { (once : OnceWords) → IsSaid (texts_of words.entry.now) (Once once) →
         result ≡ Done → IfSome (I.remaining input.old) (λ stream.
         Appends (O.contents output.old) (O.contents output.new)
@@ -83,7 +90,7 @@ pub fn run_words<'a, I: Read, O: Write, E: Write>(
 }
 
 /// Does what the words say, and tells a fault.
-#[tactic(auto, using(crate::proofs::EndLemmas::ended_told, crate::proofs::EndLemmas::ended_end, crate::proofs::EndLemmas::fault_told, crate::proofs::EndLemmas::fault_end, crate::proofs::EndLemmas::once_ends))]
+#[tactic(auto, using(crate::proofs::EndLemmas::ended_told, crate::proofs::EndLemmas::ended_end, crate::proofs::EndLemmas::fault_end, crate::proofs::EndLemmas::once_ends, crate::proofs::EndLemmas::line_ends))]
 fn run_said<I: Read, O: Write, E: Write>(
     rt: &HostRuntime,
     said: ProgramWords,
@@ -94,6 +101,10 @@ fn run_said<I: Read, O: Write, E: Write>(
     requires { IsInRange said }
     ensures end { IsEndBy said result }
     ensures told { IsToldBy said result (E.contents errors.old) (E.contents errors.new) }
+    ensures printed { result ≡ Done →
+        IfSome (line_of said) (Appends (O.contents output.old) (O.contents output.new)) }
+    ensures begun { result ≡ Failed →
+        IfSome (line_of said) (WritesBeginning (O.contents output.old) (O.contents output.new)) }
     ensures unread { IfOnce said (λ _. ⊥) → input.new ≡ input.old }
     ensures done { IfOnce said (λ once. result ≡ Done → IfSome (I.remaining input.old) (λ stream.
         Appends (O.contents output.old) (O.contents output.new)
@@ -102,7 +113,7 @@ fn run_said<I: Read, O: Write, E: Write>(
         WritesBeginning (O.contents output.old) (O.contents output.new)
         (once_text (once_book once.price once.block) once.credit stream))) }
 {
-    match do_said(rt, said, input, output) {
+    match do_said(rt, said, input, output, errors) {
         Ok(status) => status,
         Err(fault) => tell_fault(errors, fault),
     }

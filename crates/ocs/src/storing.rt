@@ -2,6 +2,7 @@
 
 ghost use Rattle.std.specs.Prelude.{◌≡◌, ◌++◌, ◌∷◌, [], codes, IfErr, IfOk, OnErr, OnOk};
 ghost use Rattle.std.specs.Io.KnownBytes.{Appends};
+ghost use Rattle.office.specs.Written.{WritesBeginning};
 ghost use Rattle.ocs.specs.Ends.{IsEnded};
 ghost use Rattle.ocs.specs.Served.{ForEachList, IsContinued};
 ghost use Rattle.ocs.specs.Told.{IsReached, IsReachedByLines};
@@ -18,6 +19,7 @@ use std::io::{BufReader, Read, Write};
 use tariffs::TariffBook;
 
 /// Makes the database of a tariff book, and says that it is made.
+#[tactic(auto, using(office::proofs::Beginnings::nothing_written, office::proofs::Beginnings::some_written))]
 pub(crate) fn answer_init<O: Write>(
     rt: &HostRuntime,
     init: &InitWords,
@@ -26,6 +28,8 @@ pub(crate) fn answer_init<O: Write>(
     ensures ended { IfOk result (IsEnded ⊥) }
     ensures reached { IfErr result (IsReached (Unit {0} → ⊥) (Unit {0})) }
     ensures done { OnOk result (Appends (O.contents output.old) (O.contents output.new)
+        (codes "ok\n")) }
+    ensures begun { OnErr result (WritesBeginning (O.contents output.old) (O.contents output.new)
         (codes "ok\n")) }
 {
     if let Err(fault) = make_database(rt, init) {

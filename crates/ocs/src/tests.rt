@@ -18,7 +18,7 @@ fn told(rt: &HostRuntime, line: &str) -> Result<String, Fail> {
 }
 
 /// Lines of words, and what they come to.
-const TOLD: [(&str, &str); 7] = [
+const TOLD: [(&str, &str); 8] = [
     (
         "ocs once --block 1 --price 0 --credit 1",
         "0|{\"Result-Code\":5012}\n|",
@@ -35,6 +35,10 @@ const TOLD: [(&str, &str); 7] = [
     ("ocs --version", "0|ocs 0.1.0\n|"),
     ("ocs sweep db --at 1", "1||ocs: open fault 1\n"),
     ("ocs replay db file", "1||ocs: file fault\n"),
+    (
+        "ocs serve db --port 65535 --connections 1000000",
+        "1||ocs: open fault 1\n",
+    ),
     (
         "ocs import db file",
         "1||ocs: this command does not run yet\n",

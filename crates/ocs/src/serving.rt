@@ -1,0 +1,37 @@
+//! Connections over a database.
+
+ghost use Rattle.std.specs.Prelude.{◌≡◌, IfErr, IfOk, OnErr, OnOk};
+ghost use Rattle.std.specs.Io.KnownBytes.{Appends};
+ghost use Rattle.office.specs.Written.{WritesBeginning};
+ghost use Rattle.office_server.specs.Told.{listening_line};
+ghost use Rattle.ocs.specs.Ends.{IsEnded};
+ghost use Rattle.ocs.specs.Told.{ConnectionsTold, IsReached};
+
+use crate::fault::ProgramFault;
+use office::Status;
+use office_server::serve_database;
+use operator::ServeWords;
+use std::io::Write;
+
+/// Serves the connections of the words. Each one's fault is a line on the errors.
+pub(crate) fn answer_serve<O: Write, E: Write>(
+    rt: &HostRuntime,
+    serve: &ServeWords,
+    output: &mut O,
+    errors: &mut E,
+) -> Result<Status, ProgramFault>
+    ensures ended { IfOk result (IsEnded ⊥) }
+    ensures reached { IfErr result (IsReached (Unit {0} → ⊥) (Unit {0})) }
+    ensures listening { OnOk result (Appends (O.contents output.old) (O.contents output.new)
+        (listening_line serve.now.port)) }
+    ensures begun { OnErr result (WritesBeginning (O.contents output.old) (O.contents output.new)
+        (listening_line serve.now.port)) }
+    ensures told { OnOk result (ConnectionsTold serve.now.connections (E.contents errors.old)
+        (E.contents errors.new)) }
+    ensures untold { OnErr result (errors.new ≡ errors.old) }
+{
+    match serve_database(rt, serve, output, errors) {
+        Ok(_) => Ok(Status::Done),
+        Err(fault) => Err(ProgramFault::Database(fault)),
+    }
+}

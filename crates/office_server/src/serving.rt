@@ -1,0 +1,84 @@
+//! Connections of a listener, one after another.
+
+ghost use Rattle.std.specs.Prelude.{◌≡◌, ◌≤◌};
+ghost use Rattle.http_api.specs.Replies.{ForEachList, IsContinued};
+ghost use Rattle.office_server.specs.Told.{TellsFaults};
+
+use crate::telling::tell_fault;
+use http_api::{Clock, ServeFault, Served, serve_socket};
+use keepers::Keeper;
+use std::alloc::Global;
+use std::io::Write;
+use std::net::TcpListener;
+use tariffs::TariffBook;
+
+/// Serves so many connections of a listener, one after another, each as `serve_socket` does, and
+/// answers how many of them ended in a fault. A connection's fault is one line on `errors`, as far
+/// as that can be written, and the next connection is served; one that the listener couldn't hand
+/// over counts as one whose socket failed.
+pub fn serve_connections<K: Keeper, C: Clock, E: Write>(
+    alloc: Global,
+    listener: &TcpListener,
+    connections: u32,
+    keeper: &mut K,
+    book: &TariffBook,
+    clock: &mut C,
+    errors: &mut E,
+) -> u32
+    ensures told { TellsFaults result (E.contents errors.old) (E.contents errors.new) }
+    ensures bounded { result ≤ connections }
+    ensures continued { K.clean keeper.new →
+        ForEachList book.now (K.content keeper.old) (IsContinued book.now (K.content keeper.new)) }
+    ensures cleanness { K.clean keeper.new → K.clean keeper.old }
+    ensures failures { K.failed keeper.old ≤ K.failed keeper.new }
+{
+    let mut failed = 0;
+    for _served in 0..connections {
+        failed += serve_next(alloc, listener, keeper, book, clock, errors);
+    }
+    failed
+}
+
+/// Serves the next connection of a listener, and tells its fault: how many there were, none or one.
+fn serve_next<K: Keeper, C: Clock, E: Write>(
+    alloc: Global,
+    listener: &TcpListener,
+    keeper: &mut K,
+    book: &TariffBook,
+    clock: &mut C,
+    errors: &mut E,
+) -> u32
+    ensures told { TellsFaults result (E.contents errors.old) (E.contents errors.new) }
+    ensures bounded { result ≤ 1 }
+    ensures continued { K.clean keeper.new →
+        ForEachList book.now (K.content keeper.old) (IsContinued book.now (K.content keeper.new)) }
+    ensures cleanness { K.clean keeper.new → K.clean keeper.old }
+    ensures failures { K.failed keeper.old ≤ K.failed keeper.new }
+{
+    match serve_accepted(alloc, listener, keeper, book, clock) {
+        Ok(_) => 0,
+        Err(fault) => {
+            tell_fault(errors, fault);
+            1
+        }
+    }
+}
+
+/// Serves the next connection of a listener.
+fn serve_accepted<K: Keeper, C: Clock>(
+    alloc: Global,
+    listener: &TcpListener,
+    keeper: &mut K,
+    book: &TariffBook,
+    clock: &mut C,
+) -> Result<Served, ServeFault>
+    ensures continued { K.clean keeper.new →
+        ForEachList book.now (K.content keeper.old) (IsContinued book.now (K.content keeper.new)) }
+    ensures cleanness { K.clean keeper.new → K.clean keeper.old }
+    ensures failures { K.failed keeper.old ≤ K.failed keeper.new }
+{
+    match listener.accept() {
+        Ok((stream, _)) => serve_socket(alloc, &stream, keeper, book, clock),
+        Err(_) => Err(ServeFault::Read),
+    }
+}
