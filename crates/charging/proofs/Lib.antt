@@ -22,3 +22,4 @@ pub mod Guaranteed
 pub mod KeptDecisions
 pub mod KeptHistories
 pub mod Accounted
+pub mod Collecting

@@ -278,7 +278,7 @@ paying_reserved b t s g units amount reports ledger h =
       paid = (tt, h.paid);
     })
 
-paying_debit : (b : Book) (t : ℕ) (s : List ℕ) (g units : ℕ) (reports : List Report)
+pub paying_debit : (b : Book) (t : ℕ) (s : List ℕ) (g units : ℕ) (reports : List Report)
     (ledger : Ledger) → last_recording s ledger ≡ None → is_covered b t g units ledger ≡ true →
     IsPaying b reports ledger →
     IsPaying b reports (debited b t s g units ledger)

@@ -12,3 +12,4 @@ pub mod Quotas
 pub mod Isolation
 pub mod Repeats
 pub mod Headline
+pub mod Collected

@@ -1,12 +1,13 @@
 //! Laws of the definitions by which commands are answered: functions that do nothing.
 
-ghost use Rattle.std.specs.Prelude.{ℕ, List, []};
+ghost use Rattle.std.specs.Prelude.{◌≡◌, ℕ, List, []};
 ghost use Rattle.tariffs.specs.Books.{Book, IsBook};
 ghost use Rattle.keepers.specs.Tables.{no_tables};
 ghost use Rattle.charging.specs.Accepted.{Accepted, IsInTime};
 ghost use Rattle.charging.specs.Served.{history, AreTables};
 ghost use Rattle.charging.specs.SessionReports.{reports_of};
 ghost use Rattle.charging.specs.Paid.{ArePaid};
+ghost use Rattle.charging.specs.Collected.{collected_to_date, charged_to_date};
 ghost use Rattle.charging.specs.Quotas.{AreQuotasPaid};
 ghost use Rattle.charging.specs.Repeats.{AnswersOnce};
 ghost use Rattle.charging.specs.declared.running.DatedCommand.{DatedCommand};
@@ -35,6 +36,14 @@ pub fn payment()
 pub fn quota()
     ensures { (b : Book) → IsBook b → (a : List ℕ) (list : List Accepted) →
         AreQuotasPaid b (history b a list).ledger }
+{}
+
+/// To date: what was collected by all charges of an account is what its buckets together show as
+/// charged, at any moment (TS 32.296, account balance management function).
+pub fn collection()
+    ensures { (b : Book) (a : List ℕ) (list : List Accepted) (t : ℕ) →
+        collected_to_date (history b a list).ledger ≡
+        charged_to_date b.validity t (history b a list).ledger }
 {}
 
 /// Repeats: once a request that isn't a read or a credit is accepted, it has one answer for good.
