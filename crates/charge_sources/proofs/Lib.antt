@@ -1,1 +1,5 @@
 pub mod Unique
+pub mod ShownRows
+pub mod Parted
+pub mod Paged
+pub mod Numbered

@@ -9,7 +9,7 @@ use Rattle.keepers.specs.Tables.{charge_in}
 use Rattle.charge_sources.specs.Rows.{are_rising, AreCharges}
 
 -- the first of rising rows, and the others
-rising_parts : (least : ℕ) (c : ChargeColumns) (rest : List ChargeColumns) →
+pub rising_parts : (least : ℕ) (c : ChargeColumns) (rest : List ChargeColumns) →
     are_rising least (c ∷ rest) ≡ true → (least ≤ c.number) × (are_rising (c.number + 1) rest ≡ true)
 rising_parts least c rest h =
     let parts = and_parts (nat_le least c.number) (are_rising (c.number + 1) rest) h in
@@ -17,7 +17,7 @@ rising_parts least c rest h =
     (grind (arith, nat_tests, low), parts.1)
 
 -- no row has a number below
-absent : (least n : ℕ) (rows : List ChargeColumns) → are_rising least rows ≡ true → n < least →
+pub absent : (least n : ℕ) (rows : List ChargeColumns) → are_rising least rows ≡ true → n < least →
     charge_in n rows ≡ None
 absent least n [] h k = refl
 absent least n (c ∷ rest) h k =
@@ -31,11 +31,11 @@ absent least n (c ∷ rest) h k =
     at true e r later = let low = r.0 in absurd (grind (arith, nat_tests, e, k, low))
     at false e r later = later r
 
-itself : (n : ℕ) → (n == n) ≡ true
+pub itself : (n : ℕ) → (n == n) ≡ true
 itself n = grind (arith, nat_tests)
 
 -- the first row's charge is the row
-first_is : (c : ChargeColumns) (rest : List ChargeColumns) → charge_in c.number (c ∷ rest) ≡ Some c
+pub first_is : (c : ChargeColumns) (rest : List ChargeColumns) → charge_in c.number (c ∷ rest) ≡ Some c
 first_is c rest = ap (λ t. cond t (Some c) (charge_in c.number rest)) (itself c.number)
 
 abbrev SameCharges : List ChargeColumns → List ChargeColumns → Type 0
@@ -89,7 +89,7 @@ same_rest x xs ys h k same n = at (x.number == n) refl (same n)
         absent (x.number + 1) n xs h low ∙ sym (absent (x.number + 1) n ys k low)
     at false e s = s
 
-same_lists : (least : ℕ) (xs ys : List ChargeColumns) → are_rising least xs ≡ true →
+pub same_lists : (least : ℕ) (xs ys : List ChargeColumns) → are_rising least xs ≡ true →
     are_rising least ys ≡ true → SameCharges xs ys → xs ≡ ys
 same_lists least [] [] h k same = refl
 same_lists least [] (y ∷ ys) h k same = absurd (none-some y (same y.number ∙ first_is y ys))

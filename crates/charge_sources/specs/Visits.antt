@@ -18,6 +18,14 @@ Visits {V} Sees (c ∷ rest) old new =
     (next : V) × (goes : Bool) × Sees old c goes next
     × GoesOn goes (Visits Sees rest next new) (new ≡ next)
 
+-- the same, with whether it was shown all of them
+abbrev pub Shows : {V : Type 0} → (V → ChargeColumns → Bool → V → Type 0) →
+    List ChargeColumns → Bool → V → V → Type 0
+Shows Sees [] all old new = (all ≡ true) × (new ≡ old)
+Shows {V} Sees (c ∷ rest) all old new =
+    (next : V) × (goes : Bool) × Sees old c goes next
+    × GoesOn goes (Shows Sees rest all next new) ((all ≡ false) × (new ≡ next))
+
 -- it is shown the charges of the range
 abbrev pub SeesCharges : {V : Type 0} → (V → ChargeColumns → Bool → V → Type 0) → ℕ → ℕ →
     (ℕ → Option ChargeColumns) → V → V → Type 0

@@ -2,6 +2,9 @@
 #![tactic(auto)]
 
 mod memory;
+mod pages;
+mod showing;
 mod source;
 
+pub use crate::pages::{ChargePage, ChargePages, show_pages};
 pub use crate::source::{ChargeSource, ChargeVisitor};

@@ -1,20 +1,12 @@
 ghost use Rattle.std.specs.Prelude.{◌≡◌};
-ghost use Rattle.std.specs.List.{filter};
-ghost use Rattle.charge_sources.specs.Rows.{is_between, are_rising};
-ghost use Rattle.charge_sources.specs.Visits.{Visits};
+ghost use Rattle.charge_sources.specs.Rows.{are_rising};
 
+use crate::showing::show;
 use crate::source::{ChargeSource, ChargeVisitor};
 use identifiers::AccountNumber;
 use keepers::{MemoryKeeper, StoreFault};
 use reserving::ChargeRow;
 use units::Moment;
-
-/// Whether a charge's moment is `from` or later and before `until`.
-fn is_between(from: Moment, until: Moment, row: &ChargeRow) -> bool
-    ensures { result ≡ is_between from until row.now }
-{
-    from.seconds() <= row.moment.seconds() && row.moment.seconds() < until.seconds()
-}
 
 /// Whether the numbers rise, so that no two rows have one number.
 fn are_rising(rows: &[ChargeRow]) -> bool
@@ -31,17 +23,6 @@ fn are_rising(rows: &[ChargeRow]) -> bool
     true
 }
 
-/// Shows a visitor each row of the range, until it stops.
-fn visit<V: ChargeVisitor>(rows: &[ChargeRow], from: Moment, until: Moment, visitor: &mut V)
-    ensures { Visits V.sees (filter (is_between from until) rows.now) visitor.old visitor.new }
-{
-    for row in rows {
-        if is_between(from, until, row) && !visitor.row(row) {
-            return;
-        }
-    }
-}
-
 /// Rows out of the order of their numbers aren't shown, as if there were no room for them. A run
 /// numbers them in order, so that it meets none.
 impl ChargeSource for MemoryKeeper {
@@ -56,7 +37,7 @@ impl ChargeSource for MemoryKeeper {
         if !are_rising(rows) {
             return Err(StoreFault::Memory);
         }
-        visit(rows, from, until, visitor);
+        show(rows, from, until, visitor);
         Ok(())
     }
 }

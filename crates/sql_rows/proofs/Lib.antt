@@ -13,6 +13,7 @@ pub mod PutHold
 pub mod PutMeta
 pub mod PutSession
 pub mod PutVoucher
+pub mod Ranges
 pub mod ReadAccount
 pub mod ReadAccounts
 pub mod ReadAnswer

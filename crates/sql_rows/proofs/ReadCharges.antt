@@ -1,7 +1,8 @@
--- What the text of `read_charges` answers.
+-- What the text of `read_charges_within` answers.
 use Rattle.std.specs.Prelude.{codes, option_map}
 use Rattle.std.proofs.Common.{◌≡◌, inl, inr, ℕ, pos, List, [], ◌∷◌, ◌++◌, map, drop, Bool, true, false, ◌&&◌, ◌||◌}
 use Rattle.std.proofs.Common.{Some, None, Option, is_eq, refl, sym, ap, ap₂, subst, ◌∙◌, nat_eq, nat_lt}
+use Rattle.std.specs.Prelude.{nat_le}
 use Rattle.std.proofs.lemmas.Bool.{and_parts, and_from}
 use Rattle.std.specs.List.{list_all, find}
 use Rattle.std.specs.Ordering.{eq_by_cmp}
@@ -11,7 +12,7 @@ use Rattle.sqlite_value.specs.declared.keys.Key.{Key}
 use Rattle.sqlite_value.specs.Order.{Row, column, row_cmp, value_cmp}
 use Rattle.sqlite_trees.specs.Tree.{Trees}
 use Rattle.sqlite_sql.specs.declared.ops.BinaryOp.TheVariants.{Compare, Or}
-use Rattle.sqlite_sql.specs.declared.ops.CompareOp.TheVariants.{Eq, Gt}
+use Rattle.sqlite_sql.specs.declared.ops.CompareOp.TheVariants.{Eq, Gt, Le}
 use Rattle.sqlite_sql.specs.Term.{Term, lit, col, op2, holds as holds_in}
 use Rattle.sqlite_schema.specs.declared.command.Command.TheVariants.{Select}
 use Rattle.sqlite_schema.specs.Rules.{equal}
@@ -33,7 +34,8 @@ use Rattle.sql_tables.proofs.Steps.{and_apart, and_last, and_true}
 use Rattle.reserving.specs.declared.charge.ChargeRow.{ChargeRow}
 use Rattle.sql_rows.specs.Values.{nat, charge_key, charge_in, charge_cells}
 use Rattle.sql_rows.specs.Content.{rows_in}
-use Rattle.sql_rows.specs.Lists.{AreCharges}
+use Rattle.sql_rows.specs.Lists.{AreCharges, is_within}
+use Rattle.sql_rows.proofs.Ranges.{is_beyond, is_up_to, lies_within, within_told, number_within}
 
 abbrev project : List Term
 project = col 1 2 ∷ col 1 3 ∷ col 1 4 ∷ col 1 5 ∷ col 1 6 ∷ col 1 7 ∷ col 1 8 ∷ col 1 9 ∷ []
@@ -52,33 +54,38 @@ same_columns (v ∷ vs) = refl
 back : (x : ChargeRow) (r : Row) → charge_cells x ≡ columns r → charge_in (drop 1 r) ≡ x
 back x r is = same_columns r ∙ ap (λ w. charge_in (Null ∷ w)) (sym is) ∙ refl
 
-abbrev pub read_charges_text : List ℕ
-read_charges_text = codes "SELECT number, moment, session, rating_group, blocks, rated, collected, uncollected "
-    ++ codes "FROM charges WHERE account = ?1 ORDER BY number"
+abbrev pub read_charges_within_text : List ℕ
+read_charges_within_text = codes "SELECT number, moment, session, rating_group, blocks, rated, collected, uncollected "
+    ++ codes "FROM charges WHERE account = ?1 AND number > ?2 AND number <= ?3 ORDER BY number"
 
 abbrev charges_terms : List Term
 charges_terms =
-    op2 (Compare Eq Binary) (col 1 1) (col 0 0) ∷ []
+    op2 (Compare Eq Binary) (col 1 1) (col 0 0)
+    ∷ op2 (Compare Gt Binary) (col 1 2) (col 0 1)
+    ∷ op2 (Compare Le Binary) (col 1 2) (col 0 2) ∷ []
 
 abbrev charges_order : List (Term × Key)
 charges_order = (col 1 2, record { collation = Binary; descending = false }) ∷ []
 
-charges_is : (command_of (understood book_schema read_charges_text)
+charges_is : (command_of (understood book_schema read_charges_within_text)
     ≡ Select (record { lets = []; body = select_from 18 charges_terms project charges_order }) names) ×
-    (reads_listing book_schema read_charges_text ≡ false)
+    (reads_listing book_schema read_charges_within_text ≡ false)
 unfolding understood everything
 charges_is = (refl, refl)
 
-pub read_charges_plain : IsPlain (understood book_schema read_charges_text)
+pub read_charges_within_plain : IsPlain (understood book_schema read_charges_within_text)
 unfolding understood everything
-read_charges_plain = (refl, refl)
+read_charges_within_plain = (refl, refl)
 
-module _ (a : List ℕ) where
+module _ (a : List ℕ) (after last : ℕ) where
   abbrev front : Row → Bool
   front r = equal Binary (column r 1) (Text a)
 
   abbrev rest : ℕ → Row → Bool
   rest n r = is_eq (value_cmp (nat n) (column r 2))
+
+  abbrev extra : Row → Bool
+  extra r = lies_within after last (column r 2)
 
   splits : (n : ℕ) (r : Row) → meets (1 ∷ 2 ∷ []) (charge_key a n) r ≡ (front r && rest n r)
   splits n r =
@@ -88,18 +95,28 @@ module _ (a : List ℕ) where
   wanted : (n : ℕ) (x : ChargeRow) (r : Row) → charge_cells x ≡ columns r → rest n r ≡ nat_eq x.number n
   wanted n x r is = ap (λ (w : Row). is_eq (value_cmp (nat n) (column w 0))) (sym is) ∙ int_tie x.number n
 
-  pub charges_read : (old new : State) (rows : List Row) (xs : List ChargeRow) → Answers read_charges_text
-      (Text a ∷ []) old new rows
-      → map charge_cells xs ≡ rows → AreCharges (rows_in old.now.trees a) xs
+  lies : (r : Row) → is_within after last (charge_in (drop 1 r)) ≡ true → extra r ≡ true
+  lies [] h = number_within after last Null h
+  lies (v ∷ vs) h = number_within after last (column vs 1) h
+
+  lies_told : (x : ChargeRow) (r : Row) → extra r ≡ true → charge_cells x ≡ columns r → is_within after last x ≡ true
+  lies_told x r e is =
+      sym (within_told after last x.number)
+      ∙ ap (λ (w : Row). lies_within after last (column w 0)) is ∙ e
+
+  pub charges_read : (old new : State) (rows : List Row) (xs : List ChargeRow) → Answers read_charges_within_text
+      (Text a ∷ nat after ∷ nat last ∷ []) old new rows
+      → map charge_cells xs ≡ rows → AreCharges (is_within after last) (rows_in old.now.trees a) xs
   charges_read old new rows xs got is n =
       listed_told charges (inr (inr (inr (inr (inr (inr (inr (inr (inr (inl refl))))))))))
       (inr (inr (inr (inr (inr (inr (inr (inr (inr (inl refl)))))))))) refl old.now.trees got.fits
       (got.book.stored.1.1.1.1.1.1.1.1.1.0) charge_in charge_cells columns
-      (λ r. front r && true) (charge_key a n) (refl, (refl, tt)) (λ x r m. back x r)
-      (λ x. nat_eq x.number n) (λ x. true) front (rest n) (λ r. true) (λ r. refl) (splits n) (wanted n)
-      (λ r m h. refl) (λ x r e same. refl) xs
-      (subst (Selects (λ r. front r && true) columns (old.now.trees 18)) (sym is)
-      (told read_charges_text names 18 charges_terms project charges_order charges_is read_charges_plain
-      (Text a ∷ [])
-      (λ r. front r && true) columns (λ r. refl) (λ r. refl) old new rows got))
-      ∙ only_all _
+      (λ r. front r && extra r) (charge_key a n) (refl, (refl, tt)) (λ x r m. back x r)
+      (λ x. nat_eq x.number n) (is_within after last) front (rest n) extra (λ r. refl) (splits n) (wanted n)
+      (λ r m. lies r) lies_told xs
+      (subst (Selects (λ r. front r && extra r) columns (old.now.trees 18)) (sym is)
+      (told read_charges_within_text names 18 charges_terms project charges_order charges_is read_charges_within_plain
+      (Text a ∷ nat after ∷ nat last ∷ [])
+      (λ r. front r && extra r) columns
+      (λ r. ap (λ t. front r && t) (and_last (is_beyond (column r 2) (nat after)) (is_up_to (column r 2) (nat last))))
+      (λ r. refl) old new rows got))

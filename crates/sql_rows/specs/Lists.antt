@@ -1,6 +1,6 @@
 -- What lists that are read tell of an account's rows: the row under each key, or that there is none.
 -- Source: profile.
-use Rattle.std.specs.Prelude.{◌≡◌, ℕ, ◌&&◌, ◌||◌, nat_eq, nat_lt, ◌<◌, Bool, not, List, [], ◌∷◌, length, Option, None, option_map, is_some, if◌then◌else◌}
+use Rattle.std.specs.Prelude.{◌≡◌, ℕ, ◌&&◌, ◌||◌, nat_eq, nat_lt, nat_le, ◌<◌, Bool, not, List, [], ◌∷◌, length, Option, None, option_map, is_some, if◌then◌else◌}
 use Rattle.std.specs.List.{find}
 use Rattle.sqlite_value.specs.Order.{Row as Values}
 use Rattle.buckets.specs.Row.{Row as Bucket}
@@ -66,9 +66,13 @@ abbrev pub AreHolds : Rows → List ℕ → List HoldAt → Type 0
 AreHolds rows s xs = (g n : ℕ) →
     option_map (λ (x : HoldAt). x.amount) (find (λ x. nat_eq x.group g && nat_eq x.bucket n) xs) ≡ rows.holds s g n
 
--- all charges of the account
-abbrev pub AreCharges : Rows → List ChargeRow → Type 0
-AreCharges rows xs = (n : ℕ) → find (λ x. nat_eq x.number n) xs ≡ rows.charges n
+-- whether a charge lies beyond a number, and up to another
+abbrev pub is_within : ℕ → ℕ → ChargeRow → Bool
+is_within after last x = nat_lt after x.number && nat_le x.number last
+
+-- the charges of the account that pass the test
+abbrev pub AreCharges : (ChargeRow → Bool) → Rows → List ChargeRow → Type 0
+AreCharges test rows xs = (n : ℕ) → find (λ x. nat_eq x.number n) xs ≡ only test (rows.charges n)
 
 abbrev pub NumbersRise : List ChargeRow → Type 0
 NumbersRise xs = Rises (λ x. x.number) xs

@@ -1,7 +1,7 @@
 ghost use Rattle.std.specs.Prelude.{◌≡◌, map, false, IsTrue, IfOk};
 ghost use Rattle.sql_rows.specs.Content.{rows_in, with_charge, with_rows};
 ghost use Rattle.sql_rows.specs.Values.{charge_cells};
-ghost use Rattle.sql_rows.specs.Lists.{AreCharges, NumbersRise};
+ghost use Rattle.sql_rows.specs.Lists.{AreCharges, NumbersRise, is_within};
 ghost use Rattle.sql_rows.specs.Each.{with_charges};
 ghost use Rattle.sql_rows.specs.Makes.{Makes, MakesIfOpen};
 ghost use Rattle.sql_tables.specs.Statements.{Attempts, HasBook, HasIdleBook, Reads};
@@ -60,23 +60,27 @@ pub fn put_charge<S: Alter>(
     )
 }
 
-/// The charges of an account, in the order of their numbers.
-pub fn read_charges<S: Alter>(
+/// The charges of an account beyond a number and up to another, in the order of their numbers.
+pub fn read_charges_within<S: Alter>(
     conn: &mut Connection<S>,
     alloc: Global,
     account: &AccountNumber,
+    after: u32,
+    last: u32,
 ) -> Result<Vec<ChargeRow>, ReadFault>
     requires idle { HasIdleBook (state S.Store conn.old) }
-    ensures reads { Reads (λ trees xs. AreCharges (rows_in trees account.now) xs.items)
+    ensures reads { Reads (λ trees xs. AreCharges (is_within after last) (rows_in trees account.now) xs.items)
         (state S.Store conn.old) (state S.Store conn.new) result }
     ensures order { IfOk result (λ xs. NumbersRise xs.items) }
 {
     let of_account = text(account.as_str());
+    let beyond = whole(after);
+    let up_to = whole(last);
     let rows = read(
         conn,
         "SELECT number, moment, session, rating_group, blocks, rated, collected, uncollected \
-         FROM charges WHERE account = ?1 ORDER BY number",
-        &[of_account],
+         FROM charges WHERE account = ?1 AND number > ?2 AND number <= ?3 ORDER BY number",
+        &[of_account, beyond, up_to],
     )?;
     charges_from(alloc, &rows)
 }

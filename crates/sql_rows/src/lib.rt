@@ -22,7 +22,7 @@ pub use crate::answer_rows::{
 pub use crate::bucket_rows::{
     BucketColumns, put_bucket, put_buckets, read_buckets_all, read_buckets_dead, read_buckets_live,
 };
-pub use crate::charge_rows::{put_charge, put_charges, read_charges};
+pub use crate::charge_rows::{put_charge, put_charges, read_charges_within};
 pub use crate::counter_lists::read_counters_in;
 pub use crate::counter_rows::{put_counter, put_counters, read_counter};
 pub use crate::group_rows::{

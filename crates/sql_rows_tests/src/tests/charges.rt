@@ -9,7 +9,7 @@ use crate::tests::page::{Page, new_page};
 use identifiers::AccountNumber;
 use reserving::{ChargeRow, Counter};
 use sql_rows::{
-    Head, put_charge, put_charges, put_counter, put_counters, read_charges, read_counter,
+    Head, put_charge, put_charges, put_counter, put_counters, read_charges_within, read_counter,
     read_counters_in,
 };
 use sqlite::{Alter, Error};
@@ -96,11 +96,11 @@ impl<S: Alter> Page<S> {
         tx.commit()
     }
 
-    fn note_charges(&mut self, account: &AccountNumber) -> Result<(), Fail>
+    fn note_charges(&mut self, account: &AccountNumber, after: u32, last: u32) -> Result<(), Fail>
         requires ready { IsReady (state S.Store self.old.conn) }
         ensures ready { IsReady (state S.Store self.new.conn) }
     {
-        let rows = read_charges(&mut self.conn, self.alloc, account)?;
+        let rows = read_charges_within(&mut self.conn, self.alloc, account, after, last)?;
         Ok(push_charges(self.alloc, &rows, &mut self.text)?)
     }
 }
@@ -159,14 +159,16 @@ fn try_charges<S: Alter>(
 {
     page.keep_account(account, head)?;
     page.keep_charges(account, rows.0)?;
-    page.note_charges(account)?;
+    page.note_charges(account, 0, 4_294_967_295)?;
     page.keep_charge(account, rows.1)?;
-    page.note_charges(account)
+    page.note_charges(account, 0, 1)?;
+    page.note_charges(account, 1, 2)
 }
 
-/// They stand in the order of their numbers, and the first is put again.
+/// They stand in the order of their numbers; the first is put again, and read alone, then the other.
 const WANTED: &str = "1 1767607200 s1 10: 3 60 60 0; 2 1767607200 s1 10: 3 60 50 10; 
-1 1767607200 s1 10: 3 75 0 75; 2 1767607200 s1 10: 3 60 50 10; 
+1 1767607200 s1 10: 3 75 0 75; 
+2 1767607200 s1 10: 3 60 50 10; 
 ";
 
 #[test]

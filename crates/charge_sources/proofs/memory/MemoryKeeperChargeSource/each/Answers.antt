@@ -2,6 +2,7 @@ use Rattle.std.proofs.Common.{rules, refl, subst}
 use Rattle.std.specs.List.{filter}
 use Rattle.charge_sources.specs.Rows.{is_between, AreCharges}
 use Rattle.charge_sources.specs.Visits.{Visits}
+use Rattle.charge_sources.proofs.ShownRows.{shown_visits}
 use Rattle.charge_sources.proofs.Unique.{one_list}
 use Rattle.charge_sources.proofs.memory.MemoryKeeperChargeSource.each.Goals as goal
 
@@ -13,8 +14,8 @@ returns-clause-reads g c = record {
         listed = c.charges-rows.ensures;
       } in
       subst (λ l. Visits g.V.ChargeVisitor.sees (filter (is_between c.args.from c.args.until) l)
-      c.args.visitor.now c.visit.new.visitor)
-      (one_list kept are) c.visit.ensures;
+      c.args.visitor.now c.show.new.visitor)
+      (one_list kept are) (shown_visits _ _ c.show.result _ _ c.show.ensures);
   same = λ clean. refl;
   cleanness = λ clean. clean;
   cause = search rules;
