@@ -18,3 +18,4 @@ pub mod Stops
 pub mod Sweeps
 pub mod Tests
 pub mod Writes
+pub mod ChargePages

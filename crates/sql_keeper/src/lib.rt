@@ -4,6 +4,7 @@
 
 mod asking;
 mod books;
+mod charge_pages;
 mod committing;
 mod create_fault;
 mod creating;

@@ -1,0 +1,32 @@
+-- The charges of an account that a page has, by what the tables hold.
+-- Source: profile.
+use Rattle.std.specs.Prelude.{◌≡◌, refl, if◌then◌else◌, ℕ, ◌+◌, ◌-◌, ◌≤◌, min, Option, Some, None, nat_le}
+use Rattle.sql_rows.specs.declared.head.Head.{Head}
+use Rattle.sql_rows.specs.Content.{Rows as Stored}
+use Rattle.sql_rows.specs.Lists.{AreCharges, NumbersRise, is_within}
+use Rattle.sql_keeper.specs.Content.{is_numbered}
+use Rattle.reserving.specs.declared.charge.ChargeRow.{ChargeRow}
+use Rattle.charge_sources.specs.declared.pages.ChargePage.{ChargePage}
+
+-- the number of an account's last charge; 0 where it has none
+abbrev pub last_number : Option Head → ℕ
+last_number None = 0
+last_number (Some h) = h.next_charge - 1
+
+-- the number up to which a page goes that begins beyond this one: 256 numbers further
+abbrev pub end_of_page : ℕ → ℕ
+end_of_page after = min (after + 256) 4294967295
+
+-- what is read for a page
+pub record IsPageRead (r : Stored) (after : ℕ) (page : ChargePage) : Type 0 where
+  pub last : page.last ≡ end_of_page after
+  pub small : last_number r.head ≤ 4294967295
+  pub is_last : page.is_last ≡ nat_le (last_number r.head) page.last
+  pub rows : AreCharges (is_within after (min page.last (last_number r.head))) r page.rows.items
+  pub order : NumbersRise page.rows.items
+
+-- no charge has the number 0
+pub none_first : (head : Option Head) (row : Option ChargeRow) →
+    (if is_numbered 0 head then row else None) ≡ None
+none_first None row = refl
+none_first (Some h) row = refl

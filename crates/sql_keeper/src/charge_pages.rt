@@ -1,0 +1,113 @@
+//! The charges of an account, read a page at a time.
+
+ghost use Rattle.std.specs.Prelude.{◌≡◌, IfOk};
+ghost use Rattle.charge_sources.specs.Pages.{IsPage};
+ghost use Rattle.sql_keeper.specs.ChargePages.{IsPageRead, end_of_page, last_number};
+ghost use Rattle.sql_keeper.specs.Content.{charge_of};
+ghost use Rattle.sql_keeper.specs.LiveGroups.{Gathers};
+ghost use Rattle.sql_rows.specs.Content.{rows_in};
+ghost use Rattle.sql_tables.specs.Statements.{HasIdleBook, Reads};
+ghost use Rattle.sqlite.specs.Held.{state};
+
+use crate::faults::counted;
+use crate::keeper::SqlKeeper;
+use charge_sources::{ChargePage, ChargePages, ChargeSource, ChargeVisitor, show_pages};
+use identifiers::AccountNumber;
+use keepers::StoreFault;
+use sql_rows::{Head, read_account, read_charges_within};
+use sql_tables::ReadFault;
+use sqlite::{Alter, Connection};
+use std::alloc::Global;
+use units::Moment;
+
+/// The number of an account's last charge; 0 where it has none. A next number that no charge can
+/// have is out of the rules.
+fn last_number(head: &Option<Head>) -> Result<u32, ReadFault>
+    ensures { IfOk result (λ n. n ≡ last_number head.now) }
+{
+    let Some(head) = head else {
+        return Ok(0);
+    };
+    match u32::try_from(head.next_charge.saturating_sub(1)) {
+        Ok(number) => Ok(number),
+        Err(_) => Err(ReadFault::Rules),
+    }
+}
+
+/// The number up to which a page goes that begins beyond this one.
+fn end_of_page(after: u32) -> u32
+    ensures { result ≡ end_of_page after }
+{
+    after.saturating_add(256)
+}
+
+fn read_last_number<S: Alter>(
+    conn: &mut Connection<S>,
+    account: &AccountNumber,
+) -> Result<u32, ReadFault>
+    requires idle { HasIdleBook (state S.Store conn.old) }
+    ensures { Reads (λ trees n. n ≡ last_number (rows_in trees account.now).head)
+        (state S.Store conn.old) (state S.Store conn.new) result }
+{
+    let head = read_account(conn, account)?;
+    last_number(&head)
+}
+
+fn read_page<S: Alter>(
+    conn: &mut Connection<S>,
+    alloc: Global,
+    account: &AccountNumber,
+    after: u32,
+) -> Result<ChargePage, ReadFault>
+    requires idle { HasIdleBook (state S.Store conn.old) }
+    ensures { Gathers (λ trees page. IsPageRead (rows_in trees account.now) after page)
+        (state S.Store conn.old) (state S.Store conn.new) result }
+{
+    let number = read_last_number(conn, account)?;
+    let last = end_of_page(after);
+    let rows = read_charges_within(conn, alloc, account, after, last.min(number))?;
+    let is_last = number <= last;
+    Ok(ChargePage {
+        rows,
+        last,
+        is_last,
+    })
+}
+
+fn page_of<S: Alter>(
+    conn: &mut Connection<S>,
+    alloc: Global,
+    account: &AccountNumber,
+    after: u32,
+) -> Result<ChargePage, ReadFault>
+    requires idle { HasIdleBook (state S.Store conn.old) }
+    ensures { Gathers (λ trees page. IsPage (λ n. charge_of n (rows_in trees account.now)) after page)
+        (state S.Store conn.old) (state S.Store conn.new) result }
+{
+    let page = read_page(conn, alloc, account, after)?;
+    Ok(page)
+}
+
+/// A page goes over 256 numbers. Each is read outside any transaction.
+impl<S: Alter> ChargePages for SqlKeeper<S> {
+    ghost use Rattle.sql_keeper.specs.ChargePages.{none_first};
+
+    ghost numbered = { λ k a. none_first _ _ };
+
+    fn page(&mut self, account: &AccountNumber, after: u32) -> Result<ChargePage, StoreFault> {
+        let read = page_of(&mut self.connection, self.alloc, account, after);
+        counted(&mut self.failures, read)
+    }
+}
+
+impl<S: Alter> ChargeSource for SqlKeeper<S> {
+    fn each<V: ChargeVisitor>(
+        &mut self,
+        account: &AccountNumber,
+        from: Moment,
+        until: Moment,
+        visitor: &mut V,
+    ) -> Result<(), StoreFault> {
+        show_pages(self, account, from, until, visitor)
+    }
+}
