@@ -6,7 +6,7 @@ use Rattle.ocs.specs.Served.{once_text}
 use Rattle.std.specs.Io.KnownBytes.{Appends}
 use Rattle.office.specs.Written.{WritesBeginning}
 use Rattle.ocs.specs.Told.{line_of}
-use Rattle.ocs.proofs.EndLemmas.{line_said, memory_alone, not_done, not_once, unwritten_begins, unwritten_line}
+use Rattle.ocs.proofs.EndLemmas.{line_said, memory_alone, not_done, not_once, told_said, unwritten_begins, unwritten_line}
 use Rattle.ocs.proofs.run_words.Goals as goal
 
 pub returns-in-Ok-clause-unread : goal.returns-in-Ok-clause-unread
@@ -36,3 +36,8 @@ pub returns-in-Err-clause-begun : goal.returns-in-Err-clause-begun
 returns-in-Err-clause-begun g c = λ said says failed.
     unwritten_line (line_of said) (g.O.Write.contents c.args.output.now) (g.O.Write.contents c.tell_unread.new.output)
     (ap (g.O.Write.contents) (c.tell_unread.ensures.memory (memory_alone (texts_of c.args.words.now) c.in-Err.fault said c.in-Err.ensures.unread says)))
+
+pub returns-in-Ok-clause-told : goal.returns-in-Ok-clause-told
+returns-in-Ok-clause-told g c =
+    told_said (texts_of c.args.words.now) c.in-Ok.said c.run_said.result (g.E.Write.contents c.args.errors.now) (g.E.Write.contents c.run_said.new.errors) c.in-Ok.ensures.read
+    c.run_said.ensures.told
