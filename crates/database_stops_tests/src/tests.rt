@@ -1,0 +1,5 @@
+mod commands;
+mod files;
+mod making;
+mod seen;
+mod stops;
