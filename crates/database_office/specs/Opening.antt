@@ -38,3 +38,13 @@ IsUnanswered (Open fault) = Unit {0}
 IsUnanswered Net = Unit {0}
 IsUnanswered Memory = Unit {0}
 IsUnanswered (Office fault) = IsUncarried fault
+
+-- it came before the office was asked
+abbrev pub IsUnasked : DatabaseFault → Type 0
+IsUnasked File = Unit {0}
+IsUnasked Clock = Unit {0}
+IsUnasked (Book fault) = Unit {0}
+IsUnasked (Open fault) = Unit {0}
+IsUnasked Net = Unit {0}
+IsUnasked Memory = Unit {0}
+IsUnasked (Office fault) = ⊥

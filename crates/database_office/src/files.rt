@@ -9,6 +9,7 @@ use sql_opening::OpenFault;
 use sqlite::Connection;
 use sqlite_disk::Wary;
 use std::fs::{self, File};
+use std::io::ErrorKind;
 
 /// The file at a path, to be read.
 ///
@@ -43,19 +44,31 @@ pub(crate) fn connect(
     }
 }
 
-/// A connection to the database at a path, where there is a file; none is made.
+/// Whether there is something at a path that isn't an empty file.
+fn is_filled(rt: &HostRuntime, path: &str) -> Result<bool, DatabaseFault>
+    ensures { IfErr result IsUnopened }
+{
+    match fs::metadata(rt, path) {
+        Ok(found) => Ok(!found.is_file() || found.len() > 0),
+        Err(error) if error.kind() == ErrorKind::NotFound => Ok(false),
+        Err(error) => Err(file_fault(error.kind())),
+    }
+}
+
+/// A connection to the database at a path, where there is a file that isn't empty: none is made,
+/// and an empty one is left empty.
 ///
 /// # Errors
-/// `Open`, there is none (`Foreign`, as of a database without tables); else as `connect`.
+/// `Open`, there is none or it is empty (`Foreign`, as of a database without tables); else as
+/// `connect`.
 pub(crate) fn connect_there(
     rt: &HostRuntime,
     path: &str,
 ) -> Result<Connection<DatabaseFiles<Wary>>, DatabaseFault>
     ensures { IfErr result IsUnopened }
 {
-    match fs::exists(rt, path) {
-        Ok(true) => connect(rt, path),
-        Ok(false) => Err(DatabaseFault::Open(OpenFault::Foreign)),
-        Err(error) => Err(file_fault(error.kind())),
+    if !is_filled(rt, path)? {
+        return Err(DatabaseFault::Open(OpenFault::Foreign));
     }
+    connect(rt, path)
 }

@@ -1,5 +1,5 @@
-//! What the program's words do over a database: it is made or opened by its path, and an operator's
-//! command is carried out over it.
+//! What the program's words do over a database: it is made or opened by its path, an operator's
+//! command is carried out over it, and an account's month is told.
 #![tactic(auto)]
 
 mod clock;
@@ -8,6 +8,7 @@ mod fault;
 mod files;
 mod making;
 mod opening;
+mod stating;
 
 pub use crate::clock::{command_moment, machine_moment};
 pub use crate::commanding::command_office;
@@ -15,3 +16,4 @@ pub use crate::fault::DatabaseFault;
 pub use crate::files::open_file;
 pub use crate::making::{book_text, make_database, make_tables};
 pub use crate::opening::{Office, open_office, open_tables};
+pub use crate::stating::state_office;

@@ -21,11 +21,11 @@ pub struct Office<S: Alter + Drop> {
     pub book: TariffBook,
 }
 
-/// Opens the office of the database at a path. No file is made.
+/// Opens the office of the database at a path. No file is made, and an empty one is left empty.
 ///
 /// # Errors
-/// `File` or `Memory` where it can't be opened as a database; `Open`, there is no file (`Foreign`),
-/// or as `open_tables`.
+/// `File` or `Memory` where it can't be opened as a database; `Open`, there is no file or an empty
+/// one (`Foreign`), or as `open_tables`.
 pub fn open_office(
     rt: &HostRuntime,
     path: &FilePath,

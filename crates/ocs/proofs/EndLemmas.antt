@@ -128,7 +128,7 @@ refused_told (words.Init init) old new may told = absurd may
 refused_told (words.Serve serve) old new may told = absurd may
 refused_told (words.Import import) old new may told = absurd may
 refused_told (words.Office office) old new may told = keeps_of old new told
-refused_told (words.Statement statement) old new may told = absurd may
+refused_told (words.Statement statement) old new may told = keeps_of old new told
 refused_told (words.Replay replay) old new may told = absurd may
 
 -- what ends by itself

@@ -34,7 +34,7 @@ Runs (words.Init init) = Unit {0}
 Runs (words.Serve serve) = Unit {0}
 Runs (words.Import import) = ⊥
 Runs (words.Office office) = Unit {0}
-Runs (words.Statement statement) = ⊥
+Runs (words.Statement statement) = Unit {0}
 Runs (words.Replay replay) = Unit {0}
 
 -- it works over a database
@@ -47,14 +47,14 @@ Stores (words.Office office) = Unit {0}
 Stores (words.Statement statement) = Unit {0}
 Stores (words.Replay replay) = Unit {0}
 
--- it is an operator's, which may be refused
+-- it is an operator's or asks for a statement, which may be refused
 abbrev pub MayBeRefused : ProgramWords → Type 0
 MayBeRefused (words.Once once) = ⊥
 MayBeRefused (words.Init init) = ⊥
 MayBeRefused (words.Serve serve) = ⊥
 MayBeRefused (words.Import import) = ⊥
 MayBeRefused (words.Office office) = Unit {0}
-MayBeRefused (words.Statement statement) = ⊥
+MayBeRefused (words.Statement statement) = Unit {0}
 MayBeRefused (words.Replay replay) = ⊥
 
 -- the words say something that is so

@@ -89,8 +89,8 @@ pub record ServesConnections (texts : List Text) (old new : Option (List ℕ)) :
   pub told : ConnectionsTold serve.connections old new
 
 -- nothing where all is done, but faults of connections that were served, or where an operator's
--- command is refused; a fault by its line; of words that aren't read the text is `clap`'s, and where
--- `clap` takes them a line
+-- command or a statement is refused; a fault by its line; of words that aren't read the text is
+-- `clap`'s, and where `clap` takes them a line
 abbrev pub IsTold : List Text → Status → Option (List ℕ) → Option (List ℕ) → Type 0
 IsTold texts Done old new = Keeps old new ⊎ ServesConnections texts old new
 IsTold texts Failed old new =

@@ -11,7 +11,7 @@ ghost use Rattle.ocs.specs.Told.{IsReached, IsReachedByLines, IsToldAtEnd, line_
 use crate::fault::{LinesFault, ProgramFault};
 use crate::lines::lines;
 use crate::serving::answer_serve;
-use crate::storing::{answer_init, answer_office, answer_replay};
+use crate::storing::{answer_init, answer_office, answer_replay, answer_statement};
 use keepers::MemoryKeeper;
 use office::Status;
 use one_price::once_book;
@@ -19,7 +19,8 @@ use operator::{OnceWords, ProgramWords};
 use std::alloc::Global;
 use std::io::{Read, Write};
 
-/// Does what the words say. The status is `Failed` where an operator's command is refused.
+/// Does what the words say. The status is `Failed` where an operator's command or a statement is
+/// refused.
 ///
 /// # Errors
 /// `NotYet` where their command doesn't run yet. What else is told is their command's.
@@ -54,7 +55,7 @@ pub(crate) fn do_said<I: Read, O: Write, E: Write>(
         ProgramWords::Serve(serve) => answer_serve(rt, &serve, output, errors),
         ProgramWords::Import(_) => Err(ProgramFault::NotYet),
         ProgramWords::Office(office) => answer_office(rt, office, output),
-        ProgramWords::Statement(_) => Err(ProgramFault::NotYet),
+        ProgramWords::Statement(statement) => answer_statement(rt, statement, output),
         ProgramWords::Replay(replay) => answer_replay(rt, &replay, output),
     }
 }

@@ -10,10 +10,12 @@ ghost use Rattle.ocs.specs.Told.{IsReached, IsReachedByLines};
 use crate::fault::{LinesFault, ProgramFault};
 use crate::lines::lines;
 use byte_streams::{StreamFault, write_whole};
-use database_office::{Office, command_office, make_database, open_file, open_office};
+use database_office::{
+    Office, command_office, make_database, open_file, open_office, state_office,
+};
 use keepers::Keeper;
 use office::Status;
-use operator::{InitWords, OfficeWords, ReplayWords};
+use operator::{InitWords, OfficeWords, ReplayWords, StatementWords};
 use std::alloc::Global;
 use std::io::{BufReader, Read, Write};
 use tariffs::TariffBook;
@@ -51,6 +53,22 @@ pub(crate) fn answer_office<O: Write>(
     ensures reached { IfErr result (IsReached (Unit {0} → ⊥) (Unit {0})) }
 {
     match command_office(rt, words, output) {
+        Ok(Status::Done) => Ok(Status::Done),
+        Ok(_) => Ok(Status::Failed),
+        Err(fault) => Err(ProgramFault::Database(fault)),
+    }
+}
+
+/// Tells an account's month.
+pub(crate) fn answer_statement<O: Write>(
+    rt: &HostRuntime,
+    words: StatementWords,
+    output: &mut O,
+) -> Result<Status, ProgramFault>
+    ensures ended { IfOk result (IsEnded (Unit {0})) }
+    ensures reached { IfErr result (IsReached (Unit {0} → ⊥) (Unit {0})) }
+{
+    match state_office(rt, words, output) {
         Ok(Status::Done) => Ok(Status::Done),
         Ok(_) => Ok(Status::Failed),
         Err(fault) => Err(ProgramFault::Database(fault)),

@@ -18,7 +18,7 @@ fn told(rt: &HostRuntime, line: &str) -> Result<String, Fail> {
 }
 
 /// Lines of words, and what they come to.
-const TOLD: [(&str, &str); 8] = [
+const TOLD: [(&str, &str); 9] = [
     (
         "ocs once --block 1 --price 0 --credit 1",
         "0|{\"Result-Code\":5012}\n|",
@@ -34,6 +34,10 @@ const TOLD: [(&str, &str); 8] = [
     ),
     ("ocs --version", "0|ocs 0.1.0\n|"),
     ("ocs sweep db --at 1", "1||ocs: open fault 1\n"),
+    (
+        "ocs statement db 49151 202601 --at 1",
+        "1||ocs: open fault 1\n",
+    ),
     ("ocs replay db file", "1||ocs: file fault\n"),
     (
         "ocs serve db --port 65535 --connections 1000000",

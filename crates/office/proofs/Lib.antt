@@ -1,2 +1,4 @@
 pub mod CarriedLemmas
 pub mod Beginnings
+pub mod MonthLemmas
+pub mod NumberedSums

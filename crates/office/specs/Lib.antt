@@ -1,3 +1,4 @@
 pub mod Written
 pub mod Told
 pub mod Carried
+pub mod Months

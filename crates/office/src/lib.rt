@@ -1,13 +1,17 @@
-//! What an operator's command does over a keeper, and what it tells: its answer as a line, or one
-//! line of its fault.
+//! What an operator's command does over a keeper, and what it tells: its answer as a line, an
+//! account's month, or one line of its fault.
 #![tactic(auto)]
 
 mod fault;
+mod laws;
 mod serving;
+mod stating;
 mod status;
 mod writing;
 
 pub use crate::fault::{OfficeFault, store_line, stream_line};
+pub use crate::laws::statement_collects;
 pub use crate::serving::serve_office;
+pub use crate::stating::{MonthQuery, serve_statement};
 pub use crate::status::Status;
 pub use crate::writing::write_line;

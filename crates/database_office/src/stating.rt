@@ -1,0 +1,62 @@
+//! An account's month over a database.
+
+ghost use Rattle.std.specs.Prelude.{◌≡◌, IfErr};
+ghost use Rattle.database_office.specs.Opening.{IsUnasked};
+
+use crate::clock::command_moment;
+use crate::fault::DatabaseFault;
+use crate::opening::{Office, open_office};
+use charge_sources::ChargeSource;
+use office::{MonthQuery, Status, serve_statement};
+use operator::StatementWords;
+use std::alloc::Global;
+use std::io::Write;
+use tariffs::TariffBook;
+use units::Moment;
+
+/// Writes the month of an account over the database of the words, as a statement or as CSV. The
+/// status is `Failed` where there is no such account.
+///
+/// # Errors
+/// In this order: `Clock`; `File`, `Open` or `Memory`, as `open_office`: then nothing is written;
+/// `Office` where the store or the output failed: then a beginning of the text is written.
+pub fn state_office<O: Write>(
+    rt: &HostRuntime,
+    words: StatementWords,
+    output: &mut O,
+) -> Result<Status, DatabaseFault>
+    ensures unwritten { IfErr result (λ fault. IsUnasked fault → output.new ≡ output.old) }
+{
+    let StatementWords {
+        database,
+        account,
+        month,
+        csv,
+        at,
+    } = words;
+    let moment = command_moment(rt, at)?;
+    let Office { mut keeper, book } = open_office(rt, &database)?;
+    let query = MonthQuery {
+        account,
+        month,
+        csv,
+    };
+    tell_month(rt.alloc(), &mut keeper, &book, &query, moment, output)
+}
+
+/// Writes an account's month over a keeper, as `serve_statement`.
+fn tell_month<K: ChargeSource, O: Write>(
+    alloc: Global,
+    keeper: &mut K,
+    book: &TariffBook,
+    query: &MonthQuery,
+    moment: Moment,
+    output: &mut O,
+) -> Result<Status, DatabaseFault>
+    ensures { IfErr result (λ fault. IsUnasked fault → output.new ≡ output.old) }
+{
+    match serve_statement(alloc, keeper, book, query, moment, output) {
+        Ok(status) => Ok(status),
+        Err(fault) => Err(DatabaseFault::Office(fault)),
+    }
+}

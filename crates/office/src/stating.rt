@@ -1,0 +1,159 @@
+//! An account's month, as a statement or as CSV.
+
+ghost use Rattle.std.specs.Prelude.{◌≡◌, OnOk, OnErr, IsErrOf};
+ghost use Rattle.std.specs.Io.KnownBytes.{Appends};
+ghost use Rattle.charge_sources.specs.Rows.{AreCharges};
+ghost use Rattle.keepers.specs.declared.fault.StoreFault.TheVariants.{Store as StoreFailed};
+ghost use Rattle.reserving.specs.ChargeColumns.{ChargeColumns};
+ghost use Rattle.statements.specs.Charges.{Asks, Writes};
+ghost use Rattle.office.specs.Months.{IsMonthTold, OnlyReads, Tells, month_fault, rows_text, unknown_line};
+ghost use Rattle.office.specs.Written.{WritesBeginning};
+ghost use Rattle.office.specs.declared.fault.OfficeFault.TheVariants.{Store};
+ghost use Rattle.office.specs.declared.status.Status.TheVariants.{Done, Failed};
+ghost use Rattle.std.specs.Prelude.{List};
+
+use crate::fault::OfficeFault;
+use crate::status::Status;
+use crate::writing::write_answer_line;
+use byte_streams::StreamFault;
+use charge_sources::ChargeSource;
+use charging::{AccountState, account_state};
+use commands::{Answer, Refusal};
+use identifiers::AccountNumber;
+use keepers::StoreFault;
+use operator::Month;
+use statements::{StatementFault, export, statement};
+use std::alloc::Global;
+use std::io::Write;
+use tariffs::TariffBook;
+use units::Moment;
+
+/// What is asked of an account: its charges of a month.
+#[derive(Debug, Drop)]
+pub struct MonthQuery {
+    pub account: AccountNumber,
+    /// The civil month in the book's zone.
+    pub month: Month,
+    /// Whether they are written as CSV, without sums and buckets.
+    pub csv: bool,
+}
+
+/// Writes an account's month as of the later of this moment and that of the last accepted command:
+/// its statement, with all of its buckets by number, or its export. It is a read: it changes
+/// nothing. An account that isn't there is refused, and the status is `Failed` then.
+///
+/// # Errors
+/// `Store` where the keeper failed; `Write` where memory ran out for the text, or the writer failed.
+/// Then a beginning of the text is written.
+pub fn serve_statement<K: ChargeSource, W: Write>(
+    alloc: Global,
+    keeper: &mut K,
+    book: &TariffBook,
+    query: &MonthQuery,
+    moment: Moment,
+    writer: &mut W,
+) -> Result<Status, OfficeFault>
+    ensures told { K.clean keeper.new →
+        IsMonthTold book.now query.now moment (K.content keeper.old)
+        (W.contents writer.old) (W.contents writer.new) result }
+    ensures reads { OnlyReads K.content K.failed K.clean keeper.old keeper.new result }
+{
+    let state = match account_state(keeper, book, &query.account, moment) {
+        Ok(state) => state,
+        Err(fault) => return Err(OfficeFault::Store(fault)),
+    };
+    match state {
+        Some(state) => tell_month(alloc, keeper, book, query, &state, writer),
+        None => tell_unknown(alloc, writer),
+    }
+}
+
+/// Writes the month of an account whose state was found.
+fn tell_month<K: ChargeSource, W: Write>(
+    alloc: Global,
+    keeper: &mut K,
+    book: &TariffBook,
+    query: &MonthQuery,
+    state: &AccountState,
+    writer: &mut W,
+) -> Result<Status, OfficeFault>
+    ensures told { K.clean keeper.new → (rows : List ChargeColumns) →
+        AreCharges ((K.content keeper.old).charges query.now.account) rows →
+        Tells Done (W.contents writer.old) (W.contents writer.new)
+        (rows_text book.now query.now state.now.moment rows state.now.buckets.items) result }
+    ensures reads { OnlyReads K.content K.failed K.clean keeper.old keeper.new result }
+{
+    match write_month(alloc, keeper, book, query, state, writer) {
+        Ok(()) => Ok(Status::Done),
+        Err(fault) => Err(month_fault(fault)),
+    }
+}
+
+/// Writes a statement or an export.
+fn write_month<K: ChargeSource, W: Write>(
+    alloc: Global,
+    keeper: &mut K,
+    book: &TariffBook,
+    query: &MonthQuery,
+    state: &AccountState,
+    writer: &mut W,
+) -> Result<(), StatementFault>
+    ensures writes { K.clean keeper.new →
+        Writes ((K.content keeper.old).charges query.now.account)
+        (W.contents writer.old) (W.contents writer.new)
+        (λ rows. rows_text book.now query.now state.now.moment rows state.now.buckets.items) result }
+    ensures asks { Asks K.content K.failed K.clean keeper.old keeper.new result }
+{
+    let MonthQuery {
+        account,
+        month,
+        csv,
+    } = query;
+    if *csv {
+        return export(alloc, keeper, writer, book, account, *month);
+    }
+    let buckets = state.buckets.as_slice();
+    statement(
+        alloc,
+        keeper,
+        writer,
+        book,
+        account,
+        *month,
+        state.moment,
+        buckets,
+    )
+}
+
+/// A fault of a statement among those of an office.
+fn month_fault(fault: StatementFault) -> OfficeFault
+    ensures { result ≡ month_fault fault }
+{
+    match fault {
+        StatementFault::Memory => OfficeFault::Write(StreamFault::Memory),
+        StatementFault::Store => OfficeFault::Store(StoreFault::Store),
+        StatementFault::Write => OfficeFault::Write(StreamFault::Write),
+    }
+}
+
+/// Tells that the account isn't there.
+fn tell_unknown<W: Write>(alloc: Global, writer: &mut W) -> Result<Status, OfficeFault>
+    ensures told { Tells Failed (W.contents writer.old) (W.contents writer.new) unknown_line result }
+    ensures unstored { IsErrOf result (Store StoreFailed) → ⊥ }
+{
+    match write_unknown(alloc, writer) {
+        Ok(()) => Ok(Status::Failed),
+        Err(fault) => Err(OfficeFault::Write(fault)),
+    }
+}
+
+/// Writes that the account isn't there.
+fn write_unknown<W: Write>(alloc: Global, writer: &mut W) -> Result<(), StreamFault>
+    ensures written { OnOk result
+        (Appends (W.contents writer.old) (W.contents writer.new) unknown_line) }
+    ensures err { OnErr result
+        (WritesBeginning (W.contents writer.old) (W.contents writer.new) unknown_line) }
+{
+    let unknown = Answer::Refused(Refusal::AccountUnknown);
+    write_answer_line(alloc, writer, &unknown)
+}
