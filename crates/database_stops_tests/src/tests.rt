@@ -1,4 +1,4 @@
-mod commands;
+mod eight;
 mod files;
 mod making;
 mod seen;

@@ -1,6 +1,6 @@
 //! What is seen of the account over any keeper, as text.
 
-use crate::tests::commands::{ALL, account, commands, told};
+use crate::tests::eight::{ALL, account, commands, told};
 use charge_sources::{ChargeSource, ChargeVisitor};
 use charging::{run, step};
 use commands::Command;
