@@ -16,7 +16,7 @@ import time
 TOP = pathlib.Path(__file__).resolve().parent.parent
 DEPLOY = TOP / "deploy"
 BOOK = TOP / "examples/book.toml"
-SECONDS = 30
+SECONDS = 120
 given = [20000 + os.getpid() % 8000]
 
 
