@@ -1,0 +1,186 @@
+"""What an office tells at the end of a day: rows by the shell sqlite3, balances over HTTP, and
+statements and exports by the program's words. Each is compared with what was answered and
+reckoned."""
+import collections
+import concurrent.futures
+import csv
+import io
+import json
+import pathlib
+import shutil
+import subprocess
+import tempfile
+
+import offices
+from reckoning import agree
+
+MONTH = "202601"
+SUMS = {
+    "buckets": ("credited", "available", "reserved", "charged", "expired"),
+    "charges": ("blocks", "rated", "collected", "uncollected"),
+}
+HEADER = ["moment", "session", "group", "blocks", "rated", "collected", "uncollected"]
+AMOUNTS = ("Credited", "Available", "Reserved", "Charged", "Expired")
+MEMBERS = ("Number", "From", "Until", "Scope", *AMOUNTS)
+BUCKETS = """SELECT account, number, starts, ends, scope,
+credited, available, reserved, charged, expired
+FROM buckets ORDER BY account, number"""
+CHARGES = """SELECT account, session, moment, rating_group, blocks, rated, collected, uncollected
+FROM charges ORDER BY account, number"""
+
+
+def shell(place, asked):
+    """Rows of the database, by the shell sqlite3, their fields as texts."""
+    words = ["sqlite3", "-separator", "\t", "-nullvalue", "", "db", asked]
+    told = subprocess.run(words, cwd=place, stdout=subprocess.PIPE, check=True, text=True)
+    return [tuple(line.split("\t")) for line in told.stdout.splitlines()]
+
+
+def whole(row):
+    """A row's numbers; None stands for an empty field."""
+    return tuple(int(field) if field else None for field in row)
+
+
+def by_account(rows):
+    """Rows without their account, by the account."""
+    found = collections.defaultdict(list)
+    for account, *row in rows:
+        found[account].append(tuple(row))
+    return found
+
+
+class Rows:
+    """The database's rows and their sums, by account."""
+
+    def __init__(self, place):
+        self.place = place
+        self.buckets = by_account((row[0], *whole(row[1:])) for row in shell(place, BUCKETS))
+        self.charges = by_account((*row[:2], *whole(row[2:])) for row in shell(place, CHARGES))
+        self.sums = {table: self.sums_of(table) for table in SUMS}
+
+    def sums_of(self, table):
+        """The sums of a table's amounts, by account."""
+        names = ", ".join(f"sum({name})" for name in SUMS[table])
+        told = shell(self.place, f"SELECT account, {names} FROM {table} GROUP BY account")
+        return {account: whole(row) for account, *row in told}
+
+    def sum(self, table, account):
+        """The sums of an account's rows by the name of their column."""
+        names = SUMS[table]
+        return dict(zip(names, self.sums[table].get(account, (0,) * len(names))))
+
+    def check(self, people):
+        """Compares the rows with the rules that they stand under, and with what was reckoned."""
+        agree("the file", shell(self.place, "PRAGMA integrity_check"), [("ok",)])
+        agree("references", shell(self.place, "PRAGMA foreign_key_check"), [])
+        self.check_answers(people)
+        self.check_counters(people)
+        held = "SELECT account, sum(amount) FROM holds GROUP BY account"
+        self.held = {account: int(amount) for account, amount in shell(self.place, held)}
+        for person in people:
+            self.check_buckets(person)
+            self.check_charges(person)
+
+    def check_answers(self, people):
+        """Each answer that was told stands, and no other: what wasn't told was answered once."""
+        asked = "SELECT account, name, number, answer FROM answers WHERE kind = "
+        found = {tuple(row[:3]): row[3] for row in shell(self.place, asked + "1")}
+        wanted = {
+            (person.number, name, str(number)): answer
+            for person in people
+            for (name, number), answer in person.account.answers.items()
+        }
+        agree("requests that have an answer", sorted(set(found) ^ set(wanted)), [])
+        agree("answers", [key for key in wanted if found[key] != wanted[key]], [])
+        credits = sum(person.credits for person in people)
+        agree("credits that have an answer", len(shell(self.place, asked + "2")), credits)
+
+    def check_counters(self, people):
+        """The blocks of each cycle are those that were reported."""
+        asked = "SELECT account, rating_group, cycle, blocks FROM counters WHERE blocks > 0"
+        found = {(row[0], *whole(row[1:3])): int(row[3]) for row in shell(self.place, asked)}
+        wanted = {
+            (person.number, *key): blocks
+            for person in people
+            for key, blocks in person.account.counters.items()
+            if blocks
+        }
+        agree("counters", sorted(set(found.items()) ^ set(wanted.items())), [])
+
+    def check_buckets(self, person):
+        """What was credited is available, reserved, charged or expired; the reserved is held."""
+        rows = self.buckets[person.number]
+        numbers = [row[0] for row in rows]
+        agree(f"numbers of buckets, {person.number}", numbers, [*range(1, len(rows) + 1)])
+        found = [(row[4], *row[1:4]) for row in rows]
+        agree(f"buckets of {person.number}", found, person.account.buckets)
+        for row in rows:
+            agree(f"a bucket of {person.number}, {row}", sum(row[5:]), row[4])
+        sums = self.sum("buckets", person.number)
+        agree(f"holds of {person.number}", self.held.get(person.number, 0), sums["reserved"])
+
+    def check_charges(self, person):
+        """Each charge is rated as reckoned, and collected or not; buckets paid the collected."""
+        rows = self.charges[person.number]
+        found = [(moment, session, *rest) for session, moment, *rest, _, _ in rows]
+        agree(f"charges of {person.number}", found, person.account.charges)
+        for row in rows:
+            agree(f"a charge of {person.number}, {row}", row[5] + row[6], row[4])
+        sums = self.sum("charges", person.number)
+        rated = sum(charge[-1] for charge in person.account.charges)
+        agree(f"rated of {person.number}", sums["rated"], rated)
+        charged = self.sum("buckets", person.number)["charged"]
+        agree(f"collected of {person.number}", sums["collected"], charged)
+
+
+def check_balance(rows, person, moment, told):
+    """A balance over HTTP has the account's buckets."""
+    balance = json.loads(told)
+    found = [tuple(bucket.get(name) for name in MEMBERS) for bucket in balance.pop("Buckets")]
+    agree(f"the balance of {person.number}", found, rows.buckets[person.number])
+    wanted = {"Account": person.number, "Barred": person.barred, "Moment": moment}
+    agree(f"the balance of {person.number}", balance, wanted)
+
+
+def check_statement(rows, number, moment, told):
+    """A statement has the charges, their sums, the buckets and what they paid."""
+    title, _, *lines = told.splitlines()
+    agree("a title", title, f"ACCOUNT {number} MONTH {MONTH} MOMENT {moment}")
+    words = [line.split() for line in lines]
+    total = next(at for at, line in enumerate(words) if line[0] == "TOTAL")
+    found = [whole(line) for line in words[:total]]
+    agree(f"charges told of {number}", found, [row[1:] for row in rows.charges[number]])
+    charged = rows.sum("charges", number)
+    agree(f"the total of {number}", whole(words[total][1:]), tuple(charged.values()))
+    found = [whole(line) for line in words[total + 2 : -1]]
+    wanted = [(row[0], *row[4:]) for row in rows.buckets[number]]
+    agree(f"buckets told of {number}", found, wanted)
+    agree(f"collected to date, {number}", lines[-1], f"COLLECTED TO DATE {charged['collected']}")
+
+
+def check_export(rows, number, told):
+    """An export has the charges."""
+    header, *records = csv.reader(io.StringIO(told))
+    agree("a header", header, HEADER)
+    found = [(session, int(moment), *whole(rest)) for moment, session, *rest in records]
+    agree(f"the export of {number}", found, rows.charges[number])
+
+
+def check_texts(rows, people, moment, jobs):
+    """Compares the statement and the export of each account, several at once over copies."""
+    shares = [people[at::jobs] for at in range(jobs)]
+    with concurrent.futures.ThreadPoolExecutor(jobs) as pool:
+        done = [pool.submit(check_share, rows, share, moment) for share in shares]
+        for one in done:
+            one.result()
+
+
+def check_share(rows, people, moment):
+    """The same of some accounts, over a copy of the database: a program has a file for itself."""
+    with tempfile.TemporaryDirectory() as place:
+        for path in pathlib.Path(rows.place).glob("db*"):
+            shutil.copy(path, place)
+        for person in people:
+            words = ("statement", "db", person.number, MONTH, "--at", moment)
+            check_statement(rows, person.number, moment, offices.ran(*words, place=place))
+            check_export(rows, person.number, offices.ran(*words, "--csv", place=place))
