@@ -1,0 +1,11 @@
+use crate::terms::VoucherTerms;
+use identifiers::AccountNumber;
+
+/// What stands under the code of a voucher that was added.
+#[derive(Clone, Debug, Drop, PartialEq, Eq)]
+pub struct Voucher {
+    /// What it says.
+    pub terms: VoucherTerms,
+    /// The account that redeemed it; None: no account has, it isn't spent.
+    pub redeemer: Option<AccountNumber>,
+}
