@@ -76,9 +76,9 @@ pub redeemed : redemption in_february (Some (unspent thirty_days)) (codes "49151
     })
 redeemed = refl
 
--- refused to another account, and to the same one under another reference
-pub spent : redemption in_february (Some (spent_by (codes "49151") thirty_days)) (codes "49152") 1767607200
-    ≡ Err VoucherSpent
+-- refused to another account
+pub spent : redemption in_february (Some (spent_by (codes "49151") thirty_days)) (codes "49152")
+    1767607200 ≡ Err VoucherSpent
 spent = refl
 
 pub unknown : redemption in_february None (codes "49151") 1767607200 ≡ Err VoucherUnknown
@@ -101,8 +101,8 @@ refused = refl
 
 -- that it is spent is told before that its days end too late
 pub spent_first :
-    redemption (λ t days. None) (Some (spent_by (codes "49151") thirty_days)) (codes "49151") 4102444799
-    ≡ Err VoucherSpent
+    redemption (λ t days. None) (Some (spent_by (codes "49151") thirty_days)) (codes "49151")
+    4102444799 ≡ Err VoucherSpent
 spent_first = refl
 
 -- ---- a day of commands

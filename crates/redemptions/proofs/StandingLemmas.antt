@@ -144,7 +144,8 @@ spent_by_it : (day_end : DayEnds) (c : VoucherCommand) (vouchers : Vouchers) (co
     is_about code c ≡ true → is_redeeming day_end c (vouchers code) ≡ true →
     is_spent (with_command day_end c vouchers code) ≡ true
 spent_by_it day_end c vouchers code about e =
-    ap is_spent (chosen (is_about code c) (after_command day_end c (vouchers code)) (vouchers code) about)
+    ap is_spent
+    (chosen (is_about code c) (after_command day_end c (vouchers code)) (vouchers code) about)
     ∙ redeeming_spends day_end c (vouchers code) e
 
 pub redeemed_once : (day_end : DayEnds) (code : List ℕ) (cs : List VoucherCommand)
