@@ -15,6 +15,12 @@ import offices
 from reckoning import agree
 
 MONTH = "202601"
+# Accounts of a copy of the database: an opening reads every row of it.
+SHARE = 25
+# Tables with a row or more of an account, each before those that it leads to.
+TABLES = (
+    "holds", "session_groups", "sessions", "answers", "charges", "counters", "buckets", "accounts",
+)
 SUMS = {
     "buckets": ("credited", "available", "reserved", "charged", "expired"),
     "charges": ("blocks", "rated", "collected", "uncollected"),
@@ -168,7 +174,7 @@ def check_export(rows, number, told):
 
 def check_texts(rows, people, moment, jobs):
     """Compares the statement and the export of each account, several at once over copies."""
-    shares = [people[at::jobs] for at in range(jobs)]
+    shares = [people[at : at + SHARE] for at in range(0, len(people), SHARE)]
     with concurrent.futures.ThreadPoolExecutor(jobs) as pool:
         done = [pool.submit(check_share, rows, share, moment) for share in shares]
         for one in done:
@@ -176,11 +182,26 @@ def check_texts(rows, people, moment, jobs):
 
 
 def check_share(rows, people, moment):
-    """The same of some accounts, over a copy of the database: a program has a file for itself."""
+    """The same of some accounts: of the first over a copy of the whole database, and then of all
+    over one that has the rows of these alone."""
     with tempfile.TemporaryDirectory() as place:
         for path in pathlib.Path(rows.place).glob("db*"):
             shutil.copy(path, place)
+        check_person(rows, people[0], moment, place)
+        keep_rows(place, people)
         for person in people:
-            words = ("statement", "db", person.number, MONTH, "--at", moment)
-            check_statement(rows, person.number, moment, offices.ran(*words, place=place))
-            check_export(rows, person.number, offices.ran(*words, "--csv", place=place))
+            check_person(rows, person, moment, place)
+
+
+def keep_rows(place, people):
+    """Takes the rows of all other accounts out of a database."""
+    numbers = ", ".join(f"'{person.number}'" for person in people)
+    words = [f"DELETE FROM {table} WHERE account NOT IN ({numbers})" for table in TABLES]
+    shell(place, "; ".join([*words, "VACUUM"]))
+
+
+def check_person(rows, person, moment, place):
+    """Compares an account's statement and export over a copy of the database."""
+    words = ("statement", "db", person.number, MONTH, "--at", moment)
+    check_statement(rows, person.number, moment, offices.ran(*words, place=place))
+    check_export(rows, person.number, offices.ran(*words, "--csv", place=place))
