@@ -9,7 +9,7 @@ use Rattle.std.proofs.lemmas.Str.Ascii.{IsAscii-from_all}
 use Rattle.std.proofs.lemmas.Bool.{and_parts, and_right, false_from_ne_true, leb-true}
 use Rattle.csv.specs.Records.{field_at}
 use Rattle.identifiers.specs.Texts.{is_digit, is_voucher_code}
-use Rattle.operator.specs.Numbers.{number_of}
+use Rattle.written_numbers.specs.Numbers.{number_of}
 use Rattle.vouchers.specs.Rows.{field}
 
 -- the field at a place, as a look-up tells it

@@ -3,7 +3,7 @@
 use Rattle.std.specs.Prelude.{◌≡◌, ℕ, ◌≤◌, ◌&&◌, ◌==◌, List, [], ◌∷◌, length, get_or, codes, Bool, Option, Some, None, IfSome, IsTrue, Result, Ok, Err, nat_le, if◌then◌else◌}
 use Rattle.first_fault.specs.Steps.{◌>>=◌, or_fault, where_holds}
 use Rattle.identifiers.specs.Texts.{is_voucher_code, same_name}
-use Rattle.operator.specs.Numbers.{number_of}
+use Rattle.written_numbers.specs.Numbers.{number_of}
 use Rattle.vouchers.specs.declared.fault.FaultKind.{FaultKind}
 use Rattle.vouchers.specs.declared.fault.FaultKind.TheVariants.{FieldCount, Code, Amount, Days, Scope}
 use Rattle.vouchers.specs.declared.row.VoucherRow.{VoucherRow}

@@ -2,7 +2,7 @@ ghost use Rattle.std.specs.Prelude.{◌≡◌, ◌≤◌, ◌==◌, ◌&&◌, If
 ghost use Rattle.csv.specs.Records.{fields_of};
 ghost use Rattle.first_fault.specs.Steps.{Says, GivesUnless, where_holds};
 ghost use Rattle.identifiers.specs.Texts.{is_voucher_code};
-ghost use Rattle.operator.specs.Numbers.{number_of};
+ghost use Rattle.written_numbers.specs.Numbers.{number_of};
 ghost use Rattle.vouchers.specs.Rows.{IsVoucher, field, is_header, number_in, optional_in, voucher_of};
 ghost use Rattle.vouchers.specs.declared.fault.FaultKind.TheVariants.{Amount, Code, Days, Scope, Memory};
 
@@ -42,7 +42,7 @@ fn number(field: &[u8]) -> Option<u64>
     ensures { result ≡ number_of field.now }
 {
     match str::from_utf8(field) {
-        Ok(text) => operator::number(text),
+        Ok(text) => written_numbers::number(text),
         Err(_) => None,
     }
 }

@@ -4,7 +4,7 @@ use crate::tests::accounts::{HALF_PAID, account, book, keeper, many_events};
 use crate::tests::broken::Broken;
 use crate::tests::months::{exported, stated};
 use keepers::{Keeper, MemoryKeeper};
-use operator::Month;
+use written_numbers::Month;
 use statements::{StatementFault, export, statement};
 use std::alloc::Global;
 use std::io::{self, ErrorKind, Write};

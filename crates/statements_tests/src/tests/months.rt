@@ -2,7 +2,7 @@
 
 use crate::tests::accounts::{HALF_PAID, account, book, keeper, many_events};
 use keepers::{Keeper, MemoryKeeper};
-use operator::Month;
+use written_numbers::Month;
 use statements::{export, statement};
 use std::alloc::Global;
 use std::test::Fail;

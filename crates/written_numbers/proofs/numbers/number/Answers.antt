@@ -5,8 +5,8 @@ use Rattle.std.specs.Result.{result_ok}
 use Rattle.std.specs.Str.{all_ascii_digits}
 use Rattle.std.specs.Str.Parse.{ParsesUnsigned, digits_value}
 use Rattle.std.proofs.lemmas.Str.Parse.{IsNumeralModel, numerals_by_value, tells_all_ascii_digits, parse_gives, digits_value_short}
-use Rattle.operator.specs.Numbers.{number_of}
-use Rattle.operator.proofs.numbers.number.Goals as goal
+use Rattle.written_numbers.specs.Numbers.{number_of}
+use Rattle.written_numbers.proofs.numbers.number.Goals as goal
 
 all_same : (ds : List ℕ) → list_all is_ascii_digit ds ≡ all_ascii_digits ds
 all_same [] = refl

@@ -1,5 +1,5 @@
 ghost use Rattle.std.specs.Prelude.{◌≡◌, ◌≤◌, ◌%◌, IsTrue, if◌then◌else◌, Some, None};
-ghost use Rattle.operator.specs.Months.{as_month, is_month, month_of};
+ghost use Rattle.written_numbers.specs.Months.{as_month, is_month, month_of};
 
 use crate::numbers::number;
 use std::marker::Model;
@@ -14,7 +14,7 @@ pub struct Month {
 
 impl Model for Month {
     ghost use Rattle.std.specs.Prelude.{ℕ, IsTrue};
-    ghost use Rattle.operator.specs.Months.{is_month};
+    ghost use Rattle.written_numbers.specs.Months.{is_month};
 
     ghost Value = { ℕ };
 

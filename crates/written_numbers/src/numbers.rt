@@ -1,7 +1,7 @@
 ghost use Rattle.std.specs.Prelude.{◌≡◌};
 ghost use Rattle.std.specs.List.{list_all};
 ghost use Rattle.std.specs.Char.{is_ascii_digit};
-ghost use Rattle.operator.specs.Numbers.{number_of};
+ghost use Rattle.written_numbers.specs.Numbers.{number_of};
 
 /// The most digits of a number: its value fits 64 bits.
 const MOST_DIGITS: usize = 16;
