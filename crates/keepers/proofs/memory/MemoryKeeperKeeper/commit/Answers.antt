@@ -1,5 +1,6 @@
-use Rattle.std.proofs.Common.{◌≡◌, ◌+◌, length, ◌∙◌}
+use Rattle.std.proofs.Common.{◌≡◌, ◌+◌, length, ◌∙◌, ap}
 use Rattle.std.specs.Prelude.{if◌then◌else◌}
+use Rattle.keepers.specs.Change.{redeemed_over}
 use Rattle.keepers.specs.Memory.{entry_in}
 use Rattle.keepers.proofs.Placed.{head_there, charge_over}
 use Rattle.keepers.proofs.memory.MemoryKeeperKeeper.commit.Goals as goal
@@ -14,6 +15,8 @@ returns-clause-done c = λ _ made.
       answers = λ a k. c.in_ok-put.ensures.done.answers a k i;
       charges = λ a n. charge_over change.number a n items _ change.charges.items
           (c.in_ok-put.ensures.done.charges a) i;
+      vouchers = λ code. (c.put_redeemed.ensures.put code
+          ∙ ap (redeemed_over change.redeemed code) (c.make_voucher_room.ensures.same code)) i;
       count = (c.in_ok-put.ensures.done.count
           ∙ (λ j. if head_there (entry_in change.number items) j then length items
           else length items + 1)) i;
