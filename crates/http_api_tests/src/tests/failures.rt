@@ -38,7 +38,7 @@ impl Write for Slow {
 
 /// What a writer that fails after so many calls has taken where an account is opened twice, and how
 /// the connection ends.
-fn taken<K: Keeper>(alloc: Global, keeper: &mut K, calls: usize) -> Result<String, Fail> {
+fn taken<K: ChargeSource>(alloc: Global, keeper: &mut K, calls: usize) -> Result<String, Fail> {
     let book = book(alloc)?;
     let stream = OPEN.repeat(alloc, 2)?;
     let mut bytes = stream.as_bytes();
