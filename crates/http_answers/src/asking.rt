@@ -147,7 +147,7 @@ fn read_statement(alloc: Global, target: &str) -> Result<StatementAsked, WireFau
 }
 
 /// A command that is read, or its fault.
-fn asked(read: Result<Command, WireFault>) -> Asked
+fn told(read: Result<Command, WireFault>) -> Asked
     ensures { (reading : Result Command WireFault) → Gives (λ c. c) read reading →
         IsAsked (reads reading) result }
 {
@@ -174,11 +174,11 @@ fn asked_by(alloc: Global, route: Route, method: Method, target: &str, body: &[u
     ensures { IsAsked (asking_by route method target.now body.now) result }
 {
     match route {
-        Route::Ccr => asked(read_request(alloc, body)),
-        Route::Account => asked(read_account(alloc, method, target)),
+        Route::Ccr => told(read_request(alloc, body)),
+        Route::Account => told(read_account(alloc, method, target)),
         Route::Statement => stated(read_statement(alloc, target)),
-        Route::Credits => asked(read_credits(alloc, target, body)),
-        Route::Redeem => asked(read_redemption(alloc, target, body)),
+        Route::Credits => told(read_credits(alloc, target, body)),
+        Route::Redeem => told(read_redemption(alloc, target, body)),
         Route::Sweep => Asked::Does(Command::Sweep),
     }
 }

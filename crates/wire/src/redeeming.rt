@@ -85,7 +85,11 @@ fn put_redemption(out: &mut Writer, redemption: &VoucherRedemption) -> Result<()
 {
     out.begin_object()?;
     put_text(out, Avp::Reference.name(), redemption.reference.as_str())?;
-    put_text(out, Avp::SubscriptionIdData.name(), redemption.account.as_str())?;
+    put_text(
+        out,
+        Avp::SubscriptionIdData.name(),
+        redemption.account.as_str(),
+    )?;
     put_text(out, Avp::VoucherCode.name(), redemption.code.as_str())?;
     out.end_object()?;
     Ok(())
