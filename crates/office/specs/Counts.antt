@@ -1,6 +1,6 @@
 -- What becomes of vouchers that are added, counted.
 -- Source: profile.
-use Rattle.std.specs.Prelude.{ℕ, ◌+◌, ◌++◌, Bool, true, false, List, codes}
+use Rattle.std.specs.Prelude.{ℕ, ◌+◌, ◌++◌, Bool, true, false, List, [], ◌∷◌, codes}
 use Rattle.std.specs.Fmt.{decimal}
 use Rattle.commands.specs.declared.answer.Answer.{Answer}
 use Rattle.commands.specs.declared.answer.Answer.TheVariants as answer
@@ -34,3 +34,7 @@ counted false given n = counted_unaccepted given n
 abbrev pub counts_text : Counts → List ℕ
 counts_text n = codes "new " ++ (decimal n.new ++ (codes " present " ++ (decimal n.present
     ++ (codes " conflicting " ++ decimal n.conflicting))))
+
+-- and its line feed
+abbrev pub counts_line : Counts → List ℕ
+counts_line n = counts_text n ++ 10 ∷ []

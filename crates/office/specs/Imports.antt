@@ -1,7 +1,7 @@
 -- Vouchers that are added one after another, for every list of accepted commands whose tables a
 -- keeper holds.
 -- Source: profile.
-use Rattle.std.specs.Prelude.{◌≡◌, ◌<◌, ℕ, Bool, false, List, [], ◌∷◌, length, map, take, MatchResult, Result}
+use Rattle.std.specs.Prelude.{◌≡◌, ◌<◌, ℕ, List, [], ◌∷◌, length, map, take, MatchResult, Result}
 use Rattle.commands.specs.declared.command.Command.TheVariants.{AddVoucher}
 use Rattle.commands.specs.declared.command.VoucherAddition.{VoucherAddition}
 use Rattle.tariffs.specs.Books.{Book}
@@ -37,7 +37,7 @@ counts_after b list (d ∷ ds) n = counts_after b (after_command b list d) ds (c
 -- was accepted; where none is new no table has changed
 pub record IsImported (b : Book) (list : List Accepted) (commands : List DatedCommand)
     (old new : Tables) (counts : Counts) : Type 0 where
-  pub counts : counts ≡ counts_after b list commands no_counts
+  pub counted : counts ≡ counts_after b list commands no_counts
   pub tables : AreTables b (after_commands b list commands) new
   pub time : IsInTime (after_commands b list commands)
   pub same : counts.new ≡ 0 → new ≡ old
@@ -56,12 +56,28 @@ Imports b commands old new result =
     MatchResult result (λ counts. IsImported b list commands old new counts)
     (λ fault. IsImportBegun b list commands new)
 
+-- a beginning was, whatever the list
+abbrev pub BeginsImport : Book → List DatedCommand → Tables → Tables → Type 0
+BeginsImport b commands old new =
+    (list : List Accepted) → IsInTime list → AreTables b list old → IsImportBegun b list commands new
+
+-- all were, and this is so of the counts
+pub record IsImportTold (b : Book) (list : List Accepted) (commands : List DatedCommand)
+    (old new : Tables) (tells : Counts → Type 0) : Type 0 where
+  pub imported : IsImported b list commands old new (counts_after b list commands no_counts)
+  pub told : tells (counts_after b list commands no_counts)
+
+abbrev pub TellsImport : Book → List DatedCommand → Tables → Tables → (Counts → Type 0) → Type 0
+TellsImport b commands old new tells =
+    (list : List Accepted) → IsInTime list → AreTables b list old →
+    IsImportTold b list commands old new tells
+
 -- ---- one voucher
 
 -- it was added, or stood there, or another does: it counts as it was decided
 pub record IsAdded (b : Book) (list : List Accepted) (d : DatedCommand) (old new : Tables)
     (addition : Addition) : Type 0 where
-  pub counted : (n : Counts) → counted_as addition n ≡ counted_after b list d n
+  pub counts : (n : Counts) → counted_as addition n ≡ counted_after b list d n
   pub tables : AreTables b (after_command b list d) new
   pub time : IsInTime (after_command b list d)
   pub same : (n : Counts) → (counted_as addition n).new ≡ 0 → (n.new ≡ 0) × (new ≡ old)

@@ -28,9 +28,9 @@ pub(crate) fn no_counts() -> Counts
 }
 
 /// With one voucher more.
-pub(crate) fn counted(counts: Counts, addition: &Addition) -> Counts
+pub(crate) fn counted(counts: Counts, addition: Addition) -> Counts
     requires { total counts < 18_446_744_073_709_551_615 }
-    ensures { result ≡ counted_as addition.now counts }
+    ensures { result ≡ counted_as addition counts }
 {
     let Counts {
         new,
