@@ -107,6 +107,6 @@ IsAsked (reads read) (told.Unread fault) = Fails fault read
 IsAsked (reads read) (told.Does c) = read ≡ Ok c
 IsAsked (reads read) (told.States q) = ⊥
 IsAsked (states asked) (told.Refused given) = ⊥
-IsAsked (states asked) (told.Unread fault) = Fails {StatementAsked} fault (Ok asked)
+IsAsked (states asked) (told.Unread fault) = Fails {Y = StatementAsked} fault (Ok asked)
 IsAsked (states asked) (told.Does c) = ⊥
 IsAsked (states asked) (told.States q) = asked ≡ q

@@ -1,4 +1,4 @@
-ghost use Rattle.std.specs.Prelude.{◌≡◌, ℕ, IfOk, OnOk, OnErr, IfSome, None, true, false, string_bytes};
+ghost use Rattle.std.specs.Prelude.{◌≡◌, ◌++◌, ℕ, IfOk, OnOk, OnErr, IfSome, None, true, false, string_bytes};
 ghost use Rattle.json_fields.specs.declared.fault.WireFault.TheVariants.{Memory};
 ghost use Rattle.std.specs.Io.KnownBytes.{Appends};
 ghost use Rattle.http_heads.specs.declared.status.Status.TheVariants.{BadRequest, Unavailable};
@@ -142,8 +142,18 @@ pub fn tell_text<W: Write>(
     ensures err { OnErr result (Begins (W.contents writer.old) (W.contents writer.new) (response_of Text status closes body.now)) }
 {
     let head = text_head(alloc, status, closes, body.len())?;
-    write_whole(writer, head.as_bytes())?;
-    write_whole(writer, body)
+    write_both(writer, head.as_bytes(), body)
+}
+
+/// Writes a text and then another.
+fn write_both<W: Write>(writer: &mut W, first: &[u8], second: &[u8]) -> Result<(), StreamFault>
+    ensures ok { OnOk result
+        (Appends (W.contents writer.old) (W.contents writer.new) (first.now ++ second.now)) }
+    ensures err { OnErr result
+        (Begins (W.contents writer.old) (W.contents writer.new) (first.now ++ second.now)) }
+{
+    write_whole(writer, first)?;
+    write_whole(writer, second)
 }
 
 /// Writes that there is no memory, no store or no clock; this takes no memory.
