@@ -8,6 +8,7 @@ pub mod NeverOpened
 pub mod KeptKeys
 pub mod Requested
 pub mod Operated
+pub mod Vouchered
 pub mod ByNumber
 pub mod Stated
 pub mod RunLemmas

@@ -48,7 +48,7 @@ use Rattle.charging.proofs.AcceptedTables.{row_none, row_some}
 use Rattle.charging.proofs.Grows.{grown}
 use Rattle.charging.proofs.Recorded.{new_has_no_groups}
 use Rattle.charging.proofs.KeptKeys.{reads-refused, request-repeated, request-fresh, decided-told, decided-kept}
-use Rattle.charging.proofs.Serving.{IsOpened, is_opened, keeps-some, served-told, served-loaded, outcome-unopened, outcome-opened, outcome-kept}
+use Rattle.charging.proofs.Serving.{IsOpened, is_opened, keeps-some, none-spent, served-told, served-loaded, outcome-unopened, outcome-opened, outcome-kept}
 
 pub request-unknown : (b : Book) (list : List Accepted) (r : Request) (t : ℕ) (old new : Tables)
     (given : Answer) →
@@ -56,7 +56,7 @@ pub request-unknown : (b : Book) (list : List Accepted) (r : Request) (t : ℕ) 
     given ≡ failed r UserUnknown → new ≡ old → IsServed b list (Ccr r) t old new given
 request-unknown b list r t old new given time le tables none answers same =
     served-told b list (Ccr r) t r.account refl time le
-    (unopened_outcome (history b r.account list) (Ccr r)) given old new
+    (unopened_outcome None (history b r.account list) (Ccr r)) given old new
     (outcome-unopened b list (Ccr r) t r.account refl old tables none) refl answers same tables
 
 kept-answer : (v : Bool) (o : Option KeptAnswer) (kept : KeptAnswer) →
@@ -90,7 +90,7 @@ module _ (b : Book) (list : List Accepted) (r : Request) (t : ℕ) (old : Tables
   abbrev h : History
   h = history b r.account list
 
-  fresh-is : outcome b h (Ccr r) t ≡ decided_by r (decision b t r h.ledger) h
+  fresh-is : outcome b None h (Ccr r) t ≡ decided_by r (decision b t r h.ledger) h
   fresh-is =
       outcome-opened b list (Ccr r) t r.account refl opened
       ∙ request-fresh b r t h (old.answers r.account (key_of (content.Request r)))
@@ -286,12 +286,12 @@ module _ (b : Book) (list : List Accepted) (r : Request) (t : ℕ) (old new : Ta
         change.kept ≡ Some (record {
           content = content.Request r;
           answer = answer.Request given;
-        }) →
+        }) → change.redeemed ≡ None →
         result ≡ answer.Request given →
         (IsMadeFrom found.before (stored x) (old.rows found.number) →
         new ≡ changed change old) → IsServed b list (Ccr r) t old new result
-    request-done x change result done book as_of rows charges number moments afters kept results
-        makes =
+    request-done x change result done book as_of rows charges number moments afters kept redeemed
+        results makes =
         let after : Ledger = (decision b t r past.ledger).after in
         let same : (decision found.account.book m r past.ledger).after ≡ after = λ i.
         (decision-is i).after in
@@ -317,6 +317,7 @@ module _ (b : Book) (list : List Accepted) (r : Request) (t : ℕ) (old new : Ta
           } ∷ past.kept)
               ∙ keeps-some (sym kept) past.kept;
           charges = sym (ap charge_rows same) ∙ charges past.ledger left with-rows asked;
+          vouchers = none-spent b list t (Ccr r) change (λ code. refl) redeemed;
           number = number;
           moment = moments;
           after = afters;

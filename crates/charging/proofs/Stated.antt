@@ -75,8 +75,8 @@ balance-unknown b list n t old new time le tables none same =
     let h : History = history b n list in
     served-told b list (command.Balance n) t n refl time le
     (told (answer.Refused AccountUnknown) h) (answer.Refused AccountUnknown) old new
-    (ap (λ v. if v then opened_outcome b h (command.Balance n) t
-    else unopened_outcome h (command.Balance n)) none)
+    (ap (λ v. if v then opened_outcome b None h (command.Balance n) t
+    else unopened_outcome None h (command.Balance n)) none)
     refl refl same tables
 
 pub balance-told : (b : Book) (list : List Accepted) (n : List ℕ) (t : ℕ) (old new : Tables)

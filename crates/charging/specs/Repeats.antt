@@ -13,13 +13,15 @@ use Rattle.charging.specs.declared.running.DatedCommand.{DatedCommand}
 use Rattle.charging.specs.Served.{AreTables, answer_to, accepts}
 use Rattle.charging.specs.Runs.{after_commands}
 
--- commands with a key: requests that aren't reads, and credits
+-- commands with a key: requests that aren't reads, credits and redemptions
 abbrev pub has_key : Command → Bool
 has_key (command.Ccr r) = not (is_read r.ask)
 has_key (command.Credit c) = true
 has_key (command.OpenAccount n) = false
 has_key (command.Bar n) = false
 has_key (command.Unbar n) = false
+has_key (command.AddVoucher v) = false
+has_key (command.Redeem r) = true
 has_key command.Sweep = false
 has_key (command.Balance n) = false
 
