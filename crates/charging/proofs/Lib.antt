@@ -3,6 +3,7 @@ pub mod Grows
 pub mod Recorded
 pub mod Apart
 pub mod Repeated
+pub mod VouchersStay
 pub mod Serving
 pub mod NeverOpened
 pub mod KeptKeys

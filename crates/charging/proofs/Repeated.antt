@@ -38,6 +38,7 @@ use Rattle.charging.specs.Served.{history, standing, moment_of, accepts, answer_
 use Rattle.charging.specs.Runs.{after_command, after_commands}
 use Rattle.charging.specs.Repeats.{AnswersOnce}
 use Rattle.charging.proofs.NeverOpened.{addition_same}
+use Rattle.charging.proofs.VouchersStay.{added-once}
 
 -- ---- what is kept
 
@@ -334,7 +335,9 @@ answers-once b list (command.Credit c) t between u key taken =
 answers-once b list (command.OpenAccount n) t between u key taken = no key
 answers-once b list (command.Bar n) t between u key taken = no key
 answers-once b list (command.Unbar n) t between u key taken = no key
-answers-once b list (command.AddVoucher v) t between u key taken = no key
+answers-once b list (command.AddVoucher v) t between u key taken =
+    let once = added-once b list v t between u taken in
+    record { answer = once.answer; accepted = once.accepted }
 answers-once b list (command.Redeem r) t between u key taken =
     let given : Answer = answer_to b list (command.Redeem r) t in
     let kept : KeptAnswer = record { content = content.Redeem r; answer = given } in
