@@ -25,6 +25,7 @@ use tariffs::TariffBook;
 use units::Moment;
 
 /// The civil days of a tariff book's calendar.
+#[derive(Drop)]
 struct BookDays<'b> {
     book: &'b TariffBook,
 }
