@@ -80,11 +80,7 @@ fn add_voucher<K: Keeper>(
 /// `Store` where the keeper failed: then a beginning of the vouchers was added, and nothing is
 /// written. `Write` where memory ran out for the line or the writer failed: then all were added, and
 /// a beginning of the line is written.
-#[tactic(auto, using(
-    crate::proofs::ImportLemmas::told_from,
-    crate::proofs::ImportLemmas::untold_from,
-    crate::proofs::ImportLemmas::begun_from
-))]
+#[tactic(auto, using(crate::proofs::ImportLemmas::told_from, crate::proofs::ImportLemmas::untold_from, crate::proofs::ImportLemmas::begun_from))]
 pub fn serve_import<K: Keeper, W: Write>(
     alloc: Global,
     keeper: &mut K,
