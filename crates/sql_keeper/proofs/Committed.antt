@@ -44,11 +44,11 @@ committed g old conn text change keeper (Err e) commits clean = tt
 
 -- the law of adding a voucher
 pub added_law : {S A : Type 0} (g : Ghosts S) (old : KeeperState S) (conn : Held S) (text code : List ℕ)
-    (terms : VoucherTerms) (t : ℕ) (r : Result A StoreFault)
+    (terms : VoucherTerms) (t : ℕ) → IsKeeper g old → (r : Result A StoreFault)
     → CommitsWhole (BecomesAdded text code terms t) (state g old.connection) (state g conn) r → IsClean (state g conn)
     → OnOk r (tables_of old.names (content_of (state g conn).now.trees) ≡ with_added code terms t (tables_in g old))
-added_law g old conn text code terms t (Ok x) commits clean = (commits.done clean.disk).2.tables old.names
-added_law g old conn text code terms t (Err e) commits clean = tt
+added_law g old conn text code terms t keeper (Ok x) commits clean = (commits.done clean.disk).2.tables old.names
+added_law g old conn text code terms t keeper (Err e) commits clean = tt
 
 -- the law of a sweep
 pub swept_law : {S A : Type 0} (g : Ghosts S) (old : KeeperState S) (conn : Held S) (text : List ℕ) (book : Book)

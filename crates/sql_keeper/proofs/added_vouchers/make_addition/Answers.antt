@@ -12,8 +12,8 @@ returns-in_err-write_addition-clause-commits g c =
     let terms = c.args.terms in
     let t = c.args.moment in
     let old = state g.S.Store c.args.conn.now in
-    let p = err_from_is_err_and c.from_residual-in_err-write_addition.result
-    c.from_residual-in_err-write_addition.ensures.1 in
+    let p = err_from_is_err_and c.from_residual.result
+    c.from_residual.ensures.1 in
     rw p.1 (not_put_at_once (with_addition text code terms t) (BecomesAdded text code terms t) old
     (state g.S.Store c.write_addition.new.conn)
     (become_added text code terms t

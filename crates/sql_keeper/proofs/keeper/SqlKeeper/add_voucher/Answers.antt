@@ -11,7 +11,7 @@ invariant_of-self g c = committed_keeper g.S.Store _ _
 
 pub returns-clause-done : goal.returns-clause-done
 returns-clause-done g c = rw (← c.self.view_is) (added_law g.S.Store _ c.commit_addition.new.conn _ _ _ _
-    c.commit_addition.result c.commit_addition.ensures.commits)
+    c.self.invariant c.commit_addition.result c.commit_addition.ensures.commits)
 
 pub returns-clause-kept : goal.returns-clause-kept
 returns-clause-kept g c = rw (← c.self.view_is) (keeps g.S.Store _ _
