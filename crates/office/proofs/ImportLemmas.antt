@@ -2,20 +2,27 @@
 use Rattle.std.proofs.Common.{Option, Result, Ok, Err, ◌≡◌, ◌+◌, ◌<◌, ℕ, suc, List, [], ◌∷◌, ◌++◌, length, take, refl, sym, ap, subst, ◌∙◌, arith}
 use Rattle.std.proofs.lemmas.Bool.{false≢true}
 use Rattle.std.proofs.lemmas.List.{length-append}
-use Rattle.std.specs.Prelude.{is_err, true}
+use Rattle.std.specs.Prelude.{is_err, false, true}
 use Rattle.std.specs.Io.KnownBytes.{Appends}
 use Rattle.keepers.specs.declared.fault.StoreFault.{StoreFault}
 use Rattle.std.proofs.Math.Seq.{take-append_seam}
+use Rattle.commands.specs.declared.answer.Answer.{Answer}
+use Rattle.commands.specs.declared.command.Command.TheVariants.{AddVoucher}
 use Rattle.commands.specs.declared.command.VoucherAddition.{VoucherAddition}
 use Rattle.tariffs.specs.Books.{Book}
 use Rattle.keepers.specs.Tables.{Tables}
 use Rattle.charging.specs.Accepted.{Accepted, IsInTime}
 use Rattle.charging.specs.Runs.{after_command, after_commands}
-use Rattle.charging.specs.Served.{AreTables}
+use Rattle.charging.specs.Histories.{no_history}
+use Rattle.charging.specs.Outcomes.{addition_outcome}
+use Rattle.charging.specs.Served.{AreTables, IsServed, moment_of, voucher}
 use Rattle.charging.specs.declared.running.DatedCommand.{DatedCommand}
 use Rattle.charging.proofs.RunLemmas.{commands-more}
+use Rattle.redemptions.specs.Adding.{addition}
 use Rattle.redemptions.specs.declared.adding.Addition.{Addition}
-use Rattle.office.specs.Counts.{counted_as, counts_line, no_counts, total}
+use Rattle.redemptions.specs.declared.adding.Addition.TheVariants.{New, Present, Conflicting}
+use Rattle.redemptions.specs.declared.voucher.Voucher.{Voucher}
+use Rattle.office.specs.Counts.{counted, counted_as, counts_line, no_counts, total}
 use Rattle.office.specs.Imports.{BeginsImport, Imports, TellsImport, IsAdded, IsImportBegun, IsImported, addition_at, additions, counted_after, counts_after}
 use Rattle.office.specs.Written.{WritesBeginning}
 use Rattle.office.specs.declared.counts.Counts.{Counts}
@@ -174,6 +181,47 @@ pub begun_from : (b : Book) (commands : List DatedCommand) (old new : Tables)
     BeginsImport b commands old new
 begun_from b commands old new r f imports is =
     subst (λ (x : Result Counts StoreFault). Imports b commands old new x) is imports
+
+-- ---- one voucher
+
+-- what an addition comes to is what is counted
+counted-as : (x : Addition) (n : Counts) → counted_as x n ≡
+    counted (addition_outcome x no_history).accepted (addition_outcome x no_history).answer n
+counted-as (New made) n = refl
+counted-as Present n = refl
+counted-as Conflicting n = refl
+
+-- what isn't new isn't accepted
+not-new : (x : Addition) (n : Counts) → (counted_as x n).new ≡ 0 →
+    (n.new ≡ 0) × ((addition_outcome x no_history).accepted ≡ false)
+not-new (New made) n none = let no : ⊥ = omega (arith, none) in absurd no
+not-new Present n none = (none, refl)
+not-new Conflicting n none = (none, refl)
+
+pub added : (b : Book) (t : ℕ) (row : VoucherAddition) (old mid new : Tables) (found : Option Voucher)
+    (x : Addition) → found ≡ old.vouchers row.code → x ≡ addition found row.terms → mid ≡ old →
+    ((list : List Accepted) → IsInTime list → AreTables b list mid →
+    (given : Answer) × IsServed b list (AddVoucher row) (moment_of list t) mid new given) →
+    (list : List Accepted) → IsInTime list → AreTables b list old →
+    IsAdded b list (addition_at t row) old new x
+added b t row old mid new found x stands is same serves = λ list time tables.
+    let there : AreTables b list mid = subst (AreTables b list) (sym same) tables in
+    let (given, served) = serves list time there in
+    let outcome : x ≡ addition (voucher b row.code list) row.terms =
+    is ∙ ap (λ (o : Option Voucher). addition o row.terms) (stands ∙ tables.vouchers row.code) in
+    record {
+      counts = λ n. counted-as x n ∙ ap (λ (y : Addition).
+          counted (addition_outcome y no_history).accepted
+          (addition_outcome y no_history).answer n) outcome;
+      tables = served.tables;
+      time = served.time;
+      same = λ n none.
+          let (before, refused) = not-new x n none in (
+            before,
+            served.same (ap (λ (y : Addition). (addition_outcome y no_history).accepted)
+                (sym outcome) ∙ refused) ∙ same,
+          );
+    }
 
 -- ---- counts
 
