@@ -30,19 +30,19 @@ returns-in-Err-clause-err g c = λ clean. err_gives c.tell_unable-in-Err.result
     (Some c.in-Some.moment) c.args.clock.now c.now.new.self (g.K.Keeper.content c.args.keeper.now) (g.K.Keeper.content c.account_state.new.keeper) (subst (λ o. g.C.Clock.gives c.args.clock.now o c.now.new.self) c.in-Some.is c.now.ensures) (c.in-Err.ensures.same clean))
     c.tell_unable-in-Err.ensures.err
 
-pub returns-in-Some-clause-ok : goal.returns-in-Some-clause-ok
-returns-in-Some-clause-ok g c = λ clean. ok_gives c.tell_statement.result
+pub returns-in-Some-state-clause-ok : goal.returns-in-Some-state-clause-ok
+returns-in-Some-state-clause-ok g c = λ clean. ok_gives c.tell_statement.result
     (stated_reply g.C.Clock.gives c.args.book.now c.args.closes (Appends (g.W.Write.contents c.args.writer.now) (g.W.Write.contents c.tell_statement.new.writer)) c.args.asked.now
     c.in-Some.moment c.args.clock.now c.now.new.self (g.K.Keeper.content c.args.keeper.now) (g.K.Keeper.content c.account_state.new.keeper) (g.K.Keeper.content c.tell_statement.new.keeper)
-    c.in-Ok.state c.in-Some-2.state (subst (λ o. g.C.Clock.gives c.args.clock.now o c.now.new.self) c.in-Some.is c.now.ensures) (c.in-Ok.ensures.found (c.tell_statement.ensures.cleanness clean)) c.in-Some-2.is
+    c.in-Ok.state c.in-Some-state.state (subst (λ o. g.C.Clock.gives c.args.clock.now o c.now.new.self) c.in-Some.is c.now.ensures) (c.in-Ok.ensures.found (c.tell_statement.ensures.cleanness clean)) c.in-Some-state.is
     (c.in-Ok.ensures.same (c.tell_statement.ensures.cleanness clean)) (c.tell_statement.ensures.same clean))
     (c.tell_statement.ensures.ok clean)
 
-pub returns-in-Some-clause-err : goal.returns-in-Some-clause-err
-returns-in-Some-clause-err g c = λ clean. err_gives c.tell_statement.result
+pub returns-in-Some-state-clause-err : goal.returns-in-Some-state-clause-err
+returns-in-Some-state-clause-err g c = λ clean. err_gives c.tell_statement.result
     (stated_reply g.C.Clock.gives c.args.book.now c.args.closes (Begins (g.W.Write.contents c.args.writer.now) (g.W.Write.contents c.tell_statement.new.writer)) c.args.asked.now
     c.in-Some.moment c.args.clock.now c.now.new.self (g.K.Keeper.content c.args.keeper.now) (g.K.Keeper.content c.account_state.new.keeper) (g.K.Keeper.content c.tell_statement.new.keeper)
-    c.in-Ok.state c.in-Some-2.state (subst (λ o. g.C.Clock.gives c.args.clock.now o c.now.new.self) c.in-Some.is c.now.ensures) (c.in-Ok.ensures.found (c.tell_statement.ensures.cleanness clean)) c.in-Some-2.is
+    c.in-Ok.state c.in-Some-state.state (subst (λ o. g.C.Clock.gives c.args.clock.now o c.now.new.self) c.in-Some.is c.now.ensures) (c.in-Ok.ensures.found (c.tell_statement.ensures.cleanness clean)) c.in-Some-state.is
     (c.in-Ok.ensures.same (c.tell_statement.ensures.cleanness clean)) (c.tell_statement.ensures.same clean))
     (c.tell_statement.ensures.err clean)
 
