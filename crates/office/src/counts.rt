@@ -32,26 +32,18 @@ pub(crate) fn counted(counts: Counts, addition: Addition) -> Counts
     requires { total counts < 18_446_744_073_709_551_615 }
     ensures { result ≡ counted_as addition counts }
 {
-    let Counts {
-        new,
-        present,
-        conflicting,
-    } = counts;
     match addition {
         Addition::New(_) => Counts {
-            new: new + 1,
-            present,
-            conflicting,
+            new: counts.new + 1,
+            ..counts
         },
         Addition::Present => Counts {
-            new,
-            present: present + 1,
-            conflicting,
+            present: counts.present + 1,
+            ..counts
         },
         Addition::Conflicting => Counts {
-            new,
-            present,
-            conflicting: conflicting + 1,
+            conflicting: counts.conflicting + 1,
+            ..counts
         },
     }
 }
