@@ -122,11 +122,7 @@ fn statement_of<K: ChargeSource>(
 }
 
 /// Writes that the account isn't there.
-fn tell_unknown<W: Write>(
-    alloc: Global,
-    writer: &mut W,
-    closes: bool,
-) -> Result<(), StreamFault>
+fn tell_unknown<W: Write>(alloc: Global, writer: &mut W, closes: bool) -> Result<(), StreamFault>
     ensures ok { OnOk result (Appends (W.contents writer.old) (W.contents writer.new) (response Ok closes (answer_text (Refused Unknown)))) }
     ensures err { OnErr result (Begins (W.contents writer.old) (W.contents writer.new) (response Ok closes (answer_text (Refused Unknown)))) }
 {
