@@ -2,8 +2,9 @@
 
 use crate::tests::connections::{book, ending, ten, told};
 use crate::tests::streams::{EXISTS, OPEN, OPENED, UNABLE};
+use charge_sources::ChargeSource;
 use http_api::serve;
-use keepers::{Failing, Keeper, MemoryKeeper};
+use keepers::{Failing, MemoryKeeper};
 use std::alloc::{AllocError, Global};
 use std::io;
 use std::io::{ErrorKind, Write};

@@ -13,10 +13,12 @@ const MIDNIGHT: &str = r##"PUT /accounts/49151  => 200 OK: {"Result-Code":2001}
 POST /accounts/49151/credits {"Amount":250000,"Reference":"c3"} => 200 OK: {"Bucket":1,"Result-Code":2001}"##;
 
 /// At ten a session begins.
-const TEN: &str = r##"POST /ccr {"Session-Id":"s3","CC-Request-Type":1,"CC-Request-Number":0,"Subscription-Id":{"Subscription-Id-Type":0,"Subscription-Id-Data":"49151"},"Multiple-Services-Credit-Control":[{"Rating-Group":10,"Requested-Service-Unit":{"CC-Time":600}}]} => 200 OK: {"CC-Request-Number":0,"CC-Request-Type":1,"Multiple-Services-Credit-Control":[{"Final-Unit-Indication":{"Final-Unit-Action":0},"Granted-Service-Unit":{"CC-Time":120},"Rating-Group":10,"Result-Code":2001,"Validity-Time":3600}],"Result-Code":2001,"Session-Id":"s3"}"##;
+const TEN: &str =
+    r##"POST /ccr {"Session-Id":"s3","CC-Request-Type":1,"CC-Request-Number":0,"Subscription-Id":{"Subscription-Id-Type":0,"Subscription-Id-Data":"49151"},"Multiple-Services-Credit-Control":[{"Rating-Group":10,"Requested-Service-Unit":{"CC-Time":600}}]} => 200 OK: {"CC-Request-Number":0,"CC-Request-Type":1,"Multiple-Services-Credit-Control":[{"Final-Unit-Indication":{"Final-Unit-Action":0},"Granted-Service-Unit":{"CC-Time":120},"Rating-Group":10,"Result-Code":2001,"Validity-Time":3600}],"Result-Code":2001,"Session-Id":"s3"}"##;
 
 /// Five minutes later it ends with more than it was granted.
-const FIVE_PAST: &str = r##"POST /ccr {"Session-Id":"s3","CC-Request-Type":3,"CC-Request-Number":1,"Subscription-Id":{"Subscription-Id-Type":0,"Subscription-Id-Data":"49151"},"Multiple-Services-Credit-Control":[{"Rating-Group":10,"Used-Service-Unit":[{"CC-Time":300}]}]} => 200 OK: {"CC-Request-Number":1,"CC-Request-Type":3,"Multiple-Services-Credit-Control":[{"Rating-Group":10,"Result-Code":2001}],"Result-Code":2001,"Session-Id":"s3"}"##;
+const FIVE_PAST: &str =
+    r##"POST /ccr {"Session-Id":"s3","CC-Request-Type":3,"CC-Request-Number":1,"Subscription-Id":{"Subscription-Id-Type":0,"Subscription-Id-Data":"49151"},"Multiple-Services-Credit-Control":[{"Rating-Group":10,"Used-Service-Unit":[{"CC-Time":300}]}]} => 200 OK: {"CC-Request-Number":1,"CC-Request-Type":3,"Multiple-Services-Credit-Control":[{"Rating-Group":10,"Result-Code":2001}],"Result-Code":2001,"Session-Id":"s3"}"##;
 
 /// Then its month is asked for, the month before, and that of an account that isn't there.
 const ASKED: &str = "GET /accounts/49151/statement/202601 HTTP/1.1\r\n\r\n\
@@ -25,15 +27,16 @@ const ASKED: &str = "GET /accounts/49151/statement/202601 HTTP/1.1\r\n\r\n\
      GET /accounts/49151/statement/202512 HTTP/1.1\r\nConnection: close\r\n\r\n";
 
 /// The heads of their answers, and the answer of the third.
-const HEAD: &str =
-    "HTTP/1.1 200 OK\r\nContent-Type: text/plain\r\nContent-Length: 541\r\n\r\n";
+const HEAD: &str = "HTTP/1.1 200 OK\r\nContent-Type: text/plain\r\nContent-Length: 541\r\n\r\n";
+
 const EMPTY_HEAD: &str =
     "HTTP/1.1 200 OK\r\nContent-Type: text/plain\r\nContent-Length: 448\r\n\r\n";
+
 const UNKNOWN_ACCOUNT: &str =
     "HTTP/1.1 200 OK\r\nContent-Type: application/json\r\nContent-Length: 16\r\n\r\n\
      {\"Refusal\":\"O2\"}";
-const LAST_HEAD: &str =
-    "HTTP/1.1 200 OK\r\nContent-Type: text/plain\r\nContent-Length: 448\r\n\
+
+const LAST_HEAD: &str = "HTTP/1.1 200 OK\r\nContent-Type: text/plain\r\nContent-Length: 448\r\n\
      Connection: close\r\n\r\n";
 
 /// The month of the session.

@@ -52,7 +52,8 @@ fn paths_methods_and_bodies(rt: HostRuntime) -> Result<(), Fail> {
 }
 
 /// Paths of statements: the account is told before the month.
-const STATEMENTS: &str = r##"GET /accounts/49151/statement/202601 HTTP/1.1|| => 200 OK: {"Refusal":"O2"}
+const STATEMENTS: &str =
+    r##"GET /accounts/49151/statement/202601 HTTP/1.1|| => 200 OK: {"Refusal":"O2"}
 GET /accounts/49151/statement/197001 HTTP/1.1|| => 200 OK: {"Refusal":"O2"}
 GET /accounts/49151/statement/209912 HTTP/1.1|| => 200 OK: {"Refusal":"O2"}
 GET /accounts/49151/statement/196912 HTTP/1.1|| => 400 Bad Request: {"Failed-AVP":"Month","Result-Code":5004}
@@ -64,7 +65,7 @@ GET /accounts/49151/statement/0202601 HTTP/1.1|| => 400 Bad Request: {"Failed-AV
 GET /accounts/49151/statement/2026-1 HTTP/1.1|| => 400 Bad Request: {"Failed-AVP":"Month","Result-Code":5004}
 GET /accounts/49151/statement/%32 HTTP/1.1|| => 400 Bad Request: {"Failed-AVP":"Month","Result-Code":5004}
 GET /accounts/49x/statement/202613 HTTP/1.1|| => 400 Bad Request: {"Failed-AVP":"Subscription-Id-Data","Result-Code":5004}
-GET /accounts/49151/statement/202601 HTTP/1.1|Content-Length: 5||GET /  => 200 OK: {"Refusal":"O2"}
+GET /accounts/49151/statement/202601 HTTP/1.1|Content-Length: 5||GET / => 200 OK: {"Refusal":"O2"}
 POST /accounts/49151/statement/202601 HTTP/1.1|Content-Length: 0|| => 405 Method Not Allowed: {}
 PUT /accounts/49x/statement/202613 HTTP/1.1|Content-Length: 0|| => 405 Method Not Allowed: {}
 GET /accounts/49151/statement HTTP/1.1|| => 404 Not Found: {}
@@ -80,7 +81,8 @@ fn paths_of_statements(rt: HostRuntime) -> Result<(), Fail> {
 }
 
 /// Paths of redemptions: the voucher's code is told before the body.
-const REDEMPTIONS: &str = r##"POST /vouchers/000000000001/redeem HTTP/1.1|Content-Length: 49||{"Subscription-Id-Data":"49151","Reference":"v1"} => 200 OK: {"Refusal":"O2"}
+const REDEMPTIONS: &str =
+    r##"POST /vouchers/000000000001/redeem HTTP/1.1|Content-Length: 49||{"Subscription-Id-Data":"49151","Reference":"v1"} => 200 OK: {"Refusal":"O2"}
 POST /vouchers/00000000001/redeem HTTP/1.1|Content-Length: 2||{} => 400 Bad Request: {"Failed-AVP":"Voucher-Code","Result-Code":5004}
 POST /vouchers/0000000000001/redeem HTTP/1.1|Content-Length: 2||[] => 400 Bad Request: {"Failed-AVP":"Voucher-Code","Result-Code":5004}
 POST /vouchers/00000000000x/redeem HTTP/1.1|Content-Length: 0|| => 400 Bad Request: {"Failed-AVP":"Voucher-Code","Result-Code":5004}
