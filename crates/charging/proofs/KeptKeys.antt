@@ -37,7 +37,7 @@ use Rattle.charging.specs.Outcomes.{told, keeping, same_content, repeated, unles
 -- ---- equal contents
 
 -- which kind of command it is kept of
-kind : Content → ℕ
+abbrev kind : Content → ℕ
 kind (content.Request r) = 0
 kind (content.Credit c) = 1
 kind (content.Redeem r) = 2

@@ -1,7 +1,7 @@
 -- What operators' commands come to.
 use Rattle.std.proofs.Common.{◌≡◌, ℕ, ◌+◌, ◌≤◌, Bool, true, false, true≢false, List, [], ◌∷◌, ◌++◌, refl, sym, ap, subst, ◌∙◌, Option, Some, None}
 use Rattle.std.proofs.lemmas.List.{append-nil}
-use Rattle.std.specs.Prelude.{max, is_some, option_map, IfSome, if◌then◌else◌}
+use Rattle.std.specs.Prelude.{max, is_some, option_map, ◌||◌, IfOk, IfSome, Result, Ok, Err, if◌then◌else◌}
 use Rattle.commands.specs.declared.answer.Answer.{Answer}
 use Rattle.commands.specs.declared.answer.Answer.TheVariants as answer
 use Rattle.commands.specs.declared.answer.Refusal.TheVariants.{AccountExists, AccountUnknown, ContentDiffers, OutOfRange}
@@ -30,9 +30,9 @@ use Rattle.keepers.specs.Tables.{Head, Rows, Tables, group_row, held_of, no_rows
 use Rattle.keepers.specs.Change.{AreRowsAt, IsMadeFrom, held_over, over, changed, IsSwept}
 use Rattle.charging.specs.Histories.{History}
 use Rattle.charging.specs.Accepted.{Accepted, one, concerned_by, is_opening, names_code, last_moment, IsInTime}
-use Rattle.charging.specs.Outcomes.{book_days, outcome, told, done, keeping, repeated, with_ledger, from_of, until_of, is_out_of_range, new_credit, opened_outcome, unopened_outcome}
+use Rattle.charging.specs.Outcomes.{book_days, outcome, told, done, keeping, repeated, with_ledger, from_of, until_of, is_unusable, is_full, is_out_of_range, new_credit, opened_outcome, unopened_outcome}
 use Rattle.charging.specs.Served.{history, standing, AreTables, IsServed}
-use Rattle.charging.specs.Stepping.{IsTaken, Credits, bar_command}
+use Rattle.charging.specs.Stepping.{IsTaken, Credits, Makes, bar_command}
 use Rattle.charging.proofs.AcceptedTables.{tables_swept}
 use Rattle.charging.proofs.NeverOpened.{unopened-ledger}
 use Rattle.charging.proofs.KeptKeys.{credit-repeated, credit-fresh}
@@ -288,6 +288,24 @@ credit-again b list c t old new kept given time le tables is answers same =
     (outcome-kept b list (command.Credit c) t c.account refl old k kept tables is
     ∙ credit-repeated c t h kept (sym (tables.answers c.account k) ∙ is))
     refl answers same tables
+
+-- a bucket that is made by what a credit says is the credit's, where the credit can be used
+pub credits_made : {E : Type 0} (r : Result (Option ℕ) E) (c : Credit) (t from until : ℕ)
+    (old new : AccountRows) → from ≡ from_of c t → until ≡ until_of c → is_unusable c t ≡ false →
+    IfOk r (λ o. (ledger : Ledger) (left : LeftRows) → IsWith ledger left t old →
+    Makes o from until c.scope c.amount t ledger left new) →
+    IfOk r (λ o. (ledger : Ledger) (left : LeftRows) → IsWith ledger left t old →
+    Credits o c t ledger left new)
+credits_made (Ok None) c t from until old new p q usable makes = λ ledger left before.
+    ap (λ v. v || is_full ledger) usable ∙ makes ledger left before
+credits_made (Ok (Some n)) c t from until old new p q usable makes = λ ledger left before.
+    let made = makes ledger left before in (
+      ap (λ v. v || is_full ledger) usable ∙ made.0,
+      made.1,
+      subst (λ (u : ℕ). IsWith (credited t (from_of c t) u c.scope c.amount ledger) left t new) q
+      (subst (λ (f : ℕ). IsWith (credited t f until c.scope c.amount ledger) left t new) p made.2),
+    )
+credits_made (Err e) c t from until old new p q usable makes = tt
 
 module _ (b : Book) (list : List Accepted) (c : Credit) (t : ℕ) (old new : Tables) (found : Loaded)
     (time : IsInTime list) (le : last_moment list ≤ t) (tables : AreTables b list old)

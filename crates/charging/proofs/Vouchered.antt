@@ -47,7 +47,7 @@ use Rattle.charging.proofs.Serving.{IsOpened, is_opened, in-time, AreSpent, keep
 
 -- ---- a voucher that is added
 
-is_new : Addition → Bool
+abbrev is_new : Addition → Bool
 is_new (New voucher) = true
 is_new Present = false
 is_new Conflicting = false

@@ -33,7 +33,7 @@ struct BookDays<'b> {
 impl CivilDays for BookDays<'_> {
     ghost use Rattle.charging.specs.Outcomes.{book_days};
 
-    ghost day_end = { λ d. book_days d.book };
+    ghost day_end = { λ d. book_days d.book.now };
 
     fn day_end(&self, moment: Moment, days: u32) -> Option<Moment> {
         self.book.day_end(moment, days)
