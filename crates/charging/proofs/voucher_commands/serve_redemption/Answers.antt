@@ -1,4 +1,4 @@
-use Rattle.std.proofs.Common.{◌∙◌, ap, sym, subst}
+use Rattle.std.proofs.Common.{rules, ◌≡◌, ◌∙◌, ap, sym, subst}
 use Rattle.commands.specs.declared.answer.Answer.TheVariants as answer
 use Rattle.commands.specs.declared.answer.Refusal.{Refusal}
 use Rattle.commands.specs.declared.command.Command.TheVariants as command
@@ -23,6 +23,7 @@ returns-in-Some-clause-served g c = λ clean list time is le.
 
 pub returns-in-Ok-clause-served : goal.returns-in-Ok-clause-served
 returns-in-Ok-clause-served g c = λ clean.
+    let code : c.in_ok-code.code ≡ c.args.asked.code = search rules in
     let clean_load = c.credit_redeemed.ensures.kept.cleanness clean in
     let clean_voucher = c.in_ok-loaded.ensures.cleanness clean_load in
     let clean_find = c.in_ok-found.ensures.cleanness clean_voucher in
@@ -43,8 +44,7 @@ returns-in-Ok-clause-served g c = λ clean.
     ∙ sym c.in_ok-redeemed.ensures ∙ c.in-Ok.is in
     subst (λ (x : Tables). ServesAt c.args.book.now (command.Redeem c.args.asked) c.args.moment x
     (g.K.Keeper.content c.credit_redeemed.new.keeper) c.credit_redeemed.result) same
-    (c.credit_redeemed.ensures.served clean c.args.book.now loads fresh c.in_ok-code.ensures
-    redeems)
+    (c.credit_redeemed.ensures.served clean c.args.book.now loads fresh code redeems)
 
 pub returns-in-Err-clause-served : goal.returns-in-Err-clause-served
 returns-in-Err-clause-served g c = λ clean list time is le.
