@@ -11,9 +11,7 @@ ghost use Rattle.ocs.specs.Told.{IsReached, IsReachedByLines, IsToldAtEnd, line_
 use crate::fault::{LinesFault, ProgramFault};
 use crate::lines::lines;
 use crate::serving::answer_serve;
-use crate::storing::{
-    answer_import, answer_init, answer_office, answer_replay, answer_statement,
-};
+use crate::storing::{answer_import, answer_init, answer_office, answer_replay, answer_statement};
 use keepers::MemoryKeeper;
 use office::Status;
 use one_price::once_book;
