@@ -102,11 +102,7 @@ fn push_all(
 }
 
 /// An account redeems the first voucher.
-fn redeem(
-    alloc: Global,
-    keeper: &mut SqlKeeper<MemStore>,
-    book: &TariffBook,
-) -> Result<(), Fail> {
+fn redeem(alloc: Global, keeper: &mut SqlKeeper<MemStore>, book: &TariffBook) -> Result<(), Fail> {
     let voucher = Voucher {
         terms: terms()?,
         redeemer: Some(number(alloc)?),
