@@ -172,9 +172,9 @@ fair_each a mine (d ∷ ds) own others = (
         (left_true (is_redemption_of other code d.command) (redeems other code ds) e);
   },
   fair_each a mine ds
-  (λ code e. own code (right_true (is_redemption_of a code d.command) (redeems a code ds) e))
-  (λ other code apart e. others other code apart
-  (right_true (is_redemption_of other code d.command) (redeems other code ds) e)),
+      (λ code e. own code (right_true (is_redemption_of a code d.command) (redeems a code ds) e))
+      (λ other code apart e. others other code apart
+      (right_true (is_redemption_of other code d.command) (redeems other code ds) e)),
 )
 
 -- so each command of a run in which no other account redeems the account's codes

@@ -303,7 +303,7 @@ credits_made (Ok (Some n)) c t from until old new p q usable makes = λ ledger l
       ap (λ v. v || is_full ledger) usable ∙ made.0,
       made.1,
       subst (λ (u : ℕ). IsWith (credited t (from_of c t) u c.scope c.amount ledger) left t new) q
-      (subst (λ (f : ℕ). IsWith (credited t f until c.scope c.amount ledger) left t new) p made.2),
+          (subst (λ (f : ℕ). IsWith (credited t f until c.scope c.amount ledger) left t new) p made.2),
     )
 credits_made (Err e) c t from until old new p q usable makes = tt
 

@@ -60,9 +60,7 @@ fn serve<K: Keeper>(
         Command::Bar(number) => set_barred(alloc, keeper, book, number, true, moment),
         Command::Unbar(number) => set_barred(alloc, keeper, book, number, false, moment),
         Command::AddVoucher(addition) => add_voucher(keeper, addition, moment),
-        Command::Redeem(redemption) => {
-            serve_redemption(alloc, keeper, book, redemption, moment)
-        }
+        Command::Redeem(asked) => serve_redemption(alloc, keeper, book, asked, moment),
         Command::Sweep => sweep(keeper, book, moment),
         Command::Balance(number) => tell_balance(alloc, keeper, book, number, moment),
     }

@@ -14,9 +14,7 @@ ghost use Rattle.charging.specs.Stepping.{ServesAt};
 
 use crate::committing::{commit, moment_on};
 use crate::operators::make_bucket;
-use commands::{
-    Answer, Content, Refusal, VoucherAddition, VoucherRedemption, is_kept_redemption,
-};
+use commands::{Answer, Content, Refusal, VoucherAddition, VoucherRedemption, is_kept_redemption};
 use identifiers::VoucherCode;
 use keepers::{Keeper, KeptAnswer, Key, Loaded, Redeemed, StoreFault};
 use redemptions::{Addition, CivilDays, RedeemRefusal, Redemption, Voucher, add, redeem};
@@ -176,7 +174,13 @@ fn credit_redeemed<K: Keeper>(
     ensures kept { Keeps K.content K.failed K.clean keeper.old keeper.new result }
 {
     let moment = moment_on(&loaded.account, moment);
-    let Redemption { amount, from, until, scope, voucher } = redeemed;
+    let Redemption {
+        amount,
+        from,
+        until,
+        scope,
+        voucher,
+    } = redeemed;
     match make_bucket(&mut loaded.account, from, until, scope, amount, moment) {
         Ok(Some(number)) => {
             let kept = kept_redemption(asked, number);

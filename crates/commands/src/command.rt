@@ -288,11 +288,7 @@ pub fn is_kept_redemption(kept: &Content, redemption: &VoucherRedemption) -> boo
 }
 
 /// Whether what is kept of two commands is the same.
-#[tactic(auto, using(
-    crate::proofs::Exact::request_exact,
-    crate::proofs::Exact::credit_exact,
-    crate::proofs::Exact::redemption_exact
-))]
+#[tactic(auto, using(crate::proofs::Exact::request_exact, crate::proofs::Exact::credit_exact, crate::proofs::Exact::redemption_exact))]
 pub fn same_content(one: &Content, other: &Content) -> bool
     ensures { IsTrue result ↔ (one.now ≡ other.now) }
 {

@@ -196,5 +196,10 @@ pub(crate) fn rows(
     let second = rows_of(alloc, keeper, book, "49152", "49152 ")?;
     let vouchers = vouchers(alloc, keeper)?;
     let accounts = format!(in alloc; "{}{}", first.as_str(), second.as_str())?;
-    Ok(format!(in alloc; "last: {}\n{}{}", last, vouchers.as_str(), accounts.as_str())?)
+    Ok(format!(in alloc;
+        "last: {}\n{}{}",
+        last,
+        vouchers.as_str(),
+        accounts.as_str()
+    )?)
 }
