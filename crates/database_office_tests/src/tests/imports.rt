@@ -1,7 +1,7 @@
 //! Files of vouchers that are imported over a database in a file, a line of words each; the file is
 //! opened anew for each.
 
-use database_office::{import_office, make_database};
+use database_office::{DatabaseFault, ImportFault, import_office, make_database};
 use operator::{ProgramWords, program_words};
 use std::fs;
 use std::test::Fail;
@@ -33,15 +33,16 @@ const FILES: [(&str, &str); 6] = [
 ];
 
 /// What words come to, and what is written.
-fn done(rt: &HostRuntime, line: &str, written: &mut Vec<u8>) -> Result<(), Fail> {
+fn done(rt: &HostRuntime, line: &str, written: &mut Vec<u8>) -> Result<(), ImportFault> {
     let alloc = rt.alloc();
-    let words: Vec<&str> = line.split(' ').collect(alloc)?;
-    match program_words(alloc, words.as_slice())? {
-        ProgramWords::Init(init) => make_database(rt, &init)?,
-        ProgramWords::Import(import) => import_office(rt, import, written)?,
-        _ => {}
+    let Ok(words) = line.split(' ').collect::<Vec<&str>>(alloc) else {
+        return Err(ImportFault::Database(DatabaseFault::Memory));
+    };
+    match program_words(alloc, words.as_slice()) {
+        Ok(ProgramWords::Init(init)) => Ok(make_database(rt, &init)?),
+        Ok(ProgramWords::Import(import)) => import_office(rt, import, written),
+        _ => Err(ImportFault::Database(DatabaseFault::Clock)),
     }
-    Ok(())
 }
 
 /// What a line of words is told.
