@@ -1,17 +1,19 @@
-//! Eight commands of one account, and what they are answered.
+//! Ten commands of one account and a voucher, and what they are answered.
 
 use charging::DatedCommand;
-use commands::{Answer, Command};
-use identifiers::AccountNumber;
+use commands::{Answer, Command, VoucherAddition};
+use identifiers::{AccountNumber, VoucherCode};
+use redemptions::VoucherTerms;
 use std::alloc::{AllocError, Global};
 use std::test::Fail;
-use units::Moment;
-use wire::{read_credit, read_request, write_answer};
+use units::{Moment, Money};
+use wire::{read_credit, read_redeem, read_request, write_answer};
 
 /// The account is opened and credited; a session begins and reports; an event is debited, money is
-/// paid back, the session ends, and all accounts are swept. A line that begins with two spaces goes
-/// on with the one before it, and the line after a command is its answer.
-const EIGHT: &str = r##"1767571200 open
+/// paid back, the session ends, and all accounts are swept; a voucher is added, and the account
+/// redeems it. A line that begins with two spaces goes on with the one before it, and the line after a
+/// command is its answer.
+const TEN: &str = r##"1767571200 open
 = {"Result-Code":2001}
 1767571200 credit {"Amount":1000000,"Reference":"c1"}
 = {"Bucket":1,"Result-Code":2001}
@@ -48,31 +50,65 @@ const EIGHT: &str = r##"1767571200 open
   "Session-Id":"s1"}
 1767614700 sweep
 = {"Accounts":1,"Result-Code":2001}
+1767614760 voucher 250000
+= {"Result-Code":2001}
+1767614820 redeem {"Subscription-Id-Data":"49151","Reference":"v1"}
+= {"Bucket":3,"Result-Code":2001}
 "##;
 
 /// How many commands there are.
-pub(crate) const ALL: usize = 8;
+pub(crate) const ALL: usize = 10;
 
 /// The account of the commands.
 pub(crate) fn account(alloc: Global) -> Result<AccountNumber, Fail> {
     Ok(AccountNumber::new(alloc, "49151")?.ok_or("an account")?)
 }
 
-/// The lines of the commands, each whole.
-fn lines(alloc: Global) -> Result<String, AllocError> {
-    EIGHT.replace(alloc, "\n  ", "")
+/// The code of the voucher.
+pub(crate) fn code(alloc: Global) -> Result<VoucherCode, Fail> {
+    Ok(VoucherCode::new(alloc, "000000000001")?.ok_or("a code")?)
 }
 
-/// `open`, `credit BODY`, `sweep`, or the body of a request.
+/// The lines of the commands, each whole.
+fn lines(alloc: Global) -> Result<String, AllocError> {
+    TEN.replace(alloc, "\n  ", "")
+}
+
+fn credit(alloc: Global, body: &str) -> Result<Command, Fail> {
+    let number = account(alloc)?;
+    Ok(Command::Credit(read_credit(alloc, number, body.as_bytes())?))
+}
+
+/// A voucher of so many micro-units, for 30 days of the rating group 10.
+fn addition(alloc: Global, micros: &str) -> Result<Command, Fail> {
+    let amount = Money::new(micros.parse::<u64>()?).ok_or("an amount")?;
+    let terms = VoucherTerms::new(amount, Some(30), Some(10)).ok_or("terms")?;
+    let code = code(alloc)?;
+    Ok(Command::AddVoucher(VoucherAddition { code, terms }))
+}
+
+fn redemption(alloc: Global, body: &str) -> Result<Command, Fail> {
+    let code = code(alloc)?;
+    Ok(Command::Redeem(read_redeem(alloc, code, body.as_bytes())?))
+}
+
+/// The command of a word and what follows it; a request has no word.
+fn command_of(alloc: Global, word: &str, rest: &str, words: &str) -> Result<Command, Fail> {
+    match word {
+        "credit" => credit(alloc, rest),
+        "voucher" => addition(alloc, rest),
+        "redeem" => redemption(alloc, rest),
+        _ => Ok(read_request(alloc, words.as_bytes())?),
+    }
+}
+
+/// `open`, `credit BODY`, `sweep`, `voucher MICROS`, `redeem BODY`, or the body of a request.
 fn command(alloc: Global, words: &str) -> Result<Command, Fail> {
     match words {
         "open" => Ok(Command::OpenAccount(account(alloc)?)),
         "sweep" => Ok(Command::Sweep),
-        _ => match words.strip_prefix("credit ") {
-            Some(body) => {
-                let number = account(alloc)?;
-                Ok(Command::Credit(read_credit(alloc, number, body.as_bytes())?))
-            }
+        _ => match words.split_once(" ") {
+            Some((word, rest)) => command_of(alloc, word, rest, words),
             None => Ok(read_request(alloc, words.as_bytes())?),
         },
     }
