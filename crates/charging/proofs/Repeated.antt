@@ -33,7 +33,7 @@ use Rattle.keepers.specs.Keys.{key_of, key_decides}
 use Rattle.charging.specs.Histories.{History, is_kept_under, kept_under}
 use Rattle.charging.specs.Accepted.{Accepted, Outcome, one, concerned_by, names}
 use Rattle.charging.specs.declared.running.DatedCommand.{DatedCommand}
-use Rattle.charging.specs.Outcomes.{told, keeping, repeated, unless_kept, failed, decided_by, request_outcome, from_of, until_of, is_full, is_out_of_range, new_credit, credit_outcome, addition_outcome, book_days, refused_as, redemption_outcome, new_redemption, redeem_outcome, opened_outcome, unopened_outcome, outcome}
+use Rattle.charging.specs.Outcomes.{told, keeping, repeated, unless_kept, failed, decided_by, request_outcome, from_of, until_of, is_full, is_out_of_range, new_credit, credit_outcome, book_days, refused_as, redemption_outcome, new_redemption, redeem_outcome, opened_outcome, unopened_outcome, outcome}
 use Rattle.charging.specs.Served.{history, standing, moment_of, accepts, answer_to}
 use Rattle.charging.specs.Runs.{after_command, after_commands}
 use Rattle.charging.specs.Repeats.{AnswersOnce}

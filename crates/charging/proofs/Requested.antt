@@ -1,7 +1,7 @@
 -- What a request comes to: of an unknown account, of a key that is kept, a read, of a session that
 -- is known, and one that is decided.
 use Rattle.std.proofs.Common.{◌≡◌, ℕ, ◌≤◌, Bool, true, false, true≢false, List, ◌∷◌, ◌++◌, refl, sym, ap, subst, ◌∙◌, Option, Some, None}
-use Rattle.std.specs.Prelude.{if◌then◌else◌, ◌&&◌, is_some, option_map, max, Result, MatchResult, IfOk, OnErr, Ok, Err}
+use Rattle.std.specs.Prelude.{if◌then◌else◌, ◌&&◌, is_some, max, Result, MatchResult, IfOk, OnErr, Ok, Err}
 use Rattle.std.proofs.lemmas.Bool.{and_parts}
 use Rattle.commands.specs.declared.answer.Answer.{Answer}
 use Rattle.commands.specs.declared.answer.Answer.TheVariants as answer
@@ -22,11 +22,10 @@ use Rattle.tariffs.specs.Books.{Book, IsBook}
 use Rattle.reserving.specs.Ledger.{Ledger, Recording, last_recording}
 use Rattle.reserving.specs.Charges.{charge_rows}
 use Rattle.reserving.specs.Rows.{AccountRows, IsAccount}
-use Rattle.reserving.specs.Sessions.{group_in}
 use Rattle.reserving.specs.Stored.{stored, priced}
 use Rattle.reserving.specs.Left.{LeftRows, IsWith, left_of}
 use Rattle.reserving.proofs.Lists.{no_some}
-use Rattle.decisions.specs.Asked.{begins_session, KnowsSession, IsAsked}
+use Rattle.decisions.specs.Asked.{begins_session, IsAsked}
 use Rattle.decisions.specs.Recorded.{has_record}
 use Rattle.decisions.specs.Decided.{Decision, invalid, refused_or}
 use Rattle.decisions.specs.Decided as decision_of
@@ -36,7 +35,7 @@ use Rattle.keepers.specs.declared.key.KeptAnswer.{KeptAnswer}
 use Rattle.keepers.specs.declared.loaded.Change.{Change}
 use Rattle.keepers.specs.declared.loaded.Loaded.{Loaded}
 use Rattle.keepers.specs.Keys.{key_of}
-use Rattle.keepers.specs.Tables.{Head, Rows, Tables, no_rows}
+use Rattle.keepers.specs.Tables.{Head, Rows, Tables}
 use Rattle.keepers.specs.Change.{IsLoadedFrom, IsView, IsMadeFrom, changed}
 use Rattle.keepers.proofs.Asked.{known_is, new_unleft}
 use Rattle.charging.specs.Histories.{History}

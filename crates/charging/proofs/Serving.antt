@@ -1,5 +1,5 @@
 -- What a command comes to that names an account: its answer, the list after it, and the tables.
-use Rattle.std.proofs.Common.{◌≡◌, ℕ, ◌+◌, Bool, true, false, true≢false, List, [], ◌∷◌, ◌++◌, ◌≤◌, refl, sym, ap, subst, ◌∙◌, arith, Option, Some, None}
+use Rattle.std.proofs.Common.{◌≡◌, ℕ, ◌+◌, Bool, true, false, true≢false, List, ◌∷◌, ◌++◌, ◌≤◌, refl, sym, ap, subst, ◌∙◌, arith, Option, Some, None}
 use Rattle.std.proofs.Math.Nat.{max-eq_left}
 use Rattle.std.specs.Prelude.{if◌then◌else◌, is_some, max, Result, Ok, Err, OnOk}
 use Rattle.std.specs.Cmp.Lexicographic.{bytes_decides}
@@ -7,17 +7,16 @@ use Rattle.identifiers.specs.Texts.{same_name}
 use Rattle.commands.specs.declared.answer.Answer.{Answer}
 use Rattle.commands.specs.declared.command.Command.{Command}
 use Rattle.tariffs.specs.Books.{Book}
-use Rattle.reserving.specs.Ledger.{Ledger}
 use Rattle.reserving.specs.Charges.{charge_rows}
 use Rattle.reserving.specs.Rows.{AccountRows, IsAccount}
 use Rattle.reserving.specs.Stored.{StoredRows, stored, priced}
-use Rattle.reserving.specs.Left.{LeftRows, left_of, IsWith}
+use Rattle.reserving.specs.Left.{left_of, IsWith}
 use Rattle.reserving.proofs.Lists.{some_of}
 use Rattle.keepers.specs.declared.key.Key.{Key}
 use Rattle.keepers.specs.declared.key.KeptAnswer.{KeptAnswer}
 use Rattle.keepers.specs.declared.loaded.Change.{Change}
 use Rattle.keepers.specs.declared.loaded.Loaded.{Loaded}
-use Rattle.keepers.specs.Tables.{Head, Rows, Tables, no_rows, head_of}
+use Rattle.keepers.specs.Tables.{Head, Tables, no_rows, head_of}
 use Rattle.keepers.specs.Change.{IsLoad, IsLoadedFrom, AreRowsAt, IsMadeFrom, kept_after, over, redeemed_over, changed}
 use Rattle.keepers.specs.Steps.{Extends}
 use Rattle.keepers.proofs.Taking.{taken}

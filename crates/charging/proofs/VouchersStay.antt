@@ -4,19 +4,16 @@ use Rattle.std.proofs.Common.{◌≡◌, ℕ, List, [], ◌∷◌, Option, Some,
 use Rattle.std.proofs.lemmas.Option.{none-some}
 use Rattle.std.specs.Prelude.{if◌then◌else◌}
 use Rattle.std.specs.Cmp.Lexicographic.{bytes_decides}
-use Rattle.identifiers.specs.Texts.{same_name}
-use Rattle.commands.specs.declared.answer.Answer.{Answer}
 use Rattle.commands.specs.declared.answer.Answer.TheVariants as answer
 use Rattle.commands.specs.declared.command.Command.{Command}
 use Rattle.commands.specs.declared.command.Command.TheVariants as command
 use Rattle.commands.specs.declared.command.VoucherAddition.{VoucherAddition}
 use Rattle.redemptions.specs.declared.terms.VoucherTerms.{VoucherTerms}
 use Rattle.redemptions.specs.declared.voucher.Voucher.{Voucher}
-use Rattle.redemptions.specs.declared.adding.Addition.{Addition}
-use Rattle.redemptions.specs.declared.adding.Addition.TheVariants.{New, Present, Conflicting}
+use Rattle.redemptions.specs.declared.adding.Addition.TheVariants.{Present, Conflicting}
 use Rattle.redemptions.specs.declared.redeeming.RedeemRefusal.TheVariants.{VoucherSpent}
 use Rattle.std.specs.Prelude.{Err}
-use Rattle.redemptions.specs.Standing.{unspent, is_spent, terms_under}
+use Rattle.redemptions.specs.Standing.{is_spent, terms_under}
 use Rattle.redemptions.specs.Adding.{same_terms, addition, after_addition}
 use Rattle.redemptions.specs.Redeeming.{DayEnds, bucket_end, redemption_until, after_redemption}
 use Rattle.redemptions.proofs.Exact.{terms_exact}
