@@ -98,8 +98,17 @@ class Rows:
         }
         agree("requests that have an answer", sorted(set(found) ^ set(wanted)), [])
         agree("answers", [key for key in wanted if found[key] != wanted[key]], [])
-        credits = sum(person.credits for person in people)
-        agree("credits that have an answer", len(shell(self.place, asked + "2")), credits)
+        credits = sum(person.credits + len(person.codes) for person in people)
+        found = len(shell(self.place, asked + "2"))
+        agree("credits and redemptions that have an answer", found, credits)
+
+    def check_vouchers(self, people, vouchers):
+        """Each voucher of the file stands as it says, spent by the account that redeemed it."""
+        told = shell(self.place, "SELECT code, amount, days, scope, account FROM vouchers")
+        found = {code: (*whole(row), account) for code, *row, account in told}
+        spent = {code: person.number for person in people for code in person.codes}
+        wanted = {code: (*row, spent.get(code, "")) for code, row in vouchers.items()}
+        agree("vouchers", sorted(set(found.items()) ^ set(wanted.items())), [])
 
     def check_counters(self, people):
         """The blocks of each cycle are those that were reported."""
@@ -194,10 +203,10 @@ def check_share(rows, people, moment):
 
 
 def keep_rows(place, people):
-    """Takes the rows of all other accounts out of a database."""
+    """Takes the rows of all other accounts, and all vouchers, out of a database."""
     numbers = ", ".join(f"'{person.number}'" for person in people)
     words = [f"DELETE FROM {table} WHERE account NOT IN ({numbers})" for table in TABLES]
-    shell(place, "; ".join([*words, "VACUUM"]))
+    shell(place, "; ".join(["DELETE FROM vouchers", *words, "VACUUM"]))
 
 
 def check_person(rows, person, moment, place):

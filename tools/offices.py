@@ -162,7 +162,7 @@ class Counts:
         return False
 
     def skip(self, what):
-        """Tells what the program doesn't have; it counts neither as passed nor as failed."""
+        """Tells what isn't tried for want of a tool; it counts neither as passed nor as failed."""
         self.skipped += 1
         print(f"{self.name}: skipped: {what}")
 

@@ -119,6 +119,15 @@ class Account:
         self.bucket(asked["Amount"], moment, asked.get("Until", NO_END), asked.get("Scope"))
         agree("a credit's bucket", answer, {"Bucket": len(self.buckets), "Result-Code": DONE})
 
+    def redeemed(self, moment, voucher, answer):
+        """Notes a redemption that was answered: its days end at midnight, after so many."""
+        amount, days, scope = voucher
+        offset = self.book.offset
+        day = (moment + offset) // 86_400 + 1
+        end = NO_END if days is None else (day + days) * 86_400 - offset
+        self.bucket(amount, moment, end, scope)
+        agree("a voucher's bucket", answer, {"Bucket": len(self.buckets), "Result-Code": DONE})
+
     def bucket(self, amount, start, end, scope):
         """Notes a new bucket."""
         self.buckets.append((amount, start, end, scope))

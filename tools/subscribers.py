@@ -16,6 +16,19 @@ AMOUNTS = (250_000, 1_000_000, 5_000_000, 20_000_000)
 DENIED_BY_BAR = 4010
 
 
+def vouchers(chance, count):
+    """Vouchers under their codes: an amount, days or none, a scope or none."""
+    codes = chance.sample(range(10**11), count)
+    return {
+        f"{code:012}": (
+            chance.choice(AMOUNTS),
+            chance.choice((None, 1, 30, 90)),
+            chance.choice((None, None, 10, 20, 30)),
+        )
+        for code in codes
+    }
+
+
 class Subscriber:
     """An account and who uses it: at most one session at a time, and events."""
 
@@ -25,6 +38,7 @@ class Subscriber:
         self.account = Account(book, number)
         self.session, self.barred, self.checked = None, False, None
         self.given = self.credits = 0
+        self.codes = []
 
     def happens(self, share):
         """Whether something happens that does so this often."""
@@ -39,6 +53,10 @@ class Subscriber:
         if scope is not None:
             body["Scope"] = scope
         return body
+
+    def redemption(self):
+        """A redemption's body."""
+        return {"Subscription-Id-Data": self.number, "Reference": f"card-{len(self.codes) + 1}"}
 
     def first_credits(self, moment):
         """What the account is given in the morning: money, and for some a gift with an end."""

@@ -1,6 +1,7 @@
 //! What gives an account's charges one at a time, and what is shown them.
 #![tactic(auto)]
 
+mod failing;
 mod memory;
 mod pages;
 mod showing;

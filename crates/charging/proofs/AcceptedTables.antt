@@ -1,20 +1,26 @@
--- The tables of accepted commands: before any, after a sweep, and after a command that names an
--- account.
+-- The tables of accepted commands: before any, after a sweep, after a voucher that was added, and
+-- after a command that names an account.
 use Rattle.std.proofs.Common.{◌≡◌, ℕ, ◌+◌, ◌≤◌, Bool, true, false, List, [], ◌∷◌, ◌++◌, refl, sym, ap, subst, ◌∙◌, arith, Option, Some, None}
 use Rattle.std.specs.Prelude.{if◌then◌else◌, is_some, ◌==◌}
 use Rattle.std.specs.Cmp.Lexicographic.{bytes_decides}
 use Rattle.identifiers.specs.Texts.{same_name}
 use Rattle.commands.specs.declared.command.Command.{Command}
+use Rattle.commands.specs.declared.command.Command.TheVariants.{AddVoucher}
+use Rattle.commands.specs.declared.command.VoucherAddition.{VoucherAddition}
+use Rattle.redemptions.specs.declared.voucher.Voucher.{Voucher}
+use Rattle.redemptions.specs.Standing.{unspent}
+use Rattle.redemptions.specs.Adding.{addition, after_addition}
+use Rattle.redemptions.specs.Redeeming.{DayEnds}
 use Rattle.tariffs.specs.Books.{Book}
 use Rattle.reserving.specs.Charges.{charge_rows}
 use Rattle.reserving.specs.Left.{first_of}
 use Rattle.reserving.proofs.LeftParted.{find_both}
 use Rattle.keepers.specs.declared.key.Key.{Key}
 use Rattle.charging.specs.Histories.{History, kept_under}
-use Rattle.charging.specs.Accepted.{Accepted, Outcome, one, each, concerned_by, names, reaches, is_opening, last_moment, as_of, account_count, IsInTime, IsRowOf, IsRow, history_of, own, AreTablesOf}
+use Rattle.charging.specs.Accepted.{Accepted, Outcome, one, each, concerned_by, names, reaches, is_opening, names_code, voucher_after, voucher_under, standing_for, last_moment, as_of, account_count, IsInTime, IsRowOf, IsRow, history_of, AreTablesOf}
 use Rattle.keepers.specs.declared.loaded.Change.{Change}
 use Rattle.keepers.specs.Tables.{Head, Rows, Tables, no_rows, no_tables, charge_in}
-use Rattle.keepers.specs.Change.{kept_after, over, changed, AreRowsAt, IsSwept}
+use Rattle.keepers.specs.Change.{kept_after, over, redeemed_over, changed, with_voucher, AreRowsAt, IsSwept}
 
 -- an account's rows, by what its head is
 pub row_none : (book : Book) (t : ℕ) (history : History) (r : Rows) → r.head ≡ None →
@@ -58,73 +64,115 @@ as_of-last a (d ∷ before) h = at (reaches a (concerned_by d.command)) (as_of-l
     at true le = omega arith
     at false le = omega (arith, h.0, le)
 
-module _ (outcome : History → Command → ℕ → Outcome) where
-  pub tables_none : (book : Book) → AreTablesOf outcome book [] no_tables
+module _ (ends : DayEnds) (outcome : Option Voucher → History → Command → ℕ → Outcome) where
+  -- a history after a command that names its account
+  abbrev after : List Accepted → Accepted → History → History
+  after list d h = (outcome (standing_for ends d.command list) h d.command d.moment).after
+
+  pub tables_none : (book : Book) → AreTablesOf ends outcome book [] no_tables
   tables_none book = record {
     last = refl;
     accounts = λ a. (refl, refl);
     answers = λ a k. refl;
     charges = λ a n. refl;
+    vouchers = λ code. refl;
     count = refl;
   }
 
   -- a sweep
   pub tables_swept : (book : Book) (d : Accepted) (list : List Accepted) (old new : Tables) →
       IsInTime list → last_moment list ≤ d.moment → concerned_by d.command ≡ each →
-      is_opening d.command ≡ false →
-      IsSwept book d.moment old new → AreTablesOf outcome book list old →
-      AreTablesOf outcome book (d ∷ list) new
-  tables_swept book d list old new time le none opens x h = record {
+      is_opening d.command ≡ false → ((code : List ℕ) → names_code code d.command ≡ false) →
+      IsSwept book d.moment old new → AreTablesOf ends outcome book list old →
+      AreTablesOf ends outcome book (d ∷ list) new
+  tables_swept book d list old new time le swept opens codes x h = record {
     last = x.last;
     accounts = λ a.
         subst (λ o. IsRow book (if reaches a o then d.moment else as_of a list)
-        (if names a o then (outcome (history_of outcome a list) d.command d.moment).after
-        else history_of outcome a list) (new.rows a)) (sym none)
+        (if names a o then after list d (history_of ends outcome a list)
+        else history_of ends outcome a list) (new.rows a)) (sym swept)
         (let early : as_of a list ≤ d.moment =
         (let e : as_of a list ≤ last_moment list = as_of-last a list time in omega arith) in
-        row_later book d.moment (as_of a list) (history_of outcome a list) (old.rows a)
+        row_later book d.moment (as_of a list) (history_of ends outcome a list) (old.rows a)
         (new.rows a) early (x.none a)
-        (x.rows a (history_of outcome a list).ledger (as_of a list) early) (h.accounts a));
+        (x.rows a (history_of ends outcome a list).ledger (as_of a list) early) (h.accounts a));
     answers = λ a k.
         x.answers a k ∙ h.answers a k
-        ∙ (λ i. kept_under k (if names a (sym none i)
-        then (outcome (history_of outcome a list) d.command d.moment).after
-        else history_of outcome a list));
+        ∙ (λ i. kept_under k (if names a (sym swept i)
+        then after list d (history_of ends outcome a list)
+        else history_of ends outcome a list));
     charges = λ a n.
         x.charges a n ∙ h.charges a n
         ∙
         (λ i. charge_in n (charge_rows
-        (if names a (sym none i) then
-        (outcome (history_of outcome a list) d.command d.moment).after
-        else history_of outcome a list).ledger));
+        (if names a (sym swept i) then
+        after list d (history_of ends outcome a list)
+        else history_of ends outcome a list).ledger));
+    vouchers = λ code.
+        x.vouchers code ∙ h.vouchers code
+        ∙ (λ i. if sym (codes code) i
+        then voucher_after ends d.command d.moment (voucher_under ends code list)
+        else voucher_under ends code list);
     count = x.count ∙ h.count
         ∙ (λ i. if sym opens i then account_count list + 1 else account_count list);
   }
+
+  -- a voucher that is new under its code
+  pub tables_added : (book : Book) (v : VoucherAddition) (t : ℕ) (list : List Accepted)
+      (tables : Tables) → voucher_under ends v.code list ≡ None →
+      AreTablesOf ends outcome book list tables →
+      AreTablesOf ends outcome book (record { moment = t; command = AddVoucher v } ∷ list)
+      (with_voucher v.code v.terms t tables)
+  tables_added book v t list tables free h = record {
+    last = refl;
+    accounts = h.accounts;
+    answers = h.answers;
+    charges = h.charges;
+    vouchers = λ code. at code (same_name v.code code) refl;
+    count = h.count;
+  }
+    where
+      put : Option Voucher → Option Voucher
+      put o = after_addition (addition o v.terms) o
+
+      at : (code : List ℕ) (same : Bool) → same_name v.code code ≡ same →
+          (if same then Some (unspent v.terms) else tables.vouchers code) ≡
+          (if same then put (voucher_under ends code list) else voucher_under ends code list)
+      at code true e =
+          let there : voucher_under ends code list ≡ None =
+          subst (λ (c : List ℕ). voucher_under ends c list ≡ None)
+          ((bytes_decides v.code code).0 e) free in
+          sym (ap put there)
+      at code false e = h.vouchers code
 
   -- a command that names an account: its rows are those of its history after the command
   pub record Adds (book : Book) (d : Accepted) (list : List Accepted) (change : Change)
       (tables : Tables) : Type 0 where
     pub named : concerned_by d.command ≡ one change.number
     pub moment : change.moment ≡ d.moment
-    pub opened : (history_of outcome change.number (d ∷ list)).opened ≡ true
-    pub row : AreRowsAt book (history_of outcome change.number (d ∷ list)).ledger d.moment
+    pub opened : (history_of ends outcome change.number (d ∷ list)).opened ≡ true
+    pub row : AreRowsAt book (history_of ends outcome change.number (d ∷ list)).ledger d.moment
         (over change.after (tables.rows change.number))
-    pub kept : (k : Key) → kept_under k (history_of outcome change.number (d ∷ list)) ≡
-        kept_after change.kept k (kept_under k (history_of outcome change.number list))
-    pub charges : charge_rows (history_of outcome change.number (d ∷ list)).ledger ≡
-        charge_rows (history_of outcome change.number list).ledger ++ change.charges.items
+    pub kept : (k : Key) → kept_under k (history_of ends outcome change.number (d ∷ list)) ≡
+        kept_after change.kept k (kept_under k (history_of ends outcome change.number list))
+    pub charges : charge_rows (history_of ends outcome change.number (d ∷ list)).ledger ≡
+        charge_rows (history_of ends outcome change.number list).ledger ++ change.charges.items
+    pub vouchers : (code : List ℕ) →
+        redeemed_over change.redeemed code (voucher_under ends code list) ≡
+        voucher_under ends code (d ∷ list)
     pub count : (if is_some (tables.rows change.number).head then tables.count
         else tables.count + 1) ≡ (if is_opening d.command then tables.count + 1 else tables.count)
 
   pub tables_changed : (book : Book) (d : Accepted) (list : List Accepted) (change : Change)
       (tables : Tables) → Adds book d list change tables →
-      AreTablesOf outcome book list tables →
-      AreTablesOf outcome book (d ∷ list) (changed change tables)
+      AreTablesOf ends outcome book list tables →
+      AreTablesOf ends outcome book (d ∷ list) (changed change tables)
   tables_changed book d list change tables x h = record {
     last = x.moment;
     accounts = λ a. account a (same_name n a) refl;
     answers = λ a k. answer a k (same_name n a) refl;
     charges = λ a m. charged a m (same_name n a) refl;
+    vouchers = λ code. ap (redeemed_over change.redeemed code) (h.vouchers code) ∙ x.vouchers code;
     count = x.count ∙ ap (λ m. if is_opening d.command then m + 1 else m) h.count;
   }
     where
@@ -137,47 +185,47 @@ module _ (outcome : History → Command → ℕ → Outcome) where
       named : (a : List ℕ) (t : Bool) → same_name n a ≡ t → names a (concerned_by d.command) ≡ t
       named a t e = ap (names a) x.named ∙ e
 
-      row : IsRow book d.moment (history_of outcome n (d ∷ list))
+      row : IsRow book d.moment (history_of ends outcome n (d ∷ list))
           (over change.after (tables.rows n))
-      row = row_of book d.moment (history_of outcome n (d ∷ list))
+      row = row_of book d.moment (history_of ends outcome n (d ∷ list))
           (over change.after (tables.rows n)) x.opened x.row
 
       account : (a : List ℕ) (t : Bool) → same_name n a ≡ t →
-          IsRow book (as_of a (d ∷ list)) (history_of outcome a (d ∷ list))
+          IsRow book (as_of a (d ∷ list)) (history_of ends outcome a (d ∷ list))
           (if same_name n a then over change.after (tables.rows a) else tables.rows a)
       account a true e =
           let same : n ≡ a = (bytes_decides n a).0 e in
-          subst (λ (r : Rows). IsRow book (as_of a (d ∷ list)) (history_of outcome a (d ∷ list)) r)
+          subst (λ (r : Rows). IsRow book (as_of a (d ∷ list)) (history_of ends outcome a (d ∷ list)) r)
           (sym (ap (λ t. if t then over change.after (tables.rows a) else tables.rows a) e))
-          (subst (λ m. IsRow book (as_of a (d ∷ list)) (history_of outcome m (d ∷ list))
+          (subst (λ m. IsRow book (as_of a (d ∷ list)) (history_of ends outcome m (d ∷ list))
           (over change.after (tables.rows m))) same
           (rw (reached a true e) row))
       account a false e =
           let moment : as_of a (d ∷ list) ≡ as_of a list =
           ap (λ t. if t then d.moment else as_of a list) (reached a false e) in
-          let same : history_of outcome a (d ∷ list) ≡ history_of outcome a list =
-          ap (λ t. if t then (outcome (history_of outcome a list) d.command d.moment).after
-          else history_of outcome a list) (named a false e) in
+          let same : history_of ends outcome a (d ∷ list) ≡ history_of ends outcome a list =
+          ap (λ t. if t then after list d (history_of ends outcome a list)
+          else history_of ends outcome a list) (named a false e) in
           let o : (if same_name n a then over change.after (tables.rows a) else tables.rows a) ≡
           tables.rows a = ap (λ t. if t then over change.after (tables.rows a)
           else tables.rows a) e in
-          subst (λ (r : Rows). IsRow book (as_of a (d ∷ list)) (history_of outcome a (d ∷ list)) r)
+          subst (λ (r : Rows). IsRow book (as_of a (d ∷ list)) (history_of ends outcome a (d ∷ list)) r)
           (sym o) (rw (moment, same) (h.accounts a))
 
       answer : (a : List ℕ) (k : Key) (t : Bool) → same_name n a ≡ t →
           (if same_name n a then kept_after change.kept k (tables.answers a k)
-          else tables.answers a k) ≡ kept_under k (history_of outcome a (d ∷ list))
+          else tables.answers a k) ≡ kept_under k (history_of ends outcome a (d ∷ list))
       answer a k true e =
           let same : n ≡ a = (bytes_decides n a).0 e in
           ap (λ t. if t then kept_after change.kept k (tables.answers a k) else tables.answers a k)
           e
           ∙ ap (kept_after change.kept k) (h.answers a k)
-          ∙ subst (λ m. kept_after change.kept k (kept_under k (history_of outcome m list)) ≡
-          kept_under k (history_of outcome m (d ∷ list))) same (sym (x.kept k))
+          ∙ subst (λ m. kept_after change.kept k (kept_under k (history_of ends outcome m list)) ≡
+          kept_under k (history_of ends outcome m (d ∷ list))) same (sym (x.kept k))
       answer a k false e =
-          let same : history_of outcome a (d ∷ list) ≡ history_of outcome a list =
-          ap (λ t. if t then (outcome (history_of outcome a list) d.command d.moment).after
-          else history_of outcome a list) (named a false e) in
+          let same : history_of ends outcome a (d ∷ list) ≡ history_of ends outcome a list =
+          ap (λ t. if t then after list d (history_of ends outcome a list)
+          else history_of ends outcome a list) (named a false e) in
           ap (λ t. if t then kept_after change.kept k (tables.answers a k) else tables.answers a k)
           e
           ∙ h.answers a k ∙ ap (kept_under k) (sym same)
@@ -185,40 +233,22 @@ module _ (outcome : History → Command → ℕ → Outcome) where
       charged : (a : List ℕ) (m : ℕ) (t : Bool) → same_name n a ≡ t →
           (if same_name n a then first_of (tables.charges a m) (charge_in m change.charges.items)
           else tables.charges a m) ≡
-          charge_in m (charge_rows (history_of outcome a (d ∷ list)).ledger)
+          charge_in m (charge_rows (history_of ends outcome a (d ∷ list)).ledger)
       charged a m true e =
           let same : n ≡ a = (bytes_decides n a).0 e in
           ap (λ t. if t then first_of (tables.charges a m) (charge_in m change.charges.items)
           else tables.charges a m) e
           ∙ ap (λ o. first_of o (charge_in m change.charges.items)) (h.charges a m)
-          ∙ sym (find_both (λ c. c.number == m) (charge_rows (history_of outcome a list).ledger)
+          ∙ sym (find_both (λ c. c.number == m) (charge_rows (history_of ends outcome a list).ledger)
           change.charges.items)
           ∙ subst (λ b. charge_in m
-          (charge_rows (history_of outcome b list).ledger ++ change.charges.items) ≡
-          charge_in m (charge_rows (history_of outcome b (d ∷ list)).ledger)) same
+          (charge_rows (history_of ends outcome b list).ledger ++ change.charges.items) ≡
+          charge_in m (charge_rows (history_of ends outcome b (d ∷ list)).ledger)) same
           (ap (charge_in m) (sym x.charges))
       charged a m false e =
-          let same : history_of outcome a (d ∷ list) ≡ history_of outcome a list =
-          ap (λ t. if t then (outcome (history_of outcome a list) d.command d.moment).after
-          else history_of outcome a list) (named a false e) in
+          let same : history_of ends outcome a (d ∷ list) ≡ history_of ends outcome a list =
+          ap (λ t. if t then after list d (history_of ends outcome a list)
+          else history_of ends outcome a list) (named a false e) in
           ap (λ t. if t then first_of (tables.charges a m) (charge_in m change.charges.items)
           else tables.charges a m) e
           ∙ h.charges a m ∙ ap (λ h. charge_in m (charge_rows h.ledger)) (sym same)
-
-  -- an account's history is that of its own commands alone
-  pub history-own : (a : List ℕ) (list : List Accepted) →
-      history_of outcome a (own a list) ≡ history_of outcome a list
-  history-own a [] = refl
-  history-own a (d ∷ before) = at (names a (concerned_by d.command)) refl (history-own a before)
-    where
-      at : (t : Bool) → names a (concerned_by d.command) ≡ t →
-          history_of outcome a (own a before) ≡ history_of outcome a before →
-          history_of outcome a (if t then d ∷ own a before else own a before) ≡
-          (if t then (outcome (history_of outcome a before) d.command d.moment).after
-          else history_of outcome a before)
-      at true e rest =
-          ap
-          (λ t. if t then (outcome (history_of outcome a (own a before)) d.command
-          d.moment).after else history_of outcome a (own a before)) e
-          ∙ ap (λ h. (outcome h d.command d.moment).after) rest
-      at false e rest = rest

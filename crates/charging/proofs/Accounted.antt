@@ -1,12 +1,12 @@
 -- What the tables of a run tell of an account, and of a command that comes again.
-use Rattle.std.proofs.Common.{◌≡◌, ℕ, true, List, ◌∷◌, sym, subst, ◌∙◌, Option, Some, take, length}
+use Rattle.std.proofs.Common.{◌≡◌, ℕ, List, ◌∷◌, sym, subst, ◌∙◌, take, length}
 use Rattle.std.specs.Prelude.{Result, Ok, Err, IfOk}
 use Rattle.commands.specs.declared.answer.Answer.{Answer}
 use Rattle.commands.specs.declared.command.Command.{Command}
 use Rattle.tariffs.specs.Books.{Book, IsBook}
 use Rattle.reserving.proofs.Lists.{some_of}
 use Rattle.keepers.specs.declared.fault.StoreFault.{StoreFault}
-use Rattle.keepers.specs.Tables.{Head, Tables, head_of}
+use Rattle.keepers.specs.Tables.{Tables, head_of}
 use Rattle.keepers.specs.Change.{AreRowsAt}
 use Rattle.keepers.proofs.Told.{buckets_told}
 use Rattle.charging.specs.Accepted.{Accepted, as_of, IsInTime}

@@ -1,10 +1,12 @@
--- An account is served by its own history and the moments of commands alone: lists of accepted
--- commands that differ in those of others and in sweeps leave it alike.
+-- An account is served by its own history, the vouchers of its codes and the moments of commands
+-- alone: lists of accepted commands that differ in those of others and in sweeps leave it alike.
 use Rattle.std.proofs.Common.{◌≡◌, ℕ, ◌≤◌, List, [], ◌∷◌, Option, Some, None, Bool, true, false, true≢false, refl, sym, ap, subst, ◌∙◌, arith}
-use Rattle.std.specs.Prelude.{if◌then◌else◌, filter, is_some, option_map}
+use Rattle.std.specs.Prelude.{if◌then◌else◌, ◌&&◌, ◌||◌, filter, is_some, option_map}
+use Rattle.identifiers.specs.Texts.{same_name}
 use Rattle.std.specs.Cmp.Lexicographic.{bytes_decides}
 use Rattle.tariffs.specs.Books.{Book, IsBook}
 use Rattle.commands.specs.declared.command.Command.{Command}
+use Rattle.commands.specs.declared.command.Command.TheVariants as command
 use Rattle.reserving.specs.Balance.{buckets_at}
 use Rattle.reserving.specs.Sessions.{session_at, group_in, group_at}
 use Rattle.reserving.specs.Charges.{charge_rows}
@@ -14,17 +16,17 @@ use Rattle.reserving.specs.Left.{bucket_in}
 use Rattle.reserving.specs.Stored.{priced, advanced_stored}
 use Rattle.reserving.proofs.Advancing.{IsRowsOf-advanced}
 use Rattle.reserving.proofs.StoredRows.{IsAccount-priced, IsStored-advanced}
-use Rattle.charging.specs.Histories.{History, kept_under}
+use Rattle.charging.specs.Histories.{History, no_history, kept_under}
 use Rattle.keepers.specs.Tables.{Head, Rows, Tables, head_of, group_row, held_of, charge_in}
 use Rattle.keepers.specs.Change.{AreRowsAt}
 use Rattle.keepers.proofs.Told.{rows_told}
-use Rattle.charging.specs.Accepted.{Accepted, Concerned, one, each, concerned_by, names, last_moment, as_of, IsInTime, IsRow}
+use Rattle.charging.specs.Accepted.{Accepted, Concerned, one, each, none, concerned_by, names, names_code, voucher_after, last_moment, as_of, IsInTime, IsRow}
 use Rattle.charging.proofs.AcceptedTables.{row_none, row_some, as_of-last}
 use Rattle.charging.specs.declared.running.DatedCommand.{DatedCommand}
-use Rattle.charging.specs.Outcomes.{outcome}
-use Rattle.charging.specs.Served.{AreTables, history, moment_of, answer_on, answer_to, accepts_on, accepts, with_command}
+use Rattle.charging.specs.Outcomes.{book_days, outcome}
+use Rattle.charging.specs.Served.{AreTables, history, voucher, standing, moment_of, answer_on, answer_to, accepts_on, accepts, with_command}
 use Rattle.charging.specs.Runs.{after_command, after_commands, answers_to}
-use Rattle.charging.specs.Isolation.{own_commands, own_answers, TellTheSame, AreRowsBroughtTo, DontFall, ShowAlike, IsIsolated}
+use Rattle.charging.specs.Isolation.{is_redemption_of, redeems, adds_for, is_own, HasOwnCodes, own_commands, own_answers, TellTheSame, AreRowsBroughtTo, DontFall, ShowAlike, IsIsolated}
 
 -- ---- rows
 
@@ -106,78 +108,231 @@ last_after : (list : List Accepted) (d : Accepted) (taken : Bool) (t : ℕ) → 
 last_after list d true t le e = omega arith
 last_after list d false t le e = le
 
-own_unmoved : (b : Book) (a : List ℕ) (list : List Accepted) (ds : List DatedCommand) →
+own_unmoved : (b : Book) (own : Command → Bool) (list : List Accepted) (ds : List DatedCommand) →
     DontFall (last_moment list) ds →
-    own_commands b a list ds ≡ filter (λ d. names a (concerned_by d.command)) ds
-own_unmoved b a list [] h = refl
-own_unmoved b a list (d ∷ ds) h =
+    own_commands b own list ds ≡ filter (λ d. own d.command) ds
+own_unmoved b own list [] h = refl
+own_unmoved b own list (d ∷ ds) h =
     let time : moment_of list d.moment ≡ d.moment = same_time list d.moment h.0 in
     let last : last_moment (after_command b list d) ≤ d.moment =
     last_after list (record { moment = moment_of list d.moment; command = d.command })
     (accepts b list d.command (moment_of list d.moment)) d.moment h.0 time in
-    let rest : own_commands b a (after_command b list d) ds ≡
-    filter (λ d. names a (concerned_by d.command)) ds =
-    own_unmoved b a (after_command b list d) ds
+    let rest : own_commands b own (after_command b list d) ds ≡
+    filter (λ d. own d.command) ds =
+    own_unmoved b own (after_command b list d) ds
     (fall_from (last_moment (after_command b list d)) d.moment ds last h.1) in
-    λ i. if names a (concerned_by d.command) then record { moment = time i; command = d.command }
-    ∷ rest i else rest i
+    λ i. if own d.command then record { moment = time i; command = d.command } ∷ rest i
+    else rest i
+
+-- ---- codes
+
+left_true : (x y : Bool) → x ≡ true → (x || y) ≡ true
+left_true true y e = refl
+left_true false y e = absurd (true≢false (sym e))
+
+right_true : (x y : Bool) → y ≡ true → (x || y) ≡ true
+right_true true y e = refl
+right_true false y e = e
+
+left_false : (x y : Bool) → (x || y) ≡ false → x ≡ false
+left_false true y e = e
+left_false false y e = refl
+
+alone_true : (x : Bool) → (x || false) ≡ true → x ≡ true
+alone_true true e = refl
+alone_true false e = e
+
+both_hold : (x y : Bool) → x ≡ true → y ≡ true → (x && y) ≡ true
+both_hold true y e k = k
+both_hold false y e k = absurd (true≢false (sym e))
+
+same_itself : (name : List ℕ) → same_name name name ≡ true
+same_itself name = (bytes_decides name name).1 refl
+
+-- a command redeems for the account one of its codes, and for another account none of them
+record IsFair (a : List ℕ) (mine : List ℕ → Bool) (c : Command) : Type 0 where
+  own : (code : List ℕ) → is_redemption_of a code c ≡ true → mine code ≡ true
+  others : (other code : List ℕ) → same_name other a ≡ false →
+      is_redemption_of other code c ≡ true → mine code ≡ false
+
+abbrev AreFair : List ℕ → (List ℕ → Bool) → List DatedCommand → Type 0
+AreFair a mine [] = Unit {0}
+AreFair a mine (d ∷ ds) = IsFair a mine d.command × AreFair a mine ds
+
+fair_each : (a : List ℕ) (mine : List ℕ → Bool) (ds : List DatedCommand) →
+    ((code : List ℕ) → redeems a code ds ≡ true → mine code ≡ true) →
+    ((other code : List ℕ) → same_name other a ≡ false → redeems other code ds ≡ true →
+    mine code ≡ false) → AreFair a mine ds
+fair_each a mine [] own others = tt
+fair_each a mine (d ∷ ds) own others = (
+  record {
+    own = λ code e. own code
+        (left_true (is_redemption_of a code d.command) (redeems a code ds) e);
+    others = λ other code apart e. others other code apart
+        (left_true (is_redemption_of other code d.command) (redeems other code ds) e);
+  },
+  fair_each a mine ds
+      (λ code e. own code (right_true (is_redemption_of a code d.command) (redeems a code ds) e))
+      (λ other code apart e. others other code apart
+      (right_true (is_redemption_of other code d.command) (redeems other code ds) e)),
+)
+
+-- so each command of a run in which no other account redeems the account's codes
+fair_run : (a : List ℕ) (ds : List DatedCommand) → HasOwnCodes a ds →
+    AreFair a (λ code. redeems a code ds) ds
+fair_run a ds h = fair_each a (λ code. redeems a code ds) ds (λ code e. e)
+    (λ other code apart e. at code (redeems a code ds) refl other apart e)
+  where
+    at : (code : List ℕ) (v : Bool) → redeems a code ds ≡ v → (other : List ℕ) →
+        same_name other a ≡ false → redeems other code ds ≡ true → redeems a code ds ≡ false
+    at code true e other apart k = absurd (true≢false (sym k ∙ h.codes code e other apart))
+    at code false e other apart k = e
+
+-- ---- an own command
+
+-- it names the account, or none
+abbrev IsOwnOf : List ℕ → Concerned → Type 0
+IsOwnOf a (one x) = x ≡ a
+IsOwnOf a none = Unit {0}
+IsOwnOf a each = ⊥
+
+own_named : (a name : List ℕ) → (same_name name a || false) ≡ true → name ≡ a
+own_named a name e = (bytes_decides name a).0 (alone_true (same_name name a) e)
+
+own_is : (a : List ℕ) (all : List DatedCommand) (c : Command) → is_own a all c ≡ true →
+    IsOwnOf a (concerned_by c)
+own_is a all (command.Ccr r) e = own_named a r.account e
+own_is a all (command.OpenAccount n) e = own_named a n e
+own_is a all (command.Credit c) e = own_named a c.account e
+own_is a all (command.Bar n) e = own_named a n e
+own_is a all (command.Unbar n) e = own_named a n e
+own_is a all (command.AddVoucher v) e = tt
+own_is a all (command.Redeem r) e = own_named a r.account e
+own_is a all command.Sweep e = absurd (true≢false (sym e))
+own_is a all (command.Balance n) e = own_named a n e
+
+-- what stands under the account's codes is the same after both lists
+abbrev AreAlike : Book → (List ℕ → Bool) → List Accepted → List Accepted → Type 0
+AreAlike b mine run alone =
+    (code : List ℕ) → mine code ≡ true → voucher b code run ≡ voucher b code alone
+
+-- so it is under the code of an own command
+same_standing : (b : Book) (a : List ℕ) (all : List DatedCommand) (run alone : List Accepted)
+    (c : Command) → is_own a all c ≡ true → IsFair a (λ code. redeems a code all) c →
+    AreAlike b (λ code. redeems a code all) run alone → standing b c run ≡ standing b c alone
+same_standing b a all run alone (command.Ccr r) e fair alike = refl
+same_standing b a all run alone (command.OpenAccount n) e fair alike = refl
+same_standing b a all run alone (command.Credit c) e fair alike = refl
+same_standing b a all run alone (command.Bar n) e fair alike = refl
+same_standing b a all run alone (command.Unbar n) e fair alike = refl
+same_standing b a all run alone (command.AddVoucher v) e fair alike = alike v.code e
+same_standing b a all run alone (command.Redeem r) e fair alike =
+    alike r.code (fair.own r.code
+    (both_hold (same_name r.account a) (same_name r.code r.code)
+    (alone_true (same_name r.account a) e) (same_itself r.code)))
+same_standing b a all run alone command.Sweep e fair alike = refl
+same_standing b a all run alone (command.Balance n) e fair alike = refl
+
+-- another command names none of the account's codes
+other_code : (a : List ℕ) (all : List DatedCommand) (c : Command) → is_own a all c ≡ false →
+    IsFair a (λ code. redeems a code all) c → (code : List ℕ) → redeems a code all ≡ true →
+    names_code code c ≡ false
+other_code a all (command.Ccr r) e fair code mine = refl
+other_code a all (command.OpenAccount n) e fair code mine = refl
+other_code a all (command.Credit c) e fair code mine = refl
+other_code a all (command.Bar n) e fair code mine = refl
+other_code a all (command.Unbar n) e fair code mine = refl
+other_code a all (command.AddVoucher v) e fair code mine = at (same_name v.code code) refl
+  where
+    at : (same : Bool) → same_name v.code code ≡ same → same_name v.code code ≡ false
+    at true k = absurd (true≢false (sym mine
+        ∙ ap (λ (x : List ℕ). redeems a x all) (sym ((bytes_decides v.code code).0 k)) ∙ e))
+    at false k = k
+other_code a all (command.Redeem r) e fair code mine = at (same_name r.code code) refl
+  where
+    apart : same_name r.account a ≡ false
+    apart = left_false (same_name r.account a) false e
+
+    at : (same : Bool) → same_name r.code code ≡ same → same_name r.code code ≡ false
+    at true k = absurd (true≢false (sym mine ∙ fair.others r.account code apart
+        (both_hold (same_name r.account r.account) (same_name r.code code)
+        (same_itself r.account) k)))
+    at false k = k
+other_code a all command.Sweep e fair code mine = refl
+other_code a all (command.Balance n) e fair code mine = refl
 
 -- ---- two lists
 
--- they leave an account the same history, and the second ends no later
-record LeaveAlike (b : Book) (a : List ℕ) (run alone : List Accepted) : Type 0 where
+-- they leave an account the same history, and its codes the same vouchers, and the second ends no
+-- later
+record LeaveAlike (b : Book) (a : List ℕ) (mine : List ℕ → Bool) (run alone : List Accepted) :
+    Type 0 where
   same : history b a run ≡ history b a alone
+  vouchers : AreAlike b mine run alone
   later : last_moment alone ≤ last_moment run
   run_time : IsInTime run
   alone_time : IsInTime alone
 
 -- an accepted command of others
-alike_other : (b : Book) (a : List ℕ) (run alone : List Accepted) (d : Accepted) (taken : Bool) →
-    names a (concerned_by d.command) ≡ false → last_moment run ≤ d.moment →
-    LeaveAlike b a run alone → LeaveAlike b a (if taken then d ∷ run else run) alone
-alike_other b a run alone d false other le alike = alike
-alike_other b a run alone d true other le alike = record {
-  same = ap (λ t. if t then (outcome b (history b a run) d.command d.moment).after
-      else history b a run) other ∙ alike.same;
+alike_other : (b : Book) (a : List ℕ) (mine : List ℕ → Bool) (run alone : List Accepted)
+    (d : Accepted) (taken : Bool) → names a (concerned_by d.command) ≡ false →
+    ((code : List ℕ) → mine code ≡ true → names_code code d.command ≡ false) →
+    last_moment run ≤ d.moment → LeaveAlike b a mine run alone →
+    LeaveAlike b a mine (if taken then d ∷ run else run) alone
+alike_other b a mine run alone d false other codes le alike = alike
+alike_other b a mine run alone d true other codes le alike = record {
+  same = ap (λ t. if t then (outcome b (standing b d.command run) (history b a run) d.command
+      d.moment).after else history b a run) other ∙ alike.same;
+  vouchers = λ code e. ap (λ t. if t
+      then voucher_after (book_days b) d.command d.moment (voucher b code run)
+      else voucher b code run) (codes code e) ∙ alike.vouchers code e;
   later = let was = alike.later in omega arith;
   run_time = (le, alike.run_time);
   alone_time = alike.alone_time;
 }
 
 -- one in both
-alike_both : (b : Book) (a : List ℕ) (run alone : List Accepted) (d : Accepted) (taken : Bool) →
-    last_moment run ≤ d.moment →
-    LeaveAlike b a run alone →
-    LeaveAlike b a (if taken then d ∷ run else run) (if taken then d ∷ alone else alone)
-alike_both b a run alone d false le alike = alike
-alike_both b a run alone d true le alike = record {
+alike_both : (b : Book) (a : List ℕ) (mine : List ℕ → Bool) (run alone : List Accepted)
+    (d : Accepted) (taken : Bool) → last_moment run ≤ d.moment →
+    standing b d.command run ≡ standing b d.command alone →
+    LeaveAlike b a mine run alone →
+    LeaveAlike b a mine (if taken then d ∷ run else run) (if taken then d ∷ alone else alone)
+alike_both b a mine run alone d false le stands alike = alike
+alike_both b a mine run alone d true le stands alike = record {
   same = λ i. if names a (concerned_by d.command)
-      then (outcome b (alike.same i) d.command d.moment).after else alike.same i;
+      then (outcome b (stands i) (alike.same i) d.command d.moment).after else alike.same i;
+  vouchers = λ code e i. if names_code code d.command
+      then voucher_after (book_days b) d.command d.moment (alike.vouchers code e i)
+      else alike.vouchers code e i;
   later = omega arith;
   run_time = (le, alike.run_time);
   alone_time = (let was = alike.later in omega arith, alike.alone_time);
 }
 
--- ---- a command that names the account
+-- ---- an own command after both lists
 
-named_is : (a : List ℕ) (named : Concerned) → names a named ≡ true → named ≡ one a
-named_is a each e = absurd (true≢false (sym e))
-named_is a (one x) e = ap one ((bytes_decides x a).0 e)
+-- it is answered alike, and accepted after both or neither
+same_answer : (b : Book) (a : List ℕ) (run alone : List Accepted) (c : Command) (t : ℕ)
+    (who : Concerned) → IsOwnOf a who → history b a run ≡ history b a alone →
+    standing b c run ≡ standing b c alone →
+    answer_on who b run c t ≡ answer_on who b alone c t
+same_answer b a run alone c t (one x) is same stands =
+    subst (λ (n : List ℕ). answer_on (one n) b run c t ≡ answer_on (one n) b alone c t) (sym is)
+    (λ i. (outcome b (stands i) (same i) c t).answer)
+same_answer b a run alone c t none is same stands =
+    λ i. (outcome b (stands i) no_history c t).answer
+same_answer b a run alone c t each is same stands = absurd is
 
--- it is answered alike after both lists, and accepted after both or neither
-same_answer : (b : Book) (a : List ℕ) (run alone : List Accepted) (c : Command) (t : ℕ) →
-    concerned_by c ≡ one a → history b a run ≡ history b a alone →
-    answer_to b run c t ≡ answer_to b alone c t
-same_answer b a run alone c t named same =
-    ap (λ who. answer_on who b run c t) named ∙ (λ i. (outcome b (same i) c t).answer)
-    ∙ ap (λ who. answer_on who b alone c t) (sym named)
-
-same_accepts : (b : Book) (a : List ℕ) (run alone : List Accepted) (c : Command) (t : ℕ) →
-    concerned_by c ≡ one a → history b a run ≡ history b a alone →
-    accepts b run c t ≡ accepts b alone c t
-same_accepts b a run alone c t named same =
-    ap (λ who. accepts_on who b run c t) named ∙ (λ i. (outcome b (same i) c t).accepted)
-    ∙ ap (λ who. accepts_on who b alone c t) (sym named)
+same_accepts : (b : Book) (a : List ℕ) (run alone : List Accepted) (c : Command) (t : ℕ)
+    (who : Concerned) → IsOwnOf a who → history b a run ≡ history b a alone →
+    standing b c run ≡ standing b c alone →
+    accepts_on who b run c t ≡ accepts_on who b alone c t
+same_accepts b a run alone c t (one x) is same stands =
+    subst (λ (n : List ℕ). accepts_on (one n) b run c t ≡ accepts_on (one n) b alone c t) (sym is)
+    (λ i. (outcome b (stands i) (same i) c t).accepted)
+same_accepts b a run alone c t none is same stands =
+    λ i. (outcome b (stands i) no_history c t).accepted
+same_accepts b a run alone c t each is same stands = absurd is
 
 -- with its moment in the run
 abbrev in_run : List Accepted → DatedCommand → DatedCommand
@@ -191,85 +346,101 @@ same_moment run alone t later = omega arith
 moment-later : (list : List Accepted) (t : ℕ) → last_moment list ≤ moment_of list t
 moment-later list t = omega arith
 
-alike_own : (b : Book) (a : List ℕ) (run alone : List Accepted) (d : DatedCommand) →
-    concerned_by d.command ≡ one a → LeaveAlike b a run alone →
-    LeaveAlike b a (after_command b run d) (after_command b alone (in_run run d))
-alike_own b a run alone d named alike =
+alike_own : (b : Book) (a : List ℕ) (mine : List ℕ → Bool) (run alone : List Accepted)
+    (d : DatedCommand) → IsOwnOf a (concerned_by d.command) →
+    standing b d.command run ≡ standing b d.command alone → LeaveAlike b a mine run alone →
+    LeaveAlike b a mine (after_command b run d) (after_command b alone (in_run run d))
+alike_own b a mine run alone d is stands alike =
     let t : ℕ = moment_of run d.moment in
     let next : Accepted = record { moment = t; command = d.command } in
-    let both : LeaveAlike b a (with_command b run d.command t)
+    let both : LeaveAlike b a mine (with_command b run d.command t)
     (if accepts b run d.command t then next ∷ alone else alone) =
-    alike_both b a run alone next (accepts b run d.command t) (moment-later run d.moment) alike in
-    let there : LeaveAlike b a (with_command b run d.command t) (with_command b alone d.command t) =
-    subst (λ taken. LeaveAlike b a (with_command b run d.command t)
+    alike_both b a mine run alone next (accepts b run d.command t) (moment-later run d.moment)
+    stands alike in
+    let there : LeaveAlike b a mine (with_command b run d.command t)
+    (with_command b alone d.command t) =
+    subst (λ taken. LeaveAlike b a mine (with_command b run d.command t)
     (if taken then next ∷ alone else alone))
-    (same_accepts b a run alone d.command t named alike.same) both in
-    subst (λ m. LeaveAlike b a (with_command b run d.command t) (with_command b alone d.command m))
-    (sym (same_moment run alone d.moment alike.later)) there
+    (same_accepts b a run alone d.command t (concerned_by d.command) is alike.same stands) both in
+    subst (λ m. LeaveAlike b a mine (with_command b run d.command t)
+    (with_command b alone d.command m)) (sym (same_moment run alone d.moment alike.later)) there
 
-own_answer : (b : Book) (a : List ℕ) (run alone : List Accepted) (d : DatedCommand) →
-    concerned_by d.command ≡ one a → LeaveAlike b a run alone →
+own_answer : (b : Book) (a : List ℕ) (mine : List ℕ → Bool) (run alone : List Accepted)
+    (d : DatedCommand) → IsOwnOf a (concerned_by d.command) →
+    standing b d.command run ≡ standing b d.command alone → LeaveAlike b a mine run alone →
     answer_to b run d.command (moment_of run d.moment) ≡
     answer_to b alone d.command (moment_of alone (moment_of run d.moment))
-own_answer b a run alone d named alike =
-    same_answer b a run alone d.command (moment_of run d.moment) named alike.same
+own_answer b a mine run alone d is stands alike =
+    same_answer b a run alone d.command (moment_of run d.moment) (concerned_by d.command) is
+    alike.same stands
     ∙ ap (answer_to b alone d.command) (sym (same_moment run alone d.moment alike.later))
 
 -- ---- a run
 
--- after two lists that leave the account alike: the run's answers to it are those of its own
--- commands after the other list, and the lists after them leave it alike
-record IsServedAlike (b : Book) (a : List ℕ) (run alone : List Accepted)
+-- after two lists that leave the account alike: the run's answers to its own commands are those to
+-- them after the other list, and the lists after them leave it alike
+record IsServedAlike (b : Book) (a : List ℕ) (all : List DatedCommand) (run alone : List Accepted)
     (ds own : List DatedCommand) : Type 0 where
-  answers : own_answers a ds (answers_to b run ds) ≡ answers_to b alone own
-  alike : LeaveAlike b a (after_commands b run ds) (after_commands b alone own)
+  answers : own_answers (is_own a all) ds (answers_to b run ds) ≡ answers_to b alone own
+  alike : LeaveAlike b a (λ code. redeems a code all) (after_commands b run ds)
+      (after_commands b alone own)
 
-served_more : (b : Book) (a : List ℕ) (run alone : List Accepted) (d : DatedCommand)
-    (ds own : List DatedCommand) (named : Bool) → names a (concerned_by d.command) ≡ named →
-    LeaveAlike b a run alone →
-    ((next : List Accepted) → LeaveAlike b a (after_command b run d) next →
-    IsServedAlike b a (after_command b run d) next ds own) →
-    IsServedAlike b a run alone (d ∷ ds) (if named then in_run run d ∷ own else own)
-served_more b a run alone d ds own true e alike rest =
-    let named : concerned_by d.command ≡ one a = named_is a (concerned_by d.command) e in
-    let next : IsServedAlike b a (after_command b run d) (after_command b alone (in_run run d)) ds
-    own = rest (after_command b alone (in_run run d))
-    (alike_own b a run alone d named alike) in
+served_more : (b : Book) (a : List ℕ) (all : List DatedCommand) (run alone : List Accepted)
+    (d : DatedCommand) (ds own : List DatedCommand) (mine : Bool) →
+    is_own a all d.command ≡ mine → IsFair a (λ code. redeems a code all) d.command →
+    LeaveAlike b a (λ code. redeems a code all) run alone →
+    ((next : List Accepted) →
+    LeaveAlike b a (λ code. redeems a code all) (after_command b run d) next →
+    IsServedAlike b a all (after_command b run d) next ds own) →
+    IsServedAlike b a all run alone (d ∷ ds) (if mine then in_run run d ∷ own else own)
+served_more b a all run alone d ds own true e fair alike rest =
+    let is : IsOwnOf a (concerned_by d.command) = own_is a all d.command e in
+    let stands : standing b d.command run ≡ standing b d.command alone =
+    same_standing b a all run alone d.command e fair alike.vouchers in
+    let next : IsServedAlike b a all (after_command b run d) (after_command b alone (in_run run d))
+    ds own = rest (after_command b alone (in_run run d))
+    (alike_own b a (λ code. redeems a code all) run alone d is stands alike) in
     record {
       answers =
           ap (λ t. if t then answer_to b run d.command (moment_of run d.moment)
-          ∷ own_answers a ds (answers_to b (after_command b run d) ds)
-          else own_answers a ds (answers_to b (after_command b run d) ds)) e
-          ∙ (λ i. own_answer b a run alone d named alike i ∷ next.answers i);
+          ∷ own_answers (is_own a all) ds (answers_to b (after_command b run d) ds)
+          else own_answers (is_own a all) ds (answers_to b (after_command b run d) ds)) e
+          ∙ (λ i. own_answer b a (λ code. redeems a code all) run alone d is stands alike i
+          ∷ next.answers i);
       alike = next.alike;
     }
-served_more b a run alone d ds own false e alike rest =
+served_more b a all run alone d ds own false e fair alike rest =
     let t : ℕ = moment_of run d.moment in
-    let there : LeaveAlike b a (after_command b run d) alone =
-    alike_other b a run alone (record { moment = t; command = d.command })
-    (accepts b run d.command t) e (moment-later run d.moment) alike in
-    let next : IsServedAlike b a (after_command b run d) alone ds own = rest alone there in
+    let there : LeaveAlike b a (λ code. redeems a code all) (after_command b run d) alone =
+    alike_other b a (λ code. redeems a code all) run alone
+    (record { moment = t; command = d.command }) (accepts b run d.command t)
+    (left_false (names a (concerned_by d.command)) (adds_for a all d.command) e)
+    (other_code a all d.command e fair) (moment-later run d.moment) alike in
+    let next : IsServedAlike b a all (after_command b run d) alone ds own = rest alone there in
     record {
       answers =
           ap (λ t. if t then answer_to b run d.command (moment_of run d.moment)
-          ∷ own_answers a ds (answers_to b (after_command b run d) ds)
-          else own_answers a ds (answers_to b (after_command b run d) ds)) e
+          ∷ own_answers (is_own a all) ds (answers_to b (after_command b run d) ds)
+          else own_answers (is_own a all) ds (answers_to b (after_command b run d) ds)) e
           ∙ next.answers;
       alike = next.alike;
     }
 
-served : (b : Book) (a : List ℕ) (run alone : List Accepted) (ds : List DatedCommand) →
-    LeaveAlike b a run alone → IsServedAlike b a run alone ds (own_commands b a run ds)
-served b a run alone [] alike = record { answers = refl; alike = alike }
-served b a run alone (d ∷ ds) alike =
-    served_more b a run alone d ds (own_commands b a (after_command b run d) ds)
-    (names a (concerned_by d.command)) refl alike
-    (λ next there. served b a (after_command b run d) next ds there)
+served : (b : Book) (a : List ℕ) (all : List DatedCommand) (run alone : List Accepted)
+    (ds : List DatedCommand) → AreFair a (λ code. redeems a code all) ds →
+    LeaveAlike b a (λ code. redeems a code all) run alone →
+    IsServedAlike b a all run alone ds (own_commands b (is_own a all) run ds)
+served b a all run alone [] fair alike = record { answers = refl; alike = alike }
+served b a all run alone (d ∷ ds) fair alike =
+    served_more b a all run alone d ds
+    (own_commands b (is_own a all) (after_command b run d) ds)
+    (is_own a all d.command) refl fair.0 alike
+    (λ next there. served b a all (after_command b run d) next ds fair.1 there)
 
-show_alike : (b : Book) (t : ℕ) (a : List ℕ) (run alone : List Accepted) (x y : Tables) → IsBook b →
-    LeaveAlike b a run alone → AreTables b run x → AreTables b alone y → last_moment run ≤ t →
-    ShowAlike b t a x y
-show_alike b t a run alone x y book alike p q le =
+show_alike : (b : Book) (t : ℕ) (a : List ℕ) (mine : List ℕ → Bool) (run alone : List Accepted)
+    (x y : Tables) → IsBook b → LeaveAlike b a mine run alone → AreTables b run x →
+    AreTables b alone y → last_moment run ≤ t → ShowAlike b t a x y
+show_alike b t a mine run alone x y book alike p q le =
     let early : as_of a run ≤ t = let last = as_of-last a run alike.run_time in omega arith in
     let early' : as_of a alone ≤ t = let last = as_of-last a alone alike.alone_time in let later =
     alike.later in omega arith in
@@ -290,18 +461,21 @@ show_alike b t a run alone x y book alike p q le =
           ∙ sym (q.charges a n);
     }
 
-pub isolated : (b : Book) → IsBook b → (a : List ℕ) (ds : List DatedCommand) → IsIsolated b a ds
-isolated b book a ds =
-    let all : IsServedAlike b a [] [] ds (own_commands b a [] ds) =
-    served b a [] [] ds (record {
+pub isolated : (b : Book) → IsBook b → (a : List ℕ) (ds : List DatedCommand) → HasOwnCodes a ds →
+    IsIsolated b a ds
+isolated b book a ds codes =
+    let all : IsServedAlike b a ds [] [] ds (own_commands b (is_own a ds) [] ds) =
+    served b a ds [] [] ds (fair_run a ds codes) (record {
       same = refl;
+      vouchers = λ code e. refl;
       later = omega arith;
       run_time = tt;
       alone_time = tt;
     }) in
     record {
       answers = all.answers;
-      tables = λ t x y p q le. show_alike b t a (after_commands b [] ds)
-          (after_commands b [] (own_commands b a [] ds)) x y book all.alike p q le;
-      unmoved = own_unmoved b a [] ds;
+      tables = λ t x y p q le. show_alike b t a (λ code. redeems a code ds)
+          (after_commands b [] ds)
+          (after_commands b [] (own_commands b (is_own a ds) [] ds)) x y book all.alike p q le;
+      unmoved = own_unmoved b (is_own a ds) [] ds;
     }

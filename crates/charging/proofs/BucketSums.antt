@@ -1,14 +1,12 @@
 -- Sums over buckets, and what is held of them together.
-use Rattle.std.proofs.Common.{◌≡◌, ℕ, ◌+◌, ◌-◌, ◌≤◌, Bool, true, false, List, [], ◌∷◌, map, refl, sym, ap, ◌∙◌, arith}
-use Rattle.std.specs.Prelude.{if◌then◌else◌, nat_lt, min, sum_by}
-use Rattle.std.proofs.lemmas.Bool.Decides.{nat_tests}
+use Rattle.std.proofs.Common.{◌≡◌, ℕ, ◌+◌, ◌≤◌, true, false, List, [], ◌∷◌, map, refl, sym, ap, ◌∙◌, arith}
+use Rattle.std.specs.Prelude.{if◌then◌else◌, nat_lt, sum_by}
 use Rattle.std.proofs.lemmas.List.Sums.{sum_by-cons}
 use Rattle.buckets.specs.declared.holds.Hold.{Hold}
-use Rattle.buckets.specs.Row.{Row, eligible_amount}
-use Rattle.buckets.specs.Share.{share, parts, parts_along}
-use Rattle.buckets.specs.Spend.{IsInOrder, AreDistinct, Each, inserted, funds}
-use Rattle.buckets.specs.Holding.{held_in, held_sum, paid, paid_of_hold, paid_of_rest, uncollected}
-use Rattle.buckets.proofs.SharesAlong.{parts-along}
+use Rattle.buckets.specs.Row.{Row}
+use Rattle.buckets.specs.Share.{parts}
+use Rattle.buckets.specs.Spend.{AreDistinct, Each, inserted}
+use Rattle.buckets.specs.Holding.{held_in, held_sum}
 use Rattle.buckets.proofs.Parts.{sum_at, sum_at-parts, held_in-sum_at}
 use Rattle.reserving.specs.Ledger.{Ledger}
 use Rattle.reserving.specs.Balance.{bucket_at}

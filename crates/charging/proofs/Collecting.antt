@@ -1,5 +1,5 @@
 -- What is collected of an account is what is charged to its buckets.
-use Rattle.std.proofs.Common.{◌≡◌, ℕ, ◌+◌, ◌-◌, ◌≤◌, ◌<◌, List, [], ◌∷◌, ◌++◌, Bool, true, map, refl, sym, ap, subst, ◌∙◌, arith, Option, None, append-nil, true≢false}
+use Rattle.std.proofs.Common.{◌≡◌, ℕ, ◌+◌, ◌≤◌, List, [], ◌∷◌, ◌++◌, true, map, refl, sym, ap, ◌∙◌, arith, Option, None, append-nil}
 use Rattle.std.specs.Prelude.{sum_by}
 use Rattle.std.proofs.lemmas.List.Sums.{sum_by-cons, sum_by_push}
 use Rattle.std.proofs.lemmas.Bool.{leb-true}
@@ -8,8 +8,8 @@ use Rattle.tariffs.specs.Books.{Book}
 use Rattle.buckets.specs.declared.holds.Hold.{Hold}
 use Rattle.buckets.specs.Row.{Row, new_row}
 use Rattle.buckets.specs.Share.{parts}
-use Rattle.buckets.specs.Spend.{AreDistinct, Each, IsBelow, inserted, funds}
-use Rattle.buckets.specs.Holding.{paid, uncollected, holds_of}
+use Rattle.buckets.specs.Spend.{Each, IsBelow, inserted, funds}
+use Rattle.buckets.specs.Holding.{paid, holds_of}
 use Rattle.buckets.proofs.Paid.{amounts, amounts-parts, sum_by-paid, sum_by-both}
 use Rattle.buckets.proofs.Parts.{sum_at, sum_at-parts}
 use Rattle.reserving.specs.Ledger.{Fact, Ledger, charged, last_recording, next_bucket}
@@ -19,7 +19,7 @@ use Rattle.reserving.specs.Charges.{charge_rows}
 use Rattle.reserving.specs.Sessions.{holds_at}
 use Rattle.reserving.specs.Requests.{recorded, touched, credited}
 use Rattle.reserving.specs.Settlement.{charge_facts, reported, report_price, settled, settled_by}
-use Rattle.reserving.specs.Reservation.{hold_facts, reserved}
+use Rattle.reserving.specs.Reservation.{reserved}
 use Rattle.reserving.specs.Debiting.{event_price, is_covered, debited}
 use Rattle.reserving.proofs.ChargeRows.{charge_rows-touched, charge_rows-credited, charge_rows-reserved, charge_rows-settled, charge_rows-charged_use}
 use Rattle.reserving.proofs.SettledFacts.{charged-charge_facts, charged-hold_facts}
@@ -28,9 +28,9 @@ use Rattle.charging.specs.Collected.{collected_to_date, charged_to_date}
 use Rattle.charging.specs.SessionReports.{Report, with_report}
 use Rattle.charging.specs.Paid.{is_touched}
 use Rattle.charging.proofs.BucketSums.{sum_by-inserted, sum_by-moved}
-use Rattle.charging.proofs.Credited.{AreCredited, distinct, in_order, quiet_credits, charge_credits, hold_credits}
+use Rattle.charging.proofs.Credited.{AreCredited, distinct, in_order, charge_credits, hold_credits}
 use Rattle.charging.proofs.Paying.{IsPaying, paying_none, paying_debit, keeps_paying}
-use Rattle.charging.proofs.Steps.{is_quiet, is_touch, with_grant, granted, Keeps}
+use Rattle.charging.proofs.Steps.{is_quiet, with_grant, granted, Keeps}
 
 -- ---- sums
 

@@ -1,5 +1,5 @@
 -- A ledger only grows, at its front.
-use Rattle.std.proofs.Common.{◌≡◌, ℕ, List, [], ◌∷◌, ◌++◌, refl, ap}
+use Rattle.std.proofs.Common.{ℕ, List, [], ◌∷◌, ◌++◌, refl, ap}
 use Rattle.commands.specs.declared.request.Request.{Request}
 use Rattle.tariffs.specs.Books.{Book}
 use Rattle.units.specs.declared.blocks.UsedPart.{UsedPart}
@@ -7,7 +7,6 @@ use Rattle.reserving.specs.Ledger.{Dated, Ledger}
 use Rattle.reserving.specs.Settlement.{settled_by}
 use Rattle.decisions.specs.Decisions.{decision}
 use Rattle.keepers.specs.Steps.{Extends}
-use Rattle.charging.specs.SessionReports.{Report}
 use Rattle.charging.proofs.Steps.{Keeps}
 use Rattle.charging.proofs.KeptDecisions.{kept_decided}
 

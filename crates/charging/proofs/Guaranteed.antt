@@ -6,9 +6,7 @@ use Rattle.tariffs.specs.Books.{Book, IsBook}
 use Rattle.rating.specs.declared.grant.Grant.{Grant as RatedGrant}
 use Rattle.units.specs.declared.blocks.UsedPart.{UsedPart}
 use Rattle.buckets.specs.declared.holds.Hold.{Hold}
-use Rattle.buckets.specs.Row.{Row}
-use Rattle.buckets.specs.Share.{parts}
-use Rattle.buckets.specs.Holding.{held_sum, holds_of, paid, uncollected}
+use Rattle.buckets.specs.Holding.{held_sum, holds_of, uncollected}
 use Rattle.reserving.specs.Ledger.{Fact, Ledger, used, counter, held, only, next_bucket}
 use Rattle.reserving.specs.Ledger.Fact.{Touch, Close, Recorded, Barred}
 use Rattle.reserving.specs.Pricing.{tariff_of, cycle_at, one_period, rated_with}

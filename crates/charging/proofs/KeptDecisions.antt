@@ -28,7 +28,7 @@ use Rattle.reserving.specs.Pricing.{tariff_of}
 use Rattle.reserving.specs.Requests.{recorded, touched, credited}
 use Rattle.reserving.specs.Settlement.{charge_facts, report_price, settled_by}
 use Rattle.reserving.specs.Reservation.{hold_facts, reserved, grant_for}
-use Rattle.reserving.specs.Debiting.{is_covered, debited, debit_passes}
+use Rattle.reserving.specs.Debiting.{is_covered, debit_passes}
 use Rattle.reserving.proofs.Lists.{no_some}
 use Rattle.reserving.proofs.Keys.{is_same-refl}
 use Rattle.reserving.proofs.SettledFacts.{newest-front, each_hold}

@@ -1,6 +1,6 @@
 -- What each step of a ledger keeps, the reports and the ledger of each history keep.
 use Rattle.std.proofs.Common.{ℕ, Bool, true, false, List, [], ◌∷◌, refl, Option, Some, None}
-use Rattle.std.specs.Prelude.{if◌then◌else◌}
+use Rattle.std.specs.Prelude.{if◌then◌else◌, Result, Ok, Err}
 use Rattle.commands.specs.declared.answer.Answer.{Answer}
 use Rattle.commands.specs.declared.answer.Answer.TheVariants as answer
 use Rattle.commands.specs.declared.command.Command.{Command}
@@ -9,6 +9,14 @@ use Rattle.commands.specs.declared.command.Content.{Content}
 use Rattle.commands.specs.declared.command.Content.TheVariants as content
 use Rattle.commands.specs.declared.command.Credit.{Credit}
 use Rattle.commands.specs.declared.request.Request.{Request}
+use Rattle.commands.specs.declared.command.VoucherRedemption.{VoucherRedemption}
+use Rattle.redemptions.specs.declared.adding.Addition.{Addition}
+use Rattle.redemptions.specs.declared.adding.Addition.TheVariants.{New, Present, Conflicting}
+use Rattle.redemptions.specs.declared.redeeming.Redemption.{Redemption}
+use Rattle.redemptions.specs.declared.redeeming.RedeemRefusal.{RedeemRefusal}
+use Rattle.redemptions.specs.declared.voucher.Voucher.{Voucher}
+use Rattle.redemptions.specs.Adding.{addition}
+use Rattle.redemptions.specs.Redeeming.{redemption}
 use Rattle.tariffs.specs.Books.{Book}
 use Rattle.reserving.specs.Ledger.{Ledger}
 use Rattle.reserving.specs.Ledger.Fact.{Barred}
@@ -18,8 +26,8 @@ use Rattle.keepers.specs.declared.key.KeptAnswer.{KeptAnswer}
 use Rattle.keepers.specs.Keys.{key_of}
 use Rattle.charging.specs.Histories.{History, kept_under}
 use Rattle.charging.specs.Accepted.{Accepted, Outcome, concerned_by, names}
-use Rattle.charging.specs.Outcomes.{told, keeping, unless_kept, decided_by, request_outcome, from_of, until_of, is_out_of_range, new_credit, credit_outcome, opened_outcome, unopened_outcome, outcome}
-use Rattle.charging.specs.Served.{history}
+use Rattle.charging.specs.Outcomes.{told, keeping, unless_kept, decided_by, request_outcome, from_of, until_of, is_full, is_out_of_range, new_credit, credit_outcome, addition_outcome, book_days, redeemed_outcome, redemption_outcome, new_redemption, redeem_outcome, opened_outcome, unopened_outcome, outcome}
+use Rattle.charging.specs.Served.{history, standing}
 use Rattle.charging.specs.SessionReports.{Report, with_ask, with_reports, reports_of}
 use Rattle.charging.proofs.Steps.{Keeps}
 use Rattle.charging.proofs.KeptDecisions.{kept_decided}
@@ -76,32 +84,68 @@ module _ (b : Book) (P : List Report → Ledger → Type 0) (k : Keeps b P) wher
       (either_outcome (command.Credit c) t reports (is_out_of_range c t h.ledger) _ _ p
       (k.credit t (from_of c t) (until_of c) c.scope c.amount reports h.ledger p))
 
-  kept_opened : (h : History) (c : Command) (t : ℕ) (reports : List Report) → P reports h.ledger →
-      IsKept c t reports (opened_outcome b h c t)
-  kept_opened h (command.Ccr r) t reports p = kept_request r t reports h p
-  kept_opened h (command.OpenAccount n) t reports p = p
-  kept_opened h (command.Credit c) t reports p = kept_credit c t reports h p
-  kept_opened h (command.Bar n) t reports p = k.quiet t (Barred true) reports h.ledger refl refl p
-  kept_opened h (command.Unbar n) t reports p =
+  -- a redemption credits
+  kept_redeemed : (x : Redemption) (r : VoucherRedemption) (t : ℕ) (reports : List Report)
+      (h : History) → P reports h.ledger →
+      IsKept (command.Redeem r) t reports (redeemed_outcome x r t h)
+  kept_redeemed x r t reports h p =
+      either_outcome (command.Redeem r) t reports (is_full h.ledger) _ _ p
+      (k.credit t x.from x.until x.scope x.amount reports h.ledger p)
+
+  kept_redemption : (o : Result Redemption RedeemRefusal) (r : VoucherRedemption) (t : ℕ)
+      (reports : List Report) (h : History) → P reports h.ledger →
+      IsKept (command.Redeem r) t reports (redemption_outcome o r t h)
+  kept_redemption (Ok x) r t reports h p = kept_redeemed x r t reports h p
+  kept_redemption (Err refusal) r t reports h p = p
+
+  kept_redeem : (s : Option Voucher) (r : VoucherRedemption) (t : ℕ) (reports : List Report)
+      (h : History) → P reports h.ledger →
+      IsKept (command.Redeem r) t reports (redeem_outcome b s r t h)
+  kept_redeem s r t reports h p =
+      kept_unless (command.Redeem r) t reports (kept_under (key_of (content.Redeem r)) h)
+      (content.Redeem r) _ h (new_redemption b s r t h) p
+      (kept_redemption (redemption (book_days b) s r.account t) r t reports h p)
+
+  -- a voucher that is added changes no ledger
+  kept_addition : (x : Addition) (c : Command) (t : ℕ) (reports : List Report) (h : History) →
+      P reports h.ledger → P (with_reports b t c reports) h.ledger →
+      IsKept c t reports (addition_outcome x h)
+  kept_addition (New voucher) c t reports h p q = q
+  kept_addition Present c t reports h p q = p
+  kept_addition Conflicting c t reports h p q = p
+
+  kept_opened : (s : Option Voucher) (h : History) (c : Command) (t : ℕ) (reports : List Report) →
+      P reports h.ledger → IsKept c t reports (opened_outcome b s h c t)
+  kept_opened s h (command.Ccr r) t reports p = kept_request r t reports h p
+  kept_opened s h (command.OpenAccount n) t reports p = p
+  kept_opened s h (command.Credit c) t reports p = kept_credit c t reports h p
+  kept_opened s h (command.Bar n) t reports p = k.quiet t (Barred true) reports h.ledger refl refl p
+  kept_opened s h (command.Unbar n) t reports p =
       k.quiet t (Barred false) reports h.ledger refl refl p
-  kept_opened h command.Sweep t reports p = p
-  kept_opened h (command.Balance n) t reports p = p
+  kept_opened s h (command.AddVoucher v) t reports p =
+      kept_addition (addition s v.terms) (command.AddVoucher v) t reports h p p
+  kept_opened s h (command.Redeem r) t reports p = kept_redeem s r t reports h p
+  kept_opened s h command.Sweep t reports p = p
+  kept_opened s h (command.Balance n) t reports p = p
 
-  kept_unopened : (h : History) (c : Command) (t : ℕ) (reports : List Report) → P reports h.ledger →
-      IsKept c t reports (unopened_outcome h c)
-  kept_unopened h (command.Ccr r) t reports p = p
-  kept_unopened h (command.OpenAccount n) t reports p = p
-  kept_unopened h (command.Credit c) t reports p = p
-  kept_unopened h (command.Bar n) t reports p = p
-  kept_unopened h (command.Unbar n) t reports p = p
-  kept_unopened h command.Sweep t reports p = p
-  kept_unopened h (command.Balance n) t reports p = p
+  kept_unopened : (s : Option Voucher) (h : History) (c : Command) (t : ℕ)
+      (reports : List Report) → P reports h.ledger → IsKept c t reports (unopened_outcome s h c)
+  kept_unopened s h (command.Ccr r) t reports p = p
+  kept_unopened s h (command.OpenAccount n) t reports p = p
+  kept_unopened s h (command.Credit c) t reports p = p
+  kept_unopened s h (command.Bar n) t reports p = p
+  kept_unopened s h (command.Unbar n) t reports p = p
+  kept_unopened s h (command.AddVoucher v) t reports p =
+      kept_addition (addition s v.terms) (command.AddVoucher v) t reports h p p
+  kept_unopened s h (command.Redeem r) t reports p = p
+  kept_unopened s h command.Sweep t reports p = p
+  kept_unopened s h (command.Balance n) t reports p = p
 
-  kept_outcome : (h : History) (c : Command) (t : ℕ) (reports : List Report) → P reports h.ledger →
-      IsKept c t reports (outcome b h c t)
-  kept_outcome h c t reports p =
-      either_outcome c t reports h.opened (opened_outcome b h c t) (unopened_outcome h c)
-      (kept_opened h c t reports p) (kept_unopened h c t reports p)
+  kept_outcome : (s : Option Voucher) (h : History) (c : Command) (t : ℕ) (reports : List Report) →
+      P reports h.ledger → IsKept c t reports (outcome b s h c t)
+  kept_outcome s h c t reports p =
+      either_outcome c t reports h.opened (opened_outcome b s h c t) (unopened_outcome s h c)
+      (kept_opened s h c t reports p) (kept_unopened s h c t reports p)
 
   -- ---- a list of accepted commands
 
@@ -117,5 +161,6 @@ module _ (b : Book) (P : List Report → Ledger → Type 0) (k : Keeps b P) wher
       let older : P (reports_of b a before) (history b a before).ledger =
       kept_history none a before in
       either_history (names a (concerned_by d.command)) _ (reports_of b a before) _
-      (history b a before) (kept_outcome (history b a before) d.command d.moment
+      (history b a before) (kept_outcome (standing b d.command before) (history b a before)
+      d.command d.moment
       (reports_of b a before) older) older

@@ -1,8 +1,8 @@
 -- Commands with a key: what is kept under it, and what they come to where nothing is.
-use Rattle.std.proofs.Common.{◌≡◌, ℕ, Bool, true, false, true≢false, List, refl, sym, ap, ◌∙◌, Option, Some, None}
+use Rattle.std.proofs.Common.{◌≡◌, ℕ, Bool, true, false, true≢false, List, refl, sym, ap, ◌∙◌, arith, Option, Some, None}
 use Rattle.std.specs.Prelude.{if◌then◌else◌, IsTrue, ◌↔◌}
 use Rattle.std.specs.Bool.{Decides}
-use Rattle.commands.proofs.Exact.{request_exact, credit_exact}
+use Rattle.commands.proofs.Exact.{request_exact, credit_exact, redemption_exact}
 use Rattle.commands.specs.declared.answer.Answer.{Answer}
 use Rattle.commands.specs.declared.answer.Answer.TheVariants as answer
 use Rattle.commands.specs.declared.answer.Failure.{Failure}
@@ -13,12 +13,14 @@ use Rattle.commands.specs.declared.avp.Avp.TheVariants.{RequestNumber}
 use Rattle.commands.specs.declared.command.Content.{Content}
 use Rattle.commands.specs.declared.command.Content.TheVariants as content
 use Rattle.commands.specs.declared.command.Credit.{Credit}
+use Rattle.commands.specs.declared.command.VoucherRedemption.{VoucherRedemption}
 use Rattle.commands.specs.declared.request.Ask.{Ask}
 use Rattle.commands.specs.declared.request.Ask.TheVariants as ask
 use Rattle.commands.specs.declared.request.Event.{Event}
 use Rattle.commands.specs.declared.request.EventAction.{EventAction}
 use Rattle.commands.specs.declared.request.EventAction.TheVariants as action
 use Rattle.commands.specs.declared.request.Request.{Request}
+use Rattle.redemptions.specs.declared.voucher.Voucher.{Voucher}
 use Rattle.tariffs.specs.Books.{Book}
 use Rattle.reserving.specs.Ledger.{Ledger}
 use Rattle.reserving.proofs.Lists.{no_some}
@@ -30,9 +32,22 @@ use Rattle.keepers.specs.declared.key.KeptAnswer.{KeptAnswer}
 use Rattle.keepers.specs.Keys.{key_of}
 use Rattle.charging.specs.Histories.{History, kept_under}
 use Rattle.charging.specs.Accepted.{Outcome}
-use Rattle.charging.specs.Outcomes.{told, keeping, same_content, repeated, unless_kept, failed, decided_by, request_outcome, new_credit, credit_outcome}
+use Rattle.charging.specs.Outcomes.{told, keeping, same_content, repeated, unless_kept, failed, decided_by, request_outcome, new_credit, credit_outcome, new_redemption, redeem_outcome}
 
 -- ---- equal contents
+
+-- which kind of command it is kept of
+abbrev kind : Content → ℕ
+kind (content.Request r) = 0
+kind (content.Credit c) = 1
+kind (content.Redeem r) = 2
+
+-- contents of two kinds aren't equal
+two_kinds : (x y : Content) → (kind x ≡ kind y → ⊥) → Decides false (x ≡ y)
+two_kinds x y differ = (
+  λ e. absurd (true≢false (sym e)),
+  λ e. absurd (differ (ap kind e)),
+)
 
 content_exact : (x y : Content) → Decides (same_content x y) (x ≡ y)
 content_exact (content.Request r) (content.Request q) =
@@ -41,30 +56,38 @@ content_exact (content.Request r) (content.Request q) =
     request_in : Content → Request
     request_in (content.Request x) = x
     request_in (content.Credit x) = r
+    request_in (content.Redeem x) = r
 
     request_of : content.Request r ≡ content.Request q → r ≡ q
     request_of e = ap request_in e
-content_exact (content.Request r) (content.Credit d) =
-    ((λ e. absurd (true≢false (sym e))), λ e. absurd (true≢false (ap is_request e)))
-  where
-    is_request : Content → Bool
-    is_request (content.Request x) = true
-    is_request (content.Credit x) = false
-content_exact (content.Credit c) (content.Request q) =
-    ((λ e. absurd (true≢false (sym e))), λ e. absurd (true≢false (sym (ap is_request e))))
-  where
-    is_request : Content → Bool
-    is_request (content.Request x) = true
-    is_request (content.Credit x) = false
+content_exact (content.Request r) (content.Credit d) = two_kinds _ _ (λ e. omega (arith, e))
+content_exact (content.Request r) (content.Redeem d) = two_kinds _ _ (λ e. omega (arith, e))
+content_exact (content.Credit c) (content.Request q) = two_kinds _ _ (λ e. omega (arith, e))
 content_exact (content.Credit c) (content.Credit d) =
     ((λ e. ap content.Credit ((credit_exact c d).0 e)), λ e. (credit_exact c d).1 (credit_of e))
   where
     credit_in : Content → Credit
     credit_in (content.Request x) = c
     credit_in (content.Credit x) = x
+    credit_in (content.Redeem x) = c
 
     credit_of : content.Credit c ≡ content.Credit d → c ≡ d
     credit_of e = ap credit_in e
+content_exact (content.Credit c) (content.Redeem d) = two_kinds _ _ (λ e. omega (arith, e))
+content_exact (content.Redeem c) (content.Request q) = two_kinds _ _ (λ e. omega (arith, e))
+content_exact (content.Redeem c) (content.Credit q) = two_kinds _ _ (λ e. omega (arith, e))
+content_exact (content.Redeem c) (content.Redeem d) = (
+  λ e. ap content.Redeem ((redemption_exact c d).0 e),
+  λ e. (redemption_exact c d).1 (redemption_of e),
+)
+  where
+    redemption_in : Content → VoucherRedemption
+    redemption_in (content.Request x) = c
+    redemption_in (content.Credit x) = c
+    redemption_in (content.Redeem x) = x
+
+    redemption_of : content.Redeem c ≡ content.Redeem d → c ≡ d
+    redemption_of e = ap redemption_in e
 
 -- a test that is true exactly of equal contents is the definition's
 pub same-content : (test : Bool) (x y : Content) → (IsTrue test ↔ (x ≡ y)) → test ≡ same_content x y
@@ -176,3 +199,20 @@ pub credit-fresh : (c : Credit) (t : ℕ) (h : History) →
     kept_under (key_of (content.Credit c)) h ≡ None → credit_outcome c t h ≡ new_credit c t h
 credit-fresh c t h e = ap
     (λ o. unless_kept o (content.Credit c) (answer.Refused ContentDiffers) h (new_credit c t h)) e
+
+-- ---- a redemption
+
+pub redemption-repeated : (b : Book) (standing : Option Voucher) (r : VoucherRedemption) (t : ℕ)
+    (h : History) (kept : KeptAnswer) → kept_under (key_of (content.Redeem r)) h ≡ Some kept →
+    redeem_outcome b standing r t h ≡
+    told (repeated kept (content.Redeem r) (answer.Refused ContentDiffers)) h
+redemption-repeated b standing r t h kept e =
+    ap (λ o. unless_kept o (content.Redeem r) (answer.Refused ContentDiffers) h
+    (new_redemption b standing r t h)) e
+
+pub redemption-fresh : (b : Book) (standing : Option Voucher) (r : VoucherRedemption) (t : ℕ)
+    (h : History) → kept_under (key_of (content.Redeem r)) h ≡ None →
+    redeem_outcome b standing r t h ≡ new_redemption b standing r t h
+redemption-fresh b standing r t h e =
+    ap (λ o. unless_kept o (content.Redeem r) (answer.Refused ContentDiffers) h
+    (new_redemption b standing r t h)) e

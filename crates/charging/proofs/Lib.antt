@@ -3,11 +3,13 @@ pub mod Grows
 pub mod Recorded
 pub mod Apart
 pub mod Repeated
+pub mod VouchersStay
 pub mod Serving
 pub mod NeverOpened
 pub mod KeptKeys
 pub mod Requested
 pub mod Operated
+pub mod Vouchered
 pub mod ByNumber
 pub mod Stated
 pub mod RunLemmas

@@ -1,6 +1,6 @@
 -- An account that was never opened has an empty ledger, and nothing is kept of it.
-use Rattle.std.proofs.Common.{◌≡◌, ℕ, Bool, true, false, true≢false, List, [], ◌∷◌, refl, sym, ap, ◌∙◌, Option, Some, None}
-use Rattle.std.specs.Prelude.{if◌then◌else◌}
+use Rattle.std.proofs.Common.{◌≡◌, ℕ, Bool, true, false, true≢false, List, [], ◌∷◌, refl, sym, ap, subst, ◌∙◌, Option, Some, None}
+use Rattle.std.specs.Prelude.{if◌then◌else◌, Result, Ok, Err}
 use Rattle.std.specs.List.{find}
 use Rattle.commands.specs.declared.command.Command.{Command}
 use Rattle.commands.specs.declared.command.Command.TheVariants as command
@@ -13,6 +13,14 @@ use Rattle.commands.specs.declared.command.Content.{Content}
 use Rattle.commands.specs.declared.command.Content.TheVariants as content
 use Rattle.commands.specs.declared.command.Credit.{Credit}
 use Rattle.commands.specs.declared.request.Request.{Request}
+use Rattle.commands.specs.declared.command.VoucherRedemption.{VoucherRedemption}
+use Rattle.redemptions.specs.declared.adding.Addition.{Addition}
+use Rattle.redemptions.specs.declared.adding.Addition.TheVariants.{New, Present, Conflicting}
+use Rattle.redemptions.specs.declared.redeeming.Redemption.{Redemption}
+use Rattle.redemptions.specs.declared.redeeming.RedeemRefusal.{RedeemRefusal}
+use Rattle.redemptions.specs.declared.voucher.Voucher.{Voucher}
+use Rattle.redemptions.specs.Adding.{addition}
+use Rattle.redemptions.specs.Redeeming.{redemption}
 use Rattle.tariffs.specs.Books.{Book}
 use Rattle.reserving.specs.Ledger.{next_bucket}
 use Rattle.reserving.specs.Requests.{credited}
@@ -24,8 +32,8 @@ use Rattle.keepers.specs.declared.key.KeptAnswer.{KeptAnswer}
 use Rattle.keepers.specs.Keys.{key_of}
 use Rattle.charging.specs.Histories.{History, is_kept_under, kept_under}
 use Rattle.charging.specs.Accepted.{Accepted, Outcome, concerned_by, names}
-use Rattle.charging.specs.Outcomes.{outcome, opened_outcome, unopened_outcome, told, keeping, unless_kept, failed, decided_by, request_outcome, from_of, until_of, is_out_of_range, new_credit}
-use Rattle.charging.specs.Served.{history}
+use Rattle.charging.specs.Outcomes.{outcome, opened_outcome, unopened_outcome, told, keeping, unless_kept, failed, decided_by, request_outcome, from_of, until_of, is_full, is_out_of_range, new_credit, addition_outcome, book_days, redeemed_outcome, redemption_outcome, new_redemption}
+use Rattle.charging.specs.Served.{history, standing}
 
 -- ---- an account that is there stays
 
@@ -68,41 +76,73 @@ credit_stays c t h = at (is_out_of_range c t h.ledger)
     at true = refl
     at false = refl
 
-opened_stays : (b : Book) (h : History) (c : Command) (t : ℕ) →
-    (opened_outcome b h c t).after.opened ≡ h.opened
-opened_stays b h (command.Ccr r) t = request_stays b r t h
-opened_stays b h (command.OpenAccount n) t = refl
-opened_stays b h (command.Credit c) t =
+redeemed_stays : (x : Redemption) (r : VoucherRedemption) (t : ℕ) (h : History) →
+    (redeemed_outcome x r t h).after.opened ≡ h.opened
+redeemed_stays x r t h = at (is_full h.ledger)
+  where
+    at : (v : Bool) → (if v then told (answer.Refused OutOfRange) h
+        else keeping (content.Redeem r) (answer.Bucket (next_bucket h.ledger))
+        (credited t x.from x.until x.scope x.amount h.ledger) h).after.opened ≡ h.opened
+    at true = refl
+    at false = refl
+
+redemption_stays : (o : Result Redemption RedeemRefusal) (r : VoucherRedemption) (t : ℕ)
+    (h : History) → (redemption_outcome o r t h).after.opened ≡ h.opened
+redemption_stays (Ok x) r t h = redeemed_stays x r t h
+redemption_stays (Err refusal) r t h = refl
+
+-- a voucher that is added changes no history
+pub addition_same : (x : Addition) (h : History) → (addition_outcome x h).after ≡ h
+addition_same (New voucher) h = refl
+addition_same Present h = refl
+addition_same Conflicting h = refl
+
+opened_stays : (b : Book) (s : Option Voucher) (h : History) (c : Command) (t : ℕ) →
+    (opened_outcome b s h c t).after.opened ≡ h.opened
+opened_stays b s h (command.Ccr r) t = request_stays b r t h
+opened_stays b s h (command.OpenAccount n) t = refl
+opened_stays b s h (command.Credit c) t =
     kept_stays (kept_under (key_of (content.Credit c)) h) (content.Credit c)
     (answer.Refused ContentDiffers) h (new_credit c t h) (credit_stays c t h)
-opened_stays b h (command.Bar n) t = refl
-opened_stays b h (command.Unbar n) t = refl
-opened_stays b h command.Sweep t = refl
-opened_stays b h (command.Balance n) t = refl
+opened_stays b s h (command.Bar n) t = refl
+opened_stays b s h (command.Unbar n) t = refl
+opened_stays b s h (command.AddVoucher v) t =
+    λ i. (addition_same (addition s v.terms) h i).opened
+opened_stays b s h (command.Redeem r) t =
+    kept_stays (kept_under (key_of (content.Redeem r)) h) (content.Redeem r)
+    (answer.Refused ContentDiffers) h (new_redemption b s r t h)
+    (redemption_stays (redemption (book_days b) s r.account t) r t h)
+opened_stays b s h command.Sweep t = refl
+opened_stays b s h (command.Balance n) t = refl
 
 -- ---- before it is opened nothing is written
 
 abbrev IsEmpty : History → Type 0
 IsEmpty h = (h.ledger ≡ []) × (h.kept ≡ [])
 
-unopened_empty : (h : History) (c : Command) → IsEmpty h → IsEmpty (unopened_outcome h c).after
-unopened_empty h (command.Ccr r) e = e
-unopened_empty h (command.OpenAccount n) e = e
-unopened_empty h (command.Credit c) e = e
-unopened_empty h (command.Bar n) e = e
-unopened_empty h (command.Unbar n) e = e
-unopened_empty h command.Sweep e = e
-unopened_empty h (command.Balance n) e = e
+unopened_empty : (s : Option Voucher) (h : History) (c : Command) → IsEmpty h →
+    IsEmpty (unopened_outcome s h c).after
+unopened_empty s h (command.Ccr r) e = e
+unopened_empty s h (command.OpenAccount n) e = e
+unopened_empty s h (command.Credit c) e = e
+unopened_empty s h (command.Bar n) e = e
+unopened_empty s h (command.Unbar n) e = e
+unopened_empty s h (command.AddVoucher v) e =
+    subst IsEmpty (sym (addition_same (addition s v.terms) h)) e
+unopened_empty s h (command.Redeem r) e = e
+unopened_empty s h command.Sweep e = e
+unopened_empty s h (command.Balance n) e = e
 
-outcome_empty : (b : Book) (h : History) (c : Command) (t : ℕ) → (h.opened ≡ false → IsEmpty h) →
-    (outcome b h c t).after.opened ≡ false → IsEmpty (outcome b h c t).after
-outcome_empty b h c t empty = at h.opened refl
+outcome_empty : (b : Book) (s : Option Voucher) (h : History) (c : Command) (t : ℕ) →
+    (h.opened ≡ false → IsEmpty h) → (outcome b s h c t).after.opened ≡ false →
+    IsEmpty (outcome b s h c t).after
+outcome_empty b s h c t empty = at h.opened refl
   where
     at : (v : Bool) → h.opened ≡ v →
-        (if v then opened_outcome b h c t else unopened_outcome h c).after.opened ≡ false →
-        IsEmpty (if v then opened_outcome b h c t else unopened_outcome h c).after
-    at true opened e = absurd (true≢false (sym opened ∙ sym (opened_stays b h c t) ∙ e))
-    at false opened e = unopened_empty h c (empty opened)
+        (if v then opened_outcome b s h c t else unopened_outcome s h c).after.opened ≡ false →
+        IsEmpty (if v then opened_outcome b s h c t else unopened_outcome s h c).after
+    at true opened e = absurd (true≢false (sym opened ∙ sym (opened_stays b s h c t) ∙ e))
+    at false opened e = unopened_empty s h c (empty opened)
 
 unopened-empty : (b : Book) (a : List ℕ) (list : List Accepted) →
     (history b a list).opened ≡ false → IsEmpty (history b a list)
@@ -111,11 +151,14 @@ unopened-empty b a (d ∷ before) e =
     at (names a (concerned_by d.command)) (unopened-empty b a before) e
   where
     at : (v : Bool) → ((history b a before).opened ≡ false → IsEmpty (history b a before)) →
-        (if v then (outcome b (history b a before) d.command d.moment).after
+        (if v then (outcome b (standing b d.command before) (history b a before) d.command
+        d.moment).after
         else history b a before).opened ≡ false →
-        IsEmpty (if v then (outcome b (history b a before) d.command d.moment).after
+        IsEmpty (if v then (outcome b (standing b d.command before) (history b a before) d.command
+        d.moment).after
         else history b a before)
-    at true empty closed = outcome_empty b (history b a before) d.command d.moment empty closed
+    at true empty closed = outcome_empty b (standing b d.command before) (history b a before)
+        d.command d.moment empty closed
     at false empty closed = empty closed
 
 pub unopened-ledger : (b : Book) (a : List ℕ) (list : List Accepted) →

@@ -1,13 +1,14 @@
 -- What operators' commands come to.
 use Rattle.std.proofs.Common.{◌≡◌, ℕ, ◌+◌, ◌≤◌, Bool, true, false, true≢false, List, [], ◌∷◌, ◌++◌, refl, sym, ap, subst, ◌∙◌, Option, Some, None}
 use Rattle.std.proofs.lemmas.List.{append-nil}
-use Rattle.std.specs.Prelude.{max, is_some, option_map, IfSome, if◌then◌else◌}
+use Rattle.std.specs.Prelude.{max, is_some, option_map, ◌||◌, IfOk, IfSome, Result, Ok, Err, if◌then◌else◌}
 use Rattle.commands.specs.declared.answer.Answer.{Answer}
 use Rattle.commands.specs.declared.answer.Answer.TheVariants as answer
 use Rattle.commands.specs.declared.answer.Refusal.TheVariants.{AccountExists, AccountUnknown, ContentDiffers, OutOfRange}
 use Rattle.commands.specs.declared.command.Command.TheVariants as command
 use Rattle.commands.specs.declared.command.Content.TheVariants as content
 use Rattle.commands.specs.declared.command.Credit.{Credit}
+use Rattle.redemptions.specs.declared.voucher.Voucher.{Voucher}
 use Rattle.tariffs.specs.Books.{Book}
 use Rattle.reserving.specs.declared.session.SessionGroup.{SessionGroup}
 use Rattle.reserving.specs.Ledger.{Ledger, next_bucket}
@@ -23,19 +24,20 @@ use Rattle.keepers.specs.declared.key.Key.{Key}
 use Rattle.keepers.specs.declared.key.KeptAnswer.{KeptAnswer}
 use Rattle.keepers.specs.declared.loaded.Change.{Change}
 use Rattle.keepers.specs.declared.loaded.Loaded.{Loaded}
+use Rattle.keepers.specs.declared.loaded.Redeemed.{Redeemed}
 use Rattle.keepers.specs.Keys.{key_of}
 use Rattle.keepers.specs.Tables.{Head, Rows, Tables, group_row, held_of, no_rows}
 use Rattle.keepers.specs.Change.{AreRowsAt, IsMadeFrom, held_over, over, changed, IsSwept}
 use Rattle.charging.specs.Histories.{History}
-use Rattle.charging.specs.Accepted.{Accepted, one, concerned_by, is_opening, last_moment, IsInTime}
-use Rattle.charging.specs.Outcomes.{outcome, told, done, keeping, repeated, with_ledger, from_of, until_of, is_out_of_range, new_credit, opened_outcome, unopened_outcome}
-use Rattle.charging.specs.Served.{history, AreTables, IsServed}
-use Rattle.charging.specs.Stepping.{IsTaken, Credits, bar_command}
+use Rattle.charging.specs.Accepted.{Accepted, one, concerned_by, is_opening, names_code, last_moment, IsInTime}
+use Rattle.charging.specs.Outcomes.{book_days, outcome, told, done, keeping, repeated, with_ledger, from_of, until_of, is_unusable, is_full, is_out_of_range, new_credit, opened_outcome, unopened_outcome}
+use Rattle.charging.specs.Served.{history, standing, AreTables, IsServed}
+use Rattle.charging.specs.Stepping.{IsTaken, Credits, Makes, bar_command}
 use Rattle.charging.proofs.AcceptedTables.{tables_swept}
 use Rattle.charging.proofs.NeverOpened.{unopened-ledger}
 use Rattle.charging.proofs.KeptKeys.{credit-repeated, credit-fresh}
 use Rattle.charging.proofs.Grows.{one_more}
-use Rattle.charging.proofs.Serving.{IsOpened, is_opened, keeps-none, keeps-some, served-told, served-done, served-loaded, is-there, not-opened, outcome-unopened, outcome-opened, outcome-kept}
+use Rattle.charging.proofs.Serving.{IsOpened, is_opened, keeps-none, keeps-some, none-spent, served-told, served-done, served-loaded, is-there, not-opened, outcome-unopened, outcome-opened, outcome-kept}
 
 -- ---- a sweep
 
@@ -44,8 +46,8 @@ pub sweep-served : (b : Book) (list : List Accepted) (t n : ℕ) (old new : Tabl
     IsServed b list command.Sweep t old new (answer.Swept n)
 sweep-served b list t n old new time tables le count swept = record {
   answer = ap answer.Swept (count ∙ tables.count);
-  tables = tables_swept (outcome b) b (record { moment = t; command = command.Sweep }) list old new
-      time le refl refl swept tables;
+  tables = tables_swept (book_days b) (outcome b) b (record { moment = t; command = command.Sweep }) list old new
+      time le refl refl (λ code. refl) swept tables;
   time = (le, time);
   same = λ e. absurd (true≢false e);
 }
@@ -128,6 +130,7 @@ pub record IsNew (b : Book) (n : List ℕ) (t : ℕ) (x fresh : AccountRows) (ch
   pub moment : change.moment ≡ x.as_of
   pub after : change.after ≡ stored x
   pub kept : change.kept ≡ None
+  pub redeemed : change.redeemed ≡ None
   pub charges : change.charges.items ≡ []
   -- nothing was loaded
   pub buckets : fresh.buckets ≡ []
@@ -148,7 +151,7 @@ open-done b list n t x fresh change old new time le tables none is grown =
     not-opened b list (command.OpenAccount n) t n refl old tables none in
     let empty : h.ledger ≡ [] = unopened-ledger b n list closed.0 in
     served-done b list (command.OpenAccount n) t n refl time le
-    (unopened_outcome h (command.OpenAccount n)) answer.Done change old new
+    (unopened_outcome None h (command.OpenAccount n)) answer.Done change old new
     (outcome-unopened b list (command.OpenAccount n) t n refl old tables none)
     refl refl (sym is.named)
     (record {
@@ -164,6 +167,7 @@ open-done b list n t x fresh change old new time le tables none is grown =
       kept = keeps-none is.kept h.kept;
       charges = sym (ap (λ xs. charge_rows h.ledger ++ xs) is.charges
           ∙ append-nil (charge_rows h.ledger));
+      vouchers = none-spent b list t (command.OpenAccount n) change (λ code. refl) is.redeemed;
       count = ap (λ o. if is_some o then old.count else old.count + 1)
           (ap (λ (m : List ℕ). (old.rows m).head) is.named ∙ none);
     })
@@ -176,16 +180,21 @@ bar-named : (n : List ℕ) (barred : Bool) → concerned_by (bar_command n barre
 bar-named n true = refl
 bar-named n false = refl
 
-bar-unopened : (h : History) (n : List ℕ) (barred : Bool) →
-    unopened_outcome h (bar_command n barred) ≡ told (answer.Refused AccountUnknown) h
-bar-unopened h n true = refl
-bar-unopened h n false = refl
+bar-codes : (n : List ℕ) (barred : Bool) (code : List ℕ) →
+    names_code code (bar_command n barred) ≡ false
+bar-codes n true code = refl
+bar-codes n false code = refl
 
-bar-opened : (b : Book) (h : History) (n : List ℕ) (barred : Bool) (t : ℕ) →
-    opened_outcome b h (bar_command n barred) t ≡
+bar-unopened : (s : Option Voucher) (h : History) (n : List ℕ) (barred : Bool) →
+    unopened_outcome s h (bar_command n barred) ≡ told (answer.Refused AccountUnknown) h
+bar-unopened s h n true = refl
+bar-unopened s h n false = refl
+
+bar-opened : (b : Book) (s : Option Voucher) (h : History) (n : List ℕ) (barred : Bool) (t : ℕ) →
+    opened_outcome b s h (bar_command n barred) t ≡
     done answer.Done (with_ledger (with_bar t barred h.ledger) h)
-bar-opened b h n true t = refl
-bar-opened b h n false t = refl
+bar-opened b s h n true t = refl
+bar-opened b s h n false t = refl
 
 bar-opens : (n : List ℕ) (barred : Bool) → is_opening (bar_command n barred) ≡ false
 bar-opens n true = refl
@@ -200,23 +209,24 @@ bar-unknown b list n barred t old new time le tables none same =
     (told (answer.Refused AccountUnknown) (history b n list))
     (answer.Refused AccountUnknown) old new
     (outcome-unopened b list (bar_command n barred) t n (bar-named n barred) old tables none
-    ∙ bar-unopened (history b n list) n barred) refl refl same tables
+    ∙ bar-unopened (standing b (bar_command n barred) list) (history b n list) n barred) refl refl same tables
 
 -- the change tells the account as it stands after a command without charges
-pub record Tells (change : Change) (found : Loaded) (x : AccountRows) (kept : Option KeptAnswer) :
-    Type 0 where
+pub record Tells (change : Change) (found : Loaded) (x : AccountRows) (kept : Option KeptAnswer)
+    (redeemed : Option Redeemed) : Type 0 where
   pub number : change.number ≡ found.number
   pub moment : change.moment ≡ x.as_of
   pub after : change.after ≡ stored x
   pub charges : change.charges.items ≡ []
   pub kept_is : change.kept ≡ kept
+  pub redeemed_is : change.redeemed ≡ redeemed
 
 pub bar-done : (b : Book) (list : List Accepted) (n : List ℕ) (barred : Bool) (t m : ℕ)
     (found : Loaded) (x : AccountRows) (change : Change) (old new : Tables) → IsInTime list →
     last_moment list ≤ t → AreTables b list old → IsTaken b t n old found →
     m ≡ max t found.account.as_of → x.book ≡ found.account.book → x.as_of ≡ m →
     ((ledger : Ledger) (left : LeftRows) → IsWith ledger left m found.account →
-    IsWith (with_bar m barred ledger) left m x) → Tells change found x None →
+    IsWith (with_bar m barred ledger) left m x) → Tells change found x None None →
     (IsMadeFrom found.before (stored x) (old.rows found.number) → new ≡ changed change old) →
     IsServed b list (bar_command n barred) t old new answer.Done
 bar-done b list n barred t m found x change old new time le tables loads moment book as_of rows
@@ -231,7 +241,7 @@ bar-done b list n barred t m found x change old new time le tables loads moment 
     (done answer.Done (with_ledger (with_bar t barred h.ledger) h)) answer.Done x change
     (bar-opens n barred)
     (outcome-opened b list (bar_command n barred) t n (bar-named n barred) account.opened
-    ∙ bar-opened b h n barred t)
+    ∙ bar-opened b (standing b (bar_command n barred) list) h n barred t)
     refl refl
     (record {
       book = book;
@@ -243,6 +253,8 @@ bar-done b list n barred t m found x change old new time le tables loads moment 
       opened = account.opened;
       kept = keeps-none tells.kept_is h.kept;
       charges = ap (λ xs. charge_rows h.ledger ++ xs) (sym tells.charges);
+      vouchers = none-spent b list t (bar_command n barred) change (bar-codes n barred)
+          tells.redeemed_is;
       number = tells.number;
       moment = tells.moment;
       after = tells.after;
@@ -277,6 +289,24 @@ credit-again b list c t old new kept given time le tables is answers same =
     ∙ credit-repeated c t h kept (sym (tables.answers c.account k) ∙ is))
     refl answers same tables
 
+-- a bucket that is made by what a credit says is the credit's, where the credit can be used
+pub credits_made : {E : Type 0} (r : Result (Option ℕ) E) (c : Credit) (t from until : ℕ)
+    (old new : AccountRows) → from ≡ from_of c t → until ≡ until_of c → is_unusable c t ≡ false →
+    IfOk r (λ o. (ledger : Ledger) (left : LeftRows) → IsWith ledger left t old →
+    Makes o from until c.scope c.amount t ledger left new) →
+    IfOk r (λ o. (ledger : Ledger) (left : LeftRows) → IsWith ledger left t old →
+    Credits o c t ledger left new)
+credits_made (Ok None) c t from until old new p q usable makes = λ ledger left before.
+    ap (λ v. v || is_full ledger) usable ∙ makes ledger left before
+credits_made (Ok (Some n)) c t from until old new p q usable makes = λ ledger left before.
+    let made = makes ledger left before in (
+      ap (λ v. v || is_full ledger) usable ∙ made.0,
+      made.1,
+      subst (λ (u : ℕ). IsWith (credited t (from_of c t) u c.scope c.amount ledger) left t new) q
+          (subst (λ (f : ℕ). IsWith (credited t f until c.scope c.amount ledger) left t new) p made.2),
+    )
+credits_made (Err e) c t from until old new p q usable makes = tt
+
 module _ (b : Book) (list : List Accepted) (c : Credit) (t : ℕ) (old new : Tables) (found : Loaded)
     (time : IsInTime list) (le : last_moment list ≤ t) (tables : AreTables b list old)
     (loads : IsTaken b t c.account old found)
@@ -300,7 +330,7 @@ module _ (b : Book) (list : List Accepted) (c : Credit) (t : ℕ) (old new : Tab
   credit = credits h.ledger left
       (subst (λ (u : ℕ). IsWith h.ledger left u found.account) (sym now) account.with_left)
 
-  fresh-is : outcome b h (command.Credit c) t ≡ new_credit c t h
+  fresh-is : outcome b None h (command.Credit c) t ≡ new_credit c t h
   fresh-is = outcome-opened b list (command.Credit c) t c.account refl account.opened
       ∙ credit-fresh c t h (sym (tables.answers c.account (key_of (content.Credit c))) ∙ fresh)
 
@@ -320,7 +350,7 @@ module _ (b : Book) (list : List Accepted) (c : Credit) (t : ℕ) (old new : Tab
   pub credit-done : (number : ℕ) (change : Change) → o ≡ Some number → x.book ≡ found.account.book →
       IfSome o (λ n. x.as_of ≡ m) →
       Tells change found x (Some
-      (record { content = content.Credit c; answer = answer.Bucket number })) →
+      (record { content = content.Credit c; answer = answer.Bucket number })) None →
       (IsMadeFrom found.before (stored x) (old.rows found.number) → new ≡ changed change old) →
       IsServed b list (command.Credit c) t old new (answer.Bucket number)
   credit-done number change some book stands tells grown =
@@ -349,6 +379,7 @@ module _ (b : Book) (list : List Accepted) (c : Credit) (t : ℕ) (old new : Tab
         kept = (λ i. record { content = content.Credit c; answer = answer.Bucket (sym done.1 i) }
             ∷ h.kept) ∙ keeps-some (sym tells.kept_is) h.kept;
         charges = ap (λ xs. charge_rows h.ledger ++ xs) (sym tells.charges);
+        vouchers = none-spent b list t (command.Credit c) change (λ code. refl) tells.redeemed_is;
         number = tells.number;
         moment = tells.moment;
         after = tells.after;

@@ -2,10 +2,10 @@
 -- answered by it.
 use Rattle.std.proofs.Common.{◌≡◌, ℕ, List, [], ◌∷◌, Option, Some, None, Bool, true, false, true≢false, not, refl, sym, ap, subst, ◌∙◌}
 use Rattle.std.proofs.lemmas.Option.{none-some}
-use Rattle.std.specs.Prelude.{if◌then◌else◌}
+use Rattle.std.specs.Prelude.{if◌then◌else◌, Result, Ok, Err}
 use Rattle.std.specs.List.{find}
 use Rattle.std.specs.Cmp.Lexicographic.{bytes_decides}
-use Rattle.commands.proofs.Exact.{request_exact, credit_exact}
+use Rattle.commands.proofs.Exact.{request_exact, credit_exact, redemption_exact}
 use Rattle.commands.specs.declared.answer.Answer.{Answer}
 use Rattle.commands.specs.declared.answer.Answer.TheVariants as answer
 use Rattle.commands.specs.declared.answer.Failure.TheVariants.{UserUnknown, InvalidAvpValue}
@@ -17,6 +17,12 @@ use Rattle.commands.specs.declared.command.Content.{Content}
 use Rattle.commands.specs.declared.command.Content.TheVariants as content
 use Rattle.commands.specs.declared.command.Credit.{Credit}
 use Rattle.commands.specs.declared.request.Request.{Request}
+use Rattle.commands.specs.declared.command.VoucherRedemption.{VoucherRedemption}
+use Rattle.redemptions.specs.declared.redeeming.Redemption.{Redemption}
+use Rattle.redemptions.specs.declared.redeeming.RedeemRefusal.{RedeemRefusal}
+use Rattle.redemptions.specs.declared.voucher.Voucher.{Voucher}
+use Rattle.redemptions.specs.Adding.{addition}
+use Rattle.redemptions.specs.Redeeming.{redemption}
 use Rattle.tariffs.specs.Books.{Book}
 use Rattle.reserving.specs.Ledger.{Ledger, next_bucket}
 use Rattle.reserving.specs.Requests.{credited}
@@ -27,10 +33,12 @@ use Rattle.keepers.specs.Keys.{key_of, key_decides}
 use Rattle.charging.specs.Histories.{History, is_kept_under, kept_under}
 use Rattle.charging.specs.Accepted.{Accepted, Outcome, one, concerned_by, names}
 use Rattle.charging.specs.declared.running.DatedCommand.{DatedCommand}
-use Rattle.charging.specs.Outcomes.{told, keeping, repeated, unless_kept, failed, decided_by, request_outcome, from_of, until_of, is_out_of_range, new_credit, credit_outcome, opened_outcome, unopened_outcome, outcome}
-use Rattle.charging.specs.Served.{history, moment_of, accepts, answer_to}
+use Rattle.charging.specs.Outcomes.{told, keeping, repeated, unless_kept, failed, decided_by, request_outcome, from_of, until_of, is_full, is_out_of_range, new_credit, credit_outcome, book_days, refused_as, redemption_outcome, new_redemption, redeem_outcome, opened_outcome, unopened_outcome, outcome}
+use Rattle.charging.specs.Served.{history, standing, moment_of, accepts, answer_to}
 use Rattle.charging.specs.Runs.{after_command, after_commands}
 use Rattle.charging.specs.Repeats.{AnswersOnce}
+use Rattle.charging.proofs.NeverOpened.{addition_same}
+use Rattle.charging.proofs.VouchersStay.{added-once}
 
 -- ---- what is kept
 
@@ -108,6 +116,29 @@ of_credit P c t h same kept =
     (keeping (content.Credit c) given ledger h) (same (answer.Refused OutOfRange))
     (kept given ledger free))
 
+-- of what a redemption comes to
+of_redeemed : (P : Outcome → Type 0) (o : Result Redemption RedeemRefusal) (r : VoucherRedemption)
+    (t : ℕ) (h : History) → ((given : Answer) → P (told given h)) →
+    ((given : Answer) (ledger : Ledger) → P (keeping (content.Redeem r) given ledger h)) →
+    P (redemption_outcome o r t h)
+of_redeemed P (Err refusal) r t h same kept = same (answer.Refused (refused_as refusal))
+of_redeemed P (Ok x) r t h same kept =
+    let given : Answer = answer.Bucket (next_bucket h.ledger) in
+    let ledger : Ledger = credited t x.from x.until x.scope x.amount h.ledger in
+    if_both P (is_full h.ledger) (told (answer.Refused OutOfRange) h)
+    (keeping (content.Redeem r) given ledger h) (same (answer.Refused OutOfRange))
+    (kept given ledger)
+
+of_redemption : (P : Outcome → Type 0) (b : Book) (s : Option Voucher) (r : VoucherRedemption)
+    (t : ℕ) (h : History) → ((given : Answer) → P (told given h)) →
+    ((given : Answer) (ledger : Ledger) → kept_under (key_of (content.Redeem r)) h ≡ None →
+    P (keeping (content.Redeem r) given ledger h)) → P (redeem_outcome b s r t h)
+of_redemption P b s r t h same kept =
+    unless_both P (kept_under (key_of (content.Redeem r)) h) (content.Redeem r)
+    (answer.Refused ContentDiffers) h (new_redemption b s r t h) same (λ free.
+    of_redeemed P (redemption (book_days b) s r.account t) r t h same
+    (λ given ledger. kept given ledger free))
+
 -- ---- the commands between
 
 -- an answer stays kept where another command is kept whose key was free
@@ -117,28 +148,34 @@ keeps_kept : (kept new : KeptAnswer) (h : History) (ledger : Ledger) → Keeps k
 keeps_kept kept new h ledger keeps free =
     record { there = keeps.there; found = found_older kept new h.kept free keeps.found }
 
-keeps_opened : (b : Book) (kept : KeptAnswer) (h : History) (c : Command) (t : ℕ) → Keeps kept h →
-    Keeps kept (opened_outcome b h c t).after
-keeps_opened b kept h (command.Ccr r) t keeps =
+keeps_opened : (b : Book) (kept : KeptAnswer) (s : Option Voucher) (h : History) (c : Command)
+    (t : ℕ) → Keeps kept h → Keeps kept (opened_outcome b s h c t).after
+keeps_opened b kept s h (command.Ccr r) t keeps =
     of_request (λ o. Keeps kept o.after) b r t h (λ given. keeps)
     (λ given ledger free. keeps_kept kept
     (record { content = content.Request r; answer = given }) h ledger keeps free)
-keeps_opened b kept h (command.OpenAccount n) t keeps = keeps
-keeps_opened b kept h (command.Credit c) t keeps =
+keeps_opened b kept s h (command.OpenAccount n) t keeps = keeps
+keeps_opened b kept s h (command.Credit c) t keeps =
     of_credit (λ o. Keeps kept o.after) c t h (λ given. keeps)
     (λ given ledger free. keeps_kept kept
     (record { content = content.Credit c; answer = given }) h ledger keeps free)
-keeps_opened b kept h (command.Bar n) t keeps = record { there = keeps.there; found = keeps.found }
-keeps_opened b kept h (command.Unbar n) t keeps =
+keeps_opened b kept s h (command.Bar n) t keeps = record { there = keeps.there; found = keeps.found }
+keeps_opened b kept s h (command.Unbar n) t keeps =
     record { there = keeps.there; found = keeps.found }
-keeps_opened b kept h command.Sweep t keeps = keeps
-keeps_opened b kept h (command.Balance n) t keeps = keeps
+keeps_opened b kept s h (command.AddVoucher v) t keeps =
+    subst (Keeps kept) (sym (addition_same (addition s v.terms) h)) keeps
+keeps_opened b kept s h (command.Redeem r) t keeps =
+    of_redemption (λ o. Keeps kept o.after) b s r t h (λ given. keeps)
+    (λ given ledger free. keeps_kept kept
+    (record { content = content.Redeem r; answer = given }) h ledger keeps free)
+keeps_opened b kept s h command.Sweep t keeps = keeps
+keeps_opened b kept s h (command.Balance n) t keeps = keeps
 
-keeps_after : (b : Book) (kept : KeptAnswer) (h : History) (c : Command) (t : ℕ) → Keeps kept h →
-    Keeps kept (outcome b h c t).after
-keeps_after b kept h c t keeps =
-    subst (λ o. Keeps kept (if o then opened_outcome b h c t else unopened_outcome h c).after)
-    (sym keeps.there) (keeps_opened b kept h c t keeps)
+keeps_after : (b : Book) (kept : KeptAnswer) (s : Option Voucher) (h : History) (c : Command)
+    (t : ℕ) → Keeps kept h → Keeps kept (outcome b s h c t).after
+keeps_after b kept s h c t keeps =
+    subst (λ o. Keeps kept (if o then opened_outcome b s h c t else unopened_outcome s h c).after)
+    (sym keeps.there) (keeps_opened b kept s h c t keeps)
 
 -- an accepted command, of the account or of others
 keeps_accepted : (b : Book) (kept : KeptAnswer) (a : List ℕ) (list : List Accepted) (d : Accepted)
@@ -148,9 +185,11 @@ keeps_accepted b kept a list d false keeps = keeps
 keeps_accepted b kept a list d true keeps = at (names a (concerned_by d.command))
   where
     at : (named : Bool) → Keeps kept
-        (if named then (outcome b (history b a list) d.command d.moment).after
+        (if named then (outcome b (standing b d.command list) (history b a list) d.command
+        d.moment).after
         else history b a list)
-    at true = keeps_after b kept (history b a list) d.command d.moment keeps
+    at true = keeps_after b kept (standing b d.command list) (history b a list) d.command d.moment
+        keeps
     at false = keeps
 
 keeps_through : (b : Book) (kept : KeptAnswer) (a : List ℕ) (list : List Accepted)
@@ -175,7 +214,7 @@ first_kept new given ledger h there taken =
     record { there = there; found = found_newest (record { content = new; answer = given }) h.kept }
 
 first_request : (b : Book) (r : Request) (t : ℕ) (h : History) →
-    IsKeptFirst (content.Request r) (outcome b h (command.Ccr r) t)
+    IsKeptFirst (content.Request r) (outcome b None h (command.Ccr r) t)
 first_request b r t h = at h.opened refl
   where
     at : (there : Bool) → h.opened ≡ there →
@@ -186,14 +225,25 @@ first_request b r t h = at h.opened refl
     at false there = no
 
 first_credit : (b : Book) (c : Credit) (t : ℕ) (h : History) →
-    IsKeptFirst (content.Credit c) (outcome b h (command.Credit c) t)
+    IsKeptFirst (content.Credit c) (outcome b None h (command.Credit c) t)
 first_credit b c t h = at h.opened refl
   where
     at : (there : Bool) → h.opened ≡ there →
         IsKeptFirst (content.Credit c)
-        (if there then credit_outcome c t h else unopened_outcome h (command.Credit c))
+        (if there then credit_outcome c t h else unopened_outcome None h (command.Credit c))
     at true there = of_credit (IsKeptFirst (content.Credit c)) c t h (λ given. no)
         (λ given ledger free. first_kept (content.Credit c) given ledger h there)
+    at false there = no
+
+first_redemption : (b : Book) (s : Option Voucher) (r : VoucherRedemption) (t : ℕ) (h : History) →
+    IsKeptFirst (content.Redeem r) (outcome b s h (command.Redeem r) t)
+first_redemption b s r t h = at h.opened refl
+  where
+    at : (there : Bool) → h.opened ≡ there →
+        IsKeptFirst (content.Redeem r)
+        (if there then redeem_outcome b s r t h else unopened_outcome s h (command.Redeem r))
+    at true there = of_redemption (IsKeptFirst (content.Redeem r)) b s r t h (λ given. no)
+        (λ given ledger free. first_kept (content.Redeem r) given ledger h there)
     at false there = no
 
 -- ---- the repeat
@@ -205,7 +255,7 @@ unread false x y e = refl
 -- on a history that keeps it, a command is told its first answer
 repeat_request : (b : Book) (r : Request) (given : Answer) (t : ℕ) (h : History) →
     not (is_read r.ask) ≡ true → Keeps (record { content = content.Request r; answer = given }) h →
-    outcome b h (command.Ccr r) t ≡ told given h
+    outcome b None h (command.Ccr r) t ≡ told given h
 repeat_request b r given t h key keeps =
     let d : Decision = decision b t r h.ledger in
     let conflict : Answer = failed r (InvalidAvpValue RequestNumber) in
@@ -218,30 +268,41 @@ repeat_request b r given t h key keeps =
 
 repeat_credit : (b : Book) (c : Credit) (given : Answer) (t : ℕ) (h : History) →
     Keeps (record { content = content.Credit c; answer = given }) h →
-    outcome b h (command.Credit c) t ≡ told given h
+    outcome b None h (command.Credit c) t ≡ told given h
 repeat_credit b c given t h keeps =
-    ap (λ o. if o then credit_outcome c t h else unopened_outcome h (command.Credit c)) keeps.there
+    ap (λ o. if o then credit_outcome c t h else unopened_outcome None h (command.Credit c)) keeps.there
     ∙ ap (λ found. unless_kept found (content.Credit c) (answer.Refused ContentDiffers) h
     (new_credit c t h)) keeps.found
     ∙ ap (λ same. told (if same then given else answer.Refused ContentDiffers) h)
     ((credit_exact c c).1 refl)
 
+repeat_redemption : (b : Book) (s : Option Voucher) (r : VoucherRedemption) (given : Answer)
+    (t : ℕ) (h : History) → Keeps (record { content = content.Redeem r; answer = given }) h →
+    outcome b s h (command.Redeem r) t ≡ told given h
+repeat_redemption b s r given t h keeps =
+    ap (λ o. if o then redeem_outcome b s r t h else unopened_outcome s h (command.Redeem r))
+    keeps.there
+    ∙ ap (λ found. unless_kept found (content.Redeem r) (answer.Refused ContentDiffers) h
+    (new_redemption b s r t h)) keeps.found
+    ∙ ap (λ same. told (if same then given else answer.Refused ContentDiffers) h)
+    ((redemption_exact r r).1 refl)
+
 -- ---- once
 
 -- the history of an account after a command that names it
 own_after : (b : Book) (a : List ℕ) (list : List Accepted) (d : Accepted) →
-    concerned_by d.command ≡ one a →
-    history b a (d ∷ list) ≡ (outcome b (history b a list) d.command d.moment).after
+    concerned_by d.command ≡ one a → history b a (d ∷ list) ≡
+    (outcome b (standing b d.command list) (history b a list) d.command d.moment).after
 own_after b a list d named =
-    ap (λ who. if names a who then (outcome b (history b a list) d.command d.moment).after
-    else history b a list) named
-    ∙ ap (λ own. if own then (outcome b (history b a list) d.command d.moment).after
-    else history b a list) ((bytes_decides a a).1 refl)
+    let after : History =
+    (outcome b (standing b d.command list) (history b a list) d.command d.moment).after in
+    ap (λ who. if names a who then after else history b a list) named
+    ∙ ap (λ own. if own then after else history b a list) ((bytes_decides a a).1 refl)
 
 -- so the history after the commands between keeps the command that was accepted
 kept_between : (b : Book) (kept : KeptAnswer) (a : List ℕ) (list : List Accepted) (c : Command)
     (t : ℕ) (between : List DatedCommand) → concerned_by c ≡ one a →
-    Keeps kept (outcome b (history b a list) c t).after →
+    Keeps kept (outcome b (standing b c list) (history b a list) c t).after →
     Keeps kept (history b a (after_commands b (record { moment = t; command = c } ∷ list) between))
 kept_between b kept a list c t between named keeps =
     let first : Accepted = record { moment = t; command = c } in
@@ -254,7 +315,7 @@ answers-once b list (command.Ccr r) t between u key taken =
     let kept : KeptAnswer = record { content = content.Request r; answer = given } in
     let after : List Accepted =
     after_commands b (record { moment = t; command = command.Ccr r } ∷ list) between in
-    let told_again : outcome b (history b r.account after) (command.Ccr r) u ≡
+    let told_again : outcome b None (history b r.account after) (command.Ccr r) u ≡
     told given (history b r.account after) =
     repeat_request b r given u (history b r.account after) key
     (kept_between b kept r.account list (command.Ccr r) t between refl
@@ -265,7 +326,7 @@ answers-once b list (command.Credit c) t between u key taken =
     let kept : KeptAnswer = record { content = content.Credit c; answer = given } in
     let after : List Accepted =
     after_commands b (record { moment = t; command = command.Credit c } ∷ list) between in
-    let told_again : outcome b (history b c.account after) (command.Credit c) u ≡
+    let told_again : outcome b None (history b c.account after) (command.Credit c) u ≡
     told given (history b c.account after) =
     repeat_credit b c given u (history b c.account after)
     (kept_between b kept c.account list (command.Credit c) t between refl
@@ -274,5 +335,20 @@ answers-once b list (command.Credit c) t between u key taken =
 answers-once b list (command.OpenAccount n) t between u key taken = no key
 answers-once b list (command.Bar n) t between u key taken = no key
 answers-once b list (command.Unbar n) t between u key taken = no key
+answers-once b list (command.AddVoucher v) t between u key taken =
+    let once = added-once b list v t between u taken in
+    record { answer = once.answer; accepted = once.accepted }
+answers-once b list (command.Redeem r) t between u key taken =
+    let given : Answer = answer_to b list (command.Redeem r) t in
+    let kept : KeptAnswer = record { content = content.Redeem r; answer = given } in
+    let after : List Accepted =
+    after_commands b (record { moment = t; command = command.Redeem r } ∷ list) between in
+    let told_again : outcome b (standing b (command.Redeem r) after) (history b r.account after)
+    (command.Redeem r) u ≡ told given (history b r.account after) =
+    repeat_redemption b (standing b (command.Redeem r) after) r given u (history b r.account after)
+    (kept_between b kept r.account list (command.Redeem r) t between refl
+    (first_redemption b (standing b (command.Redeem r) list) r t (history b r.account list)
+    taken)) in
+    record { answer = λ i. (told_again i).answer; accepted = λ i. (told_again i).accepted }
 answers-once b list command.Sweep t between u key taken = no key
 answers-once b list (command.Balance n) t between u key taken = no key

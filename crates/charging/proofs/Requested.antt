@@ -1,7 +1,7 @@
 -- What a request comes to: of an unknown account, of a key that is kept, a read, of a session that
 -- is known, and one that is decided.
 use Rattle.std.proofs.Common.{◌≡◌, ℕ, ◌≤◌, Bool, true, false, true≢false, List, ◌∷◌, ◌++◌, refl, sym, ap, subst, ◌∙◌, Option, Some, None}
-use Rattle.std.specs.Prelude.{if◌then◌else◌, ◌&&◌, is_some, option_map, max, Result, MatchResult, IfOk, OnErr, Ok, Err}
+use Rattle.std.specs.Prelude.{if◌then◌else◌, ◌&&◌, is_some, max, Result, MatchResult, IfOk, OnErr, Ok, Err}
 use Rattle.std.proofs.lemmas.Bool.{and_parts}
 use Rattle.commands.specs.declared.answer.Answer.{Answer}
 use Rattle.commands.specs.declared.answer.Answer.TheVariants as answer
@@ -22,11 +22,10 @@ use Rattle.tariffs.specs.Books.{Book, IsBook}
 use Rattle.reserving.specs.Ledger.{Ledger, Recording, last_recording}
 use Rattle.reserving.specs.Charges.{charge_rows}
 use Rattle.reserving.specs.Rows.{AccountRows, IsAccount}
-use Rattle.reserving.specs.Sessions.{group_in}
 use Rattle.reserving.specs.Stored.{stored, priced}
 use Rattle.reserving.specs.Left.{LeftRows, IsWith, left_of}
 use Rattle.reserving.proofs.Lists.{no_some}
-use Rattle.decisions.specs.Asked.{begins_session, KnowsSession, IsAsked}
+use Rattle.decisions.specs.Asked.{begins_session, IsAsked}
 use Rattle.decisions.specs.Recorded.{has_record}
 use Rattle.decisions.specs.Decided.{Decision, invalid, refused_or}
 use Rattle.decisions.specs.Decided as decision_of
@@ -36,7 +35,7 @@ use Rattle.keepers.specs.declared.key.KeptAnswer.{KeptAnswer}
 use Rattle.keepers.specs.declared.loaded.Change.{Change}
 use Rattle.keepers.specs.declared.loaded.Loaded.{Loaded}
 use Rattle.keepers.specs.Keys.{key_of}
-use Rattle.keepers.specs.Tables.{Head, Rows, Tables, no_rows}
+use Rattle.keepers.specs.Tables.{Head, Rows, Tables}
 use Rattle.keepers.specs.Change.{IsLoadedFrom, IsView, IsMadeFrom, changed}
 use Rattle.keepers.proofs.Asked.{known_is, new_unleft}
 use Rattle.charging.specs.Histories.{History}
@@ -48,7 +47,7 @@ use Rattle.charging.proofs.AcceptedTables.{row_none, row_some}
 use Rattle.charging.proofs.Grows.{grown}
 use Rattle.charging.proofs.Recorded.{new_has_no_groups}
 use Rattle.charging.proofs.KeptKeys.{reads-refused, request-repeated, request-fresh, decided-told, decided-kept}
-use Rattle.charging.proofs.Serving.{IsOpened, is_opened, keeps-some, served-told, served-loaded, outcome-unopened, outcome-opened, outcome-kept}
+use Rattle.charging.proofs.Serving.{IsOpened, is_opened, keeps-some, none-spent, served-told, served-loaded, outcome-unopened, outcome-opened, outcome-kept}
 
 pub request-unknown : (b : Book) (list : List Accepted) (r : Request) (t : ℕ) (old new : Tables)
     (given : Answer) →
@@ -56,7 +55,7 @@ pub request-unknown : (b : Book) (list : List Accepted) (r : Request) (t : ℕ) 
     given ≡ failed r UserUnknown → new ≡ old → IsServed b list (Ccr r) t old new given
 request-unknown b list r t old new given time le tables none answers same =
     served-told b list (Ccr r) t r.account refl time le
-    (unopened_outcome (history b r.account list) (Ccr r)) given old new
+    (unopened_outcome None (history b r.account list) (Ccr r)) given old new
     (outcome-unopened b list (Ccr r) t r.account refl old tables none) refl answers same tables
 
 kept-answer : (v : Bool) (o : Option KeptAnswer) (kept : KeptAnswer) →
@@ -90,7 +89,7 @@ module _ (b : Book) (list : List Accepted) (r : Request) (t : ℕ) (old : Tables
   abbrev h : History
   h = history b r.account list
 
-  fresh-is : outcome b h (Ccr r) t ≡ decided_by r (decision b t r h.ledger) h
+  fresh-is : outcome b None h (Ccr r) t ≡ decided_by r (decision b t r h.ledger) h
   fresh-is =
       outcome-opened b list (Ccr r) t r.account refl opened
       ∙ request-fresh b r t h (old.answers r.account (key_of (content.Request r)))
@@ -286,12 +285,12 @@ module _ (b : Book) (list : List Accepted) (r : Request) (t : ℕ) (old new : Ta
         change.kept ≡ Some (record {
           content = content.Request r;
           answer = answer.Request given;
-        }) →
+        }) → change.redeemed ≡ None →
         result ≡ answer.Request given →
         (IsMadeFrom found.before (stored x) (old.rows found.number) →
         new ≡ changed change old) → IsServed b list (Ccr r) t old new result
-    request-done x change result done book as_of rows charges number moments afters kept results
-        makes =
+    request-done x change result done book as_of rows charges number moments afters kept redeemed
+        results makes =
         let after : Ledger = (decision b t r past.ledger).after in
         let same : (decision found.account.book m r past.ledger).after ≡ after = λ i.
         (decision-is i).after in
@@ -317,6 +316,7 @@ module _ (b : Book) (list : List Accepted) (r : Request) (t : ℕ) (old new : Ta
           } ∷ past.kept)
               ∙ keeps-some (sym kept) past.kept;
           charges = sym (ap charge_rows same) ∙ charges past.ledger left with-rows asked;
+          vouchers = none-spent b list t (Ccr r) change (λ code. refl) redeemed;
           number = number;
           moment = moments;
           after = afters;

@@ -33,7 +33,7 @@ answers-more b list (e ∷ ds) d =
     ap (λ (given : List Answer). answer_to b list e.command (moment_of list e.moment) ∷ given)
     (answers-more b (after_command b list e) ds d)
 
-commands-more : (b : Book) (list : List Accepted) (ds : List DatedCommand) (d : DatedCommand) →
+pub commands-more : (b : Book) (list : List Accepted) (ds : List DatedCommand) (d : DatedCommand) →
     after_commands b list (ds ++ d ∷ []) ≡ after_command b (after_commands b list ds) d
 commands-more b list [] d = refl
 commands-more b list (e ∷ ds) d = commands-more b (after_command b list e) ds d

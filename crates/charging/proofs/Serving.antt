@@ -1,5 +1,5 @@
 -- What a command comes to that names an account: its answer, the list after it, and the tables.
-use Rattle.std.proofs.Common.{◌≡◌, ℕ, ◌+◌, Bool, true, false, true≢false, List, [], ◌∷◌, ◌++◌, ◌≤◌, refl, sym, ap, subst, ◌∙◌, arith, Option, Some, None}
+use Rattle.std.proofs.Common.{◌≡◌, ℕ, ◌+◌, Bool, true, false, true≢false, List, ◌∷◌, ◌++◌, ◌≤◌, refl, sym, ap, subst, ◌∙◌, arith, Option, Some, None}
 use Rattle.std.proofs.Math.Nat.{max-eq_left}
 use Rattle.std.specs.Prelude.{if◌then◌else◌, is_some, max, Result, Ok, Err, OnOk}
 use Rattle.std.specs.Cmp.Lexicographic.{bytes_decides}
@@ -7,27 +7,26 @@ use Rattle.identifiers.specs.Texts.{same_name}
 use Rattle.commands.specs.declared.answer.Answer.{Answer}
 use Rattle.commands.specs.declared.command.Command.{Command}
 use Rattle.tariffs.specs.Books.{Book}
-use Rattle.reserving.specs.Ledger.{Ledger}
 use Rattle.reserving.specs.Charges.{charge_rows}
 use Rattle.reserving.specs.Rows.{AccountRows, IsAccount}
 use Rattle.reserving.specs.Stored.{StoredRows, stored, priced}
-use Rattle.reserving.specs.Left.{LeftRows, left_of, IsWith}
+use Rattle.reserving.specs.Left.{left_of, IsWith}
 use Rattle.reserving.proofs.Lists.{some_of}
 use Rattle.keepers.specs.declared.key.Key.{Key}
 use Rattle.keepers.specs.declared.key.KeptAnswer.{KeptAnswer}
 use Rattle.keepers.specs.declared.loaded.Change.{Change}
 use Rattle.keepers.specs.declared.loaded.Loaded.{Loaded}
-use Rattle.keepers.specs.Tables.{Head, Rows, Tables, no_rows, head_of}
-use Rattle.keepers.specs.Change.{IsLoad, IsLoadedFrom, AreRowsAt, IsMadeFrom, kept_after, over, changed}
+use Rattle.keepers.specs.Tables.{Head, Tables, no_rows, head_of}
+use Rattle.keepers.specs.Change.{IsLoad, IsLoadedFrom, AreRowsAt, IsMadeFrom, kept_after, over, redeemed_over, changed}
 use Rattle.keepers.specs.Steps.{Extends}
 use Rattle.keepers.proofs.Taking.{taken}
 use Rattle.keepers.proofs.Leaving.{left_behind}
 use Rattle.charging.specs.Histories.{History, kept_under}
-use Rattle.charging.specs.Accepted.{Accepted, Outcome, one, concerned_by, names, is_opening, as_of, last_moment, IsInTime}
+use Rattle.charging.specs.Accepted.{Accepted, Outcome, one, concerned_by, names, is_opening, names_code, voucher_after, as_of, last_moment, IsInTime}
 use Rattle.charging.proofs.AcceptedTables.{Adds, tables_changed, row_none, row_some, as_of-last}
-use Rattle.charging.specs.Outcomes.{outcome, opened_outcome, unopened_outcome}
+use Rattle.charging.specs.Outcomes.{book_days, outcome, opened_outcome, unopened_outcome}
 use Rattle.charging.proofs.NeverOpened.{kept-opened}
-use Rattle.charging.specs.Served.{history, AreTables, answer_on, answer_to, accepts_on, accepts, with_command, IsServed}
+use Rattle.charging.specs.Served.{history, voucher, standing, AreTables, answer_on, answer_to, accepts_on, accepts, with_command, IsServed}
 use Rattle.charging.specs.Stepping.{IsTaken}
 
 name_itself : (a : List ℕ) → same_name a a ≡ true
@@ -117,14 +116,31 @@ is_opened b list t a old x time le tables loads is =
 
 -- ---- what a command comes to
 
+-- the voucher of a change is what an accepted command leaves under its code
+abbrev pub AreSpent : Book → List Accepted → ℕ → Command → Change → Type 0
+AreSpent b list t c change = (code : List ℕ) →
+    redeemed_over change.redeemed code (voucher b code list) ≡
+    (if names_code code c then voucher_after (book_days b) c t (voucher b code list)
+    else voucher b code list)
+
+-- a command that names no code leaves each as it is
+pub none-spent : (b : Book) (list : List Accepted) (t : ℕ) (c : Command) (change : Change) →
+    ((code : List ℕ) → names_code code c ≡ false) → change.redeemed ≡ None →
+    AreSpent b list t c change
+none-spent b list t c change codes is code =
+    ap (λ o. redeemed_over o code (voucher b code list)) is
+    ∙ sym (ap (λ v. if v then voucher_after (book_days b) c t (voucher b code list)
+    else voucher b code list) (codes code))
+
 -- a change is what an accepted command makes of the history of the account that it names
-pub record IsChange (b : Book) (t : ℕ) (c : Command) (before after : History) (change : Change)
-    (tables : Tables) : Type 0 where
+pub record IsChange (b : Book) (list : List Accepted) (t : ℕ) (c : Command)
+    (before after : History) (change : Change) (tables : Tables) : Type 0 where
   pub moment : change.moment ≡ t
   pub opened : after.opened ≡ true
   pub row : AreRowsAt b after.ledger t (over change.after (tables.rows change.number))
   pub kept : after.kept ≡ keeps change.kept before.kept
   pub charges : charge_rows after.ledger ≡ charge_rows before.ledger ++ change.charges.items
+  pub vouchers : AreSpent b list t c change
   pub count : (if is_some (tables.rows change.number).head then tables.count
       else tables.count + 1) ≡ (if is_opening c then tables.count + 1 else tables.count)
 
@@ -141,32 +157,36 @@ is-there b list a old tables e = at (old.rows a).head refl e
 
 module _ (b : Book) (list : List Accepted) (c : Command) (t : ℕ) (a : List ℕ)
     (named : concerned_by c ≡ one a) where
-  answer_named : answer_to b list c t ≡ (outcome b (history b a list) c t).answer
+  -- what it comes to
+  abbrev comes : Outcome
+  comes = outcome b (standing b c list) (history b a list) c t
+
+  answer_named : answer_to b list c t ≡ comes.answer
   answer_named = ap (λ o. answer_on o b list c t) named
 
-  accepts_named : accepts b list c t ≡ (outcome b (history b a list) c t).accepted
+  accepts_named : accepts b list c t ≡ comes.accepted
   accepts_named = ap (λ o. accepts_on o b list c t) named
 
   history_named : history b a (record { moment = t; command = c } ∷ list) ≡
-      (outcome b (history b a list) c t).after
+      comes.after
   history_named =
-      ap (λ o. if names a o then (outcome b (history b a list) c t).after else history b a list)
+      ap (λ o. if names a o then comes.after else history b a list)
       named
-      ∙ ap (λ v. if v then (outcome b (history b a list) c t).after else history b a list)
+      ∙ ap (λ v. if v then comes.after else history b a list)
       (name_itself a)
 
-  with_accepted : (outcome b (history b a list) c t).accepted ≡ true →
+  with_accepted : comes.accepted ≡ true →
       with_command b list c t ≡ record { moment = t; command = c } ∷ list
   with_accepted e = ap (λ v. if v then record { moment = t; command = c } ∷ list else list)
       (accepts_named ∙ e)
 
-  with_told : (outcome b (history b a list) c t).accepted ≡ false → with_command b list c t ≡ list
+  with_told : comes.accepted ≡ false → with_command b list c t ≡ list
   with_told e = ap (λ v. if v then record { moment = t; command = c } ∷ list else list)
       (accepts_named ∙ e)
 
   -- it isn't accepted
   pub served-told : IsInTime list → last_moment list ≤ t →
-      (o : Outcome) (given : Answer) (old new : Tables) → outcome b (history b a list) c t ≡ o →
+      (o : Outcome) (given : Answer) (old new : Tables) → comes ≡ o →
       o.accepted ≡ false → given ≡ o.answer → new ≡ old → AreTables b list old →
       IsServed b list c t old new given
   served-told time le o given old new is refused answers same tables = record {
@@ -179,9 +199,9 @@ module _ (b : Book) (list : List Accepted) (c : Command) (t : ℕ) (a : List ℕ
   }
 
   -- it is accepted
-  adds : (o : Outcome) (change : Change) (old : Tables) → outcome b (history b a list) c t ≡ o →
-      a ≡ change.number → IsChange b t c (history b a list) o.after change old →
-      Adds (outcome b) b (record { moment = t; command = c }) list change old
+  adds : (o : Outcome) (change : Change) (old : Tables) → comes ≡ o →
+      a ≡ change.number → IsChange b list t c (history b a list) o.after change old →
+      Adds (book_days b) (outcome b) b (record { moment = t; command = c }) list change old
   adds o change old is number x =
       let after : history b a (record { moment = t; command = c } ∷ list) ≡ o.after = history_named
       ∙ (λ i. (is i).after) in
@@ -204,21 +224,22 @@ module _ (b : Book) (list : List Accepted) (c : Command) (t : ℕ) (a : List ℕ
             (history b n (record { moment = t; command = c } ∷ list)).ledger ≡
             charge_rows (history b n list).ledger ++ change.charges.items) number
             ((λ i. charge_rows (after i).ledger) ∙ x.charges);
+        vouchers = x.vouchers;
         count = x.count;
       }
 
   pub served-done : IsInTime list → last_moment list ≤ t →
       (o : Outcome) (given : Answer) (change : Change) (old new : Tables) →
-      outcome b (history b a list) c t ≡ o → o.accepted ≡ true → given ≡ o.answer →
+      comes ≡ o → o.accepted ≡ true → given ≡ o.answer →
       a ≡ change.number →
-      IsChange b t c (history b a list) o.after change old → new ≡ changed change old →
+      IsChange b list t c (history b a list) o.after change old → new ≡ changed change old →
       AreTables b list old → IsServed b list c t old new given
   served-done time le o given change old new is done answers number x grown tables = record {
     answer = answers ∙ sym (answer_named ∙ (λ i. (is i).answer));
     tables = subst (λ (x : List Accepted). AreTables b x new)
         (sym (with_accepted ((λ i. (is i).accepted) ∙ done)))
         (subst (λ (x : Tables). AreTables b (record { moment = t; command = c } ∷ list) x)
-        (sym grown) (tables_changed (outcome b) b (record { moment = t; command = c }) list
+        (sym grown) (tables_changed (book_days b) (outcome b) b (record { moment = t; command = c }) list
         change old (adds o change old is number x) tables));
     time = in-time b list c t time le;
     same = λ e. absurd (true≢false (sym done ∙ sym (λ i. (is i).accepted) ∙ sym accepts_named ∙ e));
@@ -231,22 +252,25 @@ module _ (b : Book) (list : List Accepted) (c : Command) (t : ℕ) (a : List ℕ
       row_none b (as_of a list) (history b a list) (old.rows a) none (tables.accounts a)
 
   pub outcome-unopened : (old : Tables) → AreTables b list old → (old.rows a).head ≡ None →
-      outcome b (history b a list) c t ≡ unopened_outcome (history b a list) c
+      comes ≡
+      unopened_outcome (standing b c list) (history b a list) c
   outcome-unopened old tables none =
-      ap (λ v. if v then opened_outcome b (history b a list) c t
-      else unopened_outcome (history b a list) c) (not-opened old tables none).0
+      ap (λ v. if v then opened_outcome b (standing b c list) (history b a list) c t
+      else unopened_outcome (standing b c list) (history b a list) c) (not-opened old tables none).0
 
   -- it is
   pub outcome-opened : (history b a list).opened ≡ true →
-      outcome b (history b a list) c t ≡ opened_outcome b (history b a list) c t
+      comes ≡
+      opened_outcome b (standing b c list) (history b a list) c t
   outcome-opened opened = ap
-      (λ v. if v then opened_outcome b (history b a list) c t
-      else unopened_outcome (history b a list) c) opened
+      (λ v. if v then opened_outcome b (standing b c list) (history b a list) c t
+      else unopened_outcome (standing b c list) (history b a list) c) opened
 
   -- something is kept of it: it is there
   pub outcome-kept : (old : Tables) (k : Key) (kept : KeptAnswer) → AreTables b list old →
       old.answers a k ≡ Some kept →
-      outcome b (history b a list) c t ≡ opened_outcome b (history b a list) c t
+      comes ≡
+      opened_outcome b (standing b c list) (history b a list) c t
   outcome-kept old k kept tables is =
       outcome-opened (kept-opened b a list k kept (sym (tables.answers a k) ∙ is))
 
@@ -268,6 +292,7 @@ module _ (b : Book) (list : List Accepted) (c : Command) (t : ℕ) (a : List ℕ
       pub kept : o.after.kept ≡ keeps change.kept (history b a list).kept
       pub charges : charge_rows o.after.ledger ≡ charge_rows (history b a list).ledger
           ++ change.charges.items
+      pub vouchers : AreSpent b list t c change
       pub number : change.number ≡ found.number
       pub moment : change.moment ≡ x.as_of
       pub after : change.after ≡ stored x
@@ -287,7 +312,7 @@ module _ (b : Book) (list : List Accepted) (c : Command) (t : ℕ) (a : List ℕ
         (left o x change is).0)
 
     pub served-loaded : (o : Outcome) (given : Answer) (x : AccountRows) (change : Change) →
-        is_opening c ≡ false → outcome b (history b a list) c t ≡ o → o.accepted ≡ true →
+        is_opening c ≡ false → comes ≡ o → o.accepted ≡ true →
         given ≡ o.answer → IsCalled o x change →
         (IsMadeFrom found.before (stored x) (old.rows found.number) → new ≡ changed change old) →
         IsServed b list c t old new given
@@ -305,6 +330,7 @@ module _ (b : Book) (list : List Accepted) (c : Command) (t : ℕ) (a : List ℕ
               called.at_moment (left o x change called).1));
           kept = called.kept;
           charges = called.charges;
+          vouchers = called.vouchers;
           count = ap (λ v. if v then old.count else old.count + 1)
               (ap (λ (n : List ℕ). is_some (old.rows n).head) (sym where_is) ∙ account.head)
               ∙ sym (ap (λ v. if v then old.count + 1 else old.count) opens);

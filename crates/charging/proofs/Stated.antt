@@ -1,7 +1,7 @@
 -- What a balance comes to: the state that is found of an account is its ledger's.
 use Rattle.std.proofs.Common.{◌≡◌, ℕ, ◌≤◌, false, List, ◌++◌, map, refl, sym, ap, subst, ◌∙◌, Some, None}
 use Rattle.std.proofs.Math.Nat.{le-max_right}
-use Rattle.std.specs.Prelude.{if◌then◌else◌, max}
+use Rattle.std.specs.Prelude.{if◌then◌else◌}
 use Rattle.buckets.specs.Row.{Row}
 use Rattle.commands.specs.declared.answer.Answer.TheVariants as answer
 use Rattle.commands.specs.declared.answer.Refusal.TheVariants.{AccountUnknown}
@@ -23,7 +23,7 @@ use Rattle.charging.specs.Balances.{bucket_balance, by_number, account_balance, 
 use Rattle.charging.specs.Histories.{History}
 use Rattle.charging.specs.Outcomes.{told, opened_outcome, unopened_outcome}
 use Rattle.charging.specs.Served.{history, AreTables, IsServed}
-use Rattle.charging.specs.States.{IsState, IsStateAt, IsStateOf}
+use Rattle.charging.specs.States.{IsState, IsStateOf}
 use Rattle.charging.specs.declared.balances.AccountState.{AccountState}
 use Rattle.charging.proofs.AcceptedTables.{row_none}
 use Rattle.charging.proofs.ByNumber.{joined_by_number}
@@ -75,8 +75,8 @@ balance-unknown b list n t old new time le tables none same =
     let h : History = history b n list in
     served-told b list (command.Balance n) t n refl time le
     (told (answer.Refused AccountUnknown) h) (answer.Refused AccountUnknown) old new
-    (ap (λ v. if v then opened_outcome b h (command.Balance n) t
-    else unopened_outcome h (command.Balance n)) none)
+    (ap (λ v. if v then opened_outcome b None h (command.Balance n) t
+    else unopened_outcome None h (command.Balance n)) none)
     refl refl same tables
 
 pub balance-told : (b : Book) (list : List Accepted) (n : List ℕ) (t : ℕ) (old new : Tables)

@@ -1,5 +1,5 @@
 -- What each step of a ledger keeps, every ledger of an account keeps.
-use Rattle.std.proofs.Common.{◌≡◌, ℕ, Bool, true, false, List, [], ◌∷◌, Option, None}
+use Rattle.std.proofs.Common.{◌≡◌, ℕ, Bool, true, false, List, ◌∷◌, Option, None}
 use Rattle.units.specs.declared.blocks.UsedPart.{UsedPart}
 use Rattle.tariffs.specs.Books.{Book}
 use Rattle.rating.specs.declared.grant.Grant.{Grant as RatedGrant}

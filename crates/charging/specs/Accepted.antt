@@ -1,11 +1,14 @@
--- Accepted commands, the newest first: the history that they leave of each account, and the tables
--- that hold it.
+-- Accepted commands, the newest first: the history that they leave of each account, what they leave
+-- under the codes of vouchers, and the tables that hold it.
 -- Source: profile.
 use Rattle.std.specs.Prelude.{◌≡◌, ℕ, ◌+◌, ◌≤◌, Bool, true, false, if◌then◌else◌, List, [], ◌∷◌, Option, Some, None}
 use Rattle.identifiers.specs.Texts.{same_name}
 use Rattle.commands.specs.declared.command.Command.{Command}
 use Rattle.commands.specs.declared.command.Command.TheVariants as command
 use Rattle.commands.specs.declared.answer.Answer.{Answer}
+use Rattle.redemptions.specs.declared.voucher.Voucher.{Voucher}
+use Rattle.redemptions.specs.Adding.{addition, after_addition}
+use Rattle.redemptions.specs.Redeeming.{DayEnds, redemption, after_redemption}
 use Rattle.tariffs.specs.Books.{Book}
 use Rattle.reserving.specs.Charges.{charge_rows}
 use Rattle.keepers.specs.declared.key.Key.{Key}
@@ -25,10 +28,11 @@ pub record Outcome : Type 0 where
   pub accepted : Bool
   pub after : History
 
--- which accounts a command concerns: one of this number, or each
+-- which accounts a command concerns: one of this number, each, or none
 pub data Concerned : Type 0 where
   one : List ℕ → Concerned
   each : Concerned
+  none : Concerned
 
 abbrev pub concerned_by : Command → Concerned
 concerned_by (command.Ccr r) = one r.account
@@ -36,6 +40,8 @@ concerned_by (command.OpenAccount n) = one n
 concerned_by (command.Credit c) = one c.account
 concerned_by (command.Bar n) = one n
 concerned_by (command.Unbar n) = one n
+concerned_by (command.AddVoucher v) = none
+concerned_by (command.Redeem r) = one r.account
 concerned_by command.Sweep = each
 concerned_by (command.Balance n) = one n
 
@@ -43,11 +49,13 @@ concerned_by (command.Balance n) = one n
 abbrev pub names : List ℕ → Concerned → Bool
 names a (one b) = same_name b a
 names a each = false
+names a none = false
 
 -- a command brings an account to its moment where it concerns that one or each
 abbrev pub reaches : List ℕ → Concerned → Bool
 reaches a (one b) = same_name b a
 reaches a each = true
+reaches a none = false
 
 abbrev pub is_opening : Command → Bool
 is_opening (command.OpenAccount n) = true
@@ -55,6 +63,8 @@ is_opening (command.Ccr r) = false
 is_opening (command.Credit c) = false
 is_opening (command.Bar n) = false
 is_opening (command.Unbar n) = false
+is_opening (command.AddVoucher v) = false
+is_opening (command.Redeem r) = false
 is_opening command.Sweep = false
 is_opening (command.Balance n) = false
 
@@ -79,12 +89,54 @@ abbrev pub IsInTime : List Accepted → Type 0
 IsInTime [] = Unit {0}
 IsInTime (d ∷ before) = (last_moment before ≤ d.moment) × IsInTime before
 
--- ---- one account alone
+-- ---- vouchers
 
--- the accepted commands that name an account
-abbrev pub own : List ℕ → List Accepted → List Accepted
-own a [] = []
-own a (d ∷ before) = if names a (concerned_by d.command) then d ∷ own a before else own a before
+-- a command names this code
+abbrev pub names_code : List ℕ → Command → Bool
+names_code code (command.Ccr r) = false
+names_code code (command.OpenAccount n) = false
+names_code code (command.Credit c) = false
+names_code code (command.Bar n) = false
+names_code code (command.Unbar n) = false
+names_code code (command.AddVoucher v) = same_name v.code code
+names_code code (command.Redeem r) = same_name r.code code
+names_code code command.Sweep = false
+names_code code (command.Balance n) = false
+
+-- what stands under the code that it names, once it is accepted
+abbrev pub voucher_after : DayEnds → Command → ℕ → Option Voucher → Option Voucher
+voucher_after ends (command.Ccr r) t found = found
+voucher_after ends (command.OpenAccount n) t found = found
+voucher_after ends (command.Credit c) t found = found
+voucher_after ends (command.Bar n) t found = found
+voucher_after ends (command.Unbar n) t found = found
+voucher_after ends (command.AddVoucher v) t found = after_addition (addition found v.terms) found
+voucher_after ends (command.Redeem r) t found =
+    after_redemption (redemption ends found r.account t) found
+voucher_after ends command.Sweep t found = found
+voucher_after ends (command.Balance n) t found = found
+
+-- what stands under a code after accepted commands
+abbrev pub voucher_under : DayEnds → List ℕ → List Accepted → Option Voucher
+voucher_under ends code [] = None
+voucher_under ends code (d ∷ before) =
+    if names_code code d.command
+    then voucher_after ends d.command d.moment (voucher_under ends code before)
+    else voucher_under ends code before
+
+-- what stands under the code that a command names; nothing where it names none
+abbrev pub standing_for : DayEnds → Command → List Accepted → Option Voucher
+standing_for ends (command.Ccr r) list = None
+standing_for ends (command.OpenAccount n) list = None
+standing_for ends (command.Credit c) list = None
+standing_for ends (command.Bar n) list = None
+standing_for ends (command.Unbar n) list = None
+standing_for ends (command.AddVoucher v) list = voucher_under ends v.code list
+standing_for ends (command.Redeem r) list = voucher_under ends r.code list
+standing_for ends command.Sweep list = None
+standing_for ends (command.Balance n) list = None
+
+-- ---- one account alone
 
 -- the rows of an account that is there, or none
 abbrev pub IsRowOf : Option Head → Book → ℕ → History → Rows → Type 0
@@ -95,14 +147,16 @@ IsRowOf (Some head) book t history r = (history.opened ≡ true) × AreRowsAt bo
 abbrev pub IsRow : Book → ℕ → History → Rows → Type 0
 IsRow book t history r = IsRowOf r.head book t history r
 
--- by what commands come to on an account's history
-module _ (outcome : History → Command → ℕ → Outcome) where
+-- by where days end, and what commands come to over what stands under their codes and on an
+-- account's history
+module _ (ends : DayEnds) (outcome : Option Voucher → History → Command → ℕ → Outcome) where
   -- the account's history
   abbrev pub history_of : List ℕ → List Accepted → History
   history_of a [] = no_history
   history_of a (d ∷ before) =
       if names a (concerned_by d.command)
-      then (outcome (history_of a before) d.command d.moment).after
+      then (outcome (standing_for ends d.command before) (history_of a before) d.command
+      d.moment).after
       else history_of a before
 
   -- ---- tables
@@ -114,4 +168,5 @@ module _ (outcome : History → Command → ℕ → Outcome) where
     pub answers : (a : List ℕ) (k : Key) → tables.answers a k ≡ kept_under k (history_of a list)
     pub charges : (a : List ℕ) (n : ℕ) →
         tables.charges a n ≡ charge_in n (charge_rows (history_of a list).ledger)
+    pub vouchers : (code : List ℕ) → tables.vouchers code ≡ voucher_under ends code list
     pub count : tables.count ≡ account_count list

@@ -1,6 +1,6 @@
 -- An account's balance: its buckets at a moment, by number.
 -- Source: TS 32.296, account balance management function; the order by number: profile.
-use Rattle.std.specs.Prelude.{◌≡◌, ℕ, List, [], ◌∷◌, map, nat_lt, if◌then◌else◌}
+use Rattle.std.specs.Prelude.{ℕ, List, [], ◌∷◌, map, nat_lt, if◌then◌else◌}
 use Rattle.std.specs.List.Sorted.{IsNonDecreasingBy, IsPermutation}
 use Rattle.buckets.specs.Row.{Row}
 use Rattle.commands.specs.declared.balance.AccountBalance.{AccountBalance}

@@ -1,8 +1,11 @@
--- Isolation: an account's answers and rows are those of its own commands alone; others reach it
--- through the moment alone.
+-- Isolation: an account's answers and rows are those of its own commands and of the additions of
+-- the vouchers that it redeems; others reach it through the moment alone.
 -- Source: profile.
-use Rattle.std.specs.Prelude.{◌≡◌, ℕ, ◌≤◌, List, [], ◌∷◌, is_some, filter, if◌then◌else◌}
+use Rattle.std.specs.Prelude.{◌≡◌, ℕ, ◌≤◌, ◌&&◌, ◌||◌, Bool, true, false, List, [], ◌∷◌, is_some, filter, if◌then◌else◌}
+use Rattle.identifiers.specs.Texts.{same_name}
 use Rattle.commands.specs.declared.answer.Answer.{Answer}
+use Rattle.commands.specs.declared.command.Command.{Command}
+use Rattle.commands.specs.declared.command.Command.TheVariants as command
 use Rattle.tariffs.specs.Books.{Book}
 use Rattle.reserving.specs.Stored.{StoredRows, IsStored, advanced_stored}
 use Rattle.keepers.specs.declared.key.Key.{Key}
@@ -12,21 +15,63 @@ use Rattle.charging.specs.declared.running.DatedCommand.{DatedCommand}
 use Rattle.charging.specs.Served.{AreTables, moment_of}
 use Rattle.charging.specs.Runs.{after_command, answers_to, after_commands}
 
--- the commands of a run that name an account, each with its moment in the run
-abbrev pub own_commands : Book → List ℕ → List Accepted → List DatedCommand → List DatedCommand
-own_commands b a list [] = []
-own_commands b a list (d ∷ ds) =
-    if names a (concerned_by d.command)
+-- ---- the commands that are an account's own
+
+-- a command redeems this code for the account
+abbrev pub is_redemption_of : List ℕ → List ℕ → Command → Bool
+is_redemption_of a code (command.Ccr r) = false
+is_redemption_of a code (command.OpenAccount n) = false
+is_redemption_of a code (command.Credit c) = false
+is_redemption_of a code (command.Bar n) = false
+is_redemption_of a code (command.Unbar n) = false
+is_redemption_of a code (command.AddVoucher v) = false
+is_redemption_of a code (command.Redeem r) = same_name r.account a && same_name r.code code
+is_redemption_of a code command.Sweep = false
+is_redemption_of a code (command.Balance n) = false
+
+-- one of the commands names the code in a redemption for the account
+abbrev pub redeems : List ℕ → List ℕ → List DatedCommand → Bool
+redeems a code [] = false
+redeems a code (d ∷ ds) = is_redemption_of a code d.command || redeems a code ds
+
+-- a command adds the voucher of such a code
+abbrev pub adds_for : List ℕ → List DatedCommand → Command → Bool
+adds_for a ds (command.Ccr r) = false
+adds_for a ds (command.OpenAccount n) = false
+adds_for a ds (command.Credit c) = false
+adds_for a ds (command.Bar n) = false
+adds_for a ds (command.Unbar n) = false
+adds_for a ds (command.AddVoucher v) = redeems a v.code ds
+adds_for a ds (command.Redeem r) = false
+adds_for a ds command.Sweep = false
+adds_for a ds (command.Balance n) = false
+
+-- of a run's commands those are an account's own that name it, and the additions of the codes that
+-- redemptions for it name
+abbrev pub is_own : List ℕ → List DatedCommand → Command → Bool
+is_own a ds c = names a (concerned_by c) || adds_for a ds c
+
+-- no code that a redemption for the account names is named by one for another account
+pub record HasOwnCodes (a : List ℕ) (ds : List DatedCommand) : Type 0 where
+  pub codes : (code : List ℕ) → redeems a code ds ≡ true → (other : List ℕ) →
+      same_name other a ≡ false → redeems other code ds ≡ false
+
+-- the own commands of a run, each with its moment in the run
+abbrev pub own_commands : Book → (Command → Bool) → List Accepted → List DatedCommand →
+    List DatedCommand
+own_commands b own list [] = []
+own_commands b own list (d ∷ ds) =
+    if own d.command
     then record { moment = moment_of list d.moment; command = d.command }
-    ∷ own_commands b a (after_command b list d) ds
-    else own_commands b a (after_command b list d) ds
+    ∷ own_commands b own (after_command b list d) ds
+    else own_commands b own (after_command b list d) ds
 
 -- and the answers to them
-abbrev pub own_answers : List ℕ → List DatedCommand → List Answer → List Answer
-own_answers a [] given = []
-own_answers a (d ∷ ds) [] = []
-own_answers a (d ∷ ds) (x ∷ given) = if names a (concerned_by d.command)
-    then x ∷ own_answers a ds given else own_answers a ds given
+abbrev pub own_answers : (Command → Bool) → List DatedCommand → List Answer → List Answer
+own_answers own [] given = []
+own_answers own (d ∷ ds) [] = []
+own_answers own (d ∷ ds) (x ∷ given) =
+    if own d.command then x ∷ own_answers own ds given else own_answers own ds given
 
 -- moments that don't fall, from one on
 abbrev pub DontFall : ℕ → List DatedCommand → Type 0
@@ -62,10 +107,11 @@ pub record ShowAlike (b : Book) (t : ℕ) (a : List ℕ) (x y : Tables) : Type 0
 -- in a run from nothing an account's answers are those of its own commands alone, and so are its
 -- rows
 pub record IsIsolated (b : Book) (a : List ℕ) (ds : List DatedCommand) : Type 0 where
-  pub answers : own_answers a ds (answers_to b [] ds) ≡ answers_to b [] (own_commands b a [] ds)
+  pub answers : own_answers (is_own a ds) ds (answers_to b [] ds) ≡
+      answers_to b [] (own_commands b (is_own a ds) [] ds)
   pub tables : (t : ℕ) (x y : Tables) → AreTables b (after_commands b [] ds) x →
-      AreTables b (after_commands b [] (own_commands b a [] ds)) y →
+      AreTables b (after_commands b [] (own_commands b (is_own a ds) [] ds)) y →
       last_moment (after_commands b [] ds) ≤ t → ShowAlike b t a x y
   -- where moments never fall, its own commands are those of the run as they were handed in
   pub unmoved : DontFall 0 ds →
-      own_commands b a [] ds ≡ filter (λ d. names a (concerned_by d.command)) ds
+      own_commands b (is_own a ds) [] ds ≡ filter (λ d. is_own a ds d.command) ds

@@ -1,21 +1,32 @@
--- What a command comes to on the history of the account that it names: its answer, whether it is
--- accepted, and the history after it (requests: RFC 8506; operators' commands, keys and repeats:
--- profile).
-use Rattle.std.specs.Prelude.{ℕ, ◌==◌, ◌||◌, nat_le, nat_lt, Bool, true, false, if◌then◌else◌, ◌∷◌, Option, Some, None, unwrap_or}
-use Rattle.commands.specs.Alike.{same_request, same_credit}
+-- What a command comes to over the voucher whose code it names and on the history of the account
+-- that it names: its answer, whether it is accepted, and the history after it (requests: RFC 8506;
+-- operators' commands, vouchers, keys and repeats: profile).
+use Rattle.std.specs.Prelude.{ℕ, ◌==◌, ◌||◌, nat_le, nat_lt, Bool, true, false, if◌then◌else◌, ◌∷◌, Option, Some, None, Result, Ok, Err, unwrap_or}
+use Rattle.commands.specs.Alike.{same_request, same_credit, same_redemption}
 use Rattle.commands.specs.declared.avp.Avp.TheVariants.{RequestNumber}
 use Rattle.commands.specs.declared.answer.Answer.{Answer}
 use Rattle.commands.specs.declared.answer.Answer.TheVariants as answer
 use Rattle.commands.specs.declared.answer.Failure.{Failure}
 use Rattle.commands.specs.declared.answer.Failure.TheVariants.{UserUnknown, InvalidAvpValue}
 use Rattle.commands.specs.declared.answer.Outcome.TheVariants.{Failed}
-use Rattle.commands.specs.declared.answer.Refusal.TheVariants.{AccountExists, AccountUnknown, ContentDiffers, OutOfRange}
+use Rattle.commands.specs.declared.answer.Refusal.{Refusal}
+use Rattle.commands.specs.declared.answer.Refusal.TheVariants.{AccountExists, AccountUnknown, VoucherUnknown, VoucherSpent, ContentDiffers, OutOfRange}
 use Rattle.commands.specs.declared.command.Command.{Command}
 use Rattle.commands.specs.declared.command.Command.TheVariants as command
 use Rattle.commands.specs.declared.command.Content.{Content}
 use Rattle.commands.specs.declared.command.Content.TheVariants as content
 use Rattle.commands.specs.declared.command.Credit.{Credit}
+use Rattle.commands.specs.declared.command.VoucherRedemption.{VoucherRedemption}
 use Rattle.commands.specs.declared.request.Request.{Request}
+use Rattle.calendar.specs.Timetable.{day_end}
+use Rattle.redemptions.specs.declared.adding.Addition.{Addition}
+use Rattle.redemptions.specs.declared.adding.Addition.TheVariants.{New, Present, Conflicting}
+use Rattle.redemptions.specs.declared.redeeming.Redemption.{Redemption}
+use Rattle.redemptions.specs.declared.redeeming.RedeemRefusal.{RedeemRefusal}
+use Rattle.redemptions.specs.declared.redeeming.RedeemRefusal.TheVariants as refusal
+use Rattle.redemptions.specs.declared.voucher.Voucher.{Voucher}
+use Rattle.redemptions.specs.Adding.{addition}
+use Rattle.redemptions.specs.Redeeming.{DayEnds, redemption}
 use Rattle.tariffs.specs.Books.{Book}
 use Rattle.reserving.specs.Ledger.{Ledger, next_bucket}
 use Rattle.reserving.specs.Requests.{credited, with_bar}
@@ -49,6 +60,7 @@ keeping kept given ledger h =
 abbrev pub same_content : Content → Content → Bool
 same_content (content.Request r) (content.Request q) = same_request r q
 same_content (content.Credit c) (content.Credit d) = same_credit c d
+same_content (content.Redeem r) (content.Redeem q) = same_redemption r q
 same_content x y = false
 
 -- a command whose key is kept: with the same content it gets its first answer, else it is at fault
@@ -91,9 +103,12 @@ until_of c = unwrap_or c.until 4102444800
 abbrev pub is_unusable : Credit → ℕ → Bool
 is_unusable c t = c.amount == 0 || (nat_le (until_of c) (from_of c t) || nat_le (until_of c) t)
 
--- or its bucket would have no number
+-- the next bucket would have no number
+abbrev pub is_full : Ledger → Bool
+is_full ledger = nat_lt 4294967295 (next_bucket ledger)
+
 abbrev pub is_out_of_range : Credit → ℕ → Ledger → Bool
-is_out_of_range c t ledger = is_unusable c t || nat_lt 4294967295 (next_bucket ledger)
+is_out_of_range c t ledger = is_unusable c t || is_full ledger
 
 abbrev pub new_credit : Credit → ℕ → History → Outcome
 new_credit c t h =
@@ -106,33 +121,80 @@ abbrev pub credit_outcome : Credit → ℕ → History → Outcome
 credit_outcome c t h = unless_kept (kept_under (key_of (content.Credit c)) h) (content.Credit c)
     (answer.Refused ContentDiffers) h (new_credit c t h)
 
+-- ---- vouchers
+
+-- a voucher that is new is accepted; one that is there with the same terms changes nothing
+abbrev pub addition_outcome : Addition → History → Outcome
+addition_outcome (New voucher) h = done answer.Done h
+addition_outcome Present h = told answer.Done h
+addition_outcome Conflicting h = told (answer.Refused ContentDiffers) h
+
+-- where days end by the book's calendar
+abbrev pub book_days : Book → DayEnds
+book_days b t days = day_end b.calendar.zone t days
+
+abbrev pub refused_as : RedeemRefusal → Refusal
+refused_as refusal.VoucherUnknown = VoucherUnknown
+refused_as refusal.VoucherSpent = VoucherSpent
+refused_as refusal.EndOutOfRange = OutOfRange
+
+-- its bucket is a credit's
+abbrev pub redeemed_outcome : Redemption → VoucherRedemption → ℕ → History → Outcome
+redeemed_outcome x r t h =
+    if is_full h.ledger
+    then told (answer.Refused OutOfRange) h
+    else keeping (content.Redeem r) (answer.Bucket (next_bucket h.ledger))
+    (credited t x.from x.until x.scope x.amount h.ledger) h
+
+abbrev pub redemption_outcome : Result Redemption RedeemRefusal → VoucherRedemption → ℕ → History →
+    Outcome
+redemption_outcome (Err refusal) r t h = told (answer.Refused (refused_as refusal)) h
+redemption_outcome (Ok x) r t h = redeemed_outcome x r t h
+
+abbrev pub new_redemption : Book → Option Voucher → VoucherRedemption → ℕ → History → Outcome
+new_redemption b standing r t h =
+    redemption_outcome (redemption (book_days b) standing r.account t) r t h
+
+abbrev pub redeem_outcome : Book → Option Voucher → VoucherRedemption → ℕ → History → Outcome
+redeem_outcome b standing r t h =
+    unless_kept (kept_under (key_of (content.Redeem r)) h) (content.Redeem r)
+    (answer.Refused ContentDiffers) h (new_redemption b standing r t h)
+
 -- ---- a command
 
 abbrev pub with_ledger : Ledger → History → History
 with_ledger ledger h = record { opened = h.opened; ledger = ledger; kept = h.kept }
 
 -- of an account that is there
-abbrev pub opened_outcome : Book → History → Command → ℕ → Outcome
-opened_outcome b h (command.Ccr r) t = request_outcome b r t h
-opened_outcome b h (command.OpenAccount n) t = told (answer.Refused AccountExists) h
-opened_outcome b h (command.Credit c) t = credit_outcome c t h
-opened_outcome b h (command.Bar n) t = done answer.Done (with_ledger (with_bar t true h.ledger) h)
-opened_outcome b h (command.Unbar n) t =
+abbrev pub opened_outcome : Book → Option Voucher → History → Command → ℕ → Outcome
+opened_outcome b standing h (command.Ccr r) t = request_outcome b r t h
+opened_outcome b standing h (command.OpenAccount n) t = told (answer.Refused AccountExists) h
+opened_outcome b standing h (command.Credit c) t = credit_outcome c t h
+opened_outcome b standing h (command.Bar n) t =
+    done answer.Done (with_ledger (with_bar t true h.ledger) h)
+opened_outcome b standing h (command.Unbar n) t =
     done answer.Done (with_ledger (with_bar t false h.ledger) h)
-opened_outcome b h command.Sweep t = told answer.Done h
-opened_outcome b h (command.Balance n) t =
+opened_outcome b standing h (command.AddVoucher v) t =
+    addition_outcome (addition standing v.terms) h
+opened_outcome b standing h (command.Redeem r) t = redeem_outcome b standing r t h
+opened_outcome b standing h command.Sweep t = told answer.Done h
+opened_outcome b standing h (command.Balance n) t =
     told (answer.Balance (account_balance b n t h.ledger)) h
 
 -- of an account that isn't: it can be opened
-abbrev pub unopened_outcome : History → Command → Outcome
-unopened_outcome h (command.Ccr r) = told (failed r UserUnknown) h
-unopened_outcome h (command.OpenAccount n) =
+abbrev pub unopened_outcome : Option Voucher → History → Command → Outcome
+unopened_outcome standing h (command.Ccr r) = told (failed r UserUnknown) h
+unopened_outcome standing h (command.OpenAccount n) =
     done answer.Done (record { opened = true; ledger = h.ledger; kept = h.kept })
-unopened_outcome h (command.Credit c) = told (answer.Refused AccountUnknown) h
-unopened_outcome h (command.Bar n) = told (answer.Refused AccountUnknown) h
-unopened_outcome h (command.Unbar n) = told (answer.Refused AccountUnknown) h
-unopened_outcome h command.Sweep = told answer.Done h
-unopened_outcome h (command.Balance n) = told (answer.Refused AccountUnknown) h
+unopened_outcome standing h (command.Credit c) = told (answer.Refused AccountUnknown) h
+unopened_outcome standing h (command.Bar n) = told (answer.Refused AccountUnknown) h
+unopened_outcome standing h (command.Unbar n) = told (answer.Refused AccountUnknown) h
+unopened_outcome standing h (command.AddVoucher v) =
+    addition_outcome (addition standing v.terms) h
+unopened_outcome standing h (command.Redeem r) = told (answer.Refused AccountUnknown) h
+unopened_outcome standing h command.Sweep = told answer.Done h
+unopened_outcome standing h (command.Balance n) = told (answer.Refused AccountUnknown) h
 
-abbrev pub outcome : Book → History → Command → ℕ → Outcome
-outcome b h c t = if h.opened then opened_outcome b h c t else unopened_outcome h c
+abbrev pub outcome : Book → Option Voucher → History → Command → ℕ → Outcome
+outcome b standing h c t =
+    if h.opened then opened_outcome b standing h c t else unopened_outcome standing h c

@@ -1,6 +1,6 @@
 -- Repeats: a command that comes again with equal content gets its first answer and changes nothing,
 -- whatever stood between (RFC 8506 section 8.2: CC-Request-Number; references of operators'
--- commands: profile).
+-- commands and codes of vouchers: profile).
 use Rattle.std.specs.Prelude.{◌≡◌, ℕ, Bool, true, false, not, List, ◌∷◌}
 use Rattle.commands.specs.declared.command.Command.{Command}
 use Rattle.commands.specs.declared.command.Command.TheVariants as command
@@ -13,13 +13,16 @@ use Rattle.charging.specs.declared.running.DatedCommand.{DatedCommand}
 use Rattle.charging.specs.Served.{AreTables, answer_to, accepts}
 use Rattle.charging.specs.Runs.{after_commands}
 
--- commands with a key: requests that aren't reads, and credits
+-- commands that can be repeated: requests that aren't reads, credits and redemptions by their keys,
+-- and additions of vouchers by their codes
 abbrev pub has_key : Command → Bool
 has_key (command.Ccr r) = not (is_read r.ask)
 has_key (command.Credit c) = true
 has_key (command.OpenAccount n) = false
 has_key (command.Bar n) = false
 has_key (command.Unbar n) = false
+has_key (command.AddVoucher v) = true
+has_key (command.Redeem r) = true
 has_key command.Sweep = false
 has_key (command.Balance n) = false
 

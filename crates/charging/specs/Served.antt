@@ -1,24 +1,33 @@
 -- What a command is answered after a list of accepted commands, and the list after it.
 -- Source: profile.
-use Rattle.std.specs.Prelude.{◌≡◌, ℕ, Bool, true, false, List, ◌∷◌, Result, if◌then◌else◌, max, MatchResult}
+use Rattle.std.specs.Prelude.{◌≡◌, ℕ, Bool, true, false, List, ◌∷◌, Option, Result, if◌then◌else◌, max, MatchResult}
 use Rattle.commands.specs.declared.answer.Answer.{Answer}
 use Rattle.commands.specs.declared.answer.Answer.TheVariants.{Swept}
 use Rattle.commands.specs.declared.command.Command.{Command}
+use Rattle.redemptions.specs.declared.voucher.Voucher.{Voucher}
 use Rattle.tariffs.specs.Books.{Book}
 use Rattle.keepers.specs.declared.fault.StoreFault.{StoreFault}
 use Rattle.keepers.specs.Tables.{Tables}
-use Rattle.charging.specs.Histories.{History}
-use Rattle.charging.specs.Accepted.{Accepted, Concerned, one, each, concerned_by, last_moment, account_count, IsInTime}
+use Rattle.charging.specs.Histories.{History, no_history}
+use Rattle.charging.specs.Accepted.{Accepted, Concerned, one, each, none, concerned_by, last_moment, account_count, IsInTime}
 use Rattle.charging.specs.Accepted as accepted
-use Rattle.charging.specs.Outcomes.{outcome}
+use Rattle.charging.specs.Outcomes.{book_days, outcome}
 
 -- the history of an account after a list of accepted commands
 abbrev pub history : Book → List ℕ → List Accepted → History
-history b a list = accepted.history_of (outcome b) a list
+history b a list = accepted.history_of (book_days b) (outcome b) a list
+
+-- what stands under a code after it
+abbrev pub voucher : Book → List ℕ → List Accepted → Option Voucher
+voucher b code list = accepted.voucher_under (book_days b) code list
+
+-- and under the code that a command names
+abbrev pub standing : Book → Command → List Accepted → Option Voucher
+standing b c list = accepted.standing_for (book_days b) c list
 
 -- the tables are those of the accepted commands
 abbrev pub AreTables : Book → List Accepted → Tables → Type 0
-AreTables b list tables = accepted.AreTablesOf (outcome b) b list tables
+AreTables b list tables = accepted.AreTablesOf (book_days b) (outcome b) b list tables
 
 -- the moment of a command: the later of the one handed in and that of the last accepted command
 abbrev pub moment_of : List Accepted → ℕ → ℕ
@@ -26,16 +35,18 @@ moment_of list t = max t (last_moment list)
 
 abbrev pub answer_on : Concerned → Book → List Accepted → Command → ℕ → Answer
 answer_on each b list c t = Swept (account_count list)
-answer_on (one a) b list c t = (outcome b (history b a list) c t).answer
+answer_on none b list c t = (outcome b (standing b c list) no_history c t).answer
+answer_on (one a) b list c t = (outcome b (standing b c list) (history b a list) c t).answer
 
--- a command's answer at its moment: by the history of the account that it names; a sweep's is the
--- number of accounts
+-- a command's answer at its moment: by what stands under the code that it names, and the history of
+-- the account that it names, where it names one; a sweep's is the number of accounts
 abbrev pub answer_to : Book → List Accepted → Command → ℕ → Answer
 answer_to b list c t = answer_on (concerned_by c) b list c t
 
 abbrev pub accepts_on : Concerned → Book → List Accepted → Command → ℕ → Bool
 accepts_on each b list c t = true
-accepts_on (one a) b list c t = (outcome b (history b a list) c t).accepted
+accepts_on none b list c t = (outcome b (standing b c list) no_history c t).accepted
+accepts_on (one a) b list c t = (outcome b (standing b c list) (history b a list) c t).accepted
 
 abbrev pub accepts : Book → List Accepted → Command → ℕ → Bool
 accepts b list c t = accepts_on (concerned_by c) b list c t

@@ -12,7 +12,7 @@ use Rattle.decisions.specs.Known.{is_known}
 use Rattle.decisions.specs.Reports.{parts_of}
 use Rattle.charging.specs.Accepted.{Accepted, concerned_by, names}
 use Rattle.charging.specs.Outcomes.{outcome}
-use Rattle.charging.specs.Served.{history}
+use Rattle.charging.specs.Served.{history, standing}
 
 -- a session's report of a rating group: its parts tell which units were used before, on both sides
 -- of and after a tariff switch
@@ -49,6 +49,8 @@ with_reports b t (command.OpenAccount n) reports = reports
 with_reports b t (command.Credit c) reports = reports
 with_reports b t (command.Bar n) reports = reports
 with_reports b t (command.Unbar n) reports = reports
+with_reports b t (command.AddVoucher v) reports = reports
+with_reports b t (command.Redeem r) reports = reports
 with_reports b t command.Sweep reports = reports
 with_reports b t (command.Balance n) reports = reports
 
@@ -57,7 +59,8 @@ abbrev pub reports_of : Book → List ℕ → List Accepted → List Report
 reports_of b a [] = []
 reports_of b a (d ∷ before) =
     if names a (concerned_by d.command)
-    then (if (outcome b (history b a before) d.command d.moment).accepted
+    then (if (outcome b (standing b d.command before) (history b a before) d.command
+    d.moment).accepted
     then with_reports b d.moment d.command (reports_of b a before)
     else reports_of b a before)
     else reports_of b a before

@@ -22,7 +22,7 @@ use Rattle.keepers.specs.Keys.{key_of}
 use Rattle.keepers.specs.Tables.{Tables}
 use Rattle.keepers.specs.Change.{IsLoad}
 use Rattle.charging.specs.Accepted.{Accepted, last_moment, IsInTime}
-use Rattle.charging.specs.Outcomes.{from_of, until_of, is_out_of_range}
+use Rattle.charging.specs.Outcomes.{from_of, until_of, is_full, is_out_of_range}
 use Rattle.charging.specs.Served.{AreTables, IsServed}
 
 -- a command is served at a moment that isn't before that of the last accepted command, or the
@@ -45,6 +45,13 @@ bar_command n barred = if barred then Bar n else Unbar n
 pub record IsTaken (b : Book) (t : ℕ) (a : List ℕ) (tables : Tables) (found : Loaded) : Type 0 where
   pub load : IsLoad b t a (tables.rows a) (Some found)
   pub account : IsAccount found.account
+
+-- a bucket is made under this number, and the same rows are left; None: there is no number
+abbrev pub Makes : Option ℕ → ℕ → ℕ → Option ℕ → ℕ → ℕ → Ledger → LeftRows → AccountRows → Type 0
+Makes None from until scope amount t ledger left new = is_full ledger ≡ true
+Makes (Some n) from until scope amount t ledger left new =
+    (is_full ledger ≡ false) × (n ≡ next_bucket ledger)
+    × IsWith (credited t from until scope amount ledger) left t new
 
 -- a credit's bucket is made under this number, and the same rows are left; None: it is out of range
 abbrev pub Credits : Option ℕ → Credit → ℕ → Ledger → LeftRows → AccountRows → Type 0

@@ -6,7 +6,7 @@ ghost use Rattle.reserving.specs.Stored.{stored};
 ghost use Rattle.keepers.specs.Change.{IsMadeFrom, changed};
 ghost use Rattle.keepers.specs.Keeping.{Keeps};
 
-use keepers::{Keeper, KeptAnswer, Loaded, StoreFault};
+use keepers::{Keeper, KeptAnswer, Loaded, Redeemed, StoreFault};
 use reserving::{Account, ChargeRow};
 use units::Moment;
 
@@ -19,12 +19,14 @@ pub(crate) fn moment_on(account: &Account, moment: Moment) -> Moment
     moment.max(account.as_of())
 }
 
-/// Commits an account as it stands, with the charges that a command made and what is kept of it.
+/// Commits an account as it stands, with the charges that a command made, what is kept of it and the
+/// voucher that it redeemed.
 pub(crate) fn commit<K: Keeper>(
     keeper: &mut K,
     loaded: Loaded,
     charges: Vec<ChargeRow>,
     kept: Option<KeptAnswer>,
+    redeemed: Option<Redeemed>,
 ) -> Result<(), StoreFault>
     ensures done { K.clean keeper.new →
         OnOk result (IsMadeFrom loaded.entry.before (stored loaded.entry.account)
@@ -35,10 +37,11 @@ pub(crate) fn commit<K: Keeper>(
           before = loaded.entry.before;
           charges = charges;
           kept = kept;
+          redeemed = redeemed;
         }) (K.content keeper.old)) }
     ensures account { IsAccount loaded.entry.account }
     ensures kept { Keeps K.content K.failed K.clean keeper.old keeper.new result }
 {
     let moment = loaded.account.as_of();
-    keeper.commit(loaded.into_change(moment, charges, kept))
+    keeper.commit(loaded.into_change(moment, charges, kept, redeemed))
 }

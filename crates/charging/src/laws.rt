@@ -11,7 +11,7 @@ ghost use Rattle.charging.specs.Collected.{collected_to_date, charged_to_date};
 ghost use Rattle.charging.specs.Quotas.{AreQuotasPaid};
 ghost use Rattle.charging.specs.Repeats.{AnswersOnce};
 ghost use Rattle.charging.specs.declared.running.DatedCommand.{DatedCommand};
-ghost use Rattle.charging.specs.Isolation.{IsIsolated};
+ghost use Rattle.charging.specs.Isolation.{HasOwnCodes, IsIsolated};
 
 /// Before any command the tables are empty: those of `MemoryKeeper::new`, with which a first call
 /// can begin.
@@ -46,17 +46,19 @@ pub fn collection()
         charged_to_date b.validity t (history b a list).ledger }
 {}
 
-/// Repeats: once a request that isn't a read or a credit is accepted, it has one answer for good.
-/// Whatever commands stand between, the same command is answered as the first time and isn't
-/// accepted again (RFC 8506 section 8.2; references of credits: profile).
+/// Repeats: once a request that isn't a read, a credit, a redemption or the addition of a voucher is
+/// accepted, it has one answer for good. Whatever commands stand between, the same command is
+/// answered as the first time and isn't accepted again (RFC 8506 section 8.2; references of credits
+/// and redemptions, and codes of vouchers: profile).
 pub fn repeats()
     ensures { AnswersOnce }
 {}
 
 /// Isolation: in a run of commands from nothing an account's answers and rows are those of its own
-/// commands alone. Others and sweeps reach it through the moments of its commands, and where
-/// moments never fall not at all (profile).
+/// commands alone: those that name it, and the additions of the vouchers that it redeems, where no
+/// redemption for another account names the code of one. Others and sweeps reach it through the
+/// moments of its commands, and where moments never fall not at all (profile).
 pub fn isolation()
     ensures { (book : Book) → IsBook book → (account : List ℕ) (commands : List DatedCommand) →
-        IsIsolated book account commands }
+        HasOwnCodes account commands → IsIsolated book account commands }
 {}

@@ -11,6 +11,7 @@ mod repetition;
 mod requests;
 mod running;
 mod stepping;
+mod voucher_commands;
 
 pub use crate::answers::Run;
 pub use crate::balances::{AccountState, account_state};
@@ -18,4 +19,4 @@ pub use crate::laws::{beginning, collection, isolation, payment, quota, repeats}
 pub use crate::running::{DatedCommand, run};
 pub use crate::stepping::step;
 pub use commands::{Answer, Command};
-pub use keepers::{Change, Keeper, KeptAnswer, Key, Loaded, MemoryKeeper, StoreFault};
+pub use keepers::{Change, Keeper, KeptAnswer, Key, Loaded, MemoryKeeper, Redeemed, StoreFault};

@@ -12,7 +12,7 @@ ghost use Rattle.keepers.specs.Keys.{key_of};
 ghost use Rattle.keepers.specs.Change.{IsLoad};
 ghost use Rattle.keepers.specs.Keeping.{Keeps, Reads};
 ghost use Rattle.charging.specs.Outcomes.{is_unusable, repeated};
-ghost use Rattle.charging.specs.Stepping.{ServesAt, Credits, bar_command};
+ghost use Rattle.charging.specs.Stepping.{ServesAt, Credits, Makes, bar_command};
 
 use crate::committing::{commit, moment_on};
 use commands::{Answer, Content, Credit, KeptCredit, Refusal, is_kept_credit};
@@ -21,7 +21,7 @@ use keepers::{Keeper, KeptAnswer, Key, Loaded, StoreFault};
 use reserving::{Account, AccountFault};
 use std::alloc::{AllocError, Global};
 use tariffs::TariffBook;
-use units::Moment;
+use units::{Moment, Money};
 
 /// Opens an account.
 pub(crate) fn open_account<K: Keeper>(
@@ -47,7 +47,7 @@ pub(crate) fn open_account<K: Keeper>(
         account,
         before,
     };
-    commit(keeper, loaded, Vec::new(alloc), None)?;
+    commit(keeper, loaded, Vec::new(alloc), None, None)?;
     Ok(Answer::Done)
 }
 
@@ -70,7 +70,7 @@ pub(crate) fn set_barred<K: Keeper>(
     };
     let moment = moment_on(&loaded.account, moment);
     loaded.account.set_barred(barred, moment);
-    commit(keeper, loaded, Vec::new(alloc), None)?;
+    commit(keeper, loaded, Vec::new(alloc), None, None)?;
     Ok(Answer::Done)
 }
 
@@ -144,6 +144,29 @@ fn is_unusable(credit: &Credit, moment: Moment) -> bool
     credit.amount.micros() == 0 || until <= from || until <= moment
 }
 
+/// Makes a bucket on an account: its number, or None where there is none left.
+pub(crate) fn make_bucket(
+    account: &mut Account,
+    from: Moment,
+    until: Moment,
+    scope: Option<u32>,
+    amount: Money,
+    moment: Moment,
+) -> Result<Option<u32>, AllocError>
+    requires later { account.old.as_of ≤ moment }
+    ensures makes { IfOk result (λ number. (ledger : Ledger) (left : LeftRows) →
+        IsWith ledger left moment account.old →
+        Makes number from until scope amount moment ledger left account.new) }
+    ensures moment { IfOk result (λ number. IfSome number (λ n. account.new.as_of ≡ moment)) }
+    ensures tariff { account.new.book ≡ account.old.book }
+{
+    match account.credit(from, until, scope, amount, moment) {
+        Ok(number) => Ok(Some(number)),
+        Err(AccountFault::Limit) => Ok(None),
+        Err(AccountFault::Memory) => Err(AllocError),
+    }
+}
+
 /// What became of a credit on an account: the number of its bucket, or None where a value is out of
 /// range.
 fn add_bucket(
@@ -164,11 +187,7 @@ fn add_bucket(
     }
     let from = credit.from_at(moment);
     let until = credit.end();
-    match account.credit(from, until, credit.scope, credit.amount, moment) {
-        Ok(number) => Ok(Some(number)),
-        Err(AccountFault::Limit) => Ok(None),
-        Err(AccountFault::Memory) => Err(AllocError),
-    }
+    make_bucket(account, from, until, credit.scope, credit.amount, moment)
 }
 
 /// What is kept of a credit that made this bucket.
@@ -202,7 +221,7 @@ fn credit_account<K: Keeper>(
     match add_bucket(&mut loaded.account, &credit, moment) {
         Ok(Some(number)) => {
             let kept = kept_credit(credit, number);
-            commit(keeper, loaded, Vec::new(alloc), Some(kept))?;
+            commit(keeper, loaded, Vec::new(alloc), Some(kept), None)?;
             Ok(Answer::Bucket(number))
         }
         Ok(None) => {

@@ -189,6 +189,7 @@ fn keep<K: Keeper>(
             content = content.Request request;
             answer = answer.Request decided.answer;
           });
+          redeemed = None;
         }) (K.content keeper.old))) }
     ensures kept { Keeps K.content K.failed K.clean keeper.old keeper.new result }
 {
@@ -201,6 +202,6 @@ fn keep<K: Keeper>(
         content: Content::Request(request),
         answer,
     };
-    commit(keeper, loaded, decided.charges, Some(kept))?;
+    commit(keeper, loaded, decided.charges, Some(kept), None)?;
     Ok(copy)
 }

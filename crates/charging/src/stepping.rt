@@ -7,6 +7,7 @@ ghost use Rattle.charging.specs.Repeats.{IsAnsweredAgain};
 use crate::balances::tell_balance;
 use crate::operators::{open_account, serve_credit, set_barred, sweep};
 use crate::requests::serve_request;
+use crate::voucher_commands::{add_voucher, serve_redemption};
 use commands::{Answer, Command};
 use keepers::{Keeper, StoreFault};
 use std::alloc::Global;
@@ -58,6 +59,8 @@ fn serve<K: Keeper>(
         Command::Credit(credit) => serve_credit(alloc, keeper, book, credit, moment),
         Command::Bar(number) => set_barred(alloc, keeper, book, number, true, moment),
         Command::Unbar(number) => set_barred(alloc, keeper, book, number, false, moment),
+        Command::AddVoucher(addition) => add_voucher(keeper, addition, moment),
+        Command::Redeem(asked) => serve_redemption(alloc, keeper, book, asked, moment),
         Command::Sweep => sweep(keeper, book, moment),
         Command::Balance(number) => tell_balance(alloc, keeper, book, number, moment),
     }

@@ -8,6 +8,7 @@ mod failures;
 mod keeping;
 mod lines;
 mod operators;
+mod redeeming;
 mod repeats;
 mod rows;
 mod scenarios;

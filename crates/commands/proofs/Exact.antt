@@ -14,6 +14,7 @@ use Rattle.commands.specs.declared.request.Ask.{Ask}
 use Rattle.commands.specs.declared.request.Event.{Event}
 use Rattle.commands.specs.declared.request.Request.{Request}
 use Rattle.commands.specs.declared.command.Credit.{Credit}
+use Rattle.commands.specs.declared.command.VoucherRedemption.{VoucherRedemption}
 use Rattle.units.specs.declared.blocks.UnitKind.{UnitKind}
 use Rattle.units.specs.declared.blocks.UsedPart.{UsedPart}
 use Rattle.units.specs.contracts.blocks.UnitKindPartialEq.TheImpl.{ghosts as kind}
@@ -22,7 +23,7 @@ use Rattle.commands.specs.contracts.used.UsedPartsPartialEq.TheImpl.{ghosts as r
 use Rattle.commands.specs.contracts.service.ServicePartialEq.TheImpl.{ghosts as service}
 use Rattle.commands.specs.contracts.request.EventPartialEq.TheImpl.{ghosts as event}
 use Rattle.commands.specs.contracts.request.AskPartialEq.TheImpl.{ghosts as ask}
-use Rattle.commands.specs.Alike.{same_request, same_credit}
+use Rattle.commands.specs.Alike.{same_request, same_credit, same_redemption}
 
 pub kind_exact : (a b : UnitKind) → Decides (kind.eq a b) (a ≡ b)
 kind_exact a b = search rules
@@ -78,3 +79,6 @@ credit_sound a b e =
 
 pub credit_exact : (a b : Credit) → Decides (same_credit a b) (a ≡ b)
 credit_exact a b = (credit_sound a b, λ e. subst (λ c. same_credit a c ≡ true) e (search rules))
+
+pub redemption_exact : (a b : VoucherRedemption) → Decides (same_redemption a b) (a ≡ b)
+redemption_exact a b = search rules

@@ -2,7 +2,8 @@ ghost use Rattle.std.specs.Prelude.{◌≡◌, ◌↔◌, ◌≤◌, IsSome, IfS
 ghost use Rattle.commands.specs.Kept.{is_kept};
 
 use crate::request::Request;
-use identifiers::{AccountNumber, Reference};
+use identifiers::{AccountNumber, Reference, VoucherCode};
+use redemptions::VoucherTerms;
 use std::marker::Model;
 use units::{Moment, Money};
 
@@ -191,6 +192,27 @@ impl Eq for KeptCredit {
     ghost laws = { laws-law };
 }
 
+/// A voucher that an operator adds (profile).
+#[derive(Clone, Debug, Drop)]
+pub struct VoucherAddition {
+    /// The code under which it stands.
+    pub code: VoucherCode,
+    /// What it gives to the account that redeems it.
+    pub terms: VoucherTerms,
+}
+
+/// A voucher that an account redeems: a new bucket for the account, by the voucher's terms
+/// (profile).
+#[derive(Clone, Debug, Drop, PartialEq, Eq)]
+pub struct VoucherRedemption {
+    /// The code of the voucher.
+    pub code: VoucherCode,
+    /// The account that gets the bucket.
+    pub account: AccountNumber,
+    /// The operator's name for it: a redemption with the same reference is a repeat.
+    pub reference: Reference,
+}
+
 /// A command of the charging system.
 #[derive(Clone, Debug, Drop)]
 pub enum Command {
@@ -204,6 +226,10 @@ pub enum Command {
     Bar(AccountNumber),
     /// Ends that.
     Unbar(AccountNumber),
+    /// Adds a voucher.
+    AddVoucher(VoucherAddition),
+    /// Redeems a voucher for an account.
+    Redeem(VoucherRedemption),
     /// Brings each account to the moment of the command.
     Sweep,
     /// Asks what became of an account's money. It is a read: it changes nothing.
@@ -217,6 +243,8 @@ pub enum Content {
     Request(Request),
     /// Of a credit, under its reference.
     Credit(KeptCredit),
+    /// Of a redemption, under its reference.
+    Redeem(VoucherRedemption),
 }
 
 /// Whether two credits are the same: a credit that comes again with the same content is a repeat
@@ -235,11 +263,32 @@ pub fn is_kept_credit(kept: &Content, credit: &Credit) -> bool
     match kept {
         Content::Request(_) => false,
         Content::Credit(one) => same_credit(one.credit(), credit),
+        Content::Redeem(_) => false,
+    }
+}
+
+/// Whether two redemptions are the same: a redemption that comes again with the same content is a
+/// repeat (profile).
+pub fn same_redemption(a: &VoucherRedemption, b: &VoucherRedemption) -> bool
+    ensures { IsTrue result ↔ (a.now ≡ b.now) }
+{
+    a == b
+}
+
+/// Whether what is kept is this redemption.
+#[tactic(auto, using(crate::proofs::Exact::redemption_exact))]
+pub fn is_kept_redemption(kept: &Content, redemption: &VoucherRedemption) -> bool
+    ensures { IsTrue result ↔ (kept.now ≡ Content.Redeem redemption.now) }
+{
+    match kept {
+        Content::Request(_) => false,
+        Content::Credit(_) => false,
+        Content::Redeem(one) => same_redemption(one, redemption),
     }
 }
 
 /// Whether what is kept of two commands is the same.
-#[tactic(auto, using(crate::proofs::Exact::request_exact, crate::proofs::Exact::credit_exact))]
+#[tactic(auto, using(crate::proofs::Exact::request_exact, crate::proofs::Exact::credit_exact, crate::proofs::Exact::redemption_exact))]
 pub fn same_content(one: &Content, other: &Content) -> bool
     ensures { IsTrue result ↔ (one.now ≡ other.now) }
 {

@@ -21,8 +21,9 @@ pub use crate::answer::{
 pub use crate::avp::Avp;
 pub use crate::balance::{AccountBalance, BucketBalance, BucketBalances};
 pub use crate::command::{
-    Command, Content, Credit, CreditEnd, CreditStart, KeptCredit, is_kept_credit, same_content,
-    same_credit,
+    Command, Content, Credit, CreditEnd, CreditStart, KeptCredit, VoucherAddition,
+    VoucherRedemption, is_kept_credit, is_kept_redemption, same_content, same_credit,
+    same_redemption,
 };
 pub use crate::quantity::Quantity;
 pub use crate::request::{Ask, Event, EventAction, Refund, Request, RequestKind, same_request};

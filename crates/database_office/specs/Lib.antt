@@ -1,3 +1,4 @@
 pub mod Told
 pub mod Making
 pub mod Opening
+pub mod Importing

@@ -1,11 +1,12 @@
 //! What the program's words do over a database: it is made or opened by its path, an operator's
-//! command is carried out over it, and an account's month is told.
+//! command is carried out over it, a file of vouchers is added, and an account's month is told.
 #![tactic(auto)]
 
 mod clock;
 mod commanding;
 mod fault;
 mod files;
+mod importing;
 mod making;
 mod opening;
 mod stating;
@@ -14,6 +15,7 @@ pub use crate::clock::{command_moment, machine_moment};
 pub use crate::commanding::command_office;
 pub use crate::fault::DatabaseFault;
 pub use crate::files::open_file;
+pub use crate::importing::{ImportFault, import_file, import_office};
 pub use crate::making::{book_text, make_database, make_tables};
 pub use crate::opening::{Office, open_office, open_tables};
 pub use crate::stating::state_office;

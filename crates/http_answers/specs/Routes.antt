@@ -11,7 +11,7 @@ use Rattle.matchit.specs.declared.InsertError.{InsertError}
 use Rattle.http_heads.specs.declared.method.Method.{Method}
 use Rattle.http_heads.specs.declared.method.Method.TheVariants.{Get, Post, Put, Other}
 use Rattle.http_answers.specs.declared.routes.Route.{Route}
-use Rattle.http_answers.specs.declared.routes.Route.TheVariants.{Ccr, Account, Credits, Sweep}
+use Rattle.http_answers.specs.declared.routes.Route.TheVariants.{Ccr, Account, Statement, Credits, Redeem, Sweep}
 
 abbrev pub Routes : Type 0
 Routes = RowsOf (RouteOf Route)
@@ -27,9 +27,11 @@ added text value rows = added_read (parse_route text) value rows
 -- the table; a part in braces is any that isn't empty
 unfoldable pub table : Routes
 table = added (codes "/sweep") Sweep
+    (added (codes "/vouchers/{code}/redeem") Redeem
     (added (codes "/accounts/{a}/credits") Credits
+    (added (codes "/accounts/{a}/statement/{yyyymm}") Statement
     (added (codes "/accounts/{a}") Account
-    (added (codes "/ccr") Ccr [])))
+    (added (codes "/ccr") Ccr [])))))
 
 abbrev pub is_get : Method → Bool
 is_get Get = true
@@ -53,7 +55,9 @@ is_put Other = false
 abbrev pub serves : Route → Method → Bool
 serves Ccr method = is_post method
 serves Account method = is_get method || is_put method
+serves Statement method = is_get method
 serves Credits method = is_post method
+serves Redeem method = is_post method
 serves Sweep method = is_post method
 
 -- the row of a path

@@ -6,6 +6,8 @@ use Rattle.json_fields.specs.declared.fault.WireFault.{WireFault}
 use Rattle.json_fields.specs.declared.fault.WireFault.TheVariants.{Memory}
 use Rattle.wire_answers.specs.Spelled.{fault_text}
 use Rattle.http_heads.specs.declared.status.Status.{Status}
+use Rattle.http_answers.specs.declared.text.Media.{Media}
+use Rattle.http_answers.specs.declared.text.Media.TheVariants.{Json, Text}
 use Rattle.http_heads.specs.declared.status.Status.TheVariants.{Ok, BadRequest, NotFound, MethodNotAllowed, LengthRequired, ContentTooLarge, FieldsTooLarge, NotImplemented, Unavailable}
 
 -- the code and the phrase
@@ -31,6 +33,16 @@ type_and_length = codes "\r\nContent-Type: application/json\r\nContent-Length: "
 abbrev pub response : Status → Bool → List ℕ → List ℕ
 response status closes body =
     codes "HTTP/1.1 " ++ (status_line status ++ (type_and_length ++ (decimal (length body) ++ (codes "\r\n" ++ (closing_line closes ++ (codes "\r\n" ++ body))))))
+
+-- the head of an answer whose body is so long and no JSON
+abbrev pub text_head : Status → Bool → ℕ → List ℕ
+text_head status closes n =
+    codes "HTTP/1.1 " ++ (status_line status ++ (codes "\r\nContent-Type: text/plain\r\nContent-Length: " ++ (decimal n ++ (codes "\r\n" ++ (closing_line closes ++ codes "\r\n")))))
+
+-- the bytes of an answer whose body is of this kind
+abbrev pub response_of : Media → Status → Bool → List ℕ → List ℕ
+response_of Json status closes body = response status closes body
+response_of Text status closes body = text_head status closes (length body) ++ body
 
 -- the body of a refusal
 abbrev pub no_members : List ℕ

@@ -1,19 +1,31 @@
-ghost use Rattle.std.specs.Prelude.{◌≡◌};
-ghost use Rattle.json_fields.specs.Gives.{Gives};
+ghost use Rattle.std.specs.Prelude.{◌≡◌, Result};
+ghost use Rattle.std.specs.List.{before_first, after_first};
+ghost use Rattle.commands.specs.declared.command.Command.{Command};
+ghost use Rattle.json_fields.specs.Gives.{Gives, or_fault};
+ghost use Rattle.json_fields.specs.declared.fault.WireFault.{WireFault};
 ghost use Rattle.http_heads.specs.Requests.{seen};
 ghost use Rattle.http_answers.specs.Routes.{table};
-ghost use Rattle.std.specs.List.{before_first, after_first};
-ghost use Rattle.http_answers.specs.Asking.{is_slash, account_part, account_command, account_in, command_by, asked_of, IsAsked};
+ghost use Rattle.http_answers.specs.Asking.{is_slash, second_part, fourth_part, account_command, account_in, account_asked, code_in, credit_asked, month_in, redemption_asked, statement_in, reads, stated, asking_by, asked_of, IsAsked};
+ghost use Rattle.http_answers.specs.declared.asking.StatementAsked.{StatementAsked};
 
 use crate::routes::{Route, is_get, route_of};
 use commands::{Avp, Command};
 use http_heads::{Method, Request, Status};
-use identifiers::AccountNumber;
+use identifiers::{AccountNumber, VoucherCode};
 use matchit::Router;
 use std::alloc::Global;
-use wire::{WireFault, read_credit, read_request};
+use wire::{WireFault, read_credit, read_redeem, read_request};
+use written_numbers::Month;
 
-/// What a request asks: it is refused, isn't read, or is a command.
+/// A statement that is asked for.
+#[derive(Debug, Drop)]
+pub struct StatementAsked {
+    pub account: AccountNumber,
+    /// The civil month in the book's zone.
+    pub month: Month,
+}
+
+/// What a request asks: it is refused, isn't read, is a command or asks for a statement.
 #[derive(Drop)]
 pub enum Asked {
     /// It is refused: 404 or 405.
@@ -22,6 +34,8 @@ pub enum Asked {
     Unread(WireFault),
     /// It is a command.
     Does(Command),
+    /// It asks for a statement.
+    States(StatementAsked),
 }
 
 /// What follows the first slash of a text; nothing where it has none.
@@ -45,19 +59,46 @@ fn before_slash(text: &str) -> &str
 }
 
 /// The second part of a path, between its second slash and the third or the end.
-fn account_part(target: &str) -> &str
-    ensures { result.now ≡ account_part target.now }
+fn second_part(target: &str) -> &str
+    ensures { result.now ≡ second_part target.now }
 {
     before_slash(after_slash(after_slash(target)))
+}
+
+/// The fourth part of a path, between its fourth slash and the fifth or the end.
+fn fourth_part(target: &str) -> &str
+    ensures { result.now ≡ fourth_part target.now }
+{
+    before_slash(after_slash(after_slash(after_slash(after_slash(target)))))
 }
 
 /// The number of the account that a path names.
 fn account_in(alloc: Global, target: &str) -> Result<AccountNumber, WireFault>
     ensures { Gives (λ a. a) result (account_in target.now) }
 {
-    match AccountNumber::new(alloc, account_part(target))? {
+    match AccountNumber::new(alloc, second_part(target))? {
         Some(number) => Ok(number),
         None => Err(WireFault::Invalid(Avp::SubscriptionIdData)),
+    }
+}
+
+/// The code of the voucher that a path names.
+fn code_in(alloc: Global, target: &str) -> Result<VoucherCode, WireFault>
+    ensures { Gives (λ c. c) result (code_in target.now) }
+{
+    match VoucherCode::new(alloc, second_part(target))? {
+        Some(code) => Ok(code),
+        None => Err(WireFault::Invalid(Avp::VoucherCode)),
+    }
+}
+
+/// The month that a path names.
+fn month_in(target: &str) -> Result<Month, WireFault>
+    ensures { Gives (λ m. m) result (month_in target.now) }
+{
+    match Month::from_word(fourth_part(target)) {
+        Some(month) => Ok(month),
+        None => Err(WireFault::Invalid(Avp::Month)),
     }
 }
 
@@ -72,24 +113,73 @@ fn account_command(method: Method, account: AccountNumber) -> Command
     }
 }
 
-/// The command that a request is read as, or its first fault: first of the path, then of the body.
-fn read_command(
-    alloc: Global,
-    route: Route,
-    method: Method,
-    target: &str,
-    body: &[u8],
-) -> Result<Command, WireFault>
-    ensures { Gives (λ c. c) result (command_by route method target.now body.now) }
+/// The command that a method asks of the account in a path.
+fn read_account(alloc: Global, method: Method, target: &str) -> Result<Command, WireFault>
+    ensures { Gives (λ c. c) result (account_asked method target.now) }
+{
+    let account = account_in(alloc, target)?;
+    Ok(account_command(method, account))
+}
+
+/// The credit of the account in a path.
+fn read_credits(alloc: Global, target: &str, body: &[u8]) -> Result<Command, WireFault>
+    ensures { Gives (λ c. c) result (credit_asked target.now body.now) }
+{
+    let account = account_in(alloc, target)?;
+    Ok(Command::Credit(read_credit(alloc, account, body)?))
+}
+
+/// The redemption of the voucher in a path.
+fn read_redemption(alloc: Global, target: &str, body: &[u8]) -> Result<Command, WireFault>
+    ensures { Gives (λ c. c) result (redemption_asked target.now body.now) }
+{
+    let code = code_in(alloc, target)?;
+    Ok(Command::Redeem(read_redeem(alloc, code, body)?))
+}
+
+/// The statement that a path names, or its first fault: of the account, then of the month.
+fn read_statement(alloc: Global, target: &str) -> Result<StatementAsked, WireFault>
+    ensures { Gives (λ q. q) result (statement_in target.now) }
+{
+    let account = account_in(alloc, target)?;
+    let month = month_in(target)?;
+    Ok(StatementAsked { account, month })
+}
+
+/// A command that is read, or its fault.
+fn told(read: Result<Command, WireFault>) -> Asked
+    ensures { (reading : Result Command WireFault) → Gives (λ c. c) read reading →
+        IsAsked (reads reading) result }
+{
+    match read {
+        Ok(command) => Asked::Does(command),
+        Err(fault) => Asked::Unread(fault),
+    }
+}
+
+/// A statement that is asked for, or the fault of its path.
+#[tactic(auto, using(crate::proofs::StatedLemmas::stated_is, crate::proofs::StatedLemmas::unstated_is))]
+fn stated(read: Result<StatementAsked, WireFault>) -> Asked
+    ensures { (reading : Result StatementAsked WireFault) → Gives (λ q. q) read reading →
+        IsAsked (stated reading) result }
+{
+    match read {
+        Ok(statement) => Asked::States(statement),
+        Err(fault) => Asked::Unread(fault),
+    }
+}
+
+/// What a request asks of a route that has its method: first the path is read, then the body.
+fn asked_by(alloc: Global, route: Route, method: Method, target: &str, body: &[u8]) -> Asked
+    ensures { IsAsked (asking_by route method target.now body.now) result }
 {
     match route {
-        Route::Ccr => read_request(alloc, body),
-        Route::Account => Ok(account_command(method, account_in(alloc, target)?)),
-        Route::Sweep => Ok(Command::Sweep),
-        Route::Credits => {
-            let account = account_in(alloc, target)?;
-            Ok(Command::Credit(read_credit(alloc, account, body)?))
-        }
+        Route::Ccr => told(read_request(alloc, body)),
+        Route::Account => told(read_account(alloc, method, target)),
+        Route::Statement => stated(read_statement(alloc, target)),
+        Route::Credits => told(read_credits(alloc, target, body)),
+        Route::Redeem => told(read_redemption(alloc, target, body)),
+        Route::Sweep => Asked::Does(Command::Sweep),
     }
 }
 
@@ -104,14 +194,11 @@ pub fn ask(alloc: Global, router: &Router<Route>, request: &Request) -> Asked
     if !route.serves(request.method) {
         return Asked::Refused(Status::MethodNotAllowed);
     }
-    match read_command(
+    asked_by(
         alloc,
         route,
         request.method,
         request.target.as_str(),
         request.body.as_slice(),
-    ) {
-        Ok(command) => Asked::Does(command),
-        Err(fault) => Asked::Unread(fault),
-    }
+    )
 }

@@ -5,7 +5,7 @@ mod asking;
 mod routes;
 mod text;
 
-pub use crate::asking::{Asked, ask};
+pub use crate::asking::{Asked, StatementAsked, ask};
 pub use crate::routes::{Route, known_router};
-pub use crate::text::{NO_MEMBERS, tell, tell_fault, tell_refusal, tell_unable};
+pub use crate::text::{Media, NO_MEMBERS, tell, tell_fault, tell_refusal, tell_text, tell_unable};
 pub use matchit::Router;

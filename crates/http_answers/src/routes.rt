@@ -13,8 +13,12 @@ pub enum Route {
     Ccr,
     /// `/accounts/{a}`: an account.
     Account,
+    /// `/accounts/{a}/statement/{yyyymm}`: an account's statement of a month.
+    Statement,
     /// `/accounts/{a}/credits`: the credits of an account.
     Credits,
+    /// `/vouchers/{code}/redeem`: the redemption of a voucher.
+    Redeem,
     /// `/sweep`: a sweep.
     Sweep,
 }
@@ -63,7 +67,9 @@ impl Route {
         match self {
             Route::Ccr => is_post(method),
             Route::Account => is_get(method) || is_put(method),
+            Route::Statement => is_get(method),
             Route::Credits => is_post(method),
+            Route::Redeem => is_post(method),
             Route::Sweep => is_post(method),
         }
     }
@@ -84,7 +90,13 @@ fn api_router(alloc: Global) -> Result<Router<Route>, InsertError>
     let mut router = Router::new(alloc);
     add(&mut router, "/ccr", Route::Ccr)?;
     add(&mut router, "/accounts/{a}", Route::Account)?;
+    add(
+        &mut router,
+        "/accounts/{a}/statement/{yyyymm}",
+        Route::Statement,
+    )?;
     add(&mut router, "/accounts/{a}/credits", Route::Credits)?;
+    add(&mut router, "/vouchers/{code}/redeem", Route::Redeem)?;
     add(&mut router, "/sweep", Route::Sweep)?;
     Ok(router)
 }

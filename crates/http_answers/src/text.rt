@@ -1,15 +1,25 @@
-ghost use Rattle.std.specs.Prelude.{◌≡◌, ℕ, IfOk, OnOk, OnErr, IfSome, None, true, false, string_bytes};
+ghost use Rattle.std.specs.Prelude.{◌≡◌, ◌++◌, ℕ, IfOk, OnOk, OnErr, IfSome, None, true, false, string_bytes};
 ghost use Rattle.json_fields.specs.declared.fault.WireFault.TheVariants.{Memory};
 ghost use Rattle.std.specs.Io.KnownBytes.{Appends};
 ghost use Rattle.http_heads.specs.declared.status.Status.TheVariants.{BadRequest, Unavailable};
 ghost use Rattle.wire_answers.specs.Spelled.{fault_text};
-ghost use Rattle.http_answers.specs.Texts.{status_line, closing_line, response, unable, Begins, TellsRefusal, TellsFault};
+ghost use Rattle.http_answers.specs.declared.text.Media.TheVariants.{Text};
+ghost use Rattle.http_answers.specs.Texts.{status_line, closing_line, response, response_of, text_head, unable, Begins, TellsRefusal, TellsFault};
 
 use byte_streams::{StreamFault, write_whole};
 use http_heads::Status;
 use std::alloc::{AllocError, Global};
 use std::io::Write;
 use wire::{WireFault, write_fault};
+
+/// What the body of an answer is.
+#[derive(Clone, Copy, Debug, PartialEq, Eq)]
+pub enum Media {
+    /// `application/json`.
+    Json,
+    /// `text/plain`.
+    Text,
+}
 
 /// The body of a refusal.
 pub const NO_MEMBERS: &str = "{}";
@@ -95,6 +105,55 @@ pub fn tell<W: Write>(
 {
     let text = response(alloc, status, closes, body)?;
     write_whole(writer, text.as_bytes())
+}
+
+/// The head of an answer whose body is a text of so many bytes.
+fn text_head(
+    alloc: Global,
+    status: Status,
+    closes: bool,
+    length: usize,
+) -> Result<String, AllocError>
+    ensures { IfOk result (λ s. string_bytes s ≡ text_head status closes length) }
+{
+    let line = status_line(status);
+    let closing = closing_line(closes);
+    let mut text = String::with_capacity(alloc, MOST_OF_HEAD)?;
+    write!(
+        text,
+        "HTTP/1.1 {line}\r\nContent-Type: text/plain\r\nContent-Length: {length}\r\n{closing}\r\n"
+    )?;
+    Ok(text)
+}
+
+/// Writes an answer whose body is a text, its head and then its body.
+///
+/// # Errors
+/// `Memory` where the growth of its head was refused, `Write` where the writer failed. Then a
+/// beginning of it is written.
+pub fn tell_text<W: Write>(
+    alloc: Global,
+    writer: &mut W,
+    status: Status,
+    closes: bool,
+    body: &[u8],
+) -> Result<(), StreamFault>
+    ensures ok { OnOk result (Appends (W.contents writer.old) (W.contents writer.new) (response_of Text status closes body.now)) }
+    ensures err { OnErr result (Begins (W.contents writer.old) (W.contents writer.new) (response_of Text status closes body.now)) }
+{
+    let head = text_head(alloc, status, closes, body.len())?;
+    write_both(writer, head.as_bytes(), body)
+}
+
+/// Writes a text and then another.
+fn write_both<W: Write>(writer: &mut W, first: &[u8], second: &[u8]) -> Result<(), StreamFault>
+    ensures ok { OnOk result
+        (Appends (W.contents writer.old) (W.contents writer.new) (first.now ++ second.now)) }
+    ensures err { OnErr result
+        (Begins (W.contents writer.old) (W.contents writer.new) (first.now ++ second.now)) }
+{
+    write_whole(writer, first)?;
+    write_whole(writer, second)
 }
 
 /// Writes that there is no memory, no store or no clock; this takes no memory.

@@ -1,3 +1,4 @@
 pub mod RequestReplies
+pub mod StatementReplies
 pub mod Continuing
 pub mod Taking

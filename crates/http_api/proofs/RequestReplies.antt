@@ -13,7 +13,8 @@ use Rattle.charging.specs.Accepted.{Accepted}
 use Rattle.charging.specs.Served.{AreTables, Serves}
 use Rattle.http_heads.specs.declared.status.Status.{Status}
 use Rattle.http_heads.specs.declared.status.Status.TheVariants as status
-use Rattle.http_answers.specs.Asking.{Asking, refuses, reads, IsAsked}
+use Rattle.http_answers.specs.Asking.{Asking, refuses, reads, states, IsAsked}
+use Rattle.http_answers.specs.declared.asking.StatementAsked.{StatementAsked}
 use Rattle.http_answers.specs.declared.asking.Asked.TheVariants as told
 use Rattle.http_answers.specs.Texts.{response, no_members, unable, Begins, TellsRefusal, TellsFault}
 use Rattle.http_api.specs.Clocks.{GivesInTurn}
@@ -40,13 +41,14 @@ may_not : (asking : Asking) → MayAsk asking []
 may_not (refuses code) = refl
 may_not (reads (Err fault)) = refl
 may_not (reads (Ok c)) = omega arith
+may_not (states q) = omega arith
 
 may_once : (c : Command) (m : Option ℕ) → MayAsk (reads (Ok c)) (m ∷ [])
 may_once c m = omega arith
 
 module _ {C : Type 0} (gives : C → Option ℕ → C → Type 0) (b : Book) (closes : Bool) (Writes : List ℕ → Type 0) where
   -- no memory or no store
-  unserved_reply : (asking : Asking) (moments : List (Option ℕ)) (c0 c1 : C) (old new : Tables) → MayAsk asking moments → GivesInTurn gives c0 moments c1 →
+  pub unserved_reply : (asking : Asking) (moments : List (Option ℕ)) (c0 c1 : C) (old new : Tables) → MayAsk asking moments → GivesInTurn gives c0 moments c1 →
       ForEachList b old (λ list. AreTables b list new) → Writes (response status.Unavailable closes unable) → Replies gives b asking closes c0 c1 Writes old new
   unserved_reply asking moments c0 c1 old new may given same w = record {
     moments = moments;
@@ -81,6 +83,7 @@ module _ {C : Type 0} (gives : C → Option ℕ → C → Type 0) (b : Book) (cl
   pub refused_reply : (code : Status) (c : C) (tables : Tables) → TellsRefusal closes code Writes → (asking : Asking) → IsAsked asking (told.Refused code) → Replies gives b asking closes c c Writes tables tables
   refused_reply code c tables tells (refuses s) asked = subst (λ x. Replies gives b (refuses x) closes c c Writes tables tables) asked (refused_by code c tables tells)
   refused_reply code c tables tells (reads read) asked = absurd asked
+  refused_reply code c tables tells (states q) asked = absurd asked
 
   unread_by : (fault : WireFault) (c : C) (tables : Tables) (read : Result Command WireFault) → TellsFault closes fault Writes → (¬ (fault ≡ Memory) → read ≡ Err fault) →
       Replies gives b (reads read) closes c c Writes tables tables
@@ -89,15 +92,29 @@ module _ {C : Type 0} (gives : C → Option ℕ → C → Type 0) (b : Book) (cl
       (λ list. subst (λ r. IsDue b list (reads r) [] (refusal list status.BadRequest (fault_text fault))) (sym (fails w.0)) (refl, refl)) w.1
   unread_by fault c tables read (inr w) fails = unserved_reply (reads read) [] c c tables tables (may_not (reads read)) refl (λ list time are. are) w
 
+  -- memory ran out for a statement that is asked for
+  unstated_by : (fault : WireFault) (c : C) (tables : Tables) (q : StatementAsked) → TellsFault closes fault Writes → (¬ (fault ≡ Memory) → Ok q ≡ Err fault) →
+      Replies gives b (states q) closes c c Writes tables tables
+  unstated_by fault c tables q (inl w) fails = let same = fails w.0 in absurd (cc)
+  unstated_by fault c tables q (inr w) fails = unserved_reply (states q) [] c c tables tables (may_not (states q)) refl (λ list time are. are) w
+
   -- a request that isn't read
   pub unread_reply : (fault : WireFault) (c : C) (tables : Tables) → TellsFault closes fault Writes → (asking : Asking) → IsAsked asking (told.Unread fault) → Replies gives b asking closes c c Writes tables tables
   unread_reply fault c tables tells (refuses s) asked = absurd asked
   unread_reply fault c tables tells (reads read) asked = unread_by fault c tables read tells asked
+  unread_reply fault c tables tells (states q) asked = unstated_by fault c tables q tells asked
 
   -- a command, whatever it is read from
   pub command_reply : (c : Command) (c0 c1 : C) (old new : Tables) → Replies gives b (reads (Ok c)) closes c0 c1 Writes old new → (asking : Asking) → IsAsked asking (told.Does c) → Replies gives b asking closes c0 c1 Writes old new
   command_reply c c0 c1 old new replies (refuses s) asked = absurd asked
   command_reply c c0 c1 old new replies (reads read) asked = subst (λ r. Replies gives b (reads r) closes c0 c1 Writes old new) (sym asked) replies
+  command_reply c c0 c1 old new replies (states q) asked = absurd asked
+
+  -- a statement, whatever it is read from
+  pub statement_reply : (q : StatementAsked) (c0 c1 : C) (old new : Tables) → Replies gives b (states q) closes c0 c1 Writes old new → (asking : Asking) → IsAsked asking (told.States q) → Replies gives b asking closes c0 c1 Writes old new
+  statement_reply q c0 c1 old new replies (refuses s) asked = absurd asked
+  statement_reply q c0 c1 old new replies (reads read) asked = absurd asked
+  statement_reply q c0 c1 old new replies (states a) asked = subst (λ x. Replies gives b (states x) closes c0 c1 Writes old new) (sym asked) replies
 
   -- a clock that doesn't answer
   pub unclocked_reply : (c : Command) (c0 c1 : C) (tables : Tables) → gives c0 None c1 → Writes (response status.Unavailable closes unable) → Replies gives b (reads (Ok c)) closes c0 c1 Writes tables tables

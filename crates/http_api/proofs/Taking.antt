@@ -8,11 +8,11 @@ use Rattle.keepers.specs.Tables.{Tables}
 use Rattle.charging.specs.Accepted.{Accepted}
 use Rattle.http_heads.specs.Requests.{Next, asks, refused, ended, IsNext}
 use Rattle.http_answers.specs.Asking.{Asking, refuses, asked_of, IsAsked}
-use Rattle.http_answers.specs.Texts.{response, Begins}
+use Rattle.http_answers.specs.Texts.{Begins}
 use Rattle.http_api.specs.declared.hearing.Heard.{Heard}
 use Rattle.http_api.specs.Clocks.{GivesInTurn}
 use Rattle.http_api.specs.Hearing.{Hears, HearsNext}
-use Rattle.http_api.specs.Replies.{ForEachList, IsReplied, Replies}
+use Rattle.http_api.specs.Replies.{reply_text, ForEachList, IsReplied, Replies}
 use Rattle.http_api.specs.Connections.{Connection, new_connection, left_after, after_reply, IsAnswered, Takes, IsTurn, Turns, IsTaken, IsServed, IsBegun}
 
 plus_one : (n : ℕ) → suc n ≡ n + 1
@@ -102,7 +102,7 @@ at-more b stream count left rest after moments ms text more mid new list asking 
         last = last;
         turns = subst (λ n. Turns b n (new_connection stream list) last) (plus_one count) (old, at.taken.turns, turn);
         given = ap (λ l. l ++ ms) at.taken.given;
-        written = (λ i. at.taken.written i ++ response replied.reply.status (left_after closes (at.left_is i) == 0) replied.reply.body) ∙ ap (λ l. text ++ l) (sym replied.written);
+        written = (λ i. at.taken.written i ++ reply_text (left_after closes (at.left_is i) == 0) replied.reply) ∙ ap (λ l. text ++ l) (sym replied.written);
         tables = replied.tables;
         time = replied.time;
       };

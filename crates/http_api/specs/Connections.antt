@@ -10,9 +10,9 @@ use Rattle.charging.specs.Accepted.{Accepted, IsInTime}
 use Rattle.charging.specs.Served.{AreTables}
 use Rattle.http_heads.specs.Requests.{Next, asks, refused, ended, IsNext}
 use Rattle.http_answers.specs.Asking.{Asking, refuses, asked_of}
-use Rattle.http_answers.specs.Texts.{response, Begins}
+use Rattle.http_answers.specs.Texts.{Begins}
 use Rattle.http_api.specs.Clocks.{GivesInTurn}
-use Rattle.http_api.specs.Replies.{Reply, IsReply, ForEachList}
+use Rattle.http_api.specs.Replies.{Reply, reply_text, IsReply, ForEachList}
 use Rattle.http_api.specs.declared.fault.ServeFault.{ServeFault}
 use Rattle.http_api.specs.declared.serving.Served.{Served}
 
@@ -40,7 +40,7 @@ after_reply old closes rest moments reply = record {
   rest = rest;
   list = reply.after;
   moments = old.moments ++ moments;
-  written = old.written ++ response reply.status (left_after closes old.left == 0) reply.body;
+  written = old.written ++ reply_text (left_after closes old.left == 0) reply;
 }
 
 -- a request is answered

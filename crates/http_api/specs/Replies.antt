@@ -1,29 +1,40 @@
 -- What a request is answered after a list of accepted commands, and the list after it.
 -- Source: profile; the statuses: RFC 9110 section 15.
-use Rattle.std.specs.Prelude.{◌≡◌, ◌≤◌, ℕ, Bool, List, [], ◌∷◌, length, Option, Some, None, Ok, Err, ◌⊎◌}
+use Rattle.std.specs.Prelude.{◌≡◌, ◌≤◌, ℕ, Bool, true, false, if◌then◌else◌, List, [], ◌∷◌, length, Option, Some, None, Ok, Err, ◌⊎◌}
+use Rattle.commands.specs.declared.answer.Answer.TheVariants.{Refused}
+use Rattle.commands.specs.declared.answer.Refusal.TheVariants.{AccountUnknown}
 use Rattle.commands.specs.declared.command.Command.{Command}
 use Rattle.wire_answers.specs.Spelled.{answer_text, fault_text}
 use Rattle.tariffs.specs.Books.{Book}
+use Rattle.reserving.specs.Balance.{buckets_at}
+use Rattle.reserving.specs.Charges.{charge_rows}
 use Rattle.keepers.specs.Tables.{Tables}
+use Rattle.statements.specs.Texts.{statement_text}
 use Rattle.charging.specs.Accepted.{Accepted, IsInTime}
 use Rattle.charging.specs.declared.running.DatedCommand.{DatedCommand}
-use Rattle.charging.specs.Served.{AreTables, moment_of, answer_to, with_command}
+use Rattle.charging.specs.Balances.{by_number}
+use Rattle.charging.specs.Histories.{History}
+use Rattle.charging.specs.Served.{AreTables, history, moment_of, answer_to, with_command}
 use Rattle.charging.specs.Runs.{after_commands}
 use Rattle.http_heads.specs.declared.status.Status.{Status}
 use Rattle.http_heads.specs.declared.status.Status.TheVariants as status
-use Rattle.http_answers.specs.Asking.{Asking, refuses, reads}
-use Rattle.http_answers.specs.Texts.{response, no_members, unable}
+use Rattle.http_answers.specs.Asking.{Asking, refuses, reads, states}
+use Rattle.http_answers.specs.declared.asking.StatementAsked.{StatementAsked}
+use Rattle.http_answers.specs.declared.text.Media.{Media}
+use Rattle.http_answers.specs.declared.text.Media.TheVariants.{Json, Text}
+use Rattle.http_answers.specs.Texts.{response_of, no_members, unable}
 use Rattle.http_api.specs.Clocks.{GivesInTurn}
 
--- an answer's status and body, and the accepted commands after it
+-- an answer's status and body, what the body is, and the accepted commands after it
 pub record Reply : Type 0 where
   pub status : Status
+  pub media : Media
   pub body : List ℕ
   pub after : List Accepted
 
 -- a request that isn't accepted leaves the list
 abbrev pub refusal : List Accepted → Status → List ℕ → Reply
-refusal list code text = record { status = code; body = text; after = list }
+refusal list code text = record { status = code; media = Json; body = text; after = list }
 
 -- no memory, no store or no clock
 abbrev pub unserved : List Accepted → Reply
@@ -34,21 +45,52 @@ abbrev pub reply_at : Book → List Accepted → Command → Option ℕ → Repl
 reply_at b list c None = unserved list
 reply_at b list c (Some t) = record {
   status = status.Ok;
+  media = Json;
   body = answer_text (answer_to b list c (moment_of list t));
   after = with_command b list c (moment_of list t);
 }
 
--- what is due, by what a request asks; the clock is asked once for a command, and for nothing else
+-- a statement is a text; that there is no account is told as an answer is
+abbrev pub statement_media : Bool → Media
+statement_media true = Text
+statement_media false = Json
+
+-- an account's statement by its history, as of a moment: all of its charges of the month, and its buckets by number
+abbrev pub statement_body : Book → StatementAsked → ℕ → History → List ℕ
+statement_body b q t h = if h.opened
+    then statement_text b q.account q.month t (charge_rows h.ledger) (by_number (buckets_at b.validity t h.ledger))
+    else answer_text (Refused AccountUnknown)
+
+abbrev pub statement_reply : Book → List Accepted → StatementAsked → ℕ → History → Reply
+statement_reply b list q t h = record {
+  status = status.Ok;
+  media = statement_media h.opened;
+  body = statement_body b q t h;
+  after = list;
+}
+
+-- a statement at the clock's moment
+abbrev pub statement_at : Book → List Accepted → StatementAsked → Option ℕ → Reply
+statement_at b list q None = unserved list
+statement_at b list q (Some t) = statement_reply b list q (moment_of list t) (history b q.account list)
+
+-- the bytes of a reply
+abbrev pub reply_text : Bool → Reply → List ℕ
+reply_text closes reply = response_of reply.media reply.status closes reply.body
+
+-- what is due, by what a request asks; the clock is asked once for a command or a statement, and for nothing else
 abbrev pub IsDue : Book → List Accepted → Asking → List (Option ℕ) → Reply → Type 0
 IsDue b list (refuses code) moments reply = (moments ≡ []) × (reply ≡ refusal list code no_members)
 IsDue b list (reads (Err fault)) moments reply = (moments ≡ []) × (reply ≡ refusal list status.BadRequest (fault_text fault))
 IsDue b list (reads (Ok c)) moments reply = (m : Option ℕ) × (moments ≡ m ∷ []) × (reply ≡ reply_at b list c m)
+IsDue b list (states q) moments reply = (m : Option ℕ) × (moments ≡ m ∷ []) × (reply ≡ statement_at b list q m)
 
 -- how often the clock may be asked before memory or the store fails
 abbrev pub MayAsk : Asking → List (Option ℕ) → Type 0
 MayAsk (refuses code) moments = moments ≡ []
 MayAsk (reads (Err fault)) moments = moments ≡ []
 MayAsk (reads (Ok c)) moments = length moments ≤ 1
+MayAsk (states q) moments = length moments ≤ 1
 
 -- what is due; or 503 where memory or the store fails: then the request isn't accepted
 abbrev pub IsReply : Book → List Accepted → Asking → List (Option ℕ) → Reply → Type 0
@@ -71,7 +113,7 @@ pub record IsReplied (b : Book) (asking : Asking) (closes : Bool) (moments : Lis
     (list : List Accepted) : Type 0 where
   pub reply : Reply
   pub is_reply : IsReply b list asking moments reply
-  pub written : text ≡ response reply.status closes reply.body
+  pub written : text ≡ reply_text closes reply
   pub tables : AreTables b reply.after content
   pub time : IsInTime reply.after
 

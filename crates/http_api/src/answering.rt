@@ -7,24 +7,25 @@ ghost use Rattle.http_answers.specs.Texts.{response, Begins};
 ghost use Rattle.http_api.specs.Replies.{ForEachList, IsContinued, Replies};
 
 use crate::clock::Clock;
+use crate::stating::serve_statement;
 use byte_streams::StreamFault;
+use charge_sources::ChargeSource;
 use charging::step;
 use commands::{Answer, Command};
 use http_answers::{Asked, tell, tell_fault, tell_refusal, tell_unable};
 use http_heads::Status;
-use keepers::Keeper;
 use std::alloc::Global;
 use std::io::Write;
 use tariffs::TariffBook;
 use wire::write_answer;
 
 /// Answers a request, and commits its command where it is accepted. The clock is asked once where
-/// it is a command.
+/// it is a command or asks for a statement.
 ///
 /// # Errors
 /// `Memory` where the text of a command's answer wasn't made, `Write` where the writer failed: what
 /// is accepted stays so, and a beginning of the answer is written.
-pub(crate) fn answer_request<W: Write, K: Keeper, C: Clock>(
+pub(crate) fn answer_request<W: Write, K: ChargeSource, C: Clock>(
     alloc: Global,
     writer: &mut W,
     keeper: &mut K,
@@ -48,11 +49,14 @@ pub(crate) fn answer_request<W: Write, K: Keeper, C: Clock>(
         Asked::Refused(status) => tell_refusal(alloc, writer, status, closes),
         Asked::Unread(fault) => tell_fault(alloc, writer, fault, closes),
         Asked::Does(command) => serve_command(alloc, writer, keeper, book, clock, command, closes),
+        Asked::States(statement) => {
+            serve_statement(alloc, writer, keeper, book, clock, &statement, closes)
+        }
     }
 }
 
 /// Serves a command at the clock's moment, and writes its answer.
-fn serve_command<W: Write, K: Keeper, C: Clock>(
+fn serve_command<W: Write, K: ChargeSource, C: Clock>(
     alloc: Global,
     writer: &mut W,
     keeper: &mut K,

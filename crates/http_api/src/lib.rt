@@ -8,6 +8,7 @@ mod fault;
 mod hearing;
 mod serving;
 mod socket;
+mod stating;
 
 pub use crate::clock::{Clock, FixedClock};
 pub use crate::fault::ServeFault;

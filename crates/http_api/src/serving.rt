@@ -7,9 +7,9 @@ use crate::answering::answer_request;
 use crate::clock::Clock;
 use crate::fault::ServeFault;
 use crate::hearing::{Heard, hear};
+use charge_sources::ChargeSource;
 use http_answers::{Route, Router, known_router};
 use http_heads::{EMPTY_HEADER_SPAN, HeaderSpan, MAX_FIELDS};
-use keepers::Keeper;
 use std::alloc::Global;
 use std::io::{BufRead, BufReader, Read, Write};
 use tariffs::TariffBook;
@@ -35,7 +35,7 @@ pub struct Served {
 /// `Memory` where a growth was refused for a head, a body or the text of a command's answer; `Read`
 /// where the reader failed; `Write` where the writer did. What was accepted stays so, and a
 /// beginning of the answers is written.
-pub fn serve<R: Read, W: Write, K: Keeper, C: Clock>(
+pub fn serve<R: Read, W: Write, K: ChargeSource, C: Clock>(
     alloc: Global,
     reader: &mut R,
     writer: &mut W,
@@ -95,7 +95,7 @@ fn left_after(closes: bool, left: u32) -> u32
 }
 
 /// Serves the requests of a connection.
-fn serve_requests<R: BufRead, W: Write, K: Keeper, C: Clock>(
+fn serve_requests<R: BufRead, W: Write, K: ChargeSource, C: Clock>(
     alloc: Global,
     router: &Router<Route>,
     reader: &mut R,

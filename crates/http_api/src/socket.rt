@@ -4,7 +4,7 @@ ghost use Rattle.http_api.specs.Replies.{ForEachList, IsContinued};
 use crate::clock::Clock;
 use crate::fault::ServeFault;
 use crate::serving::{Served, serve};
-use keepers::Keeper;
+use charge_sources::ChargeSource;
 use std::alloc::Global;
 use std::io;
 use std::net::TcpStream;
@@ -19,7 +19,7 @@ pub const SOCKET_SECONDS: u64 = 30;
 ///
 /// # Errors
 /// As `serve`, and `Read` where the socket can't be set so; then nothing is read.
-pub fn serve_socket<K: Keeper, C: Clock>(
+pub fn serve_socket<K: ChargeSource, C: Clock>(
     alloc: Global,
     stream: &TcpStream,
     keeper: &mut K,

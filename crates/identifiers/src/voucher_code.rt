@@ -3,6 +3,7 @@ ghost use Rattle.identifiers.specs.Texts.{is_voucher_code};
 
 use crate::texts::all_digits;
 use std::alloc::{AllocError, Global};
+use std::hash::{Hash, Hasher};
 use std::marker::Model;
 
 /// The code of a voucher: 12 digits (profile).
@@ -64,4 +65,17 @@ impl Eq for VoucherCode {
     ghost use Rattle.std.specs.Cmp.Lexicographic.{nat_list_eq_equiv};
 
     ghost laws = { nat_list_eq_equiv };
+}
+
+impl Hash for VoucherCode {
+    ghost use Rattle.std.specs.Cmp.Lexicographic.{bytes_decides};
+    ghost use Rattle.std.specs.Hash as fed;
+
+    ghost hash_input = { fed.str };
+
+    ghost respects_eq = { λ x y. (fed.same_Alike fed.str bytes_decides).fed x y };
+
+    fn hash<H: Hasher>(&self, state: &mut H) {
+        self.text.hash(state);
+    }
 }

@@ -14,6 +14,7 @@ pub mod WholeRows
 pub mod Raised
 pub mod Placed
 pub mod SweptEach
+pub mod MemoryTables
 pub mod Found
 pub mod Taking
 pub mod Leaving

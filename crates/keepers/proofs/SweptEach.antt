@@ -13,7 +13,7 @@ use Rattle.keepers.specs.Keys.{same_key}
 use Rattle.keepers.specs.declared.entries.Entry.{Entry}
 use Rattle.keepers.specs.Tables.{Rows, Tables, no_rows}
 use Rattle.keepers.specs.Change.{AreRowsAt, IsSwept}
-use Rattle.keepers.specs.Memory.{is_entry, entry_in, rows_of_entry, answer_of_entry, charges_of_entry, IsSweptEntry, AreSwept, memory_tables}
+use Rattle.keepers.specs.Memory.{is_entry, entry_in, rows_of_entry, answer_of_entry, charges_of_entry, IsSweptEntry, AreSwept, VoucherMap, memory_tables}
 use Rattle.keepers.specs.Tables.{charge_in}
 
 no_less : (n : ℕ) → n < 0 → ⊥
@@ -101,14 +101,16 @@ swept_length book t [] (y ∷ ys) h = absurd h
 swept_length book t (x ∷ xs) [] h = absurd h
 swept_length book t (x ∷ xs) (y ∷ ys) h = ap suc (swept_length book t xs ys h.1)
 
-pub swept_tables : (book : Book) (t last : ℕ) (xs ys : List Entry) → AreSwept book t xs ys →
-    IsSwept book t (memory_tables last xs) (memory_tables t ys)
-swept_tables book t last xs ys h = record {
+pub swept_tables : (book : Book) (t last : ℕ) (vouchers : VoucherMap) (xs ys : List Entry) →
+    AreSwept book t xs ys →
+    IsSwept book t (memory_tables last xs vouchers) (memory_tables t ys vouchers)
+swept_tables book t last vouchers xs ys h = record {
   last = refl;
   none = λ a. (all_seen book t xs ys a h).none;
   rows = λ a. (all_seen book t xs ys a h).rows;
   answers = λ a. (all_seen book t xs ys a h).answers;
   charges = λ a n. ap (charge_in n) (all_seen book t xs ys a h).charges;
+  vouchers = λ code. refl;
   count = swept_length book t xs ys h;
 }
 

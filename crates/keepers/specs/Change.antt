@@ -13,11 +13,15 @@ use Rattle.reserving.specs.Sessions.{is_open, session_in, group_in, counter_in}
 use Rattle.reserving.specs.Rows.{AccountRows, AreApart, IsRowsOf}
 use Rattle.reserving.specs.Stored.{StoredRows, IsStored, stored, priced}
 use Rattle.reserving.specs.Left.{is_dead, is_open_row, only, first_of, bucket_in, IsDead}
+use Rattle.redemptions.specs.declared.terms.VoucherTerms.{VoucherTerms}
+use Rattle.redemptions.specs.declared.voucher.Voucher.{Voucher}
+use Rattle.redemptions.specs.Standing.{unspent}
 use Rattle.keepers.specs.declared.key.Key.{Key}
 use Rattle.keepers.specs.declared.key.KeptAnswer.{KeptAnswer}
 use Rattle.keepers.specs.Keys.{same_key, key_of}
 use Rattle.keepers.specs.declared.loaded.Loaded.{Loaded}
 use Rattle.keepers.specs.declared.loaded.Change.{Change}
+use Rattle.keepers.specs.declared.loaded.Redeemed.{Redeemed}
 use Rattle.keepers.specs.Keyed.{same_bucket}
 use Rattle.keepers.specs.Tables.{Head, Rows, Tables, GroupRow, no_rows, head_of, group_row, held_of, AreListed, charge_in}
 
@@ -84,6 +88,12 @@ abbrev pub kept_after : Option KeptAnswer → Key → Option KeptAnswer → Opti
 kept_after None k before = before
 kept_after (Some kept) k before = if same_key (key_of kept.content) k then Some kept else before
 
+-- what stands under a code once a voucher was redeemed
+abbrev pub redeemed_over : Option Redeemed → List ℕ → Option Voucher → Option Voucher
+redeemed_over None code before = before
+redeemed_over (Some redeemed) code before =
+    if same_name redeemed.code code then Some redeemed.voucher else before
+
 abbrev pub changed : Change → Tables → Tables
 changed change tables = record {
   last = change.moment;
@@ -93,6 +103,7 @@ changed change tables = record {
       else tables.answers a k;
   charges = λ a n. if same_name change.number a
       then first_of (tables.charges a n) (charge_in n change.charges.items) else tables.charges a n;
+  vouchers = λ code. redeemed_over change.redeemed code (tables.vouchers code);
   count = if is_some (tables.rows change.number).head then tables.count else tables.count + 1;
 }
 
@@ -113,6 +124,19 @@ pub record IsMadeFrom (before after : StoredRows) (r : Rows) : Type 0 where
   pub free : (s : List ℕ) (g : ℕ) (x : GroupRow) → r.groups s g ≡ Some x →
       group_in s g after.groups ≡ None → (x.periods ≡ None) × (session_in s after.sessions ≡ None)
 
+-- ---- a voucher that is added
+
+-- an unspent voucher stands under the code, from the moment on
+abbrev pub with_voucher : List ℕ → VoucherTerms → ℕ → Tables → Tables
+with_voucher code terms moment tables = record {
+  last = moment;
+  rows = tables.rows;
+  answers = tables.answers;
+  charges = tables.charges;
+  vouchers = λ k. if same_name code k then Some (unspent terms) else tables.vouchers k;
+  count = tables.count;
+}
+
 -- ---- a sweep
 
 -- from each ledger whose rows the account has at a moment, its rows at the later one
@@ -130,4 +154,5 @@ pub record IsSwept (book : Book) (t : ℕ) (old new : Tables) : Type 0 where
       AreRowsAt book ledger t (new.rows a)
   pub answers : (a : List ℕ) (k : Key) → new.answers a k ≡ old.answers a k
   pub charges : (a : List ℕ) (n : ℕ) → new.charges a n ≡ old.charges a n
+  pub vouchers : (code : List ℕ) → new.vouchers code ≡ old.vouchers code
   pub count : new.count ≡ old.count

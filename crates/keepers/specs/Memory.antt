@@ -9,6 +9,7 @@ use Rattle.identifiers.specs.Texts.{same_name}
 use Rattle.tariffs.specs.Books.{Book}
 use Rattle.reserving.specs.declared.charge.ChargeRow.{ChargeRow}
 use Rattle.reserving.specs.declared.session.Session.{Session}
+use Rattle.redemptions.specs.declared.voucher.Voucher.{Voucher}
 use Rattle.keepers.specs.declared.key.Key.{Key}
 use Rattle.keepers.specs.declared.key.KeptAnswer.{KeptAnswer}
 use Rattle.keepers.specs.Keys.{same_key}
@@ -90,11 +91,16 @@ AreSwept book t [] [] = Unit {0}
 AreSwept book t (x ∷ xs) (y ∷ ys) = IsSweptEntry book t x y × AreSwept book t xs ys
 AreSwept book t xs ys = ⊥
 
-abbrev pub memory_tables : ℕ → List Entry → Tables
-memory_tables last entries = record {
+-- vouchers under their codes
+abbrev pub VoucherMap : Type 0
+VoucherMap = HashMap (List ℕ) Voucher (BuildHasherDefault FoldHasher)
+
+abbrev pub memory_tables : ℕ → List Entry → VoucherMap → Tables
+memory_tables last entries vouchers = record {
   last = last;
   rows = λ a. rows_of_entry (entry_in a entries);
   answers = λ a k. answer_of_entry k (entry_in a entries);
   charges = λ a n. charge_in n (charges_of_entry (entry_in a entries));
+  vouchers = λ code. get same_name vouchers code;
   count = length entries;
 }

@@ -12,6 +12,7 @@ use Rattle.reserving.specs.declared.session.Counter.{Counter}
 use Rattle.reserving.specs.Sessions.{session_in, group_in, counter_in, holds_in}
 use Rattle.reserving.specs.Left.{bucket_in}
 use Rattle.reserving.specs.Stored.{StoredRows}
+use Rattle.redemptions.specs.declared.voucher.Voucher.{Voucher}
 use Rattle.keepers.specs.declared.key.Key.{Key}
 use Rattle.keepers.specs.declared.key.KeptAnswer.{KeptAnswer}
 
@@ -60,6 +61,8 @@ pub record Tables : Type 0 where
   pub answers : List ℕ → Key → Option KeptAnswer
   -- the charges of an account, by their numbers
   pub charges : List ℕ → ℕ → Option ChargeRow
+  -- what stands under the code of a voucher
+  pub vouchers : List ℕ → Option Voucher
   -- how many accounts there are
   pub count : ℕ
 
@@ -71,6 +74,7 @@ no_tables = record {
   answers = λ a k. None;
   charges = λ a n.
       None;
+  vouchers = λ code. None;
   count = 0;
 }
 

@@ -1,8 +1,9 @@
-//! Copies of commands' contents and answers.
+//! Copies of commands' contents and answers, and of vouchers.
 
 ghost use Rattle.std.specs.Prelude.{◌≡◌, IfOk};
 
-use commands::{Answer, Ask, Content, Credit, KeptCredit, Request};
+use commands::{Answer, Ask, Content, Credit, KeptCredit, Request, VoucherRedemption};
+use redemptions::Voucher;
 use std::alloc::AllocError;
 
 /// The same answer once more.
@@ -43,6 +44,20 @@ fn copy_kept(credit: &KeptCredit) -> Result<KeptCredit, AllocError>
     credit.clone()
 }
 
+/// The same redemption once more.
+pub fn copy_redemption(redemption: &VoucherRedemption) -> Result<VoucherRedemption, AllocError>
+    ensures { IfOk result (λ copy. copy ≡ redemption.now) }
+{
+    redemption.clone()
+}
+
+/// The same voucher once more.
+pub fn copy_voucher(voucher: &Voucher) -> Result<Voucher, AllocError>
+    ensures { IfOk result (λ copy. copy ≡ voucher.now) }
+{
+    voucher.clone()
+}
+
 /// The same content once more.
 pub fn copy_content(content: &Content) -> Result<Content, AllocError>
     ensures { IfOk result (λ copy. copy ≡ content.now) }
@@ -50,5 +65,6 @@ pub fn copy_content(content: &Content) -> Result<Content, AllocError>
     match content {
         Content::Request(request) => Ok(Content::Request(copy_request(request)?)),
         Content::Credit(credit) => Ok(Content::Credit(copy_kept(credit)?)),
+        Content::Redeem(redemption) => Ok(Content::Redeem(copy_redemption(redemption)?)),
     }
 }

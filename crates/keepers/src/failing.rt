@@ -5,7 +5,8 @@ use crate::keeper::Keeper;
 use crate::key::{KeptAnswer, Key};
 use crate::loaded::{Change, Loaded};
 use buckets::Bucket;
-use identifiers::{AccountNumber, SessionId};
+use identifiers::{AccountNumber, SessionId, VoucherCode};
+use redemptions::{Voucher, VoucherTerms};
 use reserving::Account;
 use tariffs::TariffBook;
 use units::Moment;
@@ -154,11 +155,30 @@ impl<K: Keeper> Keeper for Failing<K> {
         self.inner.find_answer(account, key)
     }
 
+    fn find_voucher(&mut self, code: &VoucherCode) -> Result<Option<Voucher>, StoreFault> {
+        if self.fails() {
+            return Err(StoreFault::Store);
+        }
+        self.inner.find_voucher(code)
+    }
+
     fn commit(&mut self, change: Change) -> Result<(), StoreFault> {
         if self.fails() {
             return Err(StoreFault::Store);
         }
         self.inner.commit(change)
+    }
+
+    fn add_voucher(
+        &mut self,
+        code: VoucherCode,
+        terms: VoucherTerms,
+        moment: Moment,
+    ) -> Result<(), StoreFault> {
+        if self.fails() {
+            return Err(StoreFault::Store);
+        }
+        self.inner.add_voucher(code, terms, moment)
     }
 
     fn abandon<'b>(&mut self, loaded: Loaded<'b>) {

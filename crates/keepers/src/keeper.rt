@@ -2,18 +2,19 @@ ghost use Rattle.std.specs.Prelude.{◌≡◌, ◌≤◌, ℕ, IfOk, OnOk, is_so
 ghost use Rattle.keepers.specs.Faults.{max_failures};
 ghost use Rattle.keepers.specs.Keeping.{Reads, Keeps};
 ghost use Rattle.keepers.specs.Tables.{Tables};
-ghost use Rattle.keepers.specs.Change.{IsLoad, IsView, AreDeadOf, IsMadeFrom, changed, IsSwept};
+ghost use Rattle.keepers.specs.Change.{IsLoad, IsView, AreDeadOf, IsMadeFrom, changed, with_voucher, IsSwept};
 
 use crate::fault::StoreFault;
 use crate::key::{KeptAnswer, Key};
 use crate::loaded::{Change, Loaded};
 use buckets::Bucket;
-use identifiers::{AccountNumber, SessionId};
+use identifiers::{AccountNumber, SessionId, VoucherCode};
+use redemptions::{Voucher, VoucherTerms};
 use reserving::Account;
 use tariffs::TariffBook;
 use units::Moment;
 
-/// What keeps the rows of accounts, their charges and the kept answers.
+/// What keeps the rows of accounts, their charges, the kept answers and the vouchers.
 ///
 /// Contracts see its content as tables. What a call says of them it says where the store is clean
 /// after it, and a store that is clean was clean before. A store fault comes only where the store
@@ -90,12 +91,29 @@ pub trait Keeper {
         ensures { Reads content failed clean self.old self.new
             (λ found. found ≡ (content self.old).answers account.now key.now) result };
 
+    /// What stands under the code of a voucher; None where nothing does.
+    fn find_voucher(&mut self, code: &VoucherCode) -> Result<Option<Voucher>, StoreFault>
+        ensures { Reads content failed clean self.old self.new
+            (λ found. found ≡ (content self.old).vouchers code.now) result };
+
     /// Makes the change, in one transaction. At a fault nothing has changed.
     fn commit(&mut self, change: Change) -> Result<(), StoreFault>
         ensures done { clean self.new →
             OnOk result (IsMadeFrom change.before change.after
             ((content self.old).rows change.number) →
             content self.new ≡ changed change (content self.old)) }
+        ensures kept { Keeps content failed clean self.old self.new result };
+
+    /// Puts a voucher of these terms, which no account has redeemed, under the code, as a command of
+    /// the moment, in one transaction. At a fault nothing has changed.
+    fn add_voucher(
+        &mut self,
+        code: VoucherCode,
+        terms: VoucherTerms,
+        moment: Moment,
+    ) -> Result<(), StoreFault>
+        ensures done { clean self.new →
+            OnOk result (content self.new ≡ with_voucher code terms moment (content self.old)) }
         ensures kept { Keeps content failed clean self.old self.new result };
 
     /// Gives a loaded account up: nothing changes.

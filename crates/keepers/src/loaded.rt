@@ -2,7 +2,8 @@ ghost use Rattle.std.specs.Prelude.{◌≡◌};
 ghost use Rattle.reserving.specs.Stored.{stored};
 
 use crate::key::KeptAnswer;
-use identifiers::AccountNumber;
+use identifiers::{AccountNumber, VoucherCode};
+use redemptions::Voucher;
 use reserving::{Account, ChargeRow, StoredAccount};
 use units::Moment;
 
@@ -15,6 +16,15 @@ pub struct Loaded<'b> {
     pub account: Account<'b>,
     /// The same rows once more.
     pub before: StoredAccount,
+}
+
+/// A voucher that an account redeemed.
+#[derive(Debug, Drop)]
+pub struct Redeemed {
+    /// Its code.
+    pub code: VoucherCode,
+    /// The voucher as it stands from now on.
+    pub voucher: Voucher,
 }
 
 /// What an accepted command changes. It is spent by a commit.
@@ -32,6 +42,8 @@ pub struct Change {
     pub charges: Vec<ChargeRow>,
     /// What is kept of the command, where it has a key.
     pub kept: Option<KeptAnswer>,
+    /// The voucher that the command redeems, where it redeems one.
+    pub redeemed: Option<Redeemed>,
 }
 
 impl Loaded<'_> {
@@ -41,6 +53,7 @@ impl Loaded<'_> {
         moment: Moment,
         charges: Vec<ChargeRow>,
         kept: Option<KeptAnswer>,
+        redeemed: Option<Redeemed>,
     ) -> Change
         ensures { result ≡ record {
           moment = moment;
@@ -49,6 +62,7 @@ impl Loaded<'_> {
           before = self.entry.before;
           charges = charges;
           kept = kept;
+          redeemed = redeemed;
         } }
     {
         let Loaded {
@@ -63,6 +77,7 @@ impl Loaded<'_> {
             before,
             charges,
             kept,
+            redeemed,
         }
     }
 }

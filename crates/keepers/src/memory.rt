@@ -10,11 +10,14 @@ use crate::fault::StoreFault;
 use crate::keeper::Keeper;
 use crate::key::{KeptAnswer, Key};
 use crate::loaded::{Change, Loaded};
+use crate::voucher_map::{make_voucher_room, put_redeemed, put_voucher, voucher_in};
 use crate::whole::WholeAccount;
 use buckets::Bucket;
-use identifiers::{AccountNumber, SessionId};
+use identifiers::{AccountNumber, SessionId, VoucherCode};
+use redemptions::{Voucher, VoucherTerms};
 use reserving::{Account, ChargeRow, LoadFault};
 use std::alloc::{AllocError, Global};
+use std::collections::HashMap;
 use tariffs::TariffBook;
 use units::Moment;
 
@@ -23,11 +26,12 @@ use units::Moment;
 pub struct MemoryKeeper {
     last: Moment,
     accounts: Accounts,
+    vouchers: HashMap<VoucherCode, Voucher>,
     alloc: Global,
 }
 
 impl MemoryKeeper {
-    /// A keeper without accounts. It takes no memory.
+    /// A keeper without accounts and vouchers. It takes no memory.
     pub fn new(alloc: Global) -> MemoryKeeper
         ensures content { ⟦<MemoryKeeper as Keeper>⟧.content result ≡ no_tables }
         ensures cleanness { ⟦<MemoryKeeper as Keeper>⟧.clean result }
@@ -36,6 +40,7 @@ impl MemoryKeeper {
         MemoryKeeper {
             last: Moment::first(),
             accounts: Accounts::new(alloc),
+            vouchers: HashMap::new(alloc),
             alloc,
         }
     }
@@ -73,7 +78,7 @@ fn refused(fault: LoadFault) -> StoreFault
 impl Keeper for MemoryKeeper {
     ghost use Rattle.keepers.specs.Memory.{memory_tables};
 
-    ghost content = { λ k. memory_tables k.last k.accounts.entries.items };
+    ghost content = { λ k. memory_tables k.last k.accounts.entries.items k.vouchers };
 
     ghost failed = { λ _. 0 };
 
@@ -139,6 +144,10 @@ impl Keeper for MemoryKeeper {
         Ok(find_kept(&self.accounts, account, key)?)
     }
 
+    fn find_voucher(&mut self, code: &VoucherCode) -> Result<Option<Voucher>, StoreFault> {
+        Ok(voucher_in(&self.vouchers, code)?)
+    }
+
     fn commit(&mut self, change: Change) -> Result<(), StoreFault> {
         let Change {
             moment,
@@ -147,8 +156,26 @@ impl Keeper for MemoryKeeper {
             before: _,
             charges,
             kept,
+            redeemed,
         } = change;
+        make_voucher_room(&mut self.vouchers)?;
         self.accounts.put(number, after, charges, kept)?;
+        put_redeemed(&mut self.vouchers, redeemed)?;
+        self.last = moment;
+        Ok(())
+    }
+
+    fn add_voucher(
+        &mut self,
+        code: VoucherCode,
+        terms: VoucherTerms,
+        moment: Moment,
+    ) -> Result<(), StoreFault> {
+        let voucher = Voucher {
+            terms,
+            redeemer: None,
+        };
+        put_voucher(&mut self.vouchers, code, voucher)?;
         self.last = moment;
         Ok(())
     }

@@ -12,7 +12,7 @@ use Rattle.tariffs.specs.Books.{Book}
 use Rattle.keepers.specs.Faults.{max_failures}
 use Rattle.keepers.specs.Tables.{Tables, no_tables}
 use Rattle.charging.proofs.AcceptedTables.{tables_none}
-use Rattle.charging.specs.Outcomes.{outcome}
+use Rattle.charging.specs.Outcomes.{book_days, outcome}
 use Rattle.charging.specs.Accepted.{Accepted, IsInTime}
 use Rattle.charging.specs.declared.running.DatedCommand.{DatedCommand}
 use Rattle.charging.specs.Served.{AreTables, answer_to, moment_of}
@@ -188,7 +188,7 @@ pub once-answered : {A E : Type 0} (result : Result A E) (b c : Book) (credit : 
 once-answered (Err e) b c credit r w0 w1 old new same none h = tt
 once-answered (Ok x) b c credit None w0 w1 old new same none h = tt
 once-answered (Ok x) b c credit (Some stream) w0 w1 old new same none h =
-    subst (λ (book : Book). Appends w0 w1 (once_text book credit stream)) same (h [] tt (subst (AreTables b []) (sym none) (tables_none (outcome b) b))).written
+    subst (λ (book : Book). Appends w0 w1 (once_text book credit stream)) same (h [] tt (subst (AreTables b []) (sym none) (tables_none (book_days b) (outcome b) b))).written
 
 pub once-begun : {A E : Type 0} (result : Result A E) (b c : Book) (credit : ℕ) (r w0 w1 : Option (List ℕ)) (old new : Tables) → b ≡ c → old ≡ no_tables →
     OnErr result (IfSome r (λ stream. ForEachList b old (IsBegun b (Some credit) stream w0 w1 new))) →
@@ -196,7 +196,7 @@ pub once-begun : {A E : Type 0} (result : Result A E) (b c : Book) (credit : ℕ
 once-begun (Ok x) b c credit r w0 w1 old new same none h = tt
 once-begun (Err e) b c credit None w0 w1 old new same none h = tt
 once-begun (Err e) b c credit (Some stream) w0 w1 old new same none h =
-    let begun : IsBegun b (Some credit) stream w0 w1 new [] = h [] tt (subst (AreTables b []) (sym none) (tables_none (outcome b) b)) in
+    let begun : IsBegun b (Some credit) stream w0 w1 new [] = h [] tt (subst (AreTables b []) (sym none) (tables_none (book_days b) (outcome b) b)) in
     subst (λ (book : Book). WritesBeginning w0 w1 (once_text book credit stream)) same (begins b [] (Some credit) stream begun.count w0 w1 begun.written)
 
 -- a count that stays at 0 has no cause

@@ -20,8 +20,8 @@ use Rattle.operator.specs.declared.fault.WordsFault.TheVariants as fault
 use Rattle.operator.specs.declared.parsed.OnceWords.{OnceWords}
 use Rattle.operator.specs.declared.parsed.ProgramWords.{ProgramWords}
 use Rattle.operator.specs.declared.parsed.ProgramWords.TheVariants as words
-use Rattle.ocs.specs.Ends.{IfOnce, IsEnd, IsEndBy, IsEndOf, IsEnded, IsMemory, MayBeRefused, Runs, Says, SaysWhatDoesNot, Stores}
-use Rattle.ocs.specs.Told.{IsReached, IsReachedByLines, IsTextTold, IsTold, IsToldAtEnd, IsToldBy, IsToldOf, ServesConnections, TellsFault, fault_line, line_of}
+use Rattle.ocs.specs.Ends.{IfOnce, Imports, IsEnd, IsEndBy, IsEndOf, IsEnded, IsMemory, MayBeRefused, Says, Stores}
+use Rattle.ocs.specs.Told.{IsReached, IsReachedByLines, IsTextTold, IsTold, IsToldAtEnd, IsToldBy, IsToldOf, ServesConnections, TellsAs, TellsFault, fault_line, line_of}
 use Rattle.ocs.specs.declared.fault.LinesFault.{LinesFault}
 use Rattle.ocs.specs.declared.fault.LinesFault.TheVariants.{Read, Store, Write}
 use Rattle.ocs.specs.declared.fault.ProgramFault.{ProgramFault}
@@ -52,7 +52,7 @@ reached_from : (A B C D : Type 0) (f : ProgramFault) → (A → B) → (C → D)
 reached_from A B C D (program.Lines f) h k is = over_from C D f k is
 reached_from A B C D (program.Stream f) h k is = is
 reached_from A B C D (program.Database f) h k is = k is
-reached_from A B C D program.NotYet h k is = h is
+reached_from A B C D (program.Vouchers f) h k is = h is
 
 pub tells_from : (A B C D : Type 0) (old new : Option (List ℕ)) → (A → B) → (C → D) → TellsFault A C old new → TellsFault B D old new
 tells_from A B C D old new h k t = record { fault = t.fault; reached = reached_from A B C D t.fault h k t.reached; written = t.written }
@@ -75,8 +75,8 @@ same_said : (texts : List Text) (a b : ProgramWords) → IsSaid texts a → IsSa
 unfolding ok_in
 same_said texts a b h k = ap (λ r. ok_in r a) (sym h.means ∙ k.means)
 
-pub end_said : (texts : List Text) (said : ProgramWords) (status : Status) → IsSaid texts said → IsEndBy said status → IsEnd texts status
-end_said texts said Done h runs = inl (record { said = said; says = h; runs = runs })
+pub end_said : (texts : List Text) (said : ProgramWords) (status : Status) → IsSaid texts said → IsEndBy status → IsEnd texts status
+end_said texts said Done h end = inl (record { said = said; says = h })
 end_said texts said Failed h end = tt
 end_said texts said Unread h end = absurd end
 
@@ -100,7 +100,7 @@ done_said texts (words.Replay replay) old new h told = inl (keeps_of old new tol
 pub told_said : (texts : List Text) (said : ProgramWords) (status : Status) (old new : Option (List ℕ)) → IsSaid texts said → IsToldBy said status old new → IsTold texts status old new
 told_said texts said Done old new h told = done_said texts said old new h told
 told_said texts said Failed old new h (inl told) =
-    inl (tells_from (Runs said → ⊥) (SaysWhatDoesNot texts) (Stores said) (Says texts Stores) old new (λ rests. record { said = said; says = h; rests = rests }) (λ stores. record { said = said; says = h; is = stores }) told)
+    inl (tells_from (Imports said) (Says texts Imports) (Stores said) (Says texts Stores) old new (λ adds. record { said = said; says = h; is = adds }) (λ stores. record { said = said; says = h; is = stores }) told)
 told_said texts said Failed old new h (inr refused) = inr (record { said = said; says = h; is = refused.0 }, refused.1)
 told_said texts said Unread old new h told = absurd told
 
@@ -117,8 +117,8 @@ not_once texts (words.Office office) h other = tt
 not_once texts (words.Statement statement) h other = tt
 not_once texts (words.Replay replay) h other = tt
 
-pub ends_read : (said : ProgramWords) (status : Status) → IsEndBy said status → status ≡ Unread → ⊥
-ends_read said status end e = subst (IsEndBy said) e end
+pub ends_read : (status : Status) → IsEndBy status → status ≡ Unread → ⊥
+ends_read status end e = subst IsEndBy e end
 
 -- ---- what is done
 
@@ -137,20 +137,24 @@ ended_told said Done old new ended told = told
 ended_told said Failed old new ended told = inr (ended, refused_told said old new ended told)
 ended_told said Unread old new ended told = absurd ended
 
--- a fault by its line
-pub fault_told : (said : ProgramWords) (f : ProgramFault) (status : Status) (old mid new : Option (List ℕ)) → status ≡ Failed → IsReached (Runs said → ⊥) (Stores said) f → mid ≡ old →
-    WritesBeginning mid new (fault_line f ++ 10 ∷ []) → IsToldBy said status old new
-fault_told said f status old mid new is reached same written =
+-- a fault by its line, or want of memory for that
+tells_as : (Adds Over : Type 0) (f : ProgramFault) (old new : Option (List ℕ)) → IsReached Adds Over f → TellsAs f old new → TellsFault Adds Over old new
+tells_as Adds Over f old new reached (inl written) = record { fault = f; reached = reached; written = written }
+tells_as Adds Over f old new reached (inr written) = record { fault = program.Stream stream.Memory; reached = tt; written = written }
+
+pub fault_told : (said : ProgramWords) (f : ProgramFault) (status : Status) (old mid new : Option (List ℕ)) → status ≡ Failed → IsReached (Imports said) (Stores said) f → mid ≡ old →
+    TellsAs f mid new → IsToldBy said status old new
+fault_told said f status old mid new is reached same told =
     subst (λ (s : Status). IsToldBy said s old new) (sym is)
-    (inl (record { fault = f; reached = reached; written = subst (λ (w : Option (List ℕ)). WritesBeginning w new (fault_line f ++ 10 ∷ [])) same written }))
+    (inl (tells_as (Imports said) (Stores said) f old new reached (subst (λ (w : Option (List ℕ)). TellsAs f w new) same told)))
 
-pub fault_end : (said : ProgramWords) (status : Status) → status ≡ Failed → IsEndBy said status
-fault_end said status is = subst (IsEndBy said) (sym is) tt
+pub fault_end : (status : Status) → status ≡ Failed → IsEndBy status
+fault_end status is = subst IsEndBy (sym is) tt
 
-pub ended_end : (said : ProgramWords) (status : Status) → Runs said → IsEnded (MayBeRefused said) status → IsEndBy said status
-ended_end said Done runs ended = runs
-ended_end said Failed runs ended = tt
-ended_end said Unread runs ended = absurd ended
+pub ended_end : (Refused : Type 0) (status : Status) → IsEnded Refused status → IsEndBy status
+ended_end Refused Done ended = tt
+ended_end Refused Failed ended = tt
+ended_end Refused Unread ended = absurd ended
 
 -- the lines of `once` are never refused
 pub once_ends : (said : ProgramWords) (status : Status) (P : OnceWords → Type 0) → IsEnded (MayBeRefused said) status → status ≡ Failed → IfOnce said P
@@ -212,13 +216,13 @@ none_tells B D old new t = tells_from ⊥ B ⊥ D old new (λ none. absurd none)
 
 pub told_unread : (texts : List Text) (f : WordsFault) (status : Status) (old new : Option (List ℕ)) → IsUnread texts f → IsEndOf f status → IsToldOf f status old new → IsTold texts status old new
 told_unread texts (fault.Unread error) Done old new unread end told = inl told
-told_unread texts (fault.Unread error) Failed old new unread end told = inl (none_tells (SaysWhatDoesNot texts) (Says texts Stores) old new told)
+told_unread texts (fault.Unread error) Failed old new unread end told = inl (none_tells (Says texts Imports) (Says texts Stores) old new told)
 told_unread texts (fault.Unread error) Unread old new unread end told = λ invalid. absurd (not_among (kind_of error) (fault_of program_app texts) invalid.taken unread)
 told_unread texts fault.Invalid Done old new unread end told = absurd end
 told_unread texts fault.Invalid Failed old new unread end told = absurd end
 told_unread texts fault.Invalid Unread old new unread end told = λ invalid. told
 told_unread texts fault.Memory Done old new unread end told = absurd end
-told_unread texts fault.Memory Failed old new unread end told = inl (none_tells (SaysWhatDoesNot texts) (Says texts Stores) old new told)
+told_unread texts fault.Memory Failed old new unread end told = inl (none_tells (Says texts Imports) (Says texts Stores) old new told)
 told_unread texts fault.Memory Unread old new unread end told = absurd end
 
 -- words that say something weren't read only for want of memory

@@ -27,15 +27,15 @@ IfOnce (words.Office office) says = Unit {0}
 IfOnce (words.Statement statement) says = Unit {0}
 IfOnce (words.Replay replay) says = Unit {0}
 
--- their command runs
-abbrev pub Runs : ProgramWords → Type 0
-Runs (words.Once once) = Unit {0}
-Runs (words.Init init) = Unit {0}
-Runs (words.Serve serve) = Unit {0}
-Runs (words.Import import) = ⊥
-Runs (words.Office office) = Unit {0}
-Runs (words.Statement statement) = Unit {0}
-Runs (words.Replay replay) = Unit {0}
+-- their command adds a file of vouchers
+abbrev pub Imports : ProgramWords → Type 0
+Imports (words.Once once) = ⊥
+Imports (words.Init init) = ⊥
+Imports (words.Serve serve) = ⊥
+Imports (words.Import import) = Unit {0}
+Imports (words.Office office) = ⊥
+Imports (words.Statement statement) = ⊥
+Imports (words.Replay replay) = ⊥
 
 -- it works over a database
 abbrev pub Stores : ProgramWords → Type 0
@@ -63,17 +63,10 @@ pub record Says (texts : List Text) (Is : ProgramWords → Type 0) : Type 0 wher
   pub says : IsSaid texts said
   pub is : Is said
 
--- the words say this of a command that runs
-pub record SaysWhatRuns (texts : List Text) : Type 0 where
+-- the words say a command
+pub record SaysCommand (texts : List Text) : Type 0 where
   pub said : ProgramWords
   pub says : IsSaid texts said
-  pub runs : Runs said
-
--- and of one that doesn't
-pub record SaysWhatDoesNot (texts : List Text) : Type 0 where
-  pub said : ProgramWords
-  pub says : IsSaid texts said
-  pub rests : Runs said → ⊥
 
 -- ---- words that aren't read
 
@@ -89,9 +82,9 @@ pub record HasError (texts : List Text) (text : Bool) : Type 0 where
   pub among : IsAmong kind (fault_of program_app texts)
   pub is : is_text kind ≡ text
 
--- done where the words say what runs, or ask for a text; unread where there is a mistake in them
+-- done where the words say a command, or ask for a text; unread where there is a mistake in them
 abbrev pub IsEnd : List Text → Status → Type 0
-IsEnd texts Done = SaysWhatRuns texts ⊎ HasError texts true
+IsEnd texts Done = SaysCommand texts ⊎ HasError texts true
 IsEnd texts Failed = Unit {0}
 IsEnd texts Unread = IsInvalid texts ⊎ HasError texts false
 
@@ -124,9 +117,9 @@ IsMemory (fault.Unread error) = ⊥
 IsMemory fault.Invalid = ⊥
 IsMemory fault.Memory = Unit {0}
 
--- ---- the same by what the words say
+-- ---- the same where the words say a command
 
-abbrev pub IsEndBy : ProgramWords → Status → Type 0
-IsEndBy said Done = Runs said
-IsEndBy said Failed = Unit {0}
-IsEndBy said Unread = ⊥
+abbrev pub IsEndBy : Status → Type 0
+IsEndBy Done = Unit {0}
+IsEndBy Failed = Unit {0}
+IsEndBy Unread = ⊥

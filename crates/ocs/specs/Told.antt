@@ -1,7 +1,9 @@
 -- What the program tells on standard error.
 -- Source: profile.
 use Rattle.std.specs.Prelude.{◌≡◌, ◌≤◌, ◌⊎◌, ◌++◌, ◌∷◌, ℕ, List, [], Option, Some, None, codes}
+use Rattle.std.specs.Fmt.{decimal}
 use Rattle.std.specs.Io.KnownBytes.{Keeps}
+use Rattle.byte_streams.specs.declared.StreamFault.TheVariants as stream
 use Rattle.clap.specs.Words.{Text}
 use Rattle.keepers.specs.declared.fault.StoreFault.TheVariants as store
 use Rattle.office.specs.Told.{store_line, stream_line}
@@ -16,7 +18,9 @@ use Rattle.operator.specs.declared.parsed.ProgramWords.TheVariants as words
 use Rattle.operator.specs.declared.parsed.ServeWords.{ServeWords}
 use Rattle.database_office.specs.Told.{fault_line as database_line}
 use Rattle.office_server.specs.Told.{TellsFaults, listening_line}
-use Rattle.ocs.specs.Ends.{MayBeRefused, Runs, Says, SaysWhatDoesNot, Stores}
+use Rattle.vouchers.specs.Faults.{number_of}
+use Rattle.vouchers.specs.declared.fault.VoucherFault.{VoucherFault}
+use Rattle.ocs.specs.Ends.{Imports, MayBeRefused, Says, Stores}
 use Rattle.ocs.specs.declared.fault.LinesFault.{LinesFault}
 use Rattle.ocs.specs.declared.fault.LinesFault.TheVariants.{Read, Store, Write}
 use Rattle.ocs.specs.declared.fault.ProgramFault.{ProgramFault}
@@ -30,12 +34,17 @@ lines_line (Read fault) = stream_line fault
 lines_line (Store fault) = store_line fault
 lines_line (Write fault) = stream_line fault
 
+-- a fault of a file of vouchers
+abbrev pub voucher_line : VoucherFault → List ℕ
+voucher_line fault = codes "ocs: voucher fault " ++ (decimal (number_of fault.kind)
+    ++ (codes " at record " ++ decimal fault.record_number))
+
 -- and of the program
 abbrev pub fault_line : ProgramFault → List ℕ
 fault_line (program.Lines fault) = lines_line fault
 fault_line (program.Stream fault) = stream_line fault
 fault_line (program.Database fault) = database_line fault
-fault_line program.NotYet = codes "ocs: this command does not run yet"
+fault_line (program.Vouchers fault) = voucher_line fault
 
 -- a word isn't what its place takes
 abbrev pub invalid_line : List ℕ
@@ -62,19 +71,24 @@ IsReachedByLines Over (Store store.Memory) = Unit {0}
 IsReachedByLines Over (Store store.Store) = Over
 IsReachedByLines Over (Write fault) = Unit {0}
 
--- a fault comes only so: that a command doesn't run yet, where the first is so; a database's, where
--- the second is
+-- a fault comes only so: one of a file of vouchers, where the first is so; a database's, where the
+-- second is
 abbrev pub IsReached : Type 0 → Type 0 → ProgramFault → Type 0
-IsReached Rests Over (program.Lines fault) = IsReachedByLines Over fault
-IsReached Rests Over (program.Stream fault) = Unit {0}
-IsReached Rests Over (program.Database fault) = Over
-IsReached Rests Over program.NotYet = Rests
+IsReached Adds Over (program.Lines fault) = IsReachedByLines Over fault
+IsReached Adds Over (program.Stream fault) = Unit {0}
+IsReached Adds Over (program.Database fault) = Over
+IsReached Adds Over (program.Vouchers fault) = Adds
 
 -- a fault is told by its line, as far as it can be written
-pub record TellsFault (Rests Over : Type 0) (old new : Option (List ℕ)) : Type 0 where
+pub record TellsFault (Adds Over : Type 0) (old new : Option (List ℕ)) : Type 0 where
   pub fault : ProgramFault
-  pub reached : IsReached Rests Over fault
+  pub reached : IsReached Adds Over fault
   pub written : WritesBeginning old new (fault_line fault ++ 10 ∷ [])
+
+-- this fault is, or want of memory for its line
+abbrev pub TellsAs : ProgramFault → Option (List ℕ) → Option (List ℕ) → Type 0
+TellsAs fault old new = WritesBeginning old new (fault_line fault ++ 10 ∷ [])
+    ⊎ WritesBeginning old new (stream_line stream.Memory ++ 10 ∷ [])
 
 -- connections were served: the faults of some of them, each by its line
 pub record ConnectionsTold (connections : ℕ) (old new : Option (List ℕ)) : Type 0 where
@@ -94,7 +108,7 @@ pub record ServesConnections (texts : List Text) (old new : Option (List ℕ)) :
 abbrev pub IsTold : List Text → Status → Option (List ℕ) → Option (List ℕ) → Type 0
 IsTold texts Done old new = Keeps old new ⊎ ServesConnections texts old new
 IsTold texts Failed old new =
-    TellsFault (SaysWhatDoesNot texts) (Says texts Stores) old new ⊎ (Says texts MayBeRefused × Keeps old new)
+    TellsFault (Says texts Imports) (Says texts Stores) old new ⊎ (Says texts MayBeRefused × Keeps old new)
 IsTold texts Unread old new = IsInvalid texts → WritesBeginning old new (invalid_line ++ 10 ∷ [])
 
 -- ---- the same by the fault of the words
@@ -124,5 +138,5 @@ IsToldAtEnd (words.Replay replay) old new = new ≡ old
 abbrev pub IsToldBy : ProgramWords → Status → Option (List ℕ) → Option (List ℕ) → Type 0
 IsToldBy said Done old new = IsToldAtEnd said old new
 IsToldBy said Failed old new =
-    TellsFault (Runs said → ⊥) (Stores said) old new ⊎ (MayBeRefused said × Keeps old new)
+    TellsFault (Imports said) (Stores said) old new ⊎ (MayBeRefused said × Keeps old new)
 IsToldBy said Unread old new = ⊥

@@ -4,14 +4,14 @@ ghost use Rattle.keepers.specs.declared.fault.StoreFault.TheVariants.{Store as S
 ghost use Rattle.office.specs.Written.{WritesBeginning};
 ghost use Rattle.one_price.specs.OnceBook.{once_book};
 ghost use Rattle.operator.specs.Read.{IsInRange, IsOnceInRange};
-ghost use Rattle.ocs.specs.Ends.{IfOnce, IsEnded, MayBeRefused, Runs, Stores};
+ghost use Rattle.ocs.specs.Ends.{IfOnce, Imports, IsEnded, MayBeRefused, Stores};
 ghost use Rattle.ocs.specs.Served.{once_text};
 ghost use Rattle.ocs.specs.Told.{IsReached, IsReachedByLines, IsToldAtEnd, line_of};
 
 use crate::fault::{LinesFault, ProgramFault};
 use crate::lines::lines;
 use crate::serving::answer_serve;
-use crate::storing::{answer_init, answer_office, answer_replay, answer_statement};
+use crate::storing::{answer_import, answer_init, answer_office, answer_replay, answer_statement};
 use keepers::MemoryKeeper;
 use office::Status;
 use one_price::once_book;
@@ -23,7 +23,7 @@ use std::io::{Read, Write};
 /// refused.
 ///
 /// # Errors
-/// `NotYet` where their command doesn't run yet. What else is told is their command's.
+/// What is told is their command's; `Vouchers` is told of `import` alone.
 pub(crate) fn do_said<I: Read, O: Write, E: Write>(
     rt: &HostRuntime,
     said: ProgramWords,
@@ -32,9 +32,8 @@ pub(crate) fn do_said<I: Read, O: Write, E: Write>(
     errors: &mut E,
 ) -> Result<Status, ProgramFault>
     requires { IsInRange said }
-    ensures runs { OnOk result (Runs said) }
     ensures ended { IfOk result (IsEnded (MayBeRefused said)) }
-    ensures reached { IfErr result (IsReached (Runs said → ⊥) (Stores said)) }
+    ensures reached { IfErr result (IsReached (Imports said) (Stores said)) }
     ensures told { OnOk result (IsToldAtEnd said (E.contents errors.old) (E.contents errors.new)) }
     ensures untold { OnErr result (errors.new ≡ errors.old) }
     ensures printed { IfSome (line_of said) (λ line. OnOk result
@@ -53,7 +52,7 @@ pub(crate) fn do_said<I: Read, O: Write, E: Write>(
         ProgramWords::Once(once) => answer_once(rt.alloc(), once, input, output),
         ProgramWords::Init(init) => answer_init(rt, &init, output),
         ProgramWords::Serve(serve) => answer_serve(rt, &serve, output, errors),
-        ProgramWords::Import(_) => Err(ProgramFault::NotYet),
+        ProgramWords::Import(import) => answer_import(rt, import, output),
         ProgramWords::Office(office) => answer_office(rt, office, output),
         ProgramWords::Statement(statement) => answer_statement(rt, statement, output),
         ProgramWords::Replay(replay) => answer_replay(rt, &replay, output),
@@ -69,7 +68,7 @@ fn answer_once<I: Read, O: Write>(
 ) -> Result<Status, ProgramFault>
     requires { IsOnceInRange once }
     ensures ended { IfOk result (IsEnded ⊥) }
-    ensures reached { IfErr result (IsReached (Unit {0} → ⊥) ⊥) }
+    ensures reached { IfErr result (IsReached ⊥ ⊥) }
     ensures done { OnOk result (IfSome (I.remaining input.old) (λ stream.
         Appends (O.contents output.old) (O.contents output.new)
         (once_text (once_book once.price once.block) once.credit stream))) }

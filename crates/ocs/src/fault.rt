@@ -1,5 +1,5 @@
 ghost use Rattle.std.specs.Prelude.{◌≡◌};
-ghost use Rattle.ocs.specs.Told.{fault_line, lines_line};
+ghost use Rattle.ocs.specs.Told.{lines_line};
 
 use byte_streams::StreamFault;
 use database_office::DatabaseFault;
@@ -7,6 +7,7 @@ use keepers::StoreFault;
 use office::{store_line, stream_line};
 use std::alloc::AllocError;
 use thiserror::Error;
+use vouchers::VoucherFault;
 
 /// Why lines weren't answered to their end: how far it came, and what failed there.
 #[derive(Clone, Copy, Debug, Drop, Error, PartialEq, Eq)]
@@ -58,21 +59,7 @@ pub enum ProgramFault {
     /// A command over a database wasn't carried out.
     #[error("{0}")]
     Database(DatabaseFault),
-    /// The words are the program's, and their command doesn't run yet.
-    #[error("the command does not run yet")]
-    NotYet,
-}
-
-impl ProgramFault {
-    /// The line that tells it on standard error, without its line feed.
-    pub fn line(self) -> &'static str
-        ensures { result.now ≡ fault_line self }
-    {
-        match self {
-            ProgramFault::Lines(fault) => fault.line(),
-            ProgramFault::Stream(fault) => stream_line(fault),
-            ProgramFault::Database(fault) => fault.line(),
-            ProgramFault::NotYet => "ocs: this command does not run yet",
-        }
-    }
+    /// A file of vouchers has a fault, or wasn't read to its end: nothing is added.
+    #[error("voucher fault {} at record {}", .0.kind.number(), .0.record_number)]
+    Vouchers(VoucherFault),
 }

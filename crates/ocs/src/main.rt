@@ -99,7 +99,7 @@ fn run_said<I: Read, O: Write, E: Write>(
     errors: &mut E,
 ) -> Status
     requires { IsInRange said }
-    ensures end { IsEndBy said result }
+    ensures end { IsEndBy result }
     ensures told { IsToldBy said result (E.contents errors.old) (E.contents errors.new) }
     ensures printed { result ≡ Done →
         IfSome (line_of said) (Appends (O.contents output.old) (O.contents output.new)) }
@@ -115,7 +115,7 @@ fn run_said<I: Read, O: Write, E: Write>(
 {
     match do_said(rt, said, input, output, errors) {
         Ok(status) => status,
-        Err(fault) => tell_fault(errors, fault),
+        Err(fault) => tell_fault(rt.alloc(), errors, fault),
     }
 }
 

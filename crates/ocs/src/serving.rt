@@ -21,7 +21,7 @@ pub(crate) fn answer_serve<O: Write, E: Write>(
     errors: &mut E,
 ) -> Result<Status, ProgramFault>
     ensures ended { IfOk result (IsEnded ⊥) }
-    ensures reached { IfErr result (IsReached (Unit {0} → ⊥) (Unit {0})) }
+    ensures reached { IfErr result (IsReached ⊥ (Unit {0})) }
     ensures listening { OnOk result (Appends (O.contents output.old) (O.contents output.new)
         (listening_line serve.now.port)) }
     ensures begun { OnErr result (WritesBeginning (O.contents output.old) (O.contents output.new)

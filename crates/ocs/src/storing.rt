@@ -11,11 +11,12 @@ use crate::fault::{LinesFault, ProgramFault};
 use crate::lines::lines;
 use byte_streams::{StreamFault, write_whole};
 use database_office::{
-    Office, command_office, make_database, open_file, open_office, state_office,
+    ImportFault, Office, command_office, import_office, make_database, open_file, open_office,
+    state_office,
 };
 use keepers::Keeper;
 use office::Status;
-use operator::{InitWords, OfficeWords, ReplayWords, StatementWords};
+use operator::{ImportWords, InitWords, OfficeWords, ReplayWords, StatementWords};
 use std::alloc::Global;
 use std::io::{BufReader, Read, Write};
 use tariffs::TariffBook;
@@ -28,7 +29,7 @@ pub(crate) fn answer_init<O: Write>(
     output: &mut O,
 ) -> Result<Status, ProgramFault>
     ensures ended { IfOk result (IsEnded ⊥) }
-    ensures reached { IfErr result (IsReached (Unit {0} → ⊥) (Unit {0})) }
+    ensures reached { IfErr result (IsReached ⊥ (Unit {0})) }
     ensures done { OnOk result (Appends (O.contents output.old) (O.contents output.new)
         (codes "ok\n")) }
     ensures begun { OnErr result (WritesBeginning (O.contents output.old) (O.contents output.new)
@@ -50,7 +51,7 @@ pub(crate) fn answer_office<O: Write>(
     output: &mut O,
 ) -> Result<Status, ProgramFault>
     ensures ended { IfOk result (IsEnded (Unit {0})) }
-    ensures reached { IfErr result (IsReached (Unit {0} → ⊥) (Unit {0})) }
+    ensures reached { IfErr result (IsReached ⊥ (Unit {0})) }
 {
     match command_office(rt, words, output) {
         Ok(Status::Done) => Ok(Status::Done),
@@ -66,12 +67,28 @@ pub(crate) fn answer_statement<O: Write>(
     output: &mut O,
 ) -> Result<Status, ProgramFault>
     ensures ended { IfOk result (IsEnded (Unit {0})) }
-    ensures reached { IfErr result (IsReached (Unit {0} → ⊥) (Unit {0})) }
+    ensures reached { IfErr result (IsReached ⊥ (Unit {0})) }
 {
     match state_office(rt, words, output) {
         Ok(Status::Done) => Ok(Status::Done),
         Ok(_) => Ok(Status::Failed),
         Err(fault) => Err(ProgramFault::Database(fault)),
+    }
+}
+
+/// Adds the vouchers of a file, and tells what became of them.
+pub(crate) fn answer_import<O: Write>(
+    rt: &HostRuntime,
+    import: ImportWords,
+    output: &mut O,
+) -> Result<Status, ProgramFault>
+    ensures ended { IfOk result (IsEnded ⊥) }
+    ensures reached { IfErr result (IsReached (Unit {0}) (Unit {0})) }
+{
+    match import_office(rt, import, output) {
+        Ok(()) => Ok(Status::Done),
+        Err(ImportFault::Vouchers(fault)) => Err(ProgramFault::Vouchers(fault)),
+        Err(ImportFault::Database(fault)) => Err(ProgramFault::Database(fault)),
     }
 }
 
@@ -82,7 +99,7 @@ pub(crate) fn answer_replay<O: Write>(
     output: &mut O,
 ) -> Result<Status, ProgramFault>
     ensures ended { IfOk result (IsEnded ⊥) }
-    ensures reached { IfErr result (IsReached (Unit {0} → ⊥) (Unit {0})) }
+    ensures reached { IfErr result (IsReached ⊥ (Unit {0})) }
 {
     let file = match open_file(rt, replay.file.as_str()) {
         Ok(file) => file,

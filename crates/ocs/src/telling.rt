@@ -1,23 +1,24 @@
-ghost use Rattle.std.specs.Prelude.{◌≡◌, ◌++◌, ◌∷◌, []};
+ghost use Rattle.std.specs.Prelude.{◌≡◌, ◌++◌, ◌∷◌, [], string_bytes, IfOk};
 ghost use Rattle.clap.specs.Words.{kind_of};
 ghost use Rattle.office.specs.Written.{WritesBeginning};
 ghost use Rattle.office.specs.declared.status.Status.TheVariants.{Failed, Unread};
 ghost use Rattle.ocs.specs.Ends.{IsEndOf, IsEndOfKind, IsMemory, is_text};
-ghost use Rattle.ocs.specs.Told.{IsTextTold, IsToldOf, fault_line};
+ghost use Rattle.office.specs.Told.{stream_line};
+ghost use Rattle.ocs.specs.Told.{IsTextTold, IsToldOf, TellsAs, voucher_line};
+ghost use Rattle.ocs.specs.declared.fault.ProgramFault.TheVariants.{Vouchers};
 
 use crate::fault::ProgramFault;
 use byte_streams::{StreamFault, write_whole};
 use clap::Error;
 use clap::error::ErrorKind;
-use office::Status;
+use office::{Status, stream_line};
 use operator::WordsFault;
-use std::alloc::Global;
+use std::alloc::{AllocError, Global};
 use std::io::{self, Write};
+use vouchers::VoucherFault;
 
 /// What is told of words of which one isn't what its place takes.
 const INVALID: &str = "ocs: a word is not one that its place takes";
-
-const NO_MEMORY: ProgramFault = ProgramFault::Stream(StreamFault::Memory);
 
 /// Writes a line feed, where it can be written.
 fn end_line<E: Write>(errors: &mut E)
@@ -37,14 +38,56 @@ pub(crate) fn tell_line<E: Write>(errors: &mut E, line: &str)
     }
 }
 
-/// Tells a fault by its line, as far as it can be written.
-pub(crate) fn tell_fault<E: Write>(errors: &mut E, fault: ProgramFault) -> Status
+/// Tells by its line that something failed, as far as it can be written.
+fn tell_failed<E: Write>(errors: &mut E, line: &str) -> Status
     ensures status { result ≡ Failed }
     ensures told { WritesBeginning (E.contents errors.old) (E.contents errors.new)
-        (fault_line fault ++ 10 ∷ []) }
+        (line.now ++ 10 ∷ []) }
 {
-    tell_line(errors, fault.line());
+    tell_line(errors, line);
     Status::Failed
+}
+
+/// Tells a fault of a stream, or want of memory.
+fn tell_stream<E: Write>(errors: &mut E, fault: StreamFault) -> Status
+    ensures status { result ≡ Failed }
+    ensures told { WritesBeginning (E.contents errors.old) (E.contents errors.new)
+        (stream_line fault ++ 10 ∷ []) }
+{
+    tell_failed(errors, stream_line(fault))
+}
+
+/// The line that tells a fault of a file of vouchers.
+fn voucher_line(alloc: Global, fault: VoucherFault) -> Result<String, AllocError>
+    ensures { IfOk result (λ line. string_bytes line ≡ voucher_line fault) }
+{
+    let number = fault.kind.number();
+    let record = fault.record_number;
+    format!(in alloc; "ocs: voucher fault {number} at record {record}")
+}
+
+/// Tells a fault of a file of vouchers, or want of memory for its line.
+fn tell_vouchers<E: Write>(alloc: Global, errors: &mut E, fault: VoucherFault) -> Status
+    ensures status { result ≡ Failed }
+    ensures told { TellsAs (Vouchers fault) (E.contents errors.old) (E.contents errors.new) }
+{
+    match voucher_line(alloc, fault) {
+        Ok(line) => tell_failed(errors, line.as_str()),
+        Err(_) => tell_stream(errors, StreamFault::Memory),
+    }
+}
+
+/// Tells a fault by its line, as far as it can be written.
+pub(crate) fn tell_fault<E: Write>(alloc: Global, errors: &mut E, fault: ProgramFault) -> Status
+    ensures status { result ≡ Failed }
+    ensures told { TellsAs fault (E.contents errors.old) (E.contents errors.new) }
+{
+    match fault {
+        ProgramFault::Lines(fault) => tell_failed(errors, fault.line()),
+        ProgramFault::Stream(fault) => tell_stream(errors, fault),
+        ProgramFault::Database(fault) => tell_failed(errors, fault.line()),
+        ProgramFault::Vouchers(fault) => tell_vouchers(alloc, errors, fault),
+    }
 }
 
 /// Whether an error of this kind is a text that the words ask for.
@@ -67,7 +110,7 @@ fn tell_error<O: Write, E: Write>(
     ensures unwritten { result ≡ Unread → output.new ≡ output.old }
 {
     let Ok(text) = format!(in alloc; "{error}") else {
-        return tell_fault(errors, NO_MEMORY);
+        return tell_stream(errors, StreamFault::Memory);
     };
     if !is_text(error.kind()) {
         let _ = write_whole(errors, text.as_bytes());
@@ -75,7 +118,7 @@ fn tell_error<O: Write, E: Write>(
     }
     match write_whole(output, text.as_bytes()) {
         Ok(()) => Status::Done,
-        Err(fault) => tell_fault(errors, ProgramFault::Stream(fault)),
+        Err(fault) => tell_stream(errors, fault),
     }
 }
 
@@ -97,7 +140,7 @@ pub(crate) fn tell_unread<O: Write, E: Write>(
             tell_line(errors, INVALID);
             Status::Unread
         }
-        WordsFault::Memory => tell_fault(errors, NO_MEMORY),
+        WordsFault::Memory => tell_stream(errors, StreamFault::Memory),
     }
 }
 
@@ -109,6 +152,6 @@ pub(crate) fn tell_start<E: Write>(errors: &mut E, kind: io::ErrorKind) -> Statu
             tell_line(errors, INVALID);
             Status::Unread
         }
-        _ => tell_fault(errors, NO_MEMORY),
+        _ => tell_stream(errors, StreamFault::Memory),
     }
 }

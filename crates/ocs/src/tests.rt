@@ -43,10 +43,7 @@ const TOLD: [(&str, &str); 9] = [
         "ocs serve db --port 65535 --connections 1000000",
         "1||ocs: open fault 1\n",
     ),
-    (
-        "ocs import db file",
-        "1||ocs: this command does not run yet\n",
-    ),
+    ("ocs import db file", "1||ocs: file fault\n"),
 ];
 
 /// Words that are run, that ask for a text, and that aren't read.

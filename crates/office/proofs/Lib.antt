@@ -2,3 +2,4 @@ pub mod CarriedLemmas
 pub mod Beginnings
 pub mod MonthLemmas
 pub mod NumberedSums
+pub mod ImportLemmas

@@ -2,3 +2,5 @@ pub mod Written
 pub mod Told
 pub mod Carried
 pub mod Months
+pub mod Counts
+pub mod Imports

@@ -8,7 +8,8 @@ use thiserror::Error;
 /// Why an operator's command wasn't done, or its answer not told.
 #[derive(Clone, Copy, Debug, Drop, Error, PartialEq, Eq)]
 pub enum OfficeFault {
-    /// The keeper didn't do what it was asked: nothing has changed.
+    /// The keeper didn't do what it was asked: nothing has changed, but of vouchers a beginning was
+    /// added.
     #[error("store fault {}", .0.number())]
     Store(StoreFault),
     /// The command was carried out, and its answer isn't written to its end.

@@ -5,8 +5,8 @@ ghost use Rattle.http_api.specs.Replies.{ForEachList, IsContinued};
 ghost use Rattle.office_server.specs.Told.{TellsFaults};
 
 use crate::telling::tell_fault;
+use charge_sources::ChargeSource;
 use http_api::{Clock, ServeFault, Served, serve_socket};
-use keepers::Keeper;
 use std::alloc::Global;
 use std::io::Write;
 use std::net::TcpListener;
@@ -16,7 +16,7 @@ use tariffs::TariffBook;
 /// answers how many of them ended in a fault. A connection's fault is one line on `errors`, as far
 /// as that can be written, and the next connection is served; one that the listener couldn't hand
 /// over counts as one whose socket failed.
-pub fn serve_connections<K: Keeper, C: Clock, E: Write>(
+pub fn serve_connections<K: ChargeSource, C: Clock, E: Write>(
     alloc: Global,
     listener: &TcpListener,
     connections: u32,
@@ -40,7 +40,7 @@ pub fn serve_connections<K: Keeper, C: Clock, E: Write>(
 }
 
 /// Serves the next connection of a listener, and tells its fault: how many there were, none or one.
-fn serve_next<K: Keeper, C: Clock, E: Write>(
+fn serve_next<K: ChargeSource, C: Clock, E: Write>(
     alloc: Global,
     listener: &TcpListener,
     keeper: &mut K,
@@ -65,7 +65,7 @@ fn serve_next<K: Keeper, C: Clock, E: Write>(
 }
 
 /// Serves the next connection of a listener.
-fn serve_accepted<K: Keeper, C: Clock>(
+fn serve_accepted<K: ChargeSource, C: Clock>(
     alloc: Global,
     listener: &TcpListener,
     keeper: &mut K,

@@ -1,7 +1,5 @@
-pub mod Numbers
 pub mod Lines
 pub mod Paths
-pub mod Months
 pub mod Faults
 pub mod Commands
 pub mod Program

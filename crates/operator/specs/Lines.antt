@@ -2,7 +2,7 @@
 -- Source: profile.
 use Rattle.std.specs.Prelude.{◌≡◌, ℕ, ◌<◌, ◌==◌, List, length, Option, Some, None, nat_le, nat_lt, if◌then◌else◌, option_and_then}
 use Rattle.std.specs.List.{before_first, after_first, position_or_len}
-use Rattle.operator.specs.Numbers.{number_of}
+use Rattle.written_numbers.specs.Numbers.{number_of}
 use Rattle.operator.specs.declared.dated.DatedLine.{DatedLine}
 
 -- a moment of a command

@@ -7,8 +7,8 @@ use Rattle.clap.specs.Words.{Row, Text, first_of}
 use Rattle.first_fault.specs.Steps.{◌>>=◌, or_fault, where_holds}
 use Rattle.identifiers.specs.Texts.{is_account_number, is_reference, same_name}
 use Rattle.operator.specs.Commands.{command_named}
-use Rattle.operator.specs.Months.{month_of}
-use Rattle.operator.specs.Numbers.{number_of}
+use Rattle.written_numbers.specs.Months.{month_of}
+use Rattle.written_numbers.specs.Numbers.{number_of}
 use Rattle.operator.specs.Paths.{is_file_path}
 use Rattle.operator.specs.declared.command_name.CommandName.{CommandName}
 use Rattle.operator.specs.declared.command_name.CommandName.TheVariants as name

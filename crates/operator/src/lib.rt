@@ -1,12 +1,10 @@
-//! What an operator writes: the program's words, the numbers in them, and lines of dated requests.
+//! What an operator writes: the program's words, and lines of dated requests.
 #![tactic(auto)]
 
 mod arguments;
 mod command_name;
 mod dated;
 mod fault;
-mod month;
-mod numbers;
 mod parsed;
 mod path;
 mod program;
@@ -16,11 +14,10 @@ mod values;
 
 pub use crate::dated::{DatedLine, dated_line};
 pub use crate::fault::WordsFault;
-pub use crate::month::Month;
-pub use crate::numbers::number;
 pub use crate::parsed::{
     ImportWords, InitWords, OfficeCommand, OfficeWords, OnceWords, ProgramWords, ReplayWords,
     ServeWords, StatementWords,
 };
 pub use crate::path::FilePath;
 pub use crate::reading::program_words;
+pub use written_numbers::{Month, number};

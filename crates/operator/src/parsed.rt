@@ -1,11 +1,11 @@
 ghost use Rattle.std.specs.Prelude.{◌≡◌};
 ghost use Rattle.operator.specs.Office.{command_of};
 
-use crate::month::Month;
 use crate::path::FilePath;
 use commands::{Command, Credit};
 use identifiers::AccountNumber;
 use units::{Moment, Money};
+use written_numbers::Month;
 
 /// What the words of `once` say: an account's opening credit, and the one price of its tariff book.
 #[derive(Clone, Copy, Debug)]

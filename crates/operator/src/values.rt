@@ -5,14 +5,13 @@ ghost use Rattle.operator.specs.Said.{account_of, at_of, database_of, has_flag, 
 ghost use Rattle.operator.specs.declared.fault.ValueFault.TheVariants.{Memory};
 
 use crate::fault::ValueFault;
-use crate::month::Month;
-use crate::numbers::number;
 use crate::path::FilePath;
 use clap::ArgMatches;
 use commands::CreditEnd;
 use identifiers::{AccountNumber, Reference};
 use std::alloc::Global;
 use units::{Moment, Money};
+use written_numbers::{Month, number};
 
 /// The first word of an operand or an option, where it is there.
 fn found<'a>(matches: &ArgMatches<'a>, id: &str) -> Option<&'a str>

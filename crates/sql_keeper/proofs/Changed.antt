@@ -19,18 +19,19 @@ use Rattle.keepers.specs.declared.loaded.Change.{Change}
 use Rattle.keepers.specs.Keys.{same_key, key_of}
 use Rattle.keepers.specs.Tables.{GroupRow, group_row, charge_in}
 use Rattle.keepers.specs.Tables as tables
-use Rattle.keepers.specs.Change.{IsMadeFrom, over, held_over, kept_after, changed}
+use Rattle.keepers.specs.Change.{IsMadeFrom, over, held_over, kept_after, redeemed_over, changed}
 use Rattle.sql_rows.specs.Values.{Meta, Group, Kept, request_kind, reference_kind}
 use Rattle.sql_rows.specs.Content.{Rows as Stored, Content, with_rows, with_meta, with_account, with_head, with_answer}
 use Rattle.sql_rows.specs.Each.{with_buckets, with_counters, with_sessions}
-use Rattle.sql_keeper.specs.Content.{periods_in, group_in as stored_group, is_reserved, held_in, rows_of, is_numbered, charge_of, kept_in, answer_in, tables_of}
+use Rattle.sql_keeper.specs.Content.{periods_in, group_in as stored_group, is_reserved, held_in, rows_of, is_numbered, charge_of, kept_in, answer_in, voucher_in, tables_of}
 use Rattle.sql_keeper.specs.Content as content
-use Rattle.sql_keeper.specs.Writes.{name_at, names_at, columns_of, head_of, with_stored, with_texts, with_kept, AreTexts, with_change}
+use Rattle.sql_keeper.specs.Writes.{name_at, names_at, columns_of, head_of, with_stored, with_texts, with_kept, with_redeemed, AreTexts, with_change}
 use Rattle.sql_keeper.specs.Tests.{IsNamed, MayStand, AreWritable, AreNumbered, first_number}
 use Rattle.sql_keeper.specs.Laws.{AreChangesRead}
 use Rattle.sql_keeper.proofs.Overlays.{name_from, not_both, with_opened, opened, over_buckets, over_counters, over_sessions, over_charges, buckets_over, counters_over, sessions_over, charges_over}
 use Rattle.sql_keeper.proofs.Groups.{amount_at, amount_in, over_groups, groups_over, held_is}
 use Rattle.sql_keeper.proofs.Numbers.{numbered_apart, seen_after, begins}
+use Rattle.sql_keeper.proofs.Redeemed.{redeemed_read}
 
 -- ---- the rows of an account
 
@@ -233,13 +234,13 @@ module _ (names : List (List ℕ)) (m : Meta) (change : Change) (texts : Option 
   row_after : Stored → Stored
   row_after r = put_kept change.kept texts (over_charges change.charges.items (over_stored names change.after r))
 
-  content_after : with_change names m change texts c ≡ opened change.number row_after (with_meta m c)
+  content_after : with_change names m change texts c ≡ with_redeemed change.redeemed (opened change.number row_after (with_meta m c))
   unfolding row_after
   content_after =
-      ap (with_kept change.number change.kept texts) (charges_over change.number change.charges.items (with_stored change.number names change.after (with_meta m c)) (numbered_apart (first_number (c.rows change.number).head) change.after.next_charge change.charges.items numbers)
+      ap (with_redeemed change.redeemed) (ap (with_kept change.number change.kept texts) (charges_over change.number change.charges.items (with_stored change.number names change.after (with_meta m c)) (numbered_apart (first_number (c.rows change.number).head) change.after.next_charge change.charges.items numbers)
       ∙ ap (with_rows change.number (over_charges change.charges.items)) (stored_over change.number names change.after (with_meta m c) kept may)
       ∙ with_opened change.number (over_charges change.charges.items) (over_stored names change.after) (with_meta m c))
-      ∙ kept_over change.number change.kept texts (λ r. over_charges change.charges.items (over_stored names change.after r)) (with_meta m c)
+      ∙ kept_over change.number change.kept texts (λ r. over_charges change.charges.items (over_stored names change.after r)) (with_meta m c))
 
   module _ (last : m.last ≡ change.moment) (made : IsMadeFrom change.before change.after (rows_of names (c.rows change.number))) where
     rows_at : (x : List ℕ) (t : Bool) → same_name change.number x ≡ t
@@ -272,11 +273,13 @@ module _ (names : List (List ℕ)) (m : Meta) (change : Change) (texts : Option 
     pub change_read : tables_of names (with_change names m change texts c) ≡ changed change (tables_of names c)
     change_read =
         ap (tables_of names) content_after
+        ∙ redeemed_read names change.redeemed (opened change.number row_after (with_meta m c))
         ∙ (λ i. record {
           last = last i;
           rows = λ x. rows_at x (same_name change.number x) refl i;
           answers = λ x k. answers_at x k (same_name change.number x) refl i;
           charges = λ x n. charges_at x n (same_name change.number x) refl i;
+          vouchers = λ code. redeemed_over change.redeemed code (option_map voucher_in (c.vouchers code));
           count = if sym (is_some_map content.head_in (c.rows change.number).head) i then c.count else c.count + 1;
         })
 

@@ -1,12 +1,11 @@
 -- The charges that are read for a page are the account's.
-use Rattle.std.proofs.Common.{◌≡◌, ℕ, ◌+◌, ◌-◌, ◌<◌, ◌≤◌, Bool, true, false, cond, List, [], ◌∷◌, Some, None, Option, refl, sym, ap, ◌∙◌, subst, arith, nat_eq, nat_lt}
+use Rattle.std.proofs.Common.{◌≡◌, ℕ, ◌+◌, ◌-◌, ◌<◌, ◌≤◌, Bool, true, false, cond, List, [], ◌∷◌, Some, None, Option, refl, sym, ap, ◌∙◌, subst, arith, nat_lt}
 use Rattle.std.specs.Prelude.{◌==◌, ◌&&◌, if◌then◌else◌, min, nat_le}
-use Rattle.std.specs.List.{find, filter}
+use Rattle.std.specs.List.{filter}
 use Rattle.std.proofs.lemmas.Bool.{and_parts, and_from, true≢false}
 use Rattle.std.proofs.Math.Nat.{min-le_left, min-le_right, min-eq_left, min-eq_right, le-min}
 use Rattle.std.proofs.lemmas.Bool.Decides.{nat_tests}
 use Rattle.reserving.specs.declared.charge.ChargeRow.{ChargeRow}
-use Rattle.reserving.specs.ChargeColumns.{ChargeColumns}
 use Rattle.reserving.specs.Left.{only}
 use Rattle.keepers.specs.Tables.{charge_in}
 use Rattle.charge_sources.specs.Rows.{are_rising, AreCharges as AreAll}
@@ -17,7 +16,7 @@ use Rattle.sql_tables.specs.Selects.{only as those}
 use Rattle.sql_rows.specs.declared.head.Head.{Head}
 use Rattle.sql_rows.specs.Content.{Rows as Stored}
 use Rattle.sql_rows.specs.Lists.{AreCharges, NumbersRise, is_within}
-use Rattle.sql_keeper.specs.ChargePages.{IsPageRead, end_of_page, last_number}
+use Rattle.sql_keeper.specs.ChargePages.{IsPageRead, last_number}
 use Rattle.sql_keeper.specs.Content.{charge_of, is_numbered}
 
 -- numbers up to the last are those that are seen

@@ -4,6 +4,7 @@ use Rattle.keepers.specs.declared.key.Key.{Key}
 use Rattle.keepers.specs.declared.key.Key.TheVariants.{Request, Reference}
 use Rattle.keepers.specs.declared.key.KeptAnswer.{KeptAnswer}
 use Rattle.keepers.specs.declared.loaded.Change.{Change}
+use Rattle.keepers.specs.declared.loaded.Redeemed.{Redeemed}
 use Rattle.keepers.specs.Keys.{key_of}
 use Rattle.buckets.specs.declared.holds.Hold.{Hold}
 use Rattle.reserving.specs.declared.session.SessionGroup.{SessionGroup}
@@ -23,7 +24,7 @@ use Rattle.sql_keeper.specs.Content.{tables_of}
 use Rattle.sql_keeper.specs.Commits.{Becomes}
 use Rattle.sql_keeper.specs.Tests.{AreNumbered, AreWritable, first_number}
 use Rattle.sql_keeper.specs.Writes.{AreTexts, columns_of, head_of, meta_with, with_change, with_held_group}
-use Rattle.sql_keeper.specs.Writes.{with_kept, with_stored, with_texts}
+use Rattle.sql_keeper.specs.Writes.{with_kept, with_redeemed, with_stored, with_texts}
 use Rattle.sql_keeper.proofs.Changed.{changes_read}
 
 -- ---- what is kept once
@@ -42,6 +43,10 @@ kept_meta : (a : List ℕ) (kept : Option KeptAnswer) (t : Option Kept) (c : Con
 kept_meta a None t c = refl
 kept_meta a (Some k) None c = refl
 kept_meta a (Some k) (Some t) c = texts_meta a (key_of k.content) t c
+
+redeemed_meta : (redeemed : Option Redeemed) (c : Content) → (with_redeemed redeemed c).meta ≡ c.meta
+redeemed_meta None c = refl
+redeemed_meta (Some r) c = refl
 
 held_meta : (a : List ℕ) (names : List (List ℕ)) (r : SessionGroup) (c : Content)
     → (with_held_group a names r c).meta ≡ c.meta
@@ -65,7 +70,9 @@ change_meta : (names : List (List ℕ)) (m : Meta) (change : Change) (texts : Op
     → (with_change names m change texts c).meta ≡ Some m
 change_meta names m change texts c =
     let stored = with_stored change.number names change.after (with_meta m c) in
-    kept_meta change.number change.kept texts (with_charges change.number change.charges.items stored)
+    let charged = with_charges change.number change.charges.items stored in
+    redeemed_meta change.redeemed (with_kept change.number change.kept texts charged)
+    ∙ kept_meta change.number change.kept texts charged
     ∙ each_meta (λ x. with_rows change.number (with_charge x)) (λ x c. refl) change.charges.items stored
     ∙ stored_meta change.number names change.after (with_meta m c)
 

@@ -10,9 +10,12 @@ use Rattle.sql_rows.specs.Content.{content_of}
 use Rattle.keepers.specs.declared.fault.StoreFault.{StoreFault}
 use Rattle.keepers.specs.declared.loaded.Change.{Change}
 use Rattle.keepers.specs.Change.{IsMadeFrom, IsSwept, changed}
+use Rattle.keepers.specs.Change.{with_voucher as with_added}
+use Rattle.redemptions.specs.declared.terms.VoucherTerms.{VoucherTerms}
 use Rattle.keepers.specs.Faults.{HasCause, max_failures}
 use Rattle.keepers.specs.Keeping.{Keeps}
 use Rattle.tariffs.specs.Books.{Book}
+use Rattle.sql_keeper.specs.Additions.{BecomesAdded}
 use Rattle.sql_keeper.specs.Commits.{CommitsChange, CommitsWhole}
 use Rattle.sql_keeper.specs.Content.{tables_of}
 use Rattle.sql_keeper.specs.Inside.{KeeperState, IsClean, StaysOpen, IsKeeper, tables_in, failed_in, clean_in}
@@ -38,6 +41,14 @@ pub committed : {S A : Type 0} (g : Ghosts S) (old : KeeperState S) (conn : Held
     → tables_of old.names (content_of (state g conn).now.trees) ≡ changed change (tables_in g old))
 committed g old conn text change keeper (Ok x) commits clean = (commits.done clean.disk).2.tables
 committed g old conn text change keeper (Err e) commits clean = tt
+
+-- the law of adding a voucher
+pub added_law : {S A : Type 0} (g : Ghosts S) (old : KeeperState S) (conn : Held S) (text code : List ℕ)
+    (terms : VoucherTerms) (t : ℕ) → IsKeeper g old → (r : Result A StoreFault)
+    → CommitsWhole (BecomesAdded text code terms t) (state g old.connection) (state g conn) r → IsClean (state g conn)
+    → OnOk r (tables_of old.names (content_of (state g conn).now.trees) ≡ with_added code terms t (tables_in g old))
+added_law g old conn text code terms t keeper (Ok x) commits clean = (commits.done clean.disk).2.tables old.names
+added_law g old conn text code terms t keeper (Err e) commits clean = tt
 
 -- the law of a sweep
 pub swept_law : {S A : Type 0} (g : Ghosts S) (old : KeeperState S) (conn : Held S) (text : List ℕ) (book : Book)

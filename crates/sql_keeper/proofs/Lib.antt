@@ -1,3 +1,4 @@
+pub mod Added
 pub mod Again
 pub mod Asked
 pub mod BookTexts
@@ -17,6 +18,7 @@ pub mod Numbers
 pub mod Opens
 pub mod Overlays
 pub mod Puts
+pub mod Redeemed
 pub mod Repeating
 pub mod Swept
 pub mod SweptReads

@@ -1,17 +1,14 @@
 -- What may still change of an account is what a load asks.
-use Rattle.std.proofs.Common.{◌≡◌, ℕ, ◌==◌, Bool, true, false, not, List, [], ◌∷◌, Option, Some, None, Result, Ok, Err, IfOk, IsErrOf, cond, refl, sym, ap, ◌∙◌, subst, true≢false}
+use Rattle.std.proofs.Common.{◌≡◌, ℕ, Bool, true, false, not, List, [], ◌∷◌, Option, Some, None, Result, Ok, Err, IfOk, IsErrOf, cond, refl, sym, ap, ◌∙◌, subst, true≢false}
 use Rattle.std.specs.Prelude.{if◌then◌else◌, filter, option_map}
 use Rattle.std.specs.List.{find}
 use Rattle.buckets.specs.Row.{Row}
 use Rattle.tariffs.specs.Books.{Book}
 use Rattle.reserving.specs.declared.session.Session.{Session}
-use Rattle.reserving.specs.declared.session.Counter.{Counter}
 use Rattle.reserving.specs.Left.{is_dead}
-use Rattle.reserving.specs.Pricing.{cycle_at}
-use Rattle.reserving.specs.Sessions.{is_open, is_counter, counter_in}
+use Rattle.reserving.specs.Sessions.{is_open}
 use Rattle.reserving.specs.Rows.{AccountRows}
 use Rattle.reserving.specs.Stored.{StoredRows, stored}
-use Rattle.reserving.proofs.Keys.{first_true, second_true, same_number}
 use Rattle.sql_rows.specs.Content.{Rows as Stored}
 use Rattle.sql_rows.specs.Lists.{AreBuckets, is_live}
 use Rattle.keepers.specs.declared.loaded.Loaded.{Loaded}
@@ -21,7 +18,7 @@ use Rattle.keepers.specs.Tables.{Rows, Tables}
 use Rattle.keepers.specs.Change.{IsLoadedFrom, IsLoad, IsView}
 use Rattle.keepers.specs.Keeping.{Reads}
 use Rattle.sql_keeper.specs.Content.{head_in, rows_of}
-use Rattle.sql_keeper.specs.LiveRows.{AreLiveBuckets, AreCountersAt, AreLiveRowsLoaded, IsAccountOf, IsLiveAccount, IsLoadOf}
+use Rattle.sql_keeper.specs.LiveRows.{AreLiveBuckets, AreLiveRowsLoaded, IsAccountOf, IsLiveAccount, IsLoadOf}
 use Rattle.sql_keeper.proofs.DeadRows.{those_are, spent_is_dead}
 use Rattle.sql_keeper.proofs.LiveGroups.{open_loaded}
 

@@ -20,7 +20,7 @@ use Rattle.keepers.proofs.Leaving.{left_behind}
 use Rattle.keepers.proofs.Taking.{taken}
 use Rattle.sql_rows.specs.declared.head.Head.{Head as HeadColumns}
 use Rattle.sql_rows.specs.Content.{Rows as Stored, Content, with_meta}
-use Rattle.sql_keeper.specs.Content.{head_in, rows_of, is_numbered, charge_of, answer_in, last_in, tables_of}
+use Rattle.sql_keeper.specs.Content.{head_in, rows_of, is_numbered, charge_of, answer_in, last_in, voucher_in, tables_of}
 use Rattle.sql_keeper.specs.Laws.{AreSweepsRead}
 use Rattle.sql_keeper.specs.LiveRows.{IsLiveAccount}
 use Rattle.sql_keeper.specs.Sweeps.{rows_at, AreSweptRows, IsSweptOf, AreAllSwept, with_accounts, with_sweep}
@@ -126,6 +126,12 @@ module _ (names : List (List ℕ)) where
   meta_after [] c may = refl
   meta_after (x ∷ xs) c may =
       ap (λ d. (with_accounts names xs d).meta) (step x c may.0) ∙ meta_after xs (one_after x c) may.1
+
+  vouchers_after : (xs : List SweptAccount) (c : Content) → EachIn (MayBePut names) xs
+      → (with_accounts names xs c).vouchers ≡ c.vouchers
+  vouchers_after [] c may = refl
+  vouchers_after (x ∷ xs) c may =
+      ap (λ d. (with_accounts names xs d).vouchers) (step x c may.0) ∙ vouchers_after xs (one_after x c) may.1
 
   there_still : (x : SweptAccount) (c : Content) (ys : List SweptAccount) → EachIn (IsThere c) ys
       → EachIn (IsThere (one_after x c)) ys
@@ -263,6 +269,7 @@ module _ (names : List (List ℕ)) (text : List ℕ) (book : Book) (t : ℕ) (c 
     rows = λ a. (seen a).rows;
     answers = λ a. (seen a).answers;
     charges = λ a. (seen a).charges;
+    vouchers = λ code. ap (λ f. option_map voucher_in (f code)) (vouchers_after names xs (with_meta (meta_at text t) c) may);
     count = count_after names xs (with_meta (meta_at text t) c) may there;
   }
 

@@ -11,17 +11,22 @@ use Rattle.sqlite.specs.State.{HasCleanDisk}
 use Rattle.sql_opening.specs.declared.fault.OpenFault.{OpenFault}
 use Rattle.sql_opening.specs.declared.fault.OpenFault.TheVariants.{Foreign, Version, Rules}
 use Rattle.keepers.specs.declared.loaded.Change.{Change}
+use Rattle.redemptions.specs.declared.terms.VoucherTerms.{VoucherTerms}
+use Rattle.sql_keeper.specs.Additions.{BecomesAdded}
 use Rattle.sql_keeper.specs.Books.{IsBookText}
 use Rattle.sql_keeper.specs.Commits.{Becomes}
 use Rattle.sql_keeper.specs.Creates.{IsNewBook}
 use Rattle.sql_keeper.specs.Opened.{IsLeft, IsNotOpened}
 use Rattle.sql_keeper.specs.Sweeps.{BecomesSwept}
 
--- a new book is left, and what a commit or a sweep makes of tables that are left is left again
+-- a new book is left, and what a commit, an addition or a sweep makes of tables that are left is left
+-- again
 pub record AreLeftAgain : Type 0 where
   pub made : (text : List ℕ) (new : Trees) → IsUtf8 text → IsBookText text → IsNewBook text new → IsLeft text new
   pub committed : (names : List (List ℕ)) (text : List ℕ) (change : Change) (old new : Trees)
       → IsLeft text old → Becomes names text change old new → IsLeft text new
+  pub added : (text code : List ℕ) (terms : VoucherTerms) (t : ℕ) (old new : Trees)
+      → IsLeft text old → BecomesAdded text code terms t old new → IsLeft text new
   pub swept : (names : List (List ℕ)) (text : List ℕ) (book : Book) (t : ℕ) (old new : Trees)
       → IsLeft text old → BecomesSwept names text book t old new → IsLeft text new
 

@@ -11,12 +11,13 @@ use Rattle.commands.specs.declared.answer.Answer.{Answer}
 use Rattle.json_fields.specs.declared.fault.WireFault.{WireFault}
 use Rattle.wire.specs.Contents.{content_of as command_of}
 use Rattle.wire_answers.specs.ReadingAnswers.{answer_of}
+use Rattle.redemptions.specs.declared.voucher.Voucher.{Voucher}
 use Rattle.keepers.specs.declared.key.Key.{Key}
 use Rattle.keepers.specs.declared.key.Key.TheVariants.{Request, Reference}
 use Rattle.keepers.specs.declared.key.KeptAnswer.{KeptAnswer}
 use Rattle.keepers.specs.Tables.{Head, GroupRow, Rows, Tables}
 use Rattle.sql_rows.specs.declared.head.Head.{Head as HeadColumns}
-use Rattle.sql_rows.specs.Values.{Meta, Group, PeriodNames, Kept, request_kind, reference_kind}
+use Rattle.sql_rows.specs.Values.{Meta, Group, PeriodNames, Kept, Voucher as VoucherRow, request_kind, reference_kind}
 use Rattle.sql_rows.specs.Content.{Rows as Stored, Content}
 
 -- ---- periods, which stand by their names
@@ -92,6 +93,15 @@ texts_of (Reference x) r = r.answers reference_kind x 0
 abbrev pub answer_in : List ℕ → Key → Stored → Option KeptAnswer
 answer_in a k r = option_and_then (kept_in a) (texts_of k r)
 
+-- ---- vouchers
+
+-- the voucher of a row
+abbrev pub voucher_in : VoucherRow → Voucher
+voucher_in v = record {
+  terms = record { amount = v.amount; days = v.days; scope = v.scope };
+  redeemer = v.account;
+}
+
 -- ---- all of it
 
 -- the moment of the last accepted command; the first where nothing was written yet
@@ -105,5 +115,6 @@ tables_of names c = record {
   rows = λ a. rows_of names (c.rows a);
   answers = λ a k. answer_in a k (c.rows a);
   charges = λ a n. charge_of n (c.rows a);
+  vouchers = λ code. option_map voucher_in (c.vouchers code);
   count = c.count;
 }

@@ -10,11 +10,13 @@ use Rattle.reserving.specs.Stored.{StoredRows}
 use Rattle.keepers.specs.declared.key.Key.{Key}
 use Rattle.keepers.specs.declared.key.KeptAnswer.{KeptAnswer}
 use Rattle.keepers.specs.declared.loaded.Change.{Change}
+use Rattle.keepers.specs.declared.loaded.Redeemed.{Redeemed}
 use Rattle.keepers.specs.Keys.{key_of}
 use Rattle.keepers.specs.declared.key.Key.TheVariants.{Request, Reference}
+use Rattle.redemptions.specs.declared.voucher.Voucher.{Voucher}
 use Rattle.sql_rows.specs.declared.head.Head.{Head as HeadColumns}
-use Rattle.sql_rows.specs.Values.{Meta, Group, PeriodNames, Kept, request_kind, reference_kind}
-use Rattle.sql_rows.specs.Content.{Content, with_rows, with_meta, with_account, with_group, without_holds, with_answer}
+use Rattle.sql_rows.specs.Values.{Meta, Group, PeriodNames, Kept, Voucher as VoucherRow, request_kind, reference_kind}
+use Rattle.sql_rows.specs.Content.{Content, with_rows, with_meta, with_account, with_group, without_holds, with_answer, with_voucher}
 use Rattle.sql_rows.specs.Each.{with_each, with_buckets, with_counters, with_sessions, with_holds, with_charges}
 use Rattle.sql_keeper.specs.Content.{kept_in}
 
@@ -55,6 +57,22 @@ abbrev pub with_texts : List ℕ → Key → Kept → Content → Content
 with_texts a (Request s n) k c = with_rows a (with_answer request_kind s n k) c
 with_texts a (Reference x) k c = with_rows a (with_answer reference_kind x 0 k) c
 
+-- ---- vouchers
+
+-- the row of a voucher
+abbrev pub row_of : Voucher → VoucherRow
+row_of v = record {
+  amount = v.terms.amount;
+  days = v.terms.days;
+  scope = v.terms.scope;
+  account = v.redeemer;
+}
+
+-- the voucher that a change redeems, as it leaves it
+abbrev pub with_redeemed : Option Redeemed → Content → Content
+with_redeemed None c = c
+with_redeemed (Some r) c = with_voucher r.code (row_of r.voucher) c
+
 -- ---- all of a change
 
 -- the rows of an account as they become
@@ -85,5 +103,6 @@ meta_with text change = meta_at text change.moment
 -- all of a change
 abbrev pub with_change : List (List ℕ) → Meta → Change → Option Kept → Content → Content
 with_change names m change texts c =
-    with_kept change.number change.kept texts (with_charges change.number change.charges.items
-    (with_stored change.number names change.after (with_meta m c)))
+    with_redeemed change.redeemed (with_kept change.number change.kept texts
+    (with_charges change.number change.charges.items
+    (with_stored change.number names change.after (with_meta m c))))

@@ -2,8 +2,9 @@
 
 use crate::keeper::SqlKeeper;
 use buckets::Bucket;
-use identifiers::{AccountNumber, SessionId};
+use identifiers::{AccountNumber, SessionId, VoucherCode};
 use keepers::{Change, Keeper, KeptAnswer, Key, Loaded, StoreFault};
+use redemptions::{Voucher, VoucherTerms};
 use reserving::Account;
 use sqlite::Alter;
 use tariffs::TariffBook;
@@ -71,6 +72,19 @@ impl<S: Alter> Keeper for SqlKeeper<S> {
         key: &Key,
     ) -> Result<Option<KeptAnswer>, StoreFault> {
         SqlKeeper::find_answer(self, account, key)
+    }
+
+    fn find_voucher(&mut self, code: &VoucherCode) -> Result<Option<Voucher>, StoreFault> {
+        SqlKeeper::find_voucher(self, code)
+    }
+
+    fn add_voucher(
+        &mut self,
+        code: VoucherCode,
+        terms: VoucherTerms,
+        moment: Moment,
+    ) -> Result<(), StoreFault> {
+        SqlKeeper::add_voucher(self, code, terms, moment)
     }
 
     fn commit(&mut self, change: Change) -> Result<(), StoreFault> {

@@ -37,7 +37,7 @@ pub fn live_rows_are_loaded()
     ensures { AreLiveRowsLoaded }
 {}
 
-/// What a commit or a sweep makes of tables that are left is left again.
+/// What a commit, an addition or a sweep makes of tables that are left is left again.
 #[tactic(auto, using(crate::proofs::Again::left_again))]
 pub fn tables_are_left_again()
     ensures { AreLeftAgain }

@@ -2,6 +2,7 @@
 //! change before it is written.
 #![tactic(auto)]
 
+mod added_vouchers;
 mod asking;
 mod books;
 mod charge_pages;
@@ -11,6 +12,7 @@ mod creating;
 mod dead;
 mod faults;
 mod finding;
+mod found_vouchers;
 mod held_groups;
 mod keeper;
 mod keeping;
@@ -26,6 +28,7 @@ mod sweeping;
 mod swept_rows;
 mod testing;
 mod texts;
+mod voucher_puts;
 
 pub use crate::create_fault::CreateFault;
 pub use crate::faults::counted;

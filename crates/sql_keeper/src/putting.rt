@@ -11,6 +11,7 @@ ghost use Rattle.sql_keeper.specs.Writes.{head_of, meta_with, with_change, with_
 ghost use Rattle.sqlite.specs.Held.{state};
 
 use crate::held_groups::put_groups;
+use crate::voucher_puts::put_redeemed;
 use commands::Content;
 use identifiers::AccountNumber;
 use keepers::{Change, KeptAnswer};
@@ -91,6 +92,10 @@ fn put_texts<S: Alter>(
             let reference = &kept.credit().reference;
             put_answer_reference(tx, account, reference, of_content, of_answer)
         }
+        Content::Redeem(redemption) => {
+            let reference = &redemption.reference;
+            put_answer_reference(tx, account, reference, of_content, of_answer)
+        }
     }
 }
 
@@ -120,8 +125,8 @@ fn put_kept<S: Alter>(
     }
 }
 
-/// Puts all that a change writes: the moment, the account's rows, the charges, and the texts of what
-/// is kept.
+/// Puts all that a change writes: the moment, the account's rows, the charges, the texts of what is
+/// kept, and the voucher that is redeemed.
 pub(crate) fn put_change<S: Alter>(
     tx: &mut Transaction<'_, S>,
     book: &TariffBook,
@@ -139,5 +144,6 @@ pub(crate) fn put_change<S: Alter>(
     put_meta(tx, 1, text, change.moment)?;
     put_stored(tx, account, book, &change.after)?;
     put_charges(tx, account, &change.charges)?;
-    put_kept(tx, account, &change.kept, texts)
+    put_kept(tx, account, &change.kept, texts)?;
+    put_redeemed(tx, &change.redeemed)
 }

@@ -2,4 +2,5 @@
 
 mod changes;
 mod loads;
+mod redeeming;
 mod sweeps;

@@ -7,10 +7,10 @@ use crate::columns::{Column, push_column, push_columns};
 use crate::rows::Sums;
 use buckets::Bucket;
 use identifiers::AccountNumber;
-use operator::Month;
 use reserving::ChargeRow;
 use std::alloc::{AllocError, Global};
 use units::Moment;
+use written_numbers::Month;
 
 /// The line before the charges: what stands in their columns.
 const HEADING: &str =

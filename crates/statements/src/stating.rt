@@ -16,11 +16,11 @@ use buckets::Bucket;
 use byte_streams::{StreamFault, write_whole};
 use charge_sources::ChargeSource;
 use identifiers::AccountNumber;
-use operator::Month;
 use std::alloc::Global;
 use std::io::Write;
 use tariffs::TariffBook;
 use units::Moment;
+use written_numbers::Month;
 
 /// The number of a month's cycle.
 fn cycle_of_month(month: Month) -> u32

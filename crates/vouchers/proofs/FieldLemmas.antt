@@ -1,6 +1,6 @@
 -- A field of a record, and fields that are no text.
-use Rattle.std.proofs.Common.{◌≡◌, ◌&&◌, ◌==◌, ◌<◌, ◌≤◌, ℕ, zero, suc, List, [], ◌∷◌, length, Bool, true, false, Option, Some, None, IsUtf8, refl, sym, ap, ◌∙◌, arith, All}
-use Rattle.std.specs.Prelude.{nat_le, if◌then◌else◌}
+use Rattle.std.proofs.Common.{◌≡◌, ◌&&◌, ◌==◌, ◌<◌, ◌≤◌, ℕ, zero, suc, List, [], ◌∷◌, length, true, false, Option, Some, None, IsUtf8, refl, ap, ◌∙◌, arith, All}
+use Rattle.std.specs.Prelude.{IfSome, nat_le}
 use Rattle.std.specs.List.{list_all}
 use Rattle.std.specs.Char.{is_ascii_digit}
 use Rattle.std.proofs.lemmas.List.Elements.{All-cons, All-nil}
@@ -9,7 +9,8 @@ use Rattle.std.proofs.lemmas.Str.Ascii.{IsAscii-from_all}
 use Rattle.std.proofs.lemmas.Bool.{and_parts, and_right, false_from_ne_true, leb-true}
 use Rattle.csv.specs.Records.{field_at}
 use Rattle.identifiers.specs.Texts.{is_digit, is_voucher_code}
-use Rattle.operator.specs.Numbers.{number_of}
+use Rattle.written_numbers.specs.Numbers.{number_of}
+use Rattle.redemptions.specs.Terms.{are_days, are_terms}
 use Rattle.vouchers.specs.Rows.{field}
 
 -- the field at a place, as a look-up tells it
@@ -51,3 +52,12 @@ no_number bs other =
 -- and is no code
 pub no_code : (bs : List ℕ) → ¬ (IsUtf8 bs) → is_voucher_code bs ≡ false
 no_code bs other = and_right (length bs == 12) _ (no_digits bs other)
+
+-- an amount and days in their ranges are terms
+days_in_range : (days : Option ℕ) → IfSome days (λ n. (1 ≤ n) × (n ≤ 3650)) → are_days days ≡ true
+days_in_range None h = refl
+days_in_range (Some n) h = grind arith
+
+pub terms_in_range : (amount : ℕ) (days : Option ℕ) → (1 ≤ amount) × (amount ≤ 1_000_000_000_000_000)
+    → IfSome days (λ n. (1 ≤ n) × (n ≤ 3650)) → are_terms amount days ≡ true
+terms_in_range amount days some h = grind (arith, days_in_range days h)

@@ -1,5 +1,5 @@
 -- What has been read of a file, and what follows from it for the whole file.
-use Rattle.std.proofs.Common.{◌≡◌, ◌≢◌, ◌==◌, ◌+◌, ◌≤◌, ℕ, suc, List, [], ◌∷◌, ◌++◌, length, Bool, true, false, Option, Some, None, IfSome, IfErr, Result, Ok, Err, IsTrue, refl, sym, ap, subst, ◌∙◌, arith, append_assoc, option_map, length-append, ◌&&◌, if◌then◌else◌}
+use Rattle.std.proofs.Common.{◌≡◌, ◌≢◌, ◌+◌, ◌≤◌, ℕ, List, [], ◌∷◌, ◌++◌, length, Bool, true, false, Option, Some, None, IfSome, IfErr, Result, Ok, Err, IsTrue, refl, sym, ap, subst, ◌∙◌, arith, append_assoc, option_map, length-append, ◌&&◌, if◌then◌else◌}
 use Rattle.std.proofs.lemmas.List.{append-nil}
 use Rattle.std.proofs.lemmas.Bool.{and_parts}
 use Rattle.csv.specs.Reading.{Reached, ReadRecord, default_config, strip_bom, source_of, reader_state, reader_config, reader_trim}
@@ -11,7 +11,7 @@ use Rattle.first_fault.specs.Steps.{◌>>=◌}
 use Rattle.vouchers.specs.declared.fault.FaultKind.{FaultKind}
 use Rattle.vouchers.specs.declared.fault.FaultKind.TheVariants.{Header, Memory}
 use Rattle.vouchers.specs.declared.fault.VoucherFault.{VoucherFault}
-use Rattle.vouchers.specs.declared.row.VoucherRow.{VoucherRow}
+use Rattle.commands.specs.declared.command.VoucherAddition.{VoucherAddition}
 use Rattle.vouchers.specs.Faults.{is_in_file}
 use Rattle.vouchers.specs.Files.{records_in, fault_at, at_record, vouchers_from, vouchers_of, vouchers_in, MayStopAt, ReadsFirst}
 use Rattle.vouchers.specs.Rows.{voucher_of, is_header}
@@ -19,27 +19,27 @@ use Rattle.vouchers.proofs.RecordLemmas.{reached_first}
 
 -- ---- vouchers one after the other
 
-same_reading : (r : Result (List VoucherRow) VoucherFault) → r ≡ (r >>= λ rest. Ok ([] ++ rest))
+same_reading : (r : Result (List VoucherAddition) VoucherFault) → r ≡ (r >>= λ rest. Ok ([] ++ rest))
 same_reading (Ok rows) = refl
 same_reading (Err f) = refl
 
-two_readings : (rows : List VoucherRow) (row : VoucherRow)
-    (r : Result (List VoucherRow) VoucherFault)
+two_readings : (rows : List VoucherAddition) (row : VoucherAddition)
+    (r : Result (List VoucherAddition) VoucherFault)
     → ((r >>= λ rest. Ok (row ∷ rest)) >>= λ rest. Ok (rows ++ rest)) ≡ (r >>= λ rest. Ok ((rows ++ row ∷ []) ++ rest))
 two_readings rows row (Ok rest) = ap Ok (sym (append_assoc rows (row ∷ []) rest))
 two_readings rows row (Err f) = refl
 
 -- no fault is told before this record
-abbrev NotBefore : ℕ → Result (List VoucherRow) VoucherFault → Type 0
+abbrev NotBefore : ℕ → Result (List VoucherAddition) VoucherFault → Type 0
 NotBefore n r = IfErr r (λ f. n ≤ f.record_number)
 
-not_before_bind : (n : ℕ) (rows : List VoucherRow) (r : Result (List VoucherRow) VoucherFault)
+not_before_bind : (n : ℕ) (rows : List VoucherAddition) (r : Result (List VoucherAddition) VoucherFault)
     → NotBefore n r → NotBefore n (r >>= λ rest. Ok (rows ++ rest))
 not_before_bind n rows (Ok rest) h = tt
 not_before_bind n rows (Err f) h = h
 
-not_before_more : (n : ℕ) (r : Result VoucherRow FaultKind)
-    (more : Result (List VoucherRow) VoucherFault) → NotBefore (n + 1) more
+not_before_more : (n : ℕ) (r : Result VoucherAddition FaultKind)
+    (more : Result (List VoucherAddition) VoucherFault) → NotBefore (n + 1) more
     → NotBefore n (at_record n r >>= λ row. more >>= λ rest. Ok (row ∷ rest))
 not_before_more n (Ok row) (Ok rest) h = tt
 not_before_more n (Ok row) (Err f) h = omega (arith, h)
@@ -54,7 +54,7 @@ not_before n (fields ∷ more) = not_before_more n (voucher_of fields) (vouchers
 
 -- of a text the header and these records were read, up to the one before this number; they say
 -- these vouchers
-pub record HasRead (text : List ℕ) (source : Option (List ℕ)) (state : State) (rows : List VoucherRow) (number : ℕ) : Type 0 where
+pub record HasRead (text : List ℕ) (source : Option (List ℕ)) (state : State) (rows : List VoucherAddition) (number : ℕ) : Type 0 where
   pub header : List (List ℕ)
   pub others : List (List (List ℕ))
   pub left : List ℕ
@@ -66,7 +66,7 @@ pub record HasRead (text : List ℕ) (source : Option (List ℕ)) (state : State
 
 -- the same of a reader, where the bytes that it began with are known
 abbrev pub Knows : {R : Type 0} → (R → Option (List ℕ)) → Option (List ℕ) → Reader R
-    → List VoucherRow → ℕ → Type 0
+    → List VoucherAddition → ℕ → Type 0
 Knows rem start reader rows number = IfSome start (λ text. HasRead text (source_of rem reader) (reader_state reader) rows number)
 
 -- the whole file, by the records that follow
@@ -143,7 +143,7 @@ no_header rem start a b config source state reads =
 
 -- one more voucher was read
 pub goes_on : {R : Type 0} (rem : R → Option (List ℕ)) (start : Option (List ℕ)) (a b : Reader R)
-    (fields : List (List ℕ)) (rows : List VoucherRow) (row : VoucherRow) (number : ℕ)
+    (fields : List (List ℕ)) (rows : List VoucherAddition) (row : VoucherAddition) (number : ℕ)
     → reader_config a ≡ default_config → Knows rem start a rows number
     → ReadRecord rem a b true fields → voucher_of fields ≡ Ok row
     → Knows rem start b (rows ++ row ∷ []) (number + 1)
@@ -161,7 +161,7 @@ goes_on rem (Some text) a b fields rows row number config had read is =
       count = omega (arith, had.count, length-append had.others (fields ∷ []));
       so_far = λ more.
           ap (vouchers_from 2) (append_assoc had.others (fields ∷ []) more) ∙ had.so_far (fields ∷ more)
-          ∙ ap (λ (r : Result VoucherRow FaultKind). (at_record number r >>= λ row. vouchers_from (number + 1) more >>= λ rest. Ok (row ∷ rest)) >>= λ rest. Ok (rows ++ rest)) is
+          ∙ ap (λ (r : Result VoucherAddition FaultKind). (at_record number r >>= λ row. vouchers_from (number + 1) more >>= λ rest. Ok (row ∷ rest)) >>= λ rest. Ok (rows ++ rest)) is
           ∙ two_readings rows row (vouchers_from (number + 1) more);
     }
 
@@ -173,7 +173,7 @@ not_memory kind h e = absurd (cc (rw e at h))
 
 -- the record has a fault
 pub fails : {R : Type 0} (rem : R → Option (List ℕ)) (start : Option (List ℕ)) (a b : Reader R)
-    (fields : List (List ℕ)) (rows : List VoucherRow) (number : ℕ) (f : VoucherFault)
+    (fields : List (List ℕ)) (rows : List VoucherAddition) (number : ℕ) (f : VoucherFault)
     → reader_config a ≡ default_config → Knows rem start a rows number
     → ReadRecord rem a b true fields → f.record_number ≡ number → IsTrue (is_in_file f.kind)
     → (f.kind ≢ Memory → voucher_of fields ≡ Err f.kind)
@@ -185,12 +185,12 @@ fails rem (Some text) a b fields rows number f config had read at_number in_file
     let (more, records, last) = reached_first text (had.header ∷ had.others ++ fields ∷ []) (reader_state b) left reached in
     whole text had.header (had.others ++ fields ∷ []) more had.first records
     ∙ ap (vouchers_from 2) (append_assoc had.others (fields ∷ []) more) ∙ had.so_far (fields ∷ more)
-    ∙ ap (λ (r : Result VoucherRow FaultKind). (at_record number r >>= λ row. vouchers_from (number + 1) more >>= λ rest. Ok (row ∷ rest)) >>= λ rest. Ok (rows ++ rest)) (is (not_memory f.kind in_file))
+    ∙ ap (λ (r : Result VoucherAddition FaultKind). (at_record number r >>= λ row. vouchers_from (number + 1) more >>= λ rest. Ok (row ∷ rest)) >>= λ rest. Ok (rows ++ rest)) (is (not_memory f.kind in_file))
     ∙ ap Err (fault_is f number at_number)
 
 -- no record follows
 pub ends : {R : Type 0} (rem : R → Option (List ℕ)) (start : Option (List ℕ)) (a b : Reader R)
-    (fields : List (List ℕ)) (rows : List VoucherRow) (number : ℕ)
+    (fields : List (List ℕ)) (rows : List VoucherAddition) (number : ℕ)
     → reader_config a ≡ default_config → Knows rem start a rows number
     → ReadRecord rem a b false fields → IfSome start (λ text. vouchers_in text ≡ Ok rows)
 unfolding vouchers_from
@@ -203,7 +203,7 @@ ends rem (Some text) a b fields rows number config had read =
 
 -- reading stopped at this record
 pub stops : {R : Type 0} (rem : R → Option (List ℕ)) (start : Option (List ℕ)) (a : Reader R)
-    (rows : List VoucherRow) (number : ℕ) → Knows rem start a rows number
+    (rows : List VoucherAddition) (number : ℕ) → Knows rem start a rows number
     → IfSome start (MayStopAt number)
 stops rem None a rows number had = tt
 stops rem (Some text) a rows number had =
@@ -218,7 +218,7 @@ from_first : (records : List (List (List ℕ))) → NotBefore 1 (vouchers_of rec
 from_first [] = omega arith
 from_first (fields ∷ more) = first_of (is_header fields) (vouchers_from 2 more) (not_before 2 more)
   where
-    first_of : (b : Bool) (r : Result (List VoucherRow) VoucherFault) → NotBefore 2 r → NotBefore 1 (if b then r else Err (fault_at 1 Header))
+    first_of : (b : Bool) (r : Result (List VoucherAddition) VoucherFault) → NotBefore 2 r → NotBefore 1 (if b then r else Err (fault_at 1 Header))
     first_of true (Ok rows) h = tt
     first_of true (Err f) h = omega (arith, h)
     first_of false r h = omega arith

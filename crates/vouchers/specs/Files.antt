@@ -10,7 +10,7 @@ use Rattle.first_fault.specs.Steps.{◌>>=◌}
 use Rattle.vouchers.specs.declared.fault.FaultKind.{FaultKind}
 use Rattle.vouchers.specs.declared.fault.FaultKind.TheVariants.{Header}
 use Rattle.vouchers.specs.declared.fault.VoucherFault.{VoucherFault}
-use Rattle.vouchers.specs.declared.row.VoucherRow.{VoucherRow}
+use Rattle.commands.specs.declared.command.VoucherAddition.{VoucherAddition}
 use Rattle.vouchers.specs.Rows.{voucher_of, is_header}
 
 -- the records of a text, each the list of its fields
@@ -27,7 +27,7 @@ at_record number (Ok x) = Ok x
 at_record number (Err kind) = Err (fault_at number kind)
 
 -- the records from this number on, one after the other; the first fault ends it
-unfoldable pub vouchers_from : ℕ → List (List (List ℕ)) → Result (List VoucherRow) VoucherFault
+unfoldable pub vouchers_from : ℕ → List (List (List ℕ)) → Result (List VoucherAddition) VoucherFault
 vouchers_from number [] = Ok []
 vouchers_from number (fields ∷ more) = do
   row ← at_record number (voucher_of fields)
@@ -35,12 +35,12 @@ vouchers_from number (fields ∷ more) = do
   Ok (row ∷ rows)
 
 -- the header is record 1, and the vouchers follow it
-abbrev pub vouchers_of : List (List (List ℕ)) → Result (List VoucherRow) VoucherFault
+abbrev pub vouchers_of : List (List (List ℕ)) → Result (List VoucherAddition) VoucherFault
 vouchers_of [] = Err (fault_at 1 Header)
 vouchers_of (fields ∷ more) = if is_header fields then vouchers_from 2 more else Err (fault_at 1 Header)
 
 -- what a file says
-abbrev pub vouchers_in : List ℕ → Result (List VoucherRow) VoucherFault
+abbrev pub vouchers_in : List ℕ → Result (List VoucherAddition) VoucherFault
 vouchers_in text = vouchers_of (records_in text)
 
 -- reading may stop at this record: no earlier one has a fault, and it is at most one past the last

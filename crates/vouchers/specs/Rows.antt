@@ -1,12 +1,13 @@
 -- The voucher that a record says: its four fields, read from the left.
 -- Source: profile; the fields are those of CSV, RFC 4180.
-use Rattle.std.specs.Prelude.{◌≡◌, ℕ, ◌≤◌, ◌&&◌, ◌==◌, List, [], ◌∷◌, length, get_or, codes, Bool, Option, Some, None, IfSome, IsTrue, Result, Ok, Err, nat_le, if◌then◌else◌}
+use Rattle.std.specs.Prelude.{ℕ, ◌≤◌, ◌&&◌, ◌==◌, List, [], ◌∷◌, length, get_or, codes, Bool, Option, Some, None, IfSome, IsTrue, Result, Ok, nat_le}
 use Rattle.first_fault.specs.Steps.{◌>>=◌, or_fault, where_holds}
 use Rattle.identifiers.specs.Texts.{is_voucher_code, same_name}
-use Rattle.operator.specs.Numbers.{number_of}
+use Rattle.written_numbers.specs.Numbers.{number_of}
+use Rattle.redemptions.specs.declared.terms.VoucherTerms.{VoucherTerms}
 use Rattle.vouchers.specs.declared.fault.FaultKind.{FaultKind}
 use Rattle.vouchers.specs.declared.fault.FaultKind.TheVariants.{FieldCount, Code, Amount, Days, Scope}
-use Rattle.vouchers.specs.declared.row.VoucherRow.{VoucherRow}
+use Rattle.commands.specs.declared.command.VoucherAddition.{VoucherAddition}
 
 -- the field at a place, counted from 0; empty past the last
 abbrev pub field : List (List ℕ) → ℕ → List ℕ
@@ -25,26 +26,35 @@ optional_in fault low high (b ∷ bs) = do
   n ← number_in fault low high (b ∷ bs)
   Ok (Some n)
 
--- four fields: a code of 12 digits, 1 to 10^15 micro-units, 1 to 3,650 days or none, a rating group
--- or none
-unfoldable pub voucher_of : List (List ℕ) → Result VoucherRow FaultKind
-voucher_of fields = do
-  four ← where_holds (length fields == 4) FieldCount fields
-  code ← where_holds (is_voucher_code (field fields 0)) Code (field fields 0)
+-- behind the code: 1 to 10^15 micro-units, 1 to 3,650 days or none, a rating group or none
+unfoldable pub terms_of : List (List ℕ) → Result VoucherTerms FaultKind
+terms_of fields = do
   amount ← number_in Amount 1 1_000_000_000_000_000 (field fields 1)
   days ← optional_in Days 1 3650 (field fields 2)
   scope ← optional_in Scope 0 4_294_967_295 (field fields 3)
-  Ok (record { code = code; amount = amount; days = days; scope = scope })
+  Ok (record { amount = amount; days = days; scope = scope })
+
+-- four fields: a code of 12 digits and the terms
+unfoldable pub voucher_of : List (List ℕ) → Result VoucherAddition FaultKind
+voucher_of fields = do
+  four ← where_holds (length fields == 4) FieldCount fields
+  code ← where_holds (is_voucher_code (field fields 0)) Code (field fields 0)
+  terms ← terms_of fields
+  Ok (record { code = code; terms = terms })
 
 -- the first record of a file
 abbrev pub is_header : List (List ℕ) → Bool
 is_header fields = (length fields == 4) && same_name (field fields 0) (codes "code") && same_name (field fields 1) (codes "amount")
     && same_name (field fields 2) (codes "days") && same_name (field fields 3) (codes "scope")
 
--- the ranges of a voucher that was read
-pub record IsVoucher (row : VoucherRow) : Type 0 where
+-- the ranges of terms that were read
+pub record AreInRange (terms : VoucherTerms) : Type 0 where
+  pub some : 1 ≤ terms.amount
+  pub amount : terms.amount ≤ 1_000_000_000_000_000
+  pub days : IfSome terms.days (λ n. (1 ≤ n) × (n ≤ 3650))
+  pub scope : IfSome terms.scope (λ g. g ≤ 4_294_967_295)
+
+-- and of a voucher
+pub record IsVoucher (row : VoucherAddition) : Type 0 where
   pub code : IsTrue (is_voucher_code row.code)
-  pub some : 1 ≤ row.amount
-  pub amount : row.amount ≤ 1_000_000_000_000_000
-  pub days : IfSome row.days (λ n. (1 ≤ n) × (n ≤ 3650))
-  pub scope : IfSome row.scope (λ g. g ≤ 4_294_967_295)
+  pub terms : AreInRange row.terms

@@ -7,17 +7,17 @@ use Rattle.vouchers.specs.Rows.{is_header, voucher_of}
 use Rattle.vouchers.specs.declared.fault.FaultKind.{FaultKind}
 use Rattle.vouchers.specs.declared.fault.FaultKind.TheVariants.{Header}
 use Rattle.vouchers.specs.declared.fault.VoucherFault.{VoucherFault}
-use Rattle.vouchers.specs.declared.row.VoucherRow.{VoucherRow}
+use Rattle.commands.specs.declared.command.VoucherAddition.{VoucherAddition}
 
 abbrev pub Record : Type 0
 Record = List (List ℕ)
 
 -- each of the records says one voucher
-abbrev pub all_say : List VoucherRow → List (Result VoucherRow FaultKind)
-all_say rows = map (λ (row : VoucherRow). Ok row) rows
+abbrev pub all_say : List VoucherAddition → List (Result VoucherAddition FaultKind)
+all_say rows = map (λ (row : VoucherAddition). Ok row) rows
 
 -- behind the header, each record of the file says one of the vouchers, in their order
-pub record AreVouchers (file : List Record) (rows : List VoucherRow) : Type 0 where
+pub record AreVouchers (file : List Record) (rows : List VoucherAddition) : Type 0 where
   pub header : Record
   pub others : List Record
   pub parts : file ≡ header ∷ others
@@ -38,7 +38,7 @@ pub record IsHeaderFault (file : List Record) (fault : VoucherFault) : Type 0 wh
 pub record IsRecordFault (file : List Record) (fault : VoucherFault) : Type 0 where
   pub header : Record
   pub before : List Record
-  pub rows : List VoucherRow
+  pub rows : List VoucherAddition
   pub bad : Record
   pub after : List Record
   pub parts : file ≡ header ∷ before ++ bad ∷ after
@@ -53,7 +53,7 @@ IsFirstFault file fault = IsHeaderFault file fault ⊎ IsRecordFault file fault
 
 -- a file says vouchers exactly where each of its records but the header says one of them
 abbrev pub VouchersAreRecords : Type 0
-VouchersAreRecords = (text : List ℕ) (rows : List VoucherRow) →
+VouchersAreRecords = (text : List ℕ) (rows : List VoucherAddition) →
     (vouchers_in text ≡ Ok rows) ↔ AreVouchers (records_in text) rows
 
 -- a fault is told exactly where it is the first record's that has one

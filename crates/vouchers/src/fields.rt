@@ -2,14 +2,15 @@ ghost use Rattle.std.specs.Prelude.{◌≡◌, ◌≤◌, ◌==◌, ◌&&◌, If
 ghost use Rattle.csv.specs.Records.{fields_of};
 ghost use Rattle.first_fault.specs.Steps.{Says, GivesUnless, where_holds};
 ghost use Rattle.identifiers.specs.Texts.{is_voucher_code};
-ghost use Rattle.operator.specs.Numbers.{number_of};
-ghost use Rattle.vouchers.specs.Rows.{IsVoucher, field, is_header, number_in, optional_in, voucher_of};
+ghost use Rattle.written_numbers.specs.Numbers.{number_of};
+ghost use Rattle.vouchers.specs.Rows.{AreInRange, IsVoucher, field, is_header, number_in, optional_in, terms_of, voucher_of};
 ghost use Rattle.vouchers.specs.declared.fault.FaultKind.TheVariants.{Amount, Code, Days, Scope, Memory};
 
 use crate::fault::FaultKind;
-use crate::row::VoucherRow;
+use commands::VoucherAddition;
 use csv::ByteRecord;
 use identifiers::VoucherCode;
+use redemptions::VoucherTerms;
 use std::alloc::Global;
 use std::str;
 use units::Money;
@@ -42,7 +43,7 @@ fn number(field: &[u8]) -> Option<u64>
     ensures { result ≡ number_of field.now }
 {
     match str::from_utf8(field) {
-        Ok(text) => operator::number(text),
+        Ok(text) => written_numbers::number(text),
         Err(_) => None,
     }
 }
@@ -95,7 +96,7 @@ fn code(alloc: Global, field: &[u8]) -> Result<VoucherCode, FaultKind>
 
 fn amount(field: &[u8]) -> Result<Money, FaultKind>
     ensures value { Says (λ m. m) result (number_in Amount 1 1_000_000_000_000_000 field.now) }
-    ensures some { IfOk result (λ m. 1 ≤ m) }
+    ensures in_range { IfOk result (λ m. (1 ≤ m) × (m ≤ 1_000_000_000_000_000)) }
 {
     let micros = number_in(FaultKind::Amount, 1, 1_000_000_000_000_000, field)?;
     Money::new(micros).ok_or(FaultKind::Amount)
@@ -120,9 +121,35 @@ fn scope(field: &[u8]) -> Result<Option<u32>, FaultKind>
     }
 }
 
+/// The terms of an amount and of days in their ranges.
+#[tactic(auto, using(crate::proofs::FieldLemmas::terms_in_range))]
+fn terms_of(amount: Money, days: Option<u32>, scope: Option<u32>) -> VoucherTerms
+    requires amount { (1 ≤ amount) × (amount ≤ 1_000_000_000_000_000) }
+    requires days { IfSome days (λ n. (1 ≤ n) × (n ≤ 3650)) }
+    ensures value { result ≡ record { amount = amount; days = days; scope = scope } }
+    ensures in_range { AreInRange result }
+{
+    let Some(terms) = VoucherTerms::new(amount, days, scope) else {
+        unreachable!()
+    };
+    terms
+}
+
+/// The terms that the fields behind the code say, or their first fault from the left.
+#[tactic(auto, unfolding(crate::specs::Rows::terms_of))]
+fn terms(fields: &ByteRecord) -> Result<VoucherTerms, FaultKind>
+    ensures value { Says (λ t. t) result (terms_of (fields_of fields.now)) }
+    ensures in_range { IfOk result AreInRange }
+{
+    let amount = amount(field(fields, 1))?;
+    let days = days(field(fields, 2))?;
+    let scope = scope(field(fields, 3))?;
+    Ok(terms_of(amount, days, scope))
+}
+
 /// The voucher that a record says, or its first fault from the left.
 #[tactic(auto, unfolding(crate::specs::Rows::voucher_of))]
-pub(crate) fn voucher(alloc: Global, fields: &ByteRecord) -> Result<VoucherRow, FaultKind>
+pub(crate) fn voucher(alloc: Global, fields: &ByteRecord) -> Result<VoucherAddition, FaultKind>
     ensures value { GivesUnless Memory (λ v. v) result (voucher_of (fields_of fields.now)) }
     ensures in_range { IfOk result IsVoucher }
 {
@@ -130,13 +157,6 @@ pub(crate) fn voucher(alloc: Global, fields: &ByteRecord) -> Result<VoucherRow, 
         return Err(FaultKind::FieldCount);
     }
     let code = code(alloc, field(fields, 0))?;
-    let amount = amount(field(fields, 1))?;
-    let days = days(field(fields, 2))?;
-    let scope = scope(field(fields, 3))?;
-    Ok(VoucherRow {
-        code,
-        amount,
-        days,
-        scope,
-    })
+    let terms = terms(fields)?;
+    Ok(VoucherAddition { code, terms })
 }

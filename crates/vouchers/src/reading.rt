@@ -9,7 +9,7 @@ ghost use Rattle.vouchers.specs.declared.fault.FaultKind.TheVariants.{Memory, Re
 
 use crate::fault::{FaultKind, VoucherFault};
 use crate::fields::{is_header, voucher};
-use crate::row::VoucherRow;
+use commands::VoucherAddition;
 use csv::{ByteRecord, Error, Reader, ReaderBuilder};
 use std::alloc::Global;
 use std::io::Read;
@@ -68,7 +68,11 @@ fn has_header<R: Read>(
 }
 
 /// The voucher that the record of this number says.
-fn voucher_at(alloc: Global, fields: &ByteRecord, number: u64) -> Result<VoucherRow, VoucherFault>
+fn voucher_at(
+    alloc: Global,
+    fields: &ByteRecord,
+    number: u64,
+) -> Result<VoucherAddition, VoucherFault>
     ensures value { IfOk result (λ v. voucher_of (fields_of fields.now) ≡ Ok v) }
     ensures in_range { IfOk result IsVoucher }
     ensures fault { IfErr result
@@ -97,7 +101,7 @@ fn voucher_at(alloc: Global, fields: &ByteRecord, number: u64) -> Result<Voucher
 pub fn read_vouchers<R: Read + Drop>(
     alloc: Global,
     reader: R,
-) -> Result<Vec<VoucherRow>, VoucherFault>
+) -> Result<Vec<VoucherAddition>, VoucherFault>
     ensures rows { IfOk result
         (λ v. IfSome (R.remaining reader) (λ text. vouchers_in text ≡ Ok v.items)) }
     ensures in_range { IfOk result (λ v. All IsVoucher v.items) }

@@ -31,7 +31,8 @@ use Rattle.wire_requests.specs.Spelled.{request_text}
 use Rattle.wire_requests.specs.Reading.{session_at, request_in, request_of}
 use Rattle.wire_requests.proofs.RequestsAgain.{and_three, visible_small, requests_again}
 use Rattle.wire.specs.Credits.{reference_at, credit_at, credit_data, credit_text, IsCredit}
-use Rattle.wire.specs.Contents.{content_text, content_of, request_content_in, credit_content_in, content_when, account_of, IsContent, ContentsReadAgain, ReadsWritten, CreditsAreInOrder}
+use Rattle.wire.proofs.RedeemedAgain.{reference_utf8, redemption_content_again, redemption_account}
+use Rattle.wire.specs.Contents.{content_text, content_of, request_content_in, credit_content_in, operator_content_when, content_when, account_of, IsContent, ContentsReadAgain, ReadsWritten, CreditsAreInOrder}
 
 abbrev credit_members : ℕ → Option Data → List ℕ → Option Data → Option Data → Members
 credit_members amount from reference scope until = member (name_of avp.Amount) (whole amount)
@@ -56,6 +57,9 @@ module _ (amount : ℕ) (from : Option Data) (reference : List ℕ) (scope until
   no_session : get (name_of avp.SessionId) (object (credit_members amount from reference scope until)) ≡ None
   no_session = get_skip (name_of avp.SessionId) (name_of avp.From) from _ refl ∙ get_skip (name_of avp.SessionId) (name_of avp.Scope) scope _ refl ∙ get_skip (name_of avp.SessionId) (name_of avp.Until) until no_members refl
 
+  no_code : get (name_of avp.VoucherCode) (object (credit_members amount from reference scope until)) ≡ None
+  no_code = get_skip (name_of avp.VoucherCode) (name_of avp.From) from _ refl ∙ get_skip (name_of avp.VoucherCode) (name_of avp.Scope) scope _ refl ∙ get_skip (name_of avp.VoucherCode) (name_of avp.Until) until no_members refl
+
 at_most : (low most : ℕ) (o : Option ℕ) → IfSome o (λ n. (low ≤ n) × (n ≤ most)) → IfSome o (λ n. n ≤ most)
 at_most low most None h = tt
 at_most low most (Some n) h = h.1
@@ -79,9 +83,6 @@ credit_again c is =
       is.reference,
     ) refl
 
-reference_utf8 : (s : List ℕ) → is_reference s ≡ true → IsUtf8 s
-reference_utf8 s h = IsUtf8-are_ascii s (ascii_text is_visible visible_small s (and_three (nat_le 1 (length s)) (nat_le (length s) 64) (list_all is_visible s) h).2)
-
 credit_fit : (c : Credit) → IsCredit c → Fit 127 (object (members_of c))
 credit_fit c is =
     let from = option_map whole c.from in
@@ -98,7 +99,7 @@ credit_fit c is =
 pub credit_content_again : (c : Credit) → IsCredit c → content_of c.account (credit_text c) ≡ Ok (content.Credit c)
 unfolding content_of credit_content_in credit_text credit_data
 credit_content_again c is =
-    rw (document_again (members_of c) (credit_fit c is), no_session c.amount (option_map whole c.from) c.reference (option_map whole c.scope) (option_map whole c.until), credit_again c is) refl
+    rw (document_again (members_of c) (credit_fit c is), no_session c.amount (option_map whole c.from) c.reference (option_map whole c.scope) (option_map whole c.until), no_code c.amount (option_map whole c.from) c.reference (option_map whole c.scope) (option_map whole c.until), credit_again c is) refl
 
 pub credits_in_order : CreditsAreInOrder credit_data
 unfolding credit_data
@@ -129,6 +130,7 @@ request_content_again bytes r h =
 pub contents_again : ContentsReadAgain content_text
 contents_again (content.Request r) is = request_content_again (request_text r) r (requests_again r is)
 contents_again (content.Credit c) is = credit_content_again c is
+contents_again (content.Redeem r) is = redemption_content_again r is
 
 -- ---- what is read is of the account, and is what was written
 
@@ -154,15 +156,20 @@ credit_account account d c h =
     let reference = bind_ok (reference_at d) _ c scope.2 in
     sym (ap (λ (x : Credit). x.account) (same_value _ c reference.2))
 
+operator_account : (account : List ℕ) (d : Data) (o : Option Data) (c : Content) → operator_content_when account d o ≡ Ok c → account_of c ≡ account
+unfolding credit_content_in
+operator_account account d (Some v) c h = redemption_account account d c account_of (λ r. refl) h
+operator_account account d None c h =
+    let k = bind_ok (credit_at account d) _ c h in
+    subst (λ (x : Content). account_of x ≡ account) (same_value _ c k.2) (credit_account account d k.0 k.1)
+
 when_account : (account : List ℕ) (d : Data) (o : Option Data) (c : Content) → content_when account d o ≡ Ok c → account_of c ≡ account
-unfolding request_content_in credit_content_in
+unfolding request_content_in
 when_account account d (Some v) c h =
     let r = bind_ok (request_in d) _ c h in
     let test = where_ok (pointwise nat_eq r.0.account account) (Invalid avp.SubscriptionIdData) (content.Request r.0) c r.2 in
     subst (λ (x : Content). account_of x ≡ account) test.1 ((bytes_decides r.0.account account).0 test.0)
-when_account account d None c h =
-    let k = bind_ok (credit_at account d) _ c h in
-    subst (λ (x : Content). account_of x ≡ account) (same_value _ c k.2) (credit_account account d k.0 k.1)
+when_account account d None c h = operator_account account d (get (name_of avp.VoucherCode) d) c h
 
 pub of_account : (account bytes : List ℕ) (c : Content) → content_of account bytes ≡ Ok c → account_of c ≡ account
 unfolding content_of

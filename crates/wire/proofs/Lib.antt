@@ -1,1 +1,2 @@
 pub mod ContentsAgain
+pub mod RedeemedAgain

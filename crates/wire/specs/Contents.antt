@@ -6,6 +6,7 @@ use Rattle.serde_json.specs.Find.{get}
 use Rattle.commands.specs.Names.{name_of}
 use Rattle.commands.specs.declared.avp.Avp.TheVariants as avp
 use Rattle.commands.specs.declared.command.Credit.{Credit}
+use Rattle.commands.specs.declared.command.VoucherRedemption.{VoucherRedemption}
 use Rattle.commands.specs.declared.command.Content.{Content}
 use Rattle.commands.specs.declared.command.Content.TheVariants as content
 use Rattle.json_fields.specs.declared.fault.WireFault.{WireFault}
@@ -17,11 +18,13 @@ use Rattle.wire_requests.specs.Reading.{request_in}
 use Rattle.wire_requests.specs.Spelled.{request_text}
 use Rattle.wire_requests.specs.Rules.{IsRequest}
 use Rattle.wire.specs.Credits.{credit_at, credit_text, IsCredit}
+use Rattle.wire.specs.Redeemed.{kept_redemption_at, redemption_text, IsRedemption}
 
 -- the text that is kept
 abbrev pub content_text : Content → List ℕ
 content_text (content.Request r) = request_text r
 content_text (content.Credit c) = credit_text c
+content_text (content.Redeem r) = redemption_text r
 
 -- a request that is kept is one of the account that it is kept under
 unfoldable pub request_content_in : List ℕ → Data → Result Content WireFault
@@ -35,10 +38,23 @@ credit_content_in account d = do
   c ← credit_at account d
   Ok (content.Credit c)
 
+-- so is a redemption
+unfoldable pub redemption_content_in : List ℕ → Data → Result Content WireFault
+redemption_content_in account d = do
+  r ← kept_redemption_at d
+  where_holds (pointwise nat_eq r.account account) (Invalid avp.SubscriptionIdData)
+      (content.Redeem r)
+
+-- what a kept text of an operator's command is, by the member that stands: a redemption has a
+-- Voucher-Code
+abbrev pub operator_content_when : List ℕ → Data → Option Data → Result Content WireFault
+operator_content_when account d (Some code) = redemption_content_in account d
+operator_content_when account d None = credit_content_in account d
+
 -- what a kept text is, by the member that stands: a request has a Session-Id
 abbrev pub content_when : List ℕ → Data → Option Data → Result Content WireFault
 content_when account d (Some session) = request_content_in account d
-content_when account d None = credit_content_in account d
+content_when account d None = operator_content_when account d (get (name_of avp.VoucherCode) d)
 
 -- the content that a kept text is; the account of a credit is known from where it is kept
 unfoldable pub content_of : List ℕ → List ℕ → Result Content WireFault
@@ -49,10 +65,12 @@ content_of account bytes = do
 abbrev pub account_of : Content → List ℕ
 account_of (content.Request r) = r.account
 account_of (content.Credit c) = c.account
+account_of (content.Redeem r) = r.account
 
 abbrev pub IsContent : Content → Type 0
 IsContent (content.Request r) = IsRequest r
 IsContent (content.Credit c) = IsCredit c
+IsContent (content.Redeem r) = IsRedemption r
 
 -- what was written is read again
 abbrev pub ContentsReadAgain : (Content → List ℕ) → Type 0
@@ -66,3 +84,6 @@ ReadsWritten account bytes returned = (c : Content)
 -- what was written has its members in byte order
 abbrev pub CreditsAreInOrder : (Credit → Data) → Type 0
 CreditsAreInOrder spelled = (c : Credit) → IsCredit c → AreInByteOrder (spelled c)
+
+abbrev pub RedemptionsAreInOrder : (VoucherRedemption → Data) → Type 0
+RedemptionsAreInOrder spelled = (r : VoucherRedemption) → IsRedemption r → AreInByteOrder (spelled r)

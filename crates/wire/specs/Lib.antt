@@ -1,3 +1,4 @@
 pub mod Requests
 pub mod Credits
+pub mod Redeemed
 pub mod Contents

@@ -4,10 +4,12 @@ ghost use Rattle.serde_json.specs.View.{view};
 ghost use Rattle.commands.specs.Names.{name_of};
 ghost use Rattle.json_fields.specs.Gives.{Gives};
 ghost use Rattle.wire.specs.Credits.{credit_data};
-ghost use Rattle.wire.specs.Contents.{content_text, content_of, request_content_in, credit_content_in, content_when, account_of, ContentsReadAgain, ReadsWritten, CreditsAreInOrder};
+ghost use Rattle.wire.specs.Redeemed.{redemption_data};
+ghost use Rattle.wire.specs.Contents.{content_text, content_of, request_content_in, credit_content_in, redemption_content_in, operator_content_when, content_when, account_of, ContentsReadAgain, ReadsWritten, CreditsAreInOrder, RedemptionsAreInOrder};
 
 use crate::credits::{credit_in, credit_written};
-use commands::{Avp, Content, KeptCredit, Request};
+use crate::redeeming::{kept_redemption_in, redemption_written};
+use commands::{Avp, Content, KeptCredit, Request, VoucherRedemption};
 use identifiers::AccountNumber;
 use json_fields::{WireFault, document, is_text};
 use serde_json::Value;
@@ -32,9 +34,18 @@ fn write_kept_request(alloc: Global, request: &Request) -> Result<String, AllocE
     Ok(text)
 }
 
-/// The text that is kept of an accepted command: of a request its text, of a credit its body, as
-/// compact JSON with the members in the byte order of their names. It is read again as the same
-/// content.
+fn write_redemption(alloc: Global, redemption: &VoucherRedemption) -> Result<String, AllocError>
+    ensures text { IfOk result (λ s. string_bytes s ≡ content_text (Content.Redeem redemption.now)) }
+    ensures read_again { IfOk result
+        (λ s. content_of redemption.now.account (string_bytes s) ≡ Ok (Content.Redeem redemption.now)) }
+{
+    let text = redemption_written(alloc, redemption)?;
+    Ok(text)
+}
+
+/// The text that is kept of an accepted command: of a request its text, of a credit its body, of a
+/// redemption its body with its voucher's code, as compact JSON with the members in the byte order
+/// of their names. It is read again as the same content.
 pub fn write_content(alloc: Global, content: &Content) -> Result<String, AllocError>
     ensures text { IfOk result (λ s. string_bytes s ≡ content_text content.now) }
     ensures read_again { IfOk result
@@ -43,6 +54,7 @@ pub fn write_content(alloc: Global, content: &Content) -> Result<String, AllocEr
     match content {
         Content::Request(request) => write_kept_request(alloc, request),
         Content::Credit(credit) => write_credit(alloc, credit),
+        Content::Redeem(redemption) => write_redemption(alloc, redemption),
     }
 }
 
@@ -74,6 +86,37 @@ fn credit_content(
     Ok(Content::Credit(KeptCredit::new(credit)))
 }
 
+#[tactic(auto, unfolding(crate::specs::Contents::redemption_content_in))]
+fn redemption_content(
+    alloc: Global,
+    account: AccountNumber,
+    parent: &Value,
+) -> Result<Content, WireFault>
+    ensures { Gives (λ c. c) result (redemption_content_in account (view parent.now)) }
+{
+    let redemption = kept_redemption_in(alloc, parent)?;
+    if redemption.account == account {
+        Ok(Content::Redeem(redemption))
+    } else {
+        Err(WireFault::Invalid(Avp::SubscriptionIdData))
+    }
+}
+
+/// What a kept object of an operator's command is, by the member that stands.
+fn operator_content(
+    alloc: Global,
+    account: AccountNumber,
+    parent: &Value,
+) -> Result<Content, WireFault>
+    ensures { Gives (λ c. c) result
+        (operator_content_when account (view parent.now) (get (name_of Avp.VoucherCode) (view parent.now))) }
+{
+    match parent.get(Avp::VoucherCode.name()) {
+        Some(_) => redemption_content(alloc, account, parent),
+        None => credit_content(alloc, account, parent),
+    }
+}
+
 /// What a kept object of this account is, by the member that stands.
 fn content_in(alloc: Global, account: AccountNumber, parent: &Value) -> Result<Content, WireFault>
     ensures { Gives (λ c. c) result
@@ -81,7 +124,7 @@ fn content_in(alloc: Global, account: AccountNumber, parent: &Value) -> Result<C
 {
     match parent.get(Avp::SessionId.name()) {
         Some(_) => request_content(alloc, account, parent),
-        None => credit_content(alloc, account, parent),
+        None => operator_content(alloc, account, parent),
     }
 }
 
@@ -96,8 +139,9 @@ fn content(alloc: Global, account: AccountNumber, bytes: &[u8]) -> Result<Conten
 /// The content of this account whose text the bytes are, as `write_content` writes it.
 ///
 /// # Errors
-/// The first fault of the request, or of the credit where the text has no Session-Id; `NotRequest`
-/// also where the bytes say a content and aren't its text; `Memory` where memory ran out.
+/// The first fault of the request, where the text has a Session-Id, of the redemption, where it has
+/// a Voucher-Code alone, or of the credit; `NotRequest` also where the bytes say a content and
+/// aren't its text; `Memory` where memory ran out.
 pub fn read_content(
     alloc: Global,
     account: AccountNumber,
@@ -127,4 +171,10 @@ pub fn content_again()
 #[tactic(auto, using(crate::proofs::ContentsAgain::credits_in_order))]
 pub fn credit_in_order()
     ensures { CreditsAreInOrder credit_data }
+{}
+
+/// The members of a redemption as it is kept stand in the byte order of their names.
+#[tactic(auto, using(crate::proofs::RedeemedAgain::redemptions_in_order))]
+pub fn redemption_in_order()
+    ensures { RedemptionsAreInOrder redemption_data }
 {}

@@ -17,7 +17,7 @@ use std::alloc::{AllocError, Global};
 use units::{Moment, Money};
 
 #[tactic(auto, unfolding(crate::specs::Credits::reference_at))]
-fn reference(alloc: Global, parent: &Value) -> Result<Reference, WireFault>
+pub(crate) fn reference(alloc: Global, parent: &Value) -> Result<Reference, WireFault>
     ensures { Gives (λ r. r) result (reference_at (view parent.now)) }
 {
     let text = text(parent, Avp::Reference)?;

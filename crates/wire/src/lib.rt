@@ -4,10 +4,14 @@
 
 mod contents;
 mod credits;
+mod redeeming;
 mod requests;
 
-pub use crate::contents::{content_again, credit_in_order, read_content, write_content};
+pub use crate::contents::{
+    content_again, credit_in_order, read_content, redemption_in_order, write_content,
+};
 pub use crate::credits::read_credit;
+pub use crate::redeeming::read_redeem;
 pub use crate::requests::read_request;
 pub use json_fields::WireFault;
 pub use wire_answers::{answer_again, answer_in_order, read_answer, write_answer, write_fault};

@@ -7,6 +7,7 @@ mod heads;
 mod kept;
 mod members;
 mod order;
+mod redeeming;
 mod refunds;
 mod reporting;
 mod requests;

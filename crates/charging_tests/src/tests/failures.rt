@@ -10,9 +10,10 @@ use std::alloc::Global;
 use std::test::Fail;
 use tariffs::TariffBook;
 
-/// Eight commands: an account is opened and credited; a session begins, reports, and sends its
-/// report again; the account is barred and gets money back; and a sweep ends the session.
-const EIGHT: &str = r##"1767571200 open 49151
+/// Ten commands: an account is opened and credited; a session begins, reports, and sends its report
+/// again; the account is barred and gets money back; a voucher is added, and the account redeems it;
+/// and a sweep ends the session.
+const TEN: &str = r##"1767571200 open 49151
 = {"Result-Code":2001}
 1767571200 credit 49151 {"Amount":1000000,"Reference":"c1"}
 = {"Bucket":1,"Result-Code":2001}
@@ -43,33 +44,38 @@ const EIGHT: &str = r##"1767571200 open 49151
   "Requested-Service-Unit":{"CC-Money":{"Unit-Value":{"Value-Digits":1,"Exponent":-6},
   "Currency-Code":978}}}
 = {"CC-Request-Number":0,"CC-Request-Type":4,"Result-Code":2001,"Session-Id":"r1"}
+1767607680 add 000000000001 5000000 30 -
+= {"Result-Code":2001}
+1767607740 redeem 49151 000000000001 v1
+= {"Bucket":3,"Result-Code":2001}
 1767614700 sweep
 = {"Accounts":1,"Result-Code":2001}
 last: 1767614700
+voucher 000000000001: 49151
 account: 1767614700 true 2
-buckets: (1000000; 900000, 0, 100000, 0) (1; 1, 0, 0, 0)
+buckets: (5000000; 5000000, 0, 0, 0) (1000000; 900000, 0, 100000, 0) (1; 1, 0, 0, 0)
 counters: 10 0 1;
 sessions: s1 1 1767607500 Ended; r1 0 1767607620 NeverOpened;
 groups: s1 10 used 60 not reserved;
 charges: 1 at 1767607500 of s1 10 1 100000 100000 0;"##;
 
 #[test]
-fn eight_commands(rt: HostRuntime) -> Result<(), Fail> {
-    try_all(&rt, rt.alloc(), EIGHT)
+fn ten_commands(rt: HostRuntime) -> Result<(), Fail> {
+    try_all(&rt, rt.alloc(), TEN)
 }
 
-/// What the eight commands come to over a store that fails at the call after so many: how many are
+/// What the ten commands come to over a store that fails at the call after so many: how many are
 /// answered; and as text whether the answers are a beginning of those above, the store fault or 0,
 /// the count of failures, and the rows.
 fn failing_after(alloc: Global, book: &TariffBook, calls: u64) -> Result<(usize, String), Fail> {
     let mut keeper = Failing::new(MemoryKeeper::new(alloc), calls);
-    let eight = whole_lines(alloc, EIGHT)?;
-    let commands = dated_commands(alloc, eight.as_str(), 8)?;
+    let ten = whole_lines(alloc, TEN)?;
+    let commands = dated_commands(alloc, ten.as_str(), 10)?;
     let run = run(alloc, &mut keeper, book, commands);
     let failures = keeper.failures();
     let mut keeper = keeper.into_inner();
-    let answers = answered(alloc, eight.as_str(), &run.answers)?;
-    let beginning = eight.as_str().starts_with(answers.as_str());
+    let answers = answered(alloc, ten.as_str(), &run.answers)?;
+    let beginning = ten.as_str().starts_with(answers.as_str());
     let rows = rows(alloc, &mut keeper, book)?;
     let fault = fault_number(run.fault);
     let text = format!(in alloc; "{} {} {}\n{}", beginning, fault, failures, rows.as_str())?;
@@ -88,11 +94,11 @@ fn fault_number(fault: Option<StoreFault>) -> u8 {
 /// run: the rows are those that these commands leave over a store that doesn't fail.
 fn stopped_after(alloc: Global, book: &TariffBook, most: usize) -> Result<String, Fail> {
     let mut keeper = MemoryKeeper::new(alloc);
-    let eight = whole_lines(alloc, EIGHT)?;
-    let commands = dated_commands(alloc, eight.as_str(), most)?;
+    let ten = whole_lines(alloc, TEN)?;
+    let commands = dated_commands(alloc, ten.as_str(), most)?;
     let _answers = run(alloc, &mut keeper, book, commands);
     let rows = rows(alloc, &mut keeper, book)?;
-    let store = if most < 8 { "2 1" } else { "0 0" };
+    let store = if most < 10 { "2 1" } else { "0 0" };
     Ok(format!(in alloc; "true {}\n{}", store, rows.as_str())?)
 }
 
@@ -106,8 +112,8 @@ fn a_store_that_fails_at_each_call(rt: HostRuntime) -> Result<(), Fail> {
         let (answered, found) = failing_after(alloc, &book, calls)?;
         let expected = stopped_after(alloc, &book, answered)?;
         assert_eq!(rt; found.as_str(), expected.as_str(), "{calls}");
-        if answered == 8 {
-            whole = 8 < calls;
+        if answered == 10 {
+            whole = 10 < calls;
             break;
         }
     }

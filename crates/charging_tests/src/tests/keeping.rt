@@ -96,6 +96,7 @@ fn open<K: Keeper>(
         before,
         charges: Vec::new(alloc),
         kept: None,
+        redeemed: None,
     })
 }
 
@@ -136,7 +137,7 @@ fn give<K: Keeper>(
     };
     let answer = Answer::Bucket(bucket);
     let kept = Some(KeptAnswer { content, answer });
-    keeper.commit(loaded.into_change(moment, Vec::new(alloc), kept))
+    keeper.commit(loaded.into_change(moment, Vec::new(alloc), kept, None))
 }
 
 /// Bars an account.
@@ -155,7 +156,7 @@ fn bar<K: Keeper>(
         return Ok(());
     }
     loaded.account.set_barred(true, moment);
-    keeper.commit(loaded.into_change(moment, Vec::new(alloc), None))
+    keeper.commit(loaded.into_change(moment, Vec::new(alloc), None, None))
 }
 
 /// What a minute comes to.
@@ -183,7 +184,7 @@ fn charge<K: Keeper>(
     let Some(loaded) = keeper.load(book, number, moment)? else {
         return Ok(());
     };
-    keeper.commit(loaded.into_change(moment, charges, None))
+    keeper.commit(loaded.into_change(moment, charges, None, None))
 }
 
 /// The bucket of a kept answer.

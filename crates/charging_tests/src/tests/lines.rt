@@ -1,10 +1,12 @@
 //! Commands as lines of text: `MOMENT open ACCOUNT`, `MOMENT credit ACCOUNT BODY`, `MOMENT
-//! credit-nothing ACCOUNT REFERENCE`, `MOMENT bar ACCOUNT`, `MOMENT unbar ACCOUNT`, `MOMENT sweep`,
-//! `MOMENT balance ACCOUNT`, and a request as `MOMENT BODY`.
+//! credit-nothing ACCOUNT REFERENCE`, `MOMENT bar ACCOUNT`, `MOMENT unbar ACCOUNT`, `MOMENT add CODE
+//! AMOUNT DAYS SCOPE` with `-` for no days and no scope, `MOMENT redeem ACCOUNT CODE REFERENCE`,
+//! `MOMENT sweep`, `MOMENT balance ACCOUNT`, and a request as `MOMENT BODY`.
 
 use charging::DatedCommand;
-use commands::{Command, Credit};
-use identifiers::{AccountNumber, Reference};
+use commands::{Command, Credit, VoucherAddition, VoucherRedemption};
+use identifiers::{AccountNumber, Reference, VoucherCode};
+use redemptions::VoucherTerms;
 use std::alloc::Global;
 use std::test::Fail;
 use units::{Moment, Money};
@@ -38,6 +40,46 @@ fn nothing(alloc: Global, words: &str) -> Result<Command, Fail> {
     }))
 }
 
+pub(crate) fn code(alloc: Global, word: &str) -> Result<VoucherCode, Fail> {
+    Ok(VoucherCode::new(alloc, word)?.ok_or("a code")?)
+}
+
+/// A number, or `-`.
+fn optional(word: &str) -> Result<Option<u32>, Fail> {
+    if word == "-" {
+        return Ok(None);
+    }
+    Ok(Some(word.parse::<u32>()?))
+}
+
+/// `AMOUNT DAYS SCOPE`
+fn terms(words: &str) -> Result<VoucherTerms, Fail> {
+    let (amount, words) = words.split_once(" ").ok_or("an amount")?;
+    let (days, scope) = words.split_once(" ").ok_or("days and a scope")?;
+    let amount = Money::new(amount.parse::<u64>()?).ok_or("money")?;
+    let terms = VoucherTerms::new(amount, optional(days)?, optional(scope)?);
+    Ok(terms.ok_or("terms of a voucher")?)
+}
+
+/// `CODE AMOUNT DAYS SCOPE`
+fn addition(alloc: Global, words: &str) -> Result<Command, Fail> {
+    let (word, words) = words.split_once(" ").ok_or("a code and terms")?;
+    let code = code(alloc, word)?;
+    let terms = terms(words)?;
+    Ok(Command::AddVoucher(VoucherAddition { code, terms }))
+}
+
+/// `ACCOUNT CODE REFERENCE`
+fn redemption(alloc: Global, words: &str) -> Result<Command, Fail> {
+    let (number, words) = words.split_once(" ").ok_or("an account and a code")?;
+    let (word, reference) = words.split_once(" ").ok_or("a code and a reference")?;
+    Ok(Command::Redeem(VoucherRedemption {
+        code: code(alloc, word)?,
+        account: account(alloc, number)?,
+        reference: Reference::new(alloc, reference)?.ok_or("a reference")?,
+    }))
+}
+
 fn command(alloc: Global, name: &str, words: &str) -> Result<Command, Fail> {
     match name {
         "open" => Ok(Command::OpenAccount(account(alloc, words)?)),
@@ -45,6 +87,8 @@ fn command(alloc: Global, name: &str, words: &str) -> Result<Command, Fail> {
         "credit-nothing" => nothing(alloc, words),
         "bar" => Ok(Command::Bar(account(alloc, words)?)),
         "unbar" => Ok(Command::Unbar(account(alloc, words)?)),
+        "add" => addition(alloc, words),
+        "redeem" => redemption(alloc, words),
         "balance" => Ok(Command::Balance(account(alloc, words)?)),
         _ => Ok(Command::Sweep),
     }
@@ -62,9 +106,9 @@ fn dated(alloc: Global, line: &str) -> Result<DatedCommand, Fail> {
     Ok(DatedCommand { moment, command })
 }
 
-/// Whether a line is a command: it begins with a moment, and each moment here with these digits.
+/// Whether a line is a command: it begins with a moment, and each moment here with such digits.
 pub(crate) fn is_command(line: &str) -> bool {
-    line.starts_with("17")
+    line.starts_with("17") || line.starts_with("410")
 }
 
 /// The first commands among these lines, at most so many.

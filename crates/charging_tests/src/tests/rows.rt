@@ -1,6 +1,6 @@
 //! The rows of accounts as text, a line a table.
 
-use crate::tests::lines::account;
+use crate::tests::lines::{account, code};
 use buckets::Bucket;
 use identifiers::AccountNumber;
 use keepers::{Keeper, MemoryKeeper, StoreFault, WholeAccount};
@@ -163,7 +163,28 @@ fn rows_of(
     Ok(text)
 }
 
-/// The moment of the last accepted command, the rows of account 49151, and those of account 49152
+/// What stands under the code: the account that redeemed it, `unspent`, or nothing.
+fn voucher(alloc: Global, keeper: &mut MemoryKeeper, word: &str) -> Result<String, Fail> {
+    let code = code(alloc, word)?;
+    let Some(voucher) = keeper.find_voucher(&code)? else {
+        return Ok(String::new(alloc));
+    };
+    let redeemer = match &voucher.redeemer {
+        Some(account) => account.as_str(),
+        None => "unspent",
+    };
+    Ok(format!(in alloc; "voucher {}: {}\n", word, redeemer)?)
+}
+
+/// What stands under the first three codes, a line each.
+fn vouchers(alloc: Global, keeper: &mut MemoryKeeper) -> Result<String, Fail> {
+    let first = voucher(alloc, keeper, "000000000001")?;
+    let second = voucher(alloc, keeper, "000000000002")?;
+    let third = voucher(alloc, keeper, "000000000003")?;
+    Ok(format!(in alloc; "{}{}{}", first.as_str(), second.as_str(), third.as_str())?)
+}
+
+/// The moment of the last accepted command, the vouchers, the rows of account 49151, and those of account 49152
 /// after its number.
 pub(crate) fn rows(
     alloc: Global,
@@ -173,5 +194,12 @@ pub(crate) fn rows(
     let last = keeper.last()?.seconds();
     let first = rows_of(alloc, keeper, book, "49151", "")?;
     let second = rows_of(alloc, keeper, book, "49152", "49152 ")?;
-    Ok(format!(in alloc; "last: {}\n{}{}", last, first.as_str(), second.as_str())?)
+    let vouchers = vouchers(alloc, keeper)?;
+    let accounts = format!(in alloc; "{}{}", first.as_str(), second.as_str())?;
+    Ok(format!(in alloc;
+        "last: {}\n{}{}",
+        last,
+        vouchers.as_str(),
+        accounts.as_str()
+    )?)
 }

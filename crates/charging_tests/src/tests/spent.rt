@@ -176,6 +176,7 @@ fn told(
             content: Content::Request(request),
             answer: Answer::Request(decided.answer),
         }),
+        redeemed: None,
     };
     let named = rows_named(alloc, &change, last)?;
     Ok(format!(in alloc; "{}; rows: {}", text.as_str(), named.as_str())?)

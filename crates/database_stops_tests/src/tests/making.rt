@@ -61,6 +61,7 @@ fn seen_in(alloc: Global, log: &[u8], db: &[u8], is_made: bool) -> Result<String
 
 /// What is seen of a database without an account.
 const NOTHING: &str = "last 0
+no voucher
 {\"Refusal\":\"O2\"}
 no account
 ";

@@ -1,10 +1,11 @@
 //! What is seen of the account over any keeper, as text.
 
-use crate::tests::eight::{ALL, account, commands, told};
+use crate::tests::ten::{ALL, account, code, commands, told};
 use charge_sources::{ChargeSource, ChargeVisitor};
 use charging::{run, step};
 use commands::Command;
 use identifiers::AccountNumber;
+use redemptions::Voucher;
 use reserving::{Account, ChargeRow, Counter, Reservation, Session, SessionGroup};
 use std::alloc::{AllocError, Global};
 use std::test::Fail;
@@ -145,7 +146,25 @@ fn balance<K: ChargeSource>(
     Ok(write_answer(alloc, &answer)?)
 }
 
-/// The last moment, the balance of the account, what may still change of it, and its charges.
+/// The amount of the voucher in micro-units, and who redeemed it.
+fn voucher_line(alloc: Global, voucher: &Voucher) -> Result<String, AllocError> {
+    let micros = voucher.terms.amount().micros();
+    match &voucher.redeemer {
+        Some(account) => format!(in alloc; "{} spent by {}", micros, account.as_str()),
+        None => format!(in alloc; "{} unspent", micros),
+    }
+}
+
+/// What stands under the code.
+fn voucher<K: ChargeSource>(alloc: Global, keeper: &mut K) -> Result<String, Fail> {
+    match keeper.find_voucher(&code(alloc)?)? {
+        Some(voucher) => Ok(voucher_line(alloc, &voucher)?),
+        None => Ok(String::from_str(alloc, "no voucher")?),
+    }
+}
+
+/// The last moment, what stands under the code of the voucher, the balance of the account, what may
+/// still change of it, and its charges.
 pub(crate) fn seen<K: ChargeSource>(
     alloc: Global,
     keeper: &mut K,
@@ -156,10 +175,12 @@ pub(crate) fn seen<K: ChargeSource>(
     let balance = balance(alloc, keeper, book, last)?;
     let viewed = viewed(alloc, keeper, book, &number, last)?;
     let charges = charges(alloc, keeper, &number)?;
+    let voucher = voucher(alloc, keeper)?;
     let (balance, at) = (balance.as_str(), last.seconds());
     Ok(format!(in alloc;
-        "last {}\n{}\n{}{}",
+        "last {}\n{}\n{}\n{}{}",
         at,
+        voucher.as_str(),
         balance,
         viewed.as_str(),
         charges.as_str()

@@ -1,10 +1,10 @@
-//! The eight commands over files that stop: what is found when they are opened again is what a
+//! The ten commands over files that stop: what is found when they are opened again is what a
 //! beginning of the commands leaves, with each that was answered.
 
-use crate::tests::eight::{ALL, commands, told, wanted_answers};
 use crate::tests::files::{Bytes, Calls, Left, NO_STOP, Stopping, connected, files_of, into_files};
 use crate::tests::making::made;
 use crate::tests::seen::seen_again;
+use crate::tests::ten::{ALL, commands, told, wanted_answers};
 use charging::{Answer, DatedCommand, run};
 use keepers::MemoryKeeper;
 use sql_keeper::SqlKeeper;

@@ -1,7 +1,8 @@
 //! What a connection writes, and how it ends.
 
+use charge_sources::ChargeSource;
 use http_api::{Clock, FixedClock, ServeFault, Served, serve};
-use keepers::{Keeper, MemoryKeeper};
+use keepers::MemoryKeeper;
 use std::alloc::{AllocError, Global};
 use std::io::Read;
 use std::process::Abort;
@@ -32,7 +33,7 @@ pub(crate) fn ending(
 }
 
 /// What a connection writes by this clock, and in a last line how it ends.
-pub(crate) fn told_by<R: Read, K: Keeper, C: Clock>(
+pub(crate) fn told_by<R: Read, K: ChargeSource, C: Clock>(
     alloc: Global,
     reader: &mut R,
     keeper: &mut K,
@@ -47,7 +48,7 @@ pub(crate) fn told_by<R: Read, K: Keeper, C: Clock>(
 }
 
 /// What a connection writes at 10:00, and in a last line how it ends.
-pub(crate) fn told<R: Read, K: Keeper>(
+pub(crate) fn told<R: Read, K: ChargeSource>(
     alloc: Global,
     reader: &mut R,
     keeper: &mut K,

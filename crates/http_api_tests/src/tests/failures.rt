@@ -2,8 +2,9 @@
 
 use crate::tests::connections::{book, ending, ten, told};
 use crate::tests::streams::{EXISTS, OPEN, OPENED, UNABLE};
+use charge_sources::ChargeSource;
 use http_api::serve;
-use keepers::{Failing, Keeper, MemoryKeeper};
+use keepers::{Failing, MemoryKeeper};
 use std::alloc::{AllocError, Global};
 use std::io;
 use std::io::{ErrorKind, Write};
@@ -38,7 +39,7 @@ impl Write for Slow {
 
 /// What a writer that fails after so many calls has taken where an account is opened twice, and how
 /// the connection ends.
-fn taken<K: Keeper>(alloc: Global, keeper: &mut K, calls: usize) -> Result<String, Fail> {
+fn taken<K: ChargeSource>(alloc: Global, keeper: &mut K, calls: usize) -> Result<String, Fail> {
     let book = book(alloc)?;
     let stream = OPEN.repeat(alloc, 2)?;
     let mut bytes = stream.as_bytes();

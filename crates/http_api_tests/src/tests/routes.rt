@@ -50,3 +50,55 @@ GET /nothing HTTP/1.1|Content-Length: 5||GET / => 404 Not Found: {}"##;
 fn paths_methods_and_bodies(rt: HostRuntime) -> Result<(), Fail> {
     try_lines(&rt, rt.alloc(), ROUTES)
 }
+
+/// Paths of statements: the account is told before the month.
+const STATEMENTS: &str =
+    r##"GET /accounts/49151/statement/202601 HTTP/1.1|| => 200 OK: {"Refusal":"O2"}
+GET /accounts/49151/statement/197001 HTTP/1.1|| => 200 OK: {"Refusal":"O2"}
+GET /accounts/49151/statement/209912 HTTP/1.1|| => 200 OK: {"Refusal":"O2"}
+GET /accounts/49151/statement/196912 HTTP/1.1|| => 400 Bad Request: {"Failed-AVP":"Month","Result-Code":5004}
+GET /accounts/49151/statement/210001 HTTP/1.1|| => 400 Bad Request: {"Failed-AVP":"Month","Result-Code":5004}
+GET /accounts/49151/statement/202600 HTTP/1.1|| => 400 Bad Request: {"Failed-AVP":"Month","Result-Code":5004}
+GET /accounts/49151/statement/202613 HTTP/1.1|| => 400 Bad Request: {"Failed-AVP":"Month","Result-Code":5004}
+GET /accounts/49151/statement/20260 HTTP/1.1|| => 400 Bad Request: {"Failed-AVP":"Month","Result-Code":5004}
+GET /accounts/49151/statement/0202601 HTTP/1.1|| => 400 Bad Request: {"Failed-AVP":"Month","Result-Code":5004}
+GET /accounts/49151/statement/2026-1 HTTP/1.1|| => 400 Bad Request: {"Failed-AVP":"Month","Result-Code":5004}
+GET /accounts/49151/statement/%32 HTTP/1.1|| => 400 Bad Request: {"Failed-AVP":"Month","Result-Code":5004}
+GET /accounts/49x/statement/202613 HTTP/1.1|| => 400 Bad Request: {"Failed-AVP":"Subscription-Id-Data","Result-Code":5004}
+GET /accounts/49151/statement/202601 HTTP/1.1|Content-Length: 5||GET / => 200 OK: {"Refusal":"O2"}
+POST /accounts/49151/statement/202601 HTTP/1.1|Content-Length: 0|| => 405 Method Not Allowed: {}
+PUT /accounts/49x/statement/202613 HTTP/1.1|Content-Length: 0|| => 405 Method Not Allowed: {}
+GET /accounts/49151/statement HTTP/1.1|| => 404 Not Found: {}
+GET /accounts/49151/statement/ HTTP/1.1|| => 404 Not Found: {}
+GET /accounts//statement/202601 HTTP/1.1|| => 404 Not Found: {}
+GET /accounts/49151/statement/202601/ HTTP/1.1|| => 404 Not Found: {}
+GET /accounts/49151/statements/202601 HTTP/1.1|| => 404 Not Found: {}
+GET /accounts/49151/statement/202601?x HTTP/1.1|| => 404 Not Found: {}"##;
+
+#[test]
+fn paths_of_statements(rt: HostRuntime) -> Result<(), Fail> {
+    try_lines(&rt, rt.alloc(), STATEMENTS)
+}
+
+/// Paths of redemptions: the voucher's code is told before the body.
+const REDEMPTIONS: &str =
+    r##"POST /vouchers/000000000001/redeem HTTP/1.1|Content-Length: 49||{"Subscription-Id-Data":"49151","Reference":"v1"} => 200 OK: {"Refusal":"O2"}
+POST /vouchers/00000000001/redeem HTTP/1.1|Content-Length: 2||{} => 400 Bad Request: {"Failed-AVP":"Voucher-Code","Result-Code":5004}
+POST /vouchers/0000000000001/redeem HTTP/1.1|Content-Length: 2||[] => 400 Bad Request: {"Failed-AVP":"Voucher-Code","Result-Code":5004}
+POST /vouchers/00000000000x/redeem HTTP/1.1|Content-Length: 0|| => 400 Bad Request: {"Failed-AVP":"Voucher-Code","Result-Code":5004}
+POST /vouchers/%3000000000001/redeem HTTP/1.1|Content-Length: 0|| => 400 Bad Request: {"Failed-AVP":"Voucher-Code","Result-Code":5004}
+POST /vouchers/000000000001/redeem HTTP/1.1|Content-Length: 2||{} => 400 Bad Request: {"Failed-AVP":"Subscription-Id-Data","Result-Code":5005}
+POST /vouchers/000000000001/redeem HTTP/1.1|Content-Length: 32||{"Subscription-Id-Data":"49151"} => 400 Bad Request: {"Failed-AVP":"Reference","Result-Code":5005}
+POST /vouchers/000000000001/redeem HTTP/1.1|Content-Length: 0|| => 400 Bad Request: {"Result-Code":5012}
+GET /vouchers/000000000001/redeem HTTP/1.1|| => 405 Method Not Allowed: {}
+PUT /vouchers/x/redeem HTTP/1.1|Content-Length: 0|| => 405 Method Not Allowed: {}
+POST /vouchers//redeem HTTP/1.1|Content-Length: 0|| => 404 Not Found: {}
+POST /vouchers/000000000001 HTTP/1.1|Content-Length: 0|| => 404 Not Found: {}
+POST /vouchers/000000000001/redeem/ HTTP/1.1|Content-Length: 0|| => 404 Not Found: {}
+POST /vouchers HTTP/1.1|Content-Length: 0|| => 404 Not Found: {}
+POST /vouchers/000000000001/redeem?x HTTP/1.1|Content-Length: 0|| => 404 Not Found: {}"##;
+
+#[test]
+fn paths_of_redemptions(rt: HostRuntime) -> Result<(), Fail> {
+    try_lines(&rt, rt.alloc(), REDEMPTIONS)
+}

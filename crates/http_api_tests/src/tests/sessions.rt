@@ -36,7 +36,7 @@ fn request(alloc: Global, line: &str) -> Result<String, Fail> {
 }
 
 /// The requests of these lines.
-fn requests(alloc: Global, lines: &str) -> Result<String, Fail> {
+pub(crate) fn requests(alloc: Global, lines: &str) -> Result<String, Fail> {
     let mut text = String::new(alloc);
     for line in lines.lines() {
         let (line, _) = line.split_once(" => ").ok_or("a request")?;
@@ -47,7 +47,7 @@ fn requests(alloc: Global, lines: &str) -> Result<String, Fail> {
 }
 
 /// The answers of these lines, and that so many are served.
-fn answers(alloc: Global, lines: &str) -> Result<String, Fail> {
+pub(crate) fn answers(alloc: Global, lines: &str) -> Result<String, Fail> {
     let mut text = String::new(alloc);
     for line in lines.lines() {
         let (_, answer) = line.split_once(" => ").ok_or("an answer")?;

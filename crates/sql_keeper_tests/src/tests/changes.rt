@@ -134,6 +134,7 @@ fn change(alloc: Global, after: StoredAccount, charges: Vec<ChargeRow>) -> Resul
         before: stored(alloc, Vec::new(alloc), Vec::new(alloc), 1)?,
         charges,
         kept: None,
+        redeemed: None,
     })
 }
 

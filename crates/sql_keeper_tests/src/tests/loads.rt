@@ -201,6 +201,7 @@ fn write(
         before: Account::new(alloc, book).into_stored(),
         charges: Vec::new(alloc),
         kept: None,
+        redeemed: None,
     })?;
     Ok(())
 }

@@ -6,8 +6,9 @@ ghost use Rattle.keepers.specs.Tables.{no_tables};
 
 use buckets::Bucket;
 use charge_sources::{ChargeSource, ChargeVisitor};
-use identifiers::{AccountNumber, SessionId};
+use identifiers::{AccountNumber, SessionId, VoucherCode};
 use keepers::{Change, Keeper, KeptAnswer, Key, Loaded, MemoryKeeper, StoreFault};
+use redemptions::{Voucher, VoucherTerms};
 use reserving::Account;
 use tariffs::TariffBook;
 use units::Moment;
@@ -79,7 +80,20 @@ impl Keeper for Broken {
         Err(StoreFault::Store)
     }
 
+    fn find_voucher(&mut self, _code: &VoucherCode) -> Result<Option<Voucher>, StoreFault> {
+        Err(StoreFault::Store)
+    }
+
     fn commit(&mut self, _change: Change) -> Result<(), StoreFault> {
+        Err(StoreFault::Store)
+    }
+
+    fn add_voucher(
+        &mut self,
+        _code: VoucherCode,
+        _terms: VoucherTerms,
+        _moment: Moment,
+    ) -> Result<(), StoreFault> {
         Err(StoreFault::Store)
     }
 

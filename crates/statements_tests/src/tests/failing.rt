@@ -4,12 +4,12 @@ use crate::tests::accounts::{HALF_PAID, account, book, keeper, many_events};
 use crate::tests::broken::Broken;
 use crate::tests::months::{exported, stated};
 use keepers::{Keeper, MemoryKeeper};
-use operator::Month;
 use statements::{StatementFault, export, statement};
 use std::alloc::Global;
 use std::io::{self, ErrorKind, Write};
 use std::test::Fail;
 use units::Moment;
+use written_numbers::Month;
 
 /// Takes single bytes, and fails after so many calls.
 #[derive(Drop)]

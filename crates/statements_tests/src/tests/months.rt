@@ -2,11 +2,11 @@
 
 use crate::tests::accounts::{HALF_PAID, account, book, keeper, many_events};
 use keepers::{Keeper, MemoryKeeper};
-use operator::Month;
 use statements::{export, statement};
 use std::alloc::Global;
 use std::test::Fail;
 use units::Moment;
+use written_numbers::Month;
 
 /// The statement of a month as of 1767607500, where no bucket is live any more.
 pub(crate) fn stated(alloc: Global, keeper: &mut MemoryKeeper, month: u64) -> Result<String, Fail> {

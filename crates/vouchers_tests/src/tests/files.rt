@@ -2,12 +2,13 @@
 //! CSV writes them; and readers that fail. What the files say was reckoned by Python's `csv` and the
 //! rules of the fields.
 
+use commands::VoucherAddition;
 use std::alloc::Global;
 use std::io;
 use std::io::{ErrorKind, Read};
 use std::process::Abort;
 use std::test::Fail;
-use vouchers::{FaultKind, VoucherFault, VoucherRow, read_vouchers};
+use vouchers::{FaultKind, VoucherFault, read_vouchers};
 
 /// A number that may be absent.
 fn or_dash(alloc: Global, number: Option<u64>) -> Result<String, Fail> {
@@ -18,16 +19,16 @@ fn or_dash(alloc: Global, number: Option<u64>) -> Result<String, Fail> {
 }
 
 /// A voucher as `CODE AMOUNT DAYS SCOPE`.
-fn row_text(alloc: Global, row: &VoucherRow) -> Result<String, Fail> {
-    let amount = row.amount.micros();
-    let days = or_dash(alloc, row.days.map(|days| days as u64))?;
-    let scope = or_dash(alloc, row.scope.map(|group| group as u64))?;
+fn row_text(alloc: Global, row: &VoucherAddition) -> Result<String, Fail> {
+    let amount = row.terms.amount().micros();
+    let days = or_dash(alloc, row.terms.days().map(|days| days as u64))?;
+    let scope = or_dash(alloc, row.terms.scope().map(|group| group as u64))?;
     let code = row.code.as_str();
     Ok(format!(in alloc; "{code} {amount} {days} {scope}")?)
 }
 
 /// The vouchers of a file, or `none`.
-fn rows_text(alloc: Global, rows: &[VoucherRow]) -> Result<String, Fail> {
+fn rows_text(alloc: Global, rows: &[VoucherAddition]) -> Result<String, Fail> {
     let mut text = String::new(alloc);
     for row in rows {
         if !text.is_empty() {

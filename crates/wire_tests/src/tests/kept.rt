@@ -10,7 +10,7 @@ use units::{Moment, Money};
 use wire::{read_content, read_credit, write_content};
 use wire_requests::read_request;
 
-fn account(alloc: Global) -> Result<AccountNumber, Fail> {
+pub(crate) fn account(alloc: Global) -> Result<AccountNumber, Fail> {
     Ok(AccountNumber::new(alloc, "49151")?.ok_or("an account")?)
 }
 
@@ -19,11 +19,12 @@ fn account_of(content: &Content) -> Result<AccountNumber, Fail> {
     match content {
         Content::Request(request) => Ok(request.account.clone()?),
         Content::Credit(kept) => Ok(kept.credit().account.clone()?),
+        Content::Redeem(redemption) => Ok(redemption.account.clone()?),
     }
 }
 
 /// Whether the text is read as this content.
-fn is_read_again(alloc: Global, text: &str, content: &Content) -> Result<bool, Fail> {
+pub(crate) fn is_read_again(alloc: Global, text: &str, content: &Content) -> Result<bool, Fail> {
     let account = account_of(content)?;
     let again = read_content(alloc, account, text.as_bytes())?;
     Ok(same_content(content, &again))

@@ -1,6 +1,8 @@
 //! Tables of cases: a case is a line of a constant text.
 
-use crate::tests::{answers, answers_read, credits, faults, kept, members, requests, texts};
+use crate::tests::{
+    answers, answers_read, credits, faults, kept, members, redeeming, requests, texts,
+};
 use std::alloc::Global;
 use std::process::Abort;
 use std::test::Fail;
@@ -39,6 +41,8 @@ pub(crate) enum Case {
     Changes,
     /// `OUTCOME: BODY`, of a credit: there is no document.
     Credit,
+    /// The same of a redemption.
+    Redemption,
 }
 
 /// The body of a case.
@@ -52,7 +56,7 @@ fn body_of(
     match what {
         Case::Text => Ok(document.replace(alloc, "HERE", text)?),
         Case::Changes => changed(rt, alloc, document, text),
-        Case::Credit => Ok(String::from_str(alloc, text)?),
+        Case::Credit | Case::Redemption => Ok(String::from_str(alloc, text)?),
     }
 }
 
@@ -60,6 +64,7 @@ fn body_of(
 fn outcome_of(alloc: Global, what: Case, body: &[u8]) -> Result<String, Fail> {
     match what {
         Case::Credit => credits::outcome(alloc, body),
+        Case::Redemption => redeeming::outcome(alloc, body),
         _ => outcome(alloc, body),
     }
 }
@@ -103,6 +108,10 @@ pub(crate) enum Told {
     KeptRequest,
     /// What is kept of the credit that a body is.
     KeptCredit,
+    /// What is kept of the redemption that a body is.
+    KeptRedemption,
+    /// What a kept text is.
+    ContentKind,
     /// What is kept of the widest credit, or whether a credit can begin and end at a moment.
     Bounds,
     /// The value of a kept text.
@@ -124,6 +133,8 @@ fn tell(alloc: Global, what: Told, text: &str) -> Result<String, Fail> {
         Told::Requests => requests::compared(alloc, text),
         Told::KeptRequest => kept::kept_request(alloc, text.as_bytes()),
         Told::KeptCredit => kept::kept_credit(alloc, text.as_bytes()),
+        Told::KeptRedemption => redeeming::kept(alloc, text.as_bytes()),
+        Told::ContentKind => redeeming::kind(alloc, text.as_bytes()),
         Told::Bounds => kept::at_bounds(alloc, text),
         Told::ContentShown => kept::shown(alloc, text.as_bytes()),
         Told::Credits => kept::compared(alloc, text),

@@ -1,4 +1,4 @@
-use Rattle.std.proofs.Common.{◌∙◌, sym, subst}
+use Rattle.std.proofs.Common.{subst}
 use Rattle.keepers.specs.Change.{AreDeadOf}
 use Rattle.keepers.specs.Tables.{Tables}
 use Rattle.charging.proofs.Requested.{none_viewed, some_viewed}

@@ -1,4 +1,4 @@
-use Rattle.std.proofs.Common.{subst, Option, None, Some}
+use Rattle.std.proofs.Common.{subst, Option}
 use Rattle.charging.specs.States.{TellsStateAt}
 use Rattle.charging.specs.declared.balances.AccountState.{AccountState}
 use Rattle.charging.proofs.Stated.{balance-unknown, balance-told}

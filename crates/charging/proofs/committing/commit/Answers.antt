@@ -14,6 +14,7 @@ returns-clause-done g c = λ clean.
       before = c.args.loaded.before;
       charges = c.args.charges;
       kept = c.args.kept;
+      redeemed = c.args.redeemed;
     } in
     let is : c.into_change.result ≡ change = c.into_change.ensures
     ∙ (λ i. record change { moment = c.as_of-moment.ensures.value i }) in

@@ -1,4 +1,4 @@
-use Rattle.std.proofs.Common.{ap, refl, Some}
+use Rattle.std.proofs.Common.{ap, refl, Some, None}
 use Rattle.reserving.specs.Stored.{stored}
 use Rattle.charging.proofs.Operated.{credit-told, credit-done}
 use Rattle.charging.proofs.operators.credit_account.Goals as goal
@@ -19,6 +19,7 @@ returns-in_ok-commit-in-Ok-Some-clause-served g c = λ clean b load fresh list t
       before = c.args.loaded.before;
       charges = c.new.result;
       kept = Some c.kept_credit-kept.result;
+      redeemed = None;
     })
     c.in-Ok-Some.field-0-is c.in-Ok-Some.ensures.tariff c.in-Ok-Some.ensures.moment
     (record {
@@ -27,6 +28,7 @@ returns-in_ok-commit-in-Ok-Some-clause-served g c = λ clean b load fresh list t
       after = refl;
       charges = c.new.ensures.items;
       kept_is = ap Some c.kept_credit-kept.ensures;
+      redeemed_is = refl;
     })
     (c.in_ok-commit-in-Ok-Some.ensures.done clean)
 

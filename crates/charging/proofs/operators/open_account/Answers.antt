@@ -25,6 +25,7 @@ returns-clause-served g c = λ clean list time is le.
       before = c.into_stored-before.result;
       charges = c.new-2.result;
       kept = None;
+      redeemed = None;
     } in
     open-done c.args.book.now list c.args.number c.args.moment c.advance.new.self c.new.result
     change (g.K.Keeper.content c.args.keeper.now) (g.K.Keeper.content c.commit.new.keeper) time
@@ -41,6 +42,7 @@ returns-clause-served g c = λ clean list time is le.
       moment = refl;
       after = refl;
       kept = refl;
+      redeemed = refl;
       charges = c.new-2.ensures.items;
       buckets = λ i. (c.new.ensures.rows i).buckets;
       counters = λ i. (c.new.ensures.rows i).counters;

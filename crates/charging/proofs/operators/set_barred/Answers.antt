@@ -27,6 +27,7 @@ returns-clause-served g c = λ clean list time is le.
       before = c.in-Some.loaded.before;
       charges = c.new.result;
       kept = None;
+      redeemed = None;
     } in
     bar-done c.args.book.now list c.args.number c.args.barred c.args.moment
     c.moment_on-moment.result c.in-Some.loaded c.set_barred.new.self change
@@ -46,6 +47,7 @@ returns-clause-served g c = λ clean list time is le.
       after = refl;
       charges = c.new.ensures.items;
       kept_is = refl;
+      redeemed_is = refl;
     })
     (λ made.
     c.in_ok-commit.ensures.done clean

@@ -1,4 +1,4 @@
-use Rattle.std.proofs.Common.{◌≡◌, ◌∙◌, ap, refl, Some}
+use Rattle.std.proofs.Common.{◌≡◌, ◌∙◌, ap, refl, Some, None}
 use Rattle.std.specs.Prelude.{if◌then◌else◌}
 use Rattle.commands.specs.declared.answer.Answer.TheVariants as answer
 use Rattle.commands.specs.declared.command.Content.TheVariants as content
@@ -27,12 +27,13 @@ returns-in-Ok-clause-served g c = λ clean b load fresh new list time is le.
         content = content.Request c.args.request;
         answer = answer.Request c.in-Ok.decided.answer;
       });
+      redeemed = None;
     })
     given c.if-decide.true c.decide.ensures.tariff
     (c.in-Ok.ensures.moment ∙ ap
     (λ v. if v then c.moment_on-moment.result else c.args.loaded.account.as_of)
     c.if-decide.true)
-    c.in-Ok.ensures.rows c.in-Ok.ensures.charges refl refl refl refl kept.0 kept.1)
+    c.in-Ok.ensures.rows c.in-Ok.ensures.charges refl refl refl refl refl kept.0 kept.1)
 
 pub returns-in-Ok-2-clause-served : goal.returns-in-Ok-2-clause-served
 returns-in-Ok-2-clause-served g c = λ clean b load fresh new list time is le.

@@ -1,5 +1,3 @@
-use Rattle.std.proofs.Common.{List, IfOk}
-use Rattle.reserving.specs.declared.session.Counter.{Counter}
 use Rattle.sql_rows.specs.Content.{rows_in}
 use Rattle.sql_tables.proofs.ByKey.{told_if_ok}
 use Rattle.sql_keeper.proofs.InTurn.{gathers_made}

@@ -2,7 +2,7 @@ use Rattle.std.proofs.Common.{option_map, Ok}
 use Rattle.sql_rows.specs.Content.{with_meta}
 use Rattle.sql_rows.specs.Each.{with_charges}
 use Rattle.sql_rows.specs.Texts.{kept_of}
-use Rattle.sql_keeper.specs.Writes.{meta_with, with_kept, with_stored}
+use Rattle.sql_keeper.specs.Writes.{meta_with, with_kept, with_redeemed, with_stored}
 use Rattle.sql_keeper.proofs.Puts.{makes_then, makes_all_then, puts_charges}
 use Rattle.sql_keeper.proofs.putting.put_change.Goals as goal
 
@@ -13,10 +13,14 @@ returns-clause-makes g c =
     let stored = with_stored change.number c.args.book.now.periods change.after in
     let charged = with_charges change.number change.charges.items in
     let kept = with_kept change.number change.kept (option_map kept_of c.args.texts.now) in
-    makes_all_then (λ x. charged (stored (opened x))) kept _ _ _ c.in_ok-put_charges.field-0 c.put_kept.result
+    let redeemed = with_redeemed change.redeemed in
+    makes_all_then (λ x. kept (charged (stored (opened x)))) redeemed _ _ _ c.in_ok-put_kept.field-0
+    c.put_redeemed.result
+    (makes_all_then (λ x. charged (stored (opened x))) kept _ _ _ c.in_ok-put_charges.field-0
+    (Ok c.in_ok-put_kept.field-0)
     (makes_all_then (λ x. stored (opened x)) charged _ _ _ c.in_ok-put_stored.field-0
     (Ok c.in_ok-put_charges.field-0)
     (makes_then opened stored _ _ _ c.in_ok-put_meta.field-0 (Ok c.in_ok-put_stored.field-0)
     c.in_ok-put_meta.ensures.makes c.in_ok-put_stored.ensures.makes)
     (puts_charges change.number _ _ c.deref.ensures.value _ _ (Ok c.in_ok-put_charges.field-0)
-    c.in_ok-put_charges.ensures.makes)) c.put_kept.ensures.makes
+    c.in_ok-put_charges.ensures.makes)) c.in_ok-put_kept.ensures.makes) c.put_redeemed.ensures.makes

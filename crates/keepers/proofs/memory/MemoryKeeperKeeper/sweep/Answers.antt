@@ -9,5 +9,5 @@ returns-clause-count c = λ _.
 
 pub returns-clause-done : goal.returns-clause-done
 returns-clause-done c = λ _.
-    swept_tables c.args.book.now c.args.moment c.args.self.now.last
+    swept_tables c.args.book.now c.args.moment c.args.self.now.last c.args.self.now.vouchers
     c.args.self.now.accounts.entries.items c.advance.new.self.entries.items c.advance.ensures

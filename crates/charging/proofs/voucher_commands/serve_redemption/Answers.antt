@@ -1,0 +1,88 @@
+use Rattle.std.proofs.Common.{rules, ◌≡◌, ◌∙◌, ap, sym, subst}
+use Rattle.commands.specs.declared.answer.Answer.TheVariants as answer
+use Rattle.commands.specs.declared.answer.Refusal.{Refusal}
+use Rattle.commands.specs.declared.command.Command.TheVariants as command
+use Rattle.commands.specs.declared.command.Content.TheVariants as content
+use Rattle.redemptions.specs.Redeeming.{redemption}
+use Rattle.keepers.specs.Keys.{key_of}
+use Rattle.keepers.specs.Tables.{Tables}
+use Rattle.charging.specs.Outcomes.{book_days}
+use Rattle.charging.specs.Served.{IsServed}
+use Rattle.charging.specs.Stepping.{ServesAt}
+use Rattle.charging.proofs.Serving.{none_loaded, some_loaded}
+use Rattle.charging.proofs.Vouchered.{redeem-unknown, redeem-again, redeem-refused}
+use Rattle.charging.proofs.voucher_commands.serve_redemption.Goals as goal
+
+pub returns-in-Some-clause-served : goal.returns-in-Some-clause-served
+returns-in-Some-clause-served g c = λ clean list time is le.
+    redeem-again c.args.book.now list c.args.asked c.args.moment
+    (g.K.Keeper.content c.args.keeper.now) (g.K.Keeper.content c.find_redemption.new.keeper)
+    c.in-Some.kept c.repeated_redemption.result time le is
+    (sym (c.in_ok-kept.ensures.found clean) ∙ c.in-Some.is) c.repeated_redemption.ensures
+    (c.in_ok-kept.ensures.same clean)
+
+pub returns-in-Ok-clause-served : goal.returns-in-Ok-clause-served
+returns-in-Ok-clause-served g c = λ clean.
+    let code : c.in_ok-code.code ≡ c.args.asked.code = search rules in
+    let clean_load = c.credit_redeemed.ensures.kept.cleanness clean in
+    let clean_voucher = c.in_ok-loaded.ensures.cleanness clean_load in
+    let clean_find = c.in_ok-found.ensures.cleanness clean_voucher in
+    let same_load = c.in_ok-loaded.ensures.same clean_load in
+    let same_voucher = c.in_ok-found.ensures.same clean_voucher in
+    let same = same_load ∙ same_voucher ∙ c.in_ok-kept.ensures.same clean_find in
+    let loads = some_loaded c.args.book.now c.args.moment c.args.asked.account
+    (g.K.Keeper.content c.find_voucher.new.self)
+    (g.K.Keeper.content c.load.new.self) c.in_ok-loaded.field-0 c.in-Some-2.loaded
+    (sym same_load) (c.in_ok-loaded.ensures.found clean_load) c.in-Some-2.is in
+    let fresh = (λ i. (same i).answers c.args.asked.account
+    (key_of (content.Redeem c.args.asked))) ∙ sym (c.in_ok-kept.ensures.found clean_find)
+    ∙ c.in_default.is in
+    let redeems = ap
+    (λ o. redemption (book_days c.args.book.now) o c.args.asked.account c.args.moment)
+    ((λ i. ((same_load ∙ same_voucher) i).vouchers c.args.asked.code)
+    ∙ sym (c.in_ok-found.ensures.found clean_voucher))
+    ∙ sym c.in_ok-redeemed.ensures ∙ c.in-Ok.is in
+    subst (λ (x : Tables). ServesAt c.args.book.now (command.Redeem c.args.asked) c.args.moment x
+    (g.K.Keeper.content c.credit_redeemed.new.keeper) c.credit_redeemed.result) same
+    (c.credit_redeemed.ensures.served clean c.args.book.now loads fresh code redeems)
+
+pub returns-in-Err-clause-served : goal.returns-in-Err-clause-served
+returns-in-Err-clause-served g c = λ clean list time is le.
+    let given = ap g.K.Keeper.content c.abandon.ensures in
+    let clean_load = subst g.K.Keeper.clean c.abandon.ensures clean in
+    let clean_voucher = c.in_ok-loaded.ensures.cleanness clean_load in
+    let clean_find = c.in_ok-found.ensures.cleanness clean_voucher in
+    let same_load = c.in_ok-loaded.ensures.same clean_load in
+    let same_voucher = c.in_ok-found.ensures.same clean_voucher in
+    let same_find = c.in_ok-kept.ensures.same clean_find in
+    let before = same_voucher ∙ same_find in
+    let loads = some_loaded c.args.book.now c.args.moment c.args.asked.account
+    (g.K.Keeper.content c.find_voucher.new.self)
+    (g.K.Keeper.content c.args.keeper.now) c.in_ok-loaded.field-0 c.in-Some-2.loaded
+    before (c.in_ok-loaded.ensures.found clean_load) c.in-Some-2.is in
+    let fresh = sym (c.in_ok-kept.ensures.found clean_find) ∙ c.in_default.is in
+    let redeems = ap
+    (λ o. redemption (book_days c.args.book.now) o c.args.asked.account c.args.moment)
+    ((λ i. (sym same_find i).vouchers c.args.asked.code)
+    ∙ sym (c.in_ok-found.ensures.found clean_voucher))
+    ∙ sym c.in_ok-redeemed.ensures ∙ c.in-Err.is in
+    subst (λ (x : Refusal). IsServed c.args.book.now list (command.Redeem c.args.asked)
+    c.args.moment (g.K.Keeper.content c.args.keeper.now) (g.K.Keeper.content c.abandon.new.self)
+    (answer.Refused x)) (sym c.refused.ensures)
+    (redeem-refused c.args.book.now list c.args.asked c.args.moment
+    (g.K.Keeper.content c.args.keeper.now) (g.K.Keeper.content c.abandon.new.self)
+    c.in-Some-2.loaded c.in-Err.refusal time le is loads fresh redeems
+    (given ∙ same_load ∙ before))
+
+pub returns-in_default-2-clause-served : goal.returns-in_default-2-clause-served
+returns-in_default-2-clause-served g c = λ clean list time is le.
+    let clean_voucher = c.in_ok-loaded.ensures.cleanness clean in
+    let same = c.in_ok-found.ensures.same clean_voucher
+    ∙ c.in_ok-kept.ensures.same (c.in_ok-found.ensures.cleanness clean_voucher) in
+    redeem-unknown c.args.book.now list c.args.asked c.args.moment
+    (g.K.Keeper.content c.args.keeper.now) (g.K.Keeper.content c.load.new.self) time le is
+    (none_loaded c.args.book.now c.args.moment c.args.asked.account
+    (g.K.Keeper.content c.find_voucher.new.self)
+    (g.K.Keeper.content c.args.keeper.now) c.in_ok-loaded.field-0 same
+    (c.in_ok-loaded.ensures.found clean) c.in_default-2.is)
+    (c.in_ok-loaded.ensures.same clean ∙ same)

@@ -1,0 +1,200 @@
+//! Vouchers: operators add them, and accounts redeem them.
+
+ghost use Rattle.std.specs.Prelude.{◌≡◌, ◌≤◌, IfOk, None, Ok, Some};
+ghost use Rattle.commands.specs.declared.answer.Answer.TheVariants as answer;
+ghost use Rattle.commands.specs.declared.command.Command.TheVariants as command;
+ghost use Rattle.commands.specs.declared.command.Content.TheVariants as content;
+ghost use Rattle.tariffs.specs.Books.{Book};
+ghost use Rattle.keepers.specs.Keys.{key_of};
+ghost use Rattle.keepers.specs.Change.{IsLoad};
+ghost use Rattle.keepers.specs.Keeping.{Keeps, Reads};
+ghost use Rattle.redemptions.specs.Redeeming.{redemption};
+ghost use Rattle.charging.specs.Outcomes.{book_days, refused_as, repeated};
+ghost use Rattle.charging.specs.Stepping.{ServesAt};
+
+use crate::committing::{commit, moment_on};
+use crate::operators::make_bucket;
+use commands::{Answer, Content, Refusal, VoucherAddition, VoucherRedemption, is_kept_redemption};
+use identifiers::VoucherCode;
+use keepers::{Keeper, KeptAnswer, Key, Loaded, Redeemed, StoreFault};
+use redemptions::{Addition, CivilDays, RedeemRefusal, Redemption, Voucher, add, redeem};
+use std::alloc::{AllocError, Global};
+use tariffs::TariffBook;
+use units::Moment;
+
+/// The civil days of a tariff book's calendar.
+#[derive(Drop)]
+struct BookDays<'b> {
+    book: &'b TariffBook,
+}
+
+impl CivilDays for BookDays<'_> {
+    ghost use Rattle.charging.specs.Outcomes.{book_days};
+
+    ghost day_end = { λ d. book_days d.book.now };
+
+    fn day_end(&self, moment: Moment, days: u32) -> Option<Moment> {
+        self.book.day_end(moment, days)
+    }
+}
+
+/// Adds a voucher. It concerns no account.
+pub(crate) fn add_voucher<K: Keeper>(
+    keeper: &mut K,
+    addition: VoucherAddition,
+    moment: Moment,
+) -> Result<Answer, StoreFault>
+    ensures served { K.clean keeper.new → (b : Book) →
+        ServesAt b (command.AddVoucher addition) moment (K.content keeper.old)
+        (K.content keeper.new) result }
+    ensures kept { Keeps K.content K.failed K.clean keeper.old keeper.new result }
+{
+    let found = keeper.find_voucher(&addition.code)?;
+    match add(&found, addition.terms) {
+        Addition::New(_) => {
+            keeper.add_voucher(addition.code, addition.terms, moment)?;
+            Ok(Answer::Done)
+        }
+        Addition::Present => Ok(Answer::Done),
+        Addition::Conflicting => Ok(Answer::Refused(Refusal::ContentDiffers)),
+    }
+}
+
+/// Redeems a voucher for an account, under a reference.
+pub(crate) fn serve_redemption<K: Keeper>(
+    alloc: Global,
+    keeper: &mut K,
+    book: &TariffBook,
+    asked: VoucherRedemption,
+    moment: Moment,
+) -> Result<Answer, StoreFault>
+    ensures served { K.clean keeper.new →
+        ServesAt book.now (command.Redeem asked) moment (K.content keeper.old)
+        (K.content keeper.new) result }
+    ensures kept { Keeps K.content K.failed K.clean keeper.old keeper.new result }
+{
+    let kept = find_redemption(keeper, &asked)?;
+    if let Some(kept) = kept {
+        let conflict = Answer::Refused(Refusal::ContentDiffers);
+        return Ok(repeated_redemption(kept, &asked, conflict));
+    }
+    let found = keeper.find_voucher(&asked.code)?;
+    let redeemed = redeem_by(book, found, &asked, moment)?;
+    let code = asked.code.clone()?;
+    let Some(loaded) = keeper.load(book, &asked.account, moment)? else {
+        return Ok(Answer::Refused(Refusal::AccountUnknown));
+    };
+    match redeemed {
+        Ok(redeemed) => credit_redeemed(alloc, keeper, loaded, asked, code, redeemed, moment),
+        Err(refusal) => {
+            keeper.abandon(loaded);
+            Ok(Answer::Refused(refused(refusal)))
+        }
+    }
+}
+
+/// The answer to a redemption whose reference is kept: its first answer where it is the same one.
+fn repeated_redemption(kept: KeptAnswer, asked: &VoucherRedemption, conflict: Answer) -> Answer
+    ensures { result ≡ repeated kept (content.Redeem asked.now) conflict }
+{
+    if is_kept_redemption(&kept.content, asked) {
+        kept.answer
+    } else {
+        conflict
+    }
+}
+
+/// What is kept under a redemption's reference.
+fn find_redemption<K: Keeper>(
+    keeper: &mut K,
+    asked: &VoucherRedemption,
+) -> Result<Option<KeptAnswer>, StoreFault>
+    ensures { Reads K.content K.failed K.clean keeper.old keeper.new
+        (λ found. found ≡
+        (K.content keeper.old).answers asked.now.account (key_of (content.Redeem asked.now)))
+        result }
+{
+    let key = Key::Reference(asked.reference.clone()?);
+    keeper.find_answer(&asked.account, &key)
+}
+
+/// What a redemption comes to by a book's days, over what stands under its code.
+fn redeem_by(
+    book: &TariffBook,
+    found: Option<Voucher>,
+    asked: &VoucherRedemption,
+    moment: Moment,
+) -> Result<Result<Redemption, RedeemRefusal>, AllocError>
+    ensures { IfOk result (λ r. r ≡
+        redemption (book_days book.now) found asked.now.account moment) }
+{
+    let account = asked.account.clone()?;
+    Ok(redeem(found, account, moment, &BookDays { book }))
+}
+
+/// The refusal as an operator is told it.
+fn refused(refusal: RedeemRefusal) -> Refusal
+    ensures { result ≡ refused_as refusal }
+{
+    match refusal {
+        RedeemRefusal::VoucherUnknown => Refusal::VoucherUnknown,
+        RedeemRefusal::VoucherSpent => Refusal::VoucherSpent,
+        RedeemRefusal::EndOutOfRange => Refusal::OutOfRange,
+    }
+}
+
+/// What is kept of a redemption that made this bucket.
+fn kept_redemption(asked: VoucherRedemption, number: u32) -> KeptAnswer
+    ensures { result ≡ record { content = content.Redeem asked; answer = answer.Bucket number } }
+{
+    KeptAnswer {
+        content: Content::Redeem(asked),
+        answer: Answer::Bucket(number),
+    }
+}
+
+/// Credits an account with what it redeemed, and keeps the voucher as spent, under this code.
+fn credit_redeemed<K: Keeper>(
+    alloc: Global,
+    keeper: &mut K,
+    mut loaded: Loaded,
+    asked: VoucherRedemption,
+    code: VoucherCode,
+    redeemed: Redemption,
+    moment: Moment,
+) -> Result<Answer, StoreFault>
+    ensures served { K.clean keeper.new → (b : Book) →
+        IsLoad b moment asked.account ((K.content keeper.old).rows asked.account)
+        (Some loaded.entry) → (K.content keeper.old).answers asked.account
+        (key_of (content.Redeem asked)) ≡ None → code ≡ asked.code →
+        redemption (book_days b) ((K.content keeper.old).vouchers asked.code) asked.account
+        moment ≡ Ok redeemed →
+        ServesAt b (command.Redeem asked) moment (K.content keeper.old)
+        (K.content keeper.new) result }
+    ensures kept { Keeps K.content K.failed K.clean keeper.old keeper.new result }
+{
+    let moment = moment_on(&loaded.account, moment);
+    let Redemption {
+        amount,
+        from,
+        until,
+        scope,
+        voucher,
+    } = redeemed;
+    match make_bucket(&mut loaded.account, from, until, scope, amount, moment) {
+        Ok(Some(number)) => {
+            let kept = kept_redemption(asked, number);
+            let spent = Redeemed { code, voucher };
+            commit(keeper, loaded, Vec::new(alloc), Some(kept), Some(spent))?;
+            Ok(Answer::Bucket(number))
+        }
+        Ok(None) => {
+            keeper.abandon(loaded);
+            Ok(Answer::Refused(Refusal::OutOfRange))
+        }
+        Err(AllocError) => {
+            keeper.abandon(loaded);
+            Err(StoreFault::Memory)
+        }
+    }
+}

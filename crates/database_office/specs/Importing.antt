@@ -1,0 +1,58 @@
+-- What becomes of a file of vouchers, for every list of accepted commands whose tables a keeper
+-- holds, and which faults are told.
+-- Source: profile.
+use Rattle.std.specs.Prelude.{◌≡◌, ℕ, List, Option, Ok, Err, IsTrue}
+use Rattle.commands.specs.declared.command.VoucherAddition.{VoucherAddition}
+use Rattle.tariffs.specs.Books.{Book}
+use Rattle.keepers.specs.Tables.{Tables}
+use Rattle.office.specs.Counts.{counts_line}
+use Rattle.office.specs.Imports.{BeginsImport, TellsImport, additions}
+use Rattle.office.specs.Written.{WritesBeginning}
+use Rattle.office.specs.declared.counts.Counts.{Counts}
+use Rattle.office.specs.declared.fault.OfficeFault.TheVariants.{Store, Write}
+use Rattle.vouchers.specs.Faults.{is_in_file}
+use Rattle.vouchers.specs.Files.{vouchers_in}
+use Rattle.database_office.specs.Opening.{IsUnanswered}
+use Rattle.database_office.specs.declared.fault.DatabaseFault.{DatabaseFault}
+use Rattle.database_office.specs.declared.fault.DatabaseFault.TheVariants.{File, Clock, Book as BookFault, Open, Net, Memory, Office}
+use Rattle.database_office.specs.declared.importing.ImportFault.{ImportFault}
+use Rattle.database_office.specs.declared.importing.ImportFault.TheVariants.{Vouchers, Database}
+
+-- the text's vouchers were added, in their order, and this is so of the counts
+pub record IsFileImported (b : Book) (text : List ℕ) (t : ℕ) (old new : Tables)
+    (tells : Counts → Type 0) : Type 0 where
+  pub rows : List VoucherAddition
+  pub says : vouchers_in text ≡ Ok rows
+  pub imported : TellsImport b (additions t rows) old new tells
+
+-- a beginning of them was
+pub record IsFileBegun (b : Book) (text : List ℕ) (t : ℕ) (old new : Tables) : Type 0 where
+  pub rows : List VoucherAddition
+  pub says : vouchers_in text ≡ Ok rows
+  pub begun : BeginsImport b (additions t rows) old new
+
+-- over a keeper, a fault of the database is the store's or the writer's
+abbrev pub IsOverKeeper : Book → List ℕ → ℕ → Tables → Tables → Option (List ℕ) →
+    Option (List ℕ) → DatabaseFault → Type 0
+IsOverKeeper b text t old new before after File = ⊥
+IsOverKeeper b text t old new before after Clock = ⊥
+IsOverKeeper b text t old new before after (BookFault fault) = ⊥
+IsOverKeeper b text t old new before after (Open fault) = ⊥
+IsOverKeeper b text t old new before after Net = ⊥
+IsOverKeeper b text t old new before after Memory = ⊥
+IsOverKeeper b text t old new before after (Office (Store fault)) = IsFileBegun b text t old new
+IsOverKeeper b text t old new before after (Office (Write fault)) =
+    IsFileImported b text t old new (λ counts. WritesBeginning before after (counts_line counts))
+
+-- one of the text is its first, or reading it stopped: then no table has changed
+abbrev pub IsImportFault : Book → List ℕ → ℕ → Tables → Tables → Option (List ℕ) →
+    Option (List ℕ) → ImportFault → Type 0
+IsImportFault b text t old new before after (Vouchers fault) =
+    (IsTrue (is_in_file fault.kind) → vouchers_in text ≡ Err fault) × (new ≡ old)
+IsImportFault b text t old new before after (Database fault) =
+    IsOverKeeper b text t old new before after fault
+
+-- nothing was told
+abbrev pub IsUntold : ImportFault → Type 0
+IsUntold (Vouchers fault) = Unit {0}
+IsUntold (Database fault) = IsUnanswered fault

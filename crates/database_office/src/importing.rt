@@ -1,0 +1,99 @@
+//! A file of vouchers over a database.
+
+ghost use Rattle.std.specs.Prelude.{◌≡◌, ◌≤◌, IfErr, IfSome, OnOk};
+ghost use Rattle.std.specs.Io.KnownBytes.{Appends};
+ghost use Rattle.office.specs.Counts.{counts_line};
+ghost use Rattle.database_office.specs.Importing.{IsFileImported, IsImportFault, IsUntold};
+
+use crate::clock::command_moment;
+use crate::fault::DatabaseFault;
+use crate::files::open_file;
+use crate::opening::{Office, open_office};
+use keepers::Keeper;
+use office::serve_import;
+use operator::ImportWords;
+use std::alloc::Global;
+use std::io::{Read, Write};
+use tariffs::TariffBook;
+use thiserror::Error;
+use units::Moment;
+use vouchers::{VoucherFault, read_vouchers};
+
+/// Why the vouchers of a file weren't all added and told.
+#[derive(Clone, Copy, Debug, Drop, Error, PartialEq, Eq)]
+pub enum ImportFault {
+    /// The file has a fault, or wasn't read to its end: nothing has changed.
+    #[error("voucher fault {} at record {}", .0.kind.number(), .0.record_number)]
+    Vouchers(VoucherFault),
+    /// A command over the database wasn't carried out, or what became of the vouchers not written.
+    #[error("{0}")]
+    Database(DatabaseFault),
+}
+
+impl From<DatabaseFault> for ImportFault {
+    ghost use Rattle.std.specs.Prelude.{◌≡◌};
+    ghost use Rattle.database_office.specs.declared.importing.ImportFault.TheVariants.{Database};
+
+    ghost from_gives = { λ fault e. e ≡ Database fault };
+
+    fn from(fault: DatabaseFault) -> ImportFault {
+        ImportFault::Database(fault)
+    }
+}
+
+/// Adds the vouchers of the file of the words to their database, and writes what became of them as
+/// a line. The file is opened before the database, and read after it.
+///
+/// # Errors
+/// In this order: `Database` where the file can't be opened (`File` or `Memory`), `Clock`, and
+/// `File`, `Open` or `Memory`, as `open_office`; then as `import_file`.
+pub fn import_office<O: Write>(
+    rt: &HostRuntime,
+    words: ImportWords,
+    output: &mut O,
+) -> Result<(), ImportFault>
+    ensures unwritten { IfErr result (λ fault. IsUntold fault → output.new ≡ output.old) }
+{
+    let ImportWords { database, file, at } = words;
+    let reader = open_file(rt, file.as_str())?;
+    let moment = command_moment(rt, at)?;
+    let Office { mut keeper, book } = open_office(rt, &database)?;
+    import_file(rt.alloc(), &mut keeper, &book, reader, moment, output)
+}
+
+/// Adds the vouchers of a file over a keeper, in their order, and writes what became of them as
+/// `serve_import` does.
+///
+/// # Errors
+/// `Vouchers`, the first fault of the file, or why it wasn't read to its end: then nothing has
+/// changed. `Database` where the store failed, then a beginning of the vouchers was added; or where
+/// the output failed, then all were.
+pub fn import_file<K: Keeper, R: Read + Drop, O: Write>(
+    alloc: Global,
+    keeper: &mut K,
+    book: &TariffBook,
+    reader: R,
+    moment: Moment,
+    output: &mut O,
+) -> Result<(), ImportFault>
+    ensures done { K.clean keeper.new → OnOk result (IfSome (R.remaining reader) (λ text.
+        IsFileImported book.now text moment (K.content keeper.old) (K.content keeper.new)
+        (λ counts. Appends (O.contents output.old) (O.contents output.new)
+        (counts_line counts)))) }
+    ensures fault { K.clean keeper.new → IfErr result (λ fault.
+        IfSome (R.remaining reader) (λ text.
+        IsImportFault book.now text moment (K.content keeper.old) (K.content keeper.new)
+        (O.contents output.old) (O.contents output.new) fault)) }
+    ensures unwritten { IfErr result (λ fault. IsUntold fault → output.new ≡ output.old) }
+    ensures cleanness { K.clean keeper.new → K.clean keeper.old }
+    ensures failures { K.failed keeper.old ≤ K.failed keeper.new }
+{
+    let rows = match read_vouchers(alloc, reader) {
+        Ok(rows) => rows,
+        Err(fault) => return Err(ImportFault::Vouchers(fault)),
+    };
+    match serve_import(alloc, keeper, book, rows, moment, output) {
+        Ok(()) => Ok(()),
+        Err(fault) => Err(ImportFault::Database(DatabaseFault::Office(fault))),
+    }
+}

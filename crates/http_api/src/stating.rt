@@ -1,0 +1,132 @@
+//! A statement that is asked for.
+
+ghost use Rattle.std.specs.Prelude.{◌≡◌, ◌≤◌, List, OnOk, OnErr, IfOk};
+ghost use Rattle.std.specs.Io.KnownBytes.{Appends};
+ghost use Rattle.commands.specs.declared.answer.Answer.TheVariants.{Refused};
+ghost use Rattle.commands.specs.declared.answer.Refusal.TheVariants.{AccountUnknown as Unknown};
+ghost use Rattle.reserving.specs.ChargeColumns.{ChargeColumns};
+ghost use Rattle.charge_sources.specs.Rows.{AreCharges};
+ghost use Rattle.statements.specs.Charges.{Asks};
+ghost use Rattle.statements.specs.Texts.{statement_text};
+ghost use Rattle.wire_answers.specs.Spelled.{answer_text};
+ghost use Rattle.http_heads.specs.declared.status.Status.TheVariants.{Ok};
+ghost use Rattle.http_answers.specs.Asking.{states};
+ghost use Rattle.http_answers.specs.Texts.{response, Begins};
+ghost use Rattle.http_api.specs.Replies.{Replies};
+ghost use Rattle.http_api.specs.Told.{TellsCharges};
+
+use crate::clock::Clock;
+use byte_streams::StreamFault;
+use charge_sources::ChargeSource;
+use charging::{AccountState, account_state};
+use commands::{Answer, Refusal};
+use http_answers::{StatementAsked, tell, tell_text, tell_unable};
+use http_heads::Status;
+use statements::{StatementFault, statement};
+use std::alloc::Global;
+use std::io::Write;
+use tariffs::TariffBook;
+use wire::write_answer;
+
+/// Serves a statement at the clock's moment. It is a read: it changes nothing.
+///
+/// # Errors
+/// `Memory` where the head of the answer wasn't made, `Write` where the writer failed: then a
+/// beginning of the answer is written.
+pub(crate) fn serve_statement<W: Write, K: ChargeSource, C: Clock>(
+    alloc: Global,
+    writer: &mut W,
+    keeper: &mut K,
+    book: &TariffBook,
+    clock: &mut C,
+    asked: &StatementAsked,
+    closes: bool,
+) -> Result<(), StreamFault>
+    ensures ok { K.clean keeper.new → OnOk result
+        (Replies C.gives book.now (states asked.now) closes clock.old clock.new (Appends (W.contents writer.old) (W.contents writer.new))
+        (K.content keeper.old) (K.content keeper.new)) }
+    ensures err { K.clean keeper.new → OnErr result
+        (Replies C.gives book.now (states asked.now) closes clock.old clock.new (Begins (W.contents writer.old) (W.contents writer.new))
+        (K.content keeper.old) (K.content keeper.new)) }
+    ensures same { K.clean keeper.new → K.content keeper.new ≡ K.content keeper.old }
+    ensures cleanness { K.clean keeper.new → K.clean keeper.old }
+    ensures failures { K.failed keeper.old ≤ K.failed keeper.new }
+{
+    let Some(moment) = clock.now() else {
+        return tell_unable(writer, closes);
+    };
+    let state = match account_state(keeper, book, &asked.account, moment) {
+        Ok(state) => state,
+        Err(_) => return tell_unable(writer, closes),
+    };
+    match state {
+        Some(state) => tell_statement(alloc, writer, keeper, book, asked, &state, closes),
+        None => tell_unknown(alloc, writer, closes),
+    }
+}
+
+/// Writes the statement of an account whose state was found.
+fn tell_statement<W: Write, K: ChargeSource>(
+    alloc: Global,
+    writer: &mut W,
+    keeper: &mut K,
+    book: &TariffBook,
+    asked: &StatementAsked,
+    state: &AccountState,
+    closes: bool,
+) -> Result<(), StreamFault>
+    ensures ok { K.clean keeper.new → OnOk result
+        (TellsCharges ((K.content keeper.old).charges asked.now.account)
+        (λ rows. statement_text book.now asked.now.account asked.now.month state.now.moment rows state.now.buckets.items)
+        closes (Appends (W.contents writer.old) (W.contents writer.new))) }
+    ensures err { K.clean keeper.new → OnErr result
+        (TellsCharges ((K.content keeper.old).charges asked.now.account)
+        (λ rows. statement_text book.now asked.now.account asked.now.month state.now.moment rows state.now.buckets.items)
+        closes (Begins (W.contents writer.old) (W.contents writer.new))) }
+    ensures same { K.clean keeper.new → K.content keeper.new ≡ K.content keeper.old }
+    ensures cleanness { K.clean keeper.new → K.clean keeper.old }
+    ensures failures { K.failed keeper.old ≤ K.failed keeper.new }
+{
+    match statement_of(alloc, keeper, book, asked, state) {
+        Ok(text) => tell_text(alloc, writer, Status::Ok, closes, text.as_slice()),
+        Err(_) => tell_unable(writer, closes),
+    }
+}
+
+/// The statement of an account whose state was found.
+fn statement_of<K: ChargeSource>(
+    alloc: Global,
+    keeper: &mut K,
+    book: &TariffBook,
+    asked: &StatementAsked,
+    state: &AccountState,
+) -> Result<Vec<u8>, StatementFault>
+    ensures text { K.clean keeper.new → IfOk result (λ text. (rows : List ChargeColumns) →
+        AreCharges ((K.content keeper.old).charges asked.now.account) rows →
+        text.items ≡ statement_text book.now asked.now.account asked.now.month state.now.moment rows state.now.buckets.items) }
+    ensures asks { Asks K.content K.failed K.clean keeper.old keeper.new result }
+{
+    let mut text = Vec::new(alloc);
+    let buckets = state.buckets.as_slice();
+    statement(
+        alloc,
+        keeper,
+        &mut text,
+        book,
+        &asked.account,
+        asked.month,
+        state.moment,
+        buckets,
+    )?;
+    Ok(text)
+}
+
+/// Writes that the account isn't there.
+fn tell_unknown<W: Write>(alloc: Global, writer: &mut W, closes: bool) -> Result<(), StreamFault>
+    ensures ok { OnOk result (Appends (W.contents writer.old) (W.contents writer.new) (response Ok closes (answer_text (Refused Unknown)))) }
+    ensures err { OnErr result (Begins (W.contents writer.old) (W.contents writer.new) (response Ok closes (answer_text (Refused Unknown)))) }
+{
+    let unknown = Answer::Refused(Refusal::AccountUnknown);
+    let body = write_answer(alloc, &unknown)?;
+    tell(alloc, writer, Status::Ok, closes, body.as_str())
+}

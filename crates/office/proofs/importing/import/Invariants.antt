@@ -1,0 +1,16 @@
+use Rattle.std.proofs.Common.{◌≡◌, ◌≤◌, ◌++◌, length}
+use Rattle.office.specs.Counts.{total}
+use Rattle.office.specs.Imports.{additions}
+use Rattle.office.proofs.ImportLemmas.{ImportsSoFar}
+use Rattle.office.proofs.importing.import.Given as goal
+
+abbrev pub invariant-loop-row : goal.invariant-loop-row
+invariant-loop-row g l = record {
+  runs : g.K.Keeper.clean l.keeper →
+      ImportsSoFar l.book (additions l.moment l.yielded) (g.K.Keeper.content l.fn.keeper)
+      (g.K.Keeper.content l.keeper) l.counts;
+  all : l.yielded ++ l.row-iterator.rest.items ≡ l.fn.rows.items;
+  count : total l.counts ≡ length l.yielded;
+  cleanness : g.K.Keeper.clean l.keeper → g.K.Keeper.clean l.fn.keeper;
+  failures : g.K.Keeper.failed l.fn.keeper ≤ g.K.Keeper.failed l.keeper;
+}

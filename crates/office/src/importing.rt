@@ -1,0 +1,129 @@
+//! Vouchers that are added, each by a command of its own.
+
+ghost use Rattle.std.specs.Prelude.{◌≡◌, ◌≤◌, ◌+◌, Err, IfOk, OnErr, OnOk, length, min};
+ghost use Rattle.std.specs.Io.KnownBytes.{Appends};
+ghost use Rattle.byte_streams.specs.declared.StreamFault.{StreamFault};
+ghost use Rattle.keepers.specs.Faults.{HasCause, max_failures};
+ghost use Rattle.keepers.specs.Keeping.{Keeps};
+ghost use Rattle.keepers.specs.declared.fault.StoreFault.{StoreFault};
+ghost use Rattle.keepers.specs.declared.fault.StoreFault.TheVariants.{Store as StoreFailed};
+ghost use Rattle.office.specs.Counts.{counts_line, total};
+ghost use Rattle.office.specs.Imports.{Adds, BeginsImport, Imports, TellsImport, addition_at, additions};
+ghost use Rattle.office.specs.Written.{WritesBeginning};
+ghost use Rattle.office.specs.declared.fault.OfficeFault.TheVariants.{Store, Write};
+
+use crate::counts::{Counts, counted, counts_text, no_counts};
+use crate::fault::OfficeFault;
+use crate::writing::write_line;
+use byte_streams::StreamFault;
+use charging::step;
+use commands::{Command, VoucherAddition};
+use keepers::{Keeper, StoreFault};
+use redemptions::{Addition, add};
+use std::alloc::Global;
+use std::io::Write;
+use tariffs::TariffBook;
+use units::Moment;
+
+/// Adds vouchers in their order, each by a command at the later of this moment and that of the last
+/// accepted command, and counts what became of them (profile).
+///
+/// # Errors
+/// Store fault 1 where a growth was refused, 2 where the store failed. Then a beginning of the
+/// vouchers was added.
+pub fn import<K: Keeper>(
+    alloc: Global,
+    keeper: &mut K,
+    book: &TariffBook,
+    rows: Vec<VoucherAddition>,
+    moment: Moment,
+) -> Result<Counts, StoreFault>
+    ensures imported { K.clean keeper.new →
+        Imports book.now (additions moment rows.items) (K.content keeper.old)
+        (K.content keeper.new) result }
+    ensures all { IfOk result (λ counts. total counts ≡ length rows.items) }
+    ensures cleanness { K.clean keeper.new → K.clean keeper.old }
+    ensures cause { HasCause (K.failed keeper.old) (K.failed keeper.new) result }
+{
+    let _size = rows.len();
+    let mut counts = no_counts();
+    for row in rows {
+        let addition = add_voucher(alloc, keeper, book, row, moment)?;
+        counts = counted(counts, addition);
+    }
+    Ok(counts)
+}
+
+/// Adds a voucher by a command, and tells what it is over what stood under its code.
+fn add_voucher<K: Keeper>(
+    alloc: Global,
+    keeper: &mut K,
+    book: &TariffBook,
+    row: VoucherAddition,
+    moment: Moment,
+) -> Result<Addition, StoreFault>
+    ensures added { K.clean keeper.new →
+        Adds book.now (addition_at moment row) (K.content keeper.old) (K.content keeper.new)
+        result }
+    ensures kept { Keeps K.content K.failed K.clean keeper.old keeper.new result }
+{
+    let found = keeper.find_voucher(&row.code)?;
+    let addition = add(&found, row.terms);
+    step(alloc, keeper, book, Command::AddVoucher(row), moment)?;
+    Ok(addition)
+}
+
+/// Adds vouchers as `import` does, and writes what became of them as a line:
+/// `new 3 present 0 conflicting 0` (profile).
+///
+/// # Errors
+/// `Store` where the keeper failed: then a beginning of the vouchers was added, and nothing is
+/// written. `Write` where memory ran out for the line or the writer failed: then all were added, and
+/// a beginning of the line is written.
+#[tactic(auto, using(crate::proofs::ImportLemmas::told_from, crate::proofs::ImportLemmas::untold_from, crate::proofs::ImportLemmas::begun_from))]
+pub fn serve_import<K: Keeper, W: Write>(
+    alloc: Global,
+    keeper: &mut K,
+    book: &TariffBook,
+    rows: Vec<VoucherAddition>,
+    moment: Moment,
+    writer: &mut W,
+) -> Result<(), OfficeFault>
+    ensures done { K.clean keeper.new → OnOk result
+        (TellsImport book.now (additions moment rows.items) (K.content keeper.old)
+        (K.content keeper.new)
+        (λ counts. Appends (W.contents writer.old) (W.contents writer.new) (counts_line counts))) }
+    ensures untold { (fault : StreamFault) → result ≡ Err (Write fault) → K.clean keeper.new →
+        TellsImport book.now (additions moment rows.items) (K.content keeper.old)
+        (K.content keeper.new) (λ counts.
+        WritesBeginning (W.contents writer.old) (W.contents writer.new) (counts_line counts)) }
+    ensures unserved { (fault : StoreFault) → result ≡ Err (Store fault) → K.clean keeper.new →
+        BeginsImport book.now (additions moment rows.items) (K.content keeper.old)
+        (K.content keeper.new) }
+    ensures unwritten { (fault : StoreFault) → result ≡ Err (Store fault) →
+        writer.new ≡ writer.old }
+    ensures cleanness { K.clean keeper.new → K.clean keeper.old }
+    ensures failures { K.failed keeper.old ≤ K.failed keeper.new }
+    ensures cause { result ≡ Err (Store StoreFailed) →
+        min (K.failed keeper.old + 1) max_failures ≤ K.failed keeper.new }
+{
+    let counts = match import(alloc, keeper, book, rows, moment) {
+        Ok(counts) => counts,
+        Err(fault) => return Err(OfficeFault::Store(fault)),
+    };
+    match write_counts(alloc, writer, counts) {
+        Ok(()) => Ok(()),
+        Err(fault) => Err(OfficeFault::Write(fault)),
+    }
+}
+
+/// Writes counts as a line.
+fn write_counts<W: Write>(alloc: Global, writer: &mut W, counts: Counts) -> Result<(), StreamFault>
+    ensures written { OnOk result
+        (Appends (W.contents writer.old) (W.contents writer.new) (counts_line counts)) }
+    ensures err { OnErr result
+        (WritesBeginning (W.contents writer.old) (W.contents writer.new) (counts_line counts)) }
+{
+    let text = counts_text(alloc, counts)?;
+    write_line(writer, text)
+}

@@ -1,0 +1,23 @@
+-- A voucher that is put under its code reads as the voucher.
+use Rattle.std.proofs.Common.{◌≡◌, ℕ, Bool, true, false, List, Option, Some, None, refl}
+use Rattle.std.specs.Prelude.{if◌then◌else◌, option_map}
+use Rattle.identifiers.specs.Texts.{same_name}
+use Rattle.keepers.specs.declared.loaded.Redeemed.{Redeemed}
+use Rattle.keepers.specs.Change.{redeemed_over}
+use Rattle.sql_rows.specs.Content.{Content}
+use Rattle.sql_keeper.specs.Content.{tables_of, voucher_in}
+use Rattle.sql_keeper.specs.Writes.{row_of, with_redeemed}
+
+-- what stands under a code once a row more does
+pub told_over : {A B : Type 0} (f : A → B) (b : Bool) (x : A) (o : Option A)
+    → option_map f (if b then Some x else o) ≡ (if b then Some (f x) else option_map f o)
+told_over f true x o = refl
+told_over f false x o = refl
+
+pub redeemed_read : (names : List (List ℕ)) (redeemed : Option Redeemed) (c : Content)
+    → tables_of names (with_redeemed redeemed c)
+    ≡ record (tables_of names c) { vouchers = λ code. redeemed_over redeemed code (option_map voucher_in (c.vouchers code)) }
+redeemed_read names None c = refl
+redeemed_read names (Some r) c = λ i. record (tables_of names c) {
+  vouchers = λ code. told_over voucher_in (same_name r.code code) (row_of r.voucher) (c.vouchers code) i;
+}

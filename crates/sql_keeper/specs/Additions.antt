@@ -1,0 +1,27 @@
+-- A voucher that is added, committed whole or not at all.
+-- Source: profile.
+use Rattle.std.specs.Prelude.{◌≡◌, ◌≤◌, ℕ, List, Some}
+use Rattle.sqlite_trees.specs.Tree.{Trees}
+use Rattle.sqlite_trees.specs.Objects.{catalog_tree}
+use Rattle.redemptions.specs.declared.terms.VoucherTerms.{VoucherTerms}
+use Rattle.redemptions.specs.Standing.{unspent}
+use Rattle.keepers.specs.Change.{with_voucher as with_added}
+use Rattle.sql_tables.specs.Statements.{AreStored}
+use Rattle.sql_rows.specs.Content.{Content, content_of, with_meta, with_voucher}
+use Rattle.sql_keeper.specs.Content.{tables_of}
+use Rattle.sql_keeper.specs.Writes.{meta_at, row_of}
+
+-- what is written: the moment, and a voucher that no account has redeemed
+abbrev pub with_addition : List ℕ → List ℕ → VoucherTerms → ℕ → Content → Content
+with_addition text code terms t c = with_voucher code (row_of (unspent terms)) (with_meta (meta_at text t) c)
+
+-- the tables hold the voucher; they would be found again: the catalog is the same, and so are the
+-- version and the text of the book, no rowid stands twice, and the moment is in the range of moments
+pub record BecomesAdded (text code : List ℕ) (terms : VoucherTerms) (t : ℕ) (old new : Trees) : Type 0
+  where
+    pub tables : (names : List (List ℕ))
+        → tables_of names (content_of new) ≡ with_added code terms t (tables_of names (content_of old))
+    pub meta : (content_of new).meta ≡ Some (meta_at text t)
+    pub last : t ≤ 4_102_488_000
+    pub catalog : new catalog_tree ≡ old catalog_tree
+    pub stored : AreStored new

@@ -1,0 +1,143 @@
+//! A voucher that is added, in one transaction: all of it or nothing, also over a stop.
+
+ghost use Rattle.std.specs.Prelude.{◌≡◌, ◌≤◌, ◌⊎◌, false, IsTrue, OnOk};
+ghost use Rattle.keepers.specs.Change.{with_voucher as with_added};
+ghost use Rattle.keepers.specs.Faults.{HasCause, max_failures};
+ghost use Rattle.keepers.specs.Keeping.{Keeps};
+ghost use Rattle.sql_rows.specs.Makes.{Makes};
+ghost use Rattle.sql_tables.specs.Statements.{Attempts, HasBook, HasIdleBook};
+ghost use Rattle.sql_keeper.specs.Additions.{BecomesAdded, with_addition};
+ghost use Rattle.sql_keeper.specs.Commits.{CommitsWhole, Transacts};
+ghost use Rattle.sql_keeper.specs.Inside.{clean_in, failed_in, tables_in};
+ghost use Rattle.sql_keeper.specs.Stops.{IsWhole, trees_in};
+ghost use Rattle.sqlite.specs.Held.{state};
+ghost use Rattle.sqlite.specs.State.{HasCleanDisk};
+ghost use Rattle.sqlite_trees.specs.Tree.{Trees};
+
+use crate::faults::counted;
+use crate::keeper::SqlKeeper;
+use identifiers::VoucherCode;
+use keepers::StoreFault;
+use redemptions::VoucherTerms;
+use sql_rows::{put_meta, put_voucher_unspent};
+use sql_tables::ReadFault;
+use sqlite::{Alter, Connection, Error, Transaction};
+use units::Moment;
+
+/// Puts the moment, and a voucher that no account has redeemed.
+fn put_addition<S: Alter>(
+    tx: &mut Transaction<'_, S>,
+    text: &str,
+    code: &VoucherCode,
+    terms: VoucherTerms,
+    moment: Moment,
+) -> Result<usize, Error>
+    requires book { HasBook (state S.Store tx.old.conn.now) }
+    ensures same_reference { tx.new.conn.ghost_name ≡ tx.old.conn.ghost_name }
+    ensures makes { Attempts (Makes (with_addition text.now code.now terms moment))
+        (state S.Store tx.old.conn.now) (state S.Store tx.new.conn.now) result }
+{
+    put_meta(tx, 1, text, moment)?;
+    let code = code.as_str();
+    put_voucher_unspent(tx, code, terms.amount(), terms.days(), terms.scope())
+}
+
+/// Writes a voucher in one transaction.
+fn write_addition<S: Alter>(
+    conn: &mut Connection<S>,
+    text: &str,
+    code: &VoucherCode,
+    terms: VoucherTerms,
+    moment: Moment,
+) -> Result<(), Error>
+    requires plain { conn.old.in_transaction ≡ false }
+    requires idle { HasIdleBook (state S.Store conn.old) }
+    ensures plain { conn.new.in_transaction ≡ false }
+    ensures transacts { Transacts (with_addition text.now code.now terms moment)
+        (state S.Store conn.old) (state S.Store conn.new) result }
+{
+    let mut tx = conn.transaction();
+    put_addition(&mut tx, text, code, terms, moment)?;
+    tx.commit()
+}
+
+fn make_addition<S: Alter>(
+    conn: &mut Connection<S>,
+    text: &str,
+    code: &VoucherCode,
+    terms: VoucherTerms,
+    moment: Moment,
+) -> Result<(), ReadFault>
+    requires plain { conn.old.in_transaction ≡ false }
+    requires idle { HasIdleBook (state S.Store conn.old) }
+    ensures plain { conn.new.in_transaction ≡ false }
+    ensures commits { CommitsWhole (BecomesAdded text.now code.now terms moment)
+        (state S.Store conn.old) (state S.Store conn.new) result }
+{
+    let _moment = moment.seconds();
+    write_addition(conn, text, code, terms, moment)?;
+    Ok(())
+}
+
+/// Adds a voucher, in one transaction: the tables become those with it, or at a fault they are as
+/// before. Whatever a stop leaves is one of the two.
+///
+/// # Errors
+/// Out of memory. The store failed: this is counted.
+fn commit_addition<S: Alter>(
+    conn: &mut Connection<S>,
+    failures: &mut u64,
+    text: &str,
+    code: &VoucherCode,
+    terms: VoucherTerms,
+    moment: Moment,
+) -> Result<(), StoreFault>
+    requires plain { conn.old.in_transaction ≡ false }
+    requires idle { HasIdleBook (state S.Store conn.old) }
+    requires bounded { failures.old ≤ max_failures }
+    ensures plain { conn.new.in_transaction ≡ false }
+    ensures bounded { failures.new ≤ max_failures }
+    ensures commits { CommitsWhole (BecomesAdded text.now code.now terms moment)
+        (state S.Store conn.old) (state S.Store conn.new) result }
+    ensures stop { HasCleanDisk (state S.Store conn.new) → IsTrue (state S.Store conn.old).is_open →
+        (db : Trees) → (state S.Store conn.new).may_leave db →
+        (db ≡ (state S.Store conn.old).now.trees) ⊎
+        BecomesAdded text.now code.now terms moment (state S.Store conn.old).now.trees db }
+    ensures settled { HasCleanDisk (state S.Store conn.new) → IsTrue (state S.Store conn.new).is_open →
+        (db : Trees) → (state S.Store conn.new).may_leave db → db ≡ (state S.Store conn.new).now.trees }
+    ensures cause { HasCause failures.old failures.new result }
+{
+    let made = make_addition(conn, text, code, terms, moment);
+    counted(failures, made)
+}
+
+impl<S: Alter> SqlKeeper<S> {
+    /// Adds a voucher of these terms under its code (profile), in one transaction with the moment of
+    /// the command: it stands there unspent, in the place of what stood there. At a fault nothing
+    /// has changed, and whatever a stop leaves is the tables before or with the voucher.
+    ///
+    /// # Errors
+    /// Want of memory; a fault of the store, which is counted.
+    pub fn add_voucher(
+        &mut self,
+        code: VoucherCode,
+        terms: VoucherTerms,
+        moment: Moment,
+    ) -> Result<(), StoreFault>
+        ensures done { clean_in S.Store self.new → OnOk result (tables_in S.Store self.new ≡
+            with_added code terms moment (tables_in S.Store self.old)) }
+        ensures kept { Keeps (tables_in S.Store) failed_in (clean_in S.Store) self.old self.new
+            result }
+        ensures whole { IsWhole S.Store self.old self.new
+            (BecomesAdded self.old.text code terms moment (trees_in S.Store self.old)) }
+    {
+        commit_addition(
+            &mut self.connection,
+            &mut self.failures,
+            self.text.as_str(),
+            &code,
+            terms,
+            moment,
+        )
+    }
+}

@@ -1,0 +1,91 @@
+//! What stands under the code of a voucher.
+
+ghost use Rattle.std.specs.Prelude.{◌≡◌, IfOk, option_map};
+ghost use Rattle.keepers.specs.Keeping.{Reads as Finds};
+ghost use Rattle.sql_keeper.specs.Inside.{tables_in, failed_in, clean_in};
+ghost use Rattle.sql_keeper.specs.Content.{voucher_in};
+ghost use Rattle.sql_rows.specs.Content.{content_of};
+ghost use Rattle.sql_rows.specs.Texts.{voucher_of};
+ghost use Rattle.sql_tables.specs.Statements.{HasIdleBook, Reads};
+ghost use Rattle.sqlite.specs.Held.{state};
+
+use crate::faults::counted;
+use crate::keeper::SqlKeeper;
+use identifiers::VoucherCode;
+use keepers::StoreFault;
+use redemptions::{Voucher, VoucherTerms};
+use sql_rows::{VoucherColumns, read_voucher};
+use sql_tables::ReadFault;
+use sqlite::{Alter, Connection};
+use std::alloc::Global;
+use units::Money;
+
+/// The terms of a row. They are out of the rules where no voucher can have them.
+fn terms_of(amount: u64, days: Option<u32>, scope: Option<u32>) -> Result<VoucherTerms, ReadFault>
+    ensures { IfOk result (λ t. t ≡ record { amount = amount; days = days; scope = scope }) }
+{
+    let Some(amount) = Money::new(amount) else {
+        return Err(ReadFault::Rules);
+    };
+    match VoucherTerms::new(amount, days, scope) {
+        Some(terms) => Ok(terms),
+        None => Err(ReadFault::Rules),
+    }
+}
+
+/// The voucher of a row. It is out of the rules where its terms are.
+fn voucher_from(row: VoucherColumns) -> Result<Voucher, ReadFault>
+    ensures { IfOk result (λ v. v ≡ voucher_in (voucher_of row)) }
+{
+    let VoucherColumns {
+        amount,
+        days,
+        scope,
+        account,
+    } = row;
+    let terms = terms_of(amount, days, scope)?;
+    Ok(Voucher {
+        terms,
+        redeemer: account,
+    })
+}
+
+/// The voucher where there is a row.
+fn voucher_where(row: Option<VoucherColumns>) -> Result<Option<Voucher>, ReadFault>
+    ensures { IfOk result (λ o. o ≡ option_map voucher_in (option_map voucher_of row)) }
+{
+    match row {
+        None => Ok(None),
+        Some(row) => Ok(Some(voucher_from(row)?)),
+    }
+}
+
+fn voucher_under<S: Alter>(
+    conn: &mut Connection<S>,
+    alloc: Global,
+    code: &VoucherCode,
+) -> Result<Option<Voucher>, ReadFault>
+    requires idle { HasIdleBook (state S.Store conn.old) }
+    ensures { Reads (λ trees found. found ≡
+        option_map voucher_in ((content_of trees).vouchers code.now))
+        (state S.Store conn.old) (state S.Store conn.new) result }
+{
+    let row = read_voucher(conn, alloc, code.as_str())?;
+    voucher_where(row)
+}
+
+impl<S: Alter> SqlKeeper<S> {
+    /// What stands under the code of a voucher (profile): the voucher with its terms, and who
+    /// redeemed it where anyone did; None where none was added.
+    ///
+    /// # Errors
+    /// A fault of the store, which is counted, as is a row whose terms no voucher can have; want of
+    /// memory.
+    pub fn find_voucher(&mut self, code: &VoucherCode) -> Result<Option<Voucher>, StoreFault>
+        ensures { Finds (tables_in S.Store) failed_in (clean_in S.Store) self.old self.new
+            (λ found. found ≡ (tables_in S.Store self.old).vouchers code.now) result }
+    {
+        let read = voucher_under(&mut self.connection, self.alloc, code);
+        counted(&mut self.failures, read)
+    }
+}

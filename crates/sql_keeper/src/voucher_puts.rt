@@ -1,0 +1,55 @@
+//! Vouchers, put under their codes.
+
+ghost use Rattle.std.specs.Prelude.{◌≡◌};
+ghost use Rattle.sql_tables.specs.Statements.{Attempts, HasBook};
+ghost use Rattle.sql_keeper.specs.Commits.{IsInside};
+ghost use Rattle.sql_keeper.specs.Writes.{row_of, with_redeemed};
+ghost use Rattle.sql_rows.specs.Content.{with_voucher};
+ghost use Rattle.sql_rows.specs.Makes.{Makes, MakesIfOpen};
+ghost use Rattle.sqlite.specs.Held.{state};
+
+use identifiers::VoucherCode;
+use keepers::Redeemed;
+use redemptions::Voucher;
+use sql_rows::{put_voucher_spent, put_voucher_unspent};
+use sqlite::{Alter, Error, Transaction};
+
+/// Puts a voucher under its code, as it stands.
+pub(crate) fn put_voucher<S: Alter>(
+    tx: &mut Transaction<'_, S>,
+    code: &VoucherCode,
+    voucher: &Voucher,
+) -> Result<usize, Error>
+    requires book { HasBook (state S.Store tx.old.conn.now) }
+    ensures same_reference { tx.new.conn.ghost_name ≡ tx.old.conn.ghost_name }
+    ensures makes { Attempts (Makes (with_voucher code.now (row_of voucher.now)))
+        (state S.Store tx.old.conn.now) (state S.Store tx.new.conn.now) result }
+{
+    let code = code.as_str();
+    let terms = voucher.terms;
+    let (amount, days, scope) = (terms.amount(), terms.days(), terms.scope());
+    match &voucher.redeemer {
+        None => put_voucher_unspent(tx, code, amount, days, scope),
+        Some(account) => put_voucher_spent(tx, code, amount, days, scope, account),
+    }
+}
+
+/// Puts the voucher that is redeemed, if one is.
+pub(crate) fn put_redeemed<S: Alter>(
+    tx: &mut Transaction<'_, S>,
+    redeemed: &Option<Redeemed>,
+) -> Result<(), Error>
+    requires open { IsInside (state S.Store tx.old.conn.now) }
+    requires book { HasBook (state S.Store tx.old.conn.now) }
+    ensures same_reference { tx.new.conn.ghost_name ≡ tx.old.conn.ghost_name }
+    ensures makes { Attempts (MakesIfOpen (with_redeemed redeemed.now))
+        (state S.Store tx.old.conn.now) (state S.Store tx.new.conn.now) result }
+{
+    match redeemed {
+        None => Ok(()),
+        Some(redeemed) => {
+            put_voucher(tx, &redeemed.code, &redeemed.voucher)?;
+            Ok(())
+        }
+    }
+}
