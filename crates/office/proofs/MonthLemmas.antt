@@ -19,11 +19,12 @@ use Rattle.statements.specs.Texts.{export_text, statement_text}
 use Rattle.statements.specs.Texts as month
 use Rattle.statements.specs.declared.fault.StatementFault.{StatementFault}
 use Rattle.office.specs.Months.{IsMonthTold, Tells, ledger_text, month_status, month_text, rows_text, unknown_line}
+use Rattle.office.specs.Printed.{IsEnded}
 use Rattle.office.specs.Written.{WritesBeginning}
 use Rattle.office.specs.declared.fault.OfficeFault.{OfficeFault}
 use Rattle.office.specs.declared.stating.MonthQuery.{MonthQuery}
 use Rattle.office.specs.declared.status.Status.{Status}
-use Rattle.office.specs.declared.status.Status.TheVariants.{Done, Failed}
+use Rattle.office.specs.declared.status.Status.TheVariants.{Done, Failed, Unread}
 
 -- ---- charges and buckets
 
@@ -126,3 +127,11 @@ module _ (b : Book) (q : MonthQuery) (t : ℕ) (old : Tables) (before after : Op
 pub nothing_told : (b : Book) (q : MonthQuery) (t : ℕ) (old : Tables) (before : Option (List ℕ)) (f : OfficeFault) →
     ((text : List ℕ) → WritesBeginning before before text) → IsMonthTold b q t old before before (Err f)
 nothing_told b q t old before f none = λ list time tables. record { whole = tt; beginning = none _ }
+
+-- an account whose month is told isn't refused
+pub ended_so : (r : Result Status OfficeFault) (Refused : Type 0) → IfOk r (IsEnded ⊥) →
+    IfOk r (IsEnded Refused)
+ended_so (Ok Done) Refused ended = tt
+ended_so (Ok Failed) Refused ended = absurd ended
+ended_so (Ok Unread) Refused ended = absurd ended
+ended_so (Err f) Refused ended = tt

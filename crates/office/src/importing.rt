@@ -9,6 +9,7 @@ ghost use Rattle.keepers.specs.declared.fault.StoreFault.{StoreFault};
 ghost use Rattle.keepers.specs.declared.fault.StoreFault.TheVariants.{Store as StoreFailed};
 ghost use Rattle.office.specs.Counts.{counts_line, total};
 ghost use Rattle.office.specs.Imports.{Adds, BeginsImport, Imports, TellsImport, addition_at, additions};
+ghost use Rattle.office.specs.Printed.{PrintsCounts};
 ghost use Rattle.office.specs.Written.{WritesBeginning};
 ghost use Rattle.office.specs.declared.fault.OfficeFault.TheVariants.{Store, Write};
 
@@ -93,6 +94,7 @@ pub fn serve_import<K: Keeper, W: Write>(
         (TellsImport book.now (additions moment rows.items) (K.content keeper.old)
         (K.content keeper.new)
         (λ counts. Appends (W.contents writer.old) (W.contents writer.new) (counts_line counts))) }
+    ensures printed { OnOk result (PrintsCounts (W.contents writer.old) (W.contents writer.new)) }
     ensures untold { (fault : StreamFault) → result ≡ Err (Write fault) → K.clean keeper.new →
         TellsImport book.now (additions moment rows.items) (K.content keeper.old)
         (K.content keeper.new) (λ counts.

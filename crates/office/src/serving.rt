@@ -5,6 +5,7 @@ ghost use Rattle.keepers.specs.Faults.{max_failures};
 ghost use Rattle.keepers.specs.declared.fault.StoreFault.{StoreFault};
 ghost use Rattle.keepers.specs.declared.fault.StoreFault.TheVariants.{Store as StoreFailed};
 ghost use Rattle.office.specs.Carried.{IsCarriedOut};
+ghost use Rattle.office.specs.Printed.{PrintsAnswer};
 ghost use Rattle.office.specs.Told.{answer_line, status_of};
 ghost use Rattle.office.specs.Written.{WritesBeginning};
 ghost use Rattle.office.specs.declared.fault.OfficeFault.TheVariants.{Store, Write};
@@ -42,6 +43,8 @@ pub fn serve_office<K: Keeper, W: Write>(
         IsCarriedOut book.now (command_of command) moment (K.content keeper.old) (K.content keeper.new)
         (λ answer. (status ≡ status_of answer)
         × Appends (W.contents writer.old) (W.contents writer.new) (answer_line answer))) }
+    ensures printed { IfOk result (λ status.
+        PrintsAnswer status (W.contents writer.old) (W.contents writer.new)) }
     ensures untold { (fault : StreamFault) → result ≡ Err (Write fault) → K.clean keeper.new →
         IsCarriedOut book.now (command_of command) moment (K.content keeper.old) (K.content keeper.new)
         (λ answer. WritesBeginning (W.contents writer.old) (W.contents writer.new) (answer_line answer)) }

@@ -1,12 +1,13 @@
 //! An account's month, as a statement or as CSV.
 
-ghost use Rattle.std.specs.Prelude.{◌≡◌, OnOk, OnErr, IsErrOf};
+ghost use Rattle.std.specs.Prelude.{◌≡◌, IfOk, OnOk, OnErr, IsErrOf};
 ghost use Rattle.std.specs.Io.KnownBytes.{Appends};
 ghost use Rattle.charge_sources.specs.Rows.{AreCharges};
 ghost use Rattle.keepers.specs.declared.fault.StoreFault.TheVariants.{Store as StoreFailed};
 ghost use Rattle.reserving.specs.ChargeColumns.{ChargeColumns};
 ghost use Rattle.statements.specs.Charges.{Asks, Writes};
 ghost use Rattle.office.specs.Months.{IsMonthTold, OnlyReads, Tells, month_fault, rows_text, unknown_line};
+ghost use Rattle.office.specs.Printed.{IsEnded};
 ghost use Rattle.office.specs.Written.{WritesBeginning};
 ghost use Rattle.office.specs.declared.fault.OfficeFault.TheVariants.{Store};
 ghost use Rattle.office.specs.declared.status.Status.TheVariants.{Done, Failed};
@@ -56,6 +57,8 @@ pub fn serve_statement<K: ChargeSource, W: Write>(
     ensures told { K.clean keeper.new →
         IsMonthTold book.now query.now moment (K.content keeper.old)
         (W.contents writer.old) (W.contents writer.new) result }
+    ensures ended { IfOk result (IsEnded
+        (Appends (W.contents writer.old) (W.contents writer.new) unknown_line)) }
     ensures reads { OnlyReads K.content K.failed K.clean keeper.old keeper.new result }
 {
     let state = match account_state(keeper, book, &query.account, moment) {
@@ -81,6 +84,7 @@ fn tell_month<K: ChargeSource, W: Write>(
         AreCharges ((K.content keeper.old).charges query.now.account) rows →
         Tells Done (W.contents writer.old) (W.contents writer.new)
         (rows_text book.now query.now state.now.moment rows state.now.buckets.items) result }
+    ensures ended { IfOk result (IsEnded ⊥) }
     ensures reads { OnlyReads K.content K.failed K.clean keeper.old keeper.new result }
 {
     match write_month(alloc, keeper, book, query, state, writer) {
@@ -139,6 +143,8 @@ fn month_fault(fault: StatementFault) -> OfficeFault
 /// Tells that the account isn't there.
 fn tell_unknown<W: Write>(alloc: Global, writer: &mut W) -> Result<Status, OfficeFault>
     ensures told { Tells Failed (W.contents writer.old) (W.contents writer.new) unknown_line result }
+    ensures ended { IfOk result (IsEnded
+        (Appends (W.contents writer.old) (W.contents writer.new) unknown_line)) }
     ensures unstored { IsErrOf result (Store StoreFailed) → ⊥ }
 {
     match write_unknown(alloc, writer) {

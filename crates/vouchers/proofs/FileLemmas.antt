@@ -210,6 +210,7 @@ stops rem (Some text) a rows number had =
     let (more, records, last) = reached_first text (had.header ∷ had.others) (reader_state a) had.left had.reached in
     let total = whole text had.header had.others more had.first records ∙ had.so_far more in
     record {
+      numbered = omega (arith, had.count);
       within = omega (arith, had.count, ap length records, length-append (had.header ∷ had.others) more);
       no_earlier = subst (NotBefore number) (sym total) (not_before_bind number rows (vouchers_from number more) (not_before number more));
     }
@@ -226,4 +227,4 @@ from_first (fields ∷ more) = first_of (is_header fields) (vouchers_from 2 more
 -- it stopped at the first
 pub stops_first : (start : Option (List ℕ)) → IfSome start (MayStopAt 1)
 stops_first None = tt
-stops_first (Some text) = record { within = omega arith; no_earlier = from_first (records_in text) }
+stops_first (Some text) = record { numbered = omega arith; within = omega arith; no_earlier = from_first (records_in text) }

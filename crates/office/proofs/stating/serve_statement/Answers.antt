@@ -1,5 +1,5 @@
 use Rattle.office.proofs.Beginnings.{nothing_written}
-use Rattle.office.proofs.MonthLemmas.{month_told, nothing_told, unknown_told}
+use Rattle.office.proofs.MonthLemmas.{ended_so, month_told, nothing_told, unknown_told}
 use Rattle.office.proofs.stating.serve_statement.Goals as goal
 
 pub returns-in-Err-clause-told : goal.returns-in-Err-clause-told
@@ -30,3 +30,6 @@ returns-in-None-clause-reads g c = record {
   kept = c.in-Ok.ensures.cause.kept;
   cause = λ failed. absurd (c.tell_unknown.ensures.unstored failed);
 }
+
+pub returns-in-Some-clause-ended : goal.returns-in-Some-clause-ended
+returns-in-Some-clause-ended g c = ended_so c.tell_month.result _ c.tell_month.ensures.ended
