@@ -55,7 +55,7 @@ voucher 000000000001: 49151
 account: 1767614700 true 2
 buckets: (5000000; 5000000, 0, 0, 0) (1000000; 900000, 0, 100000, 0) (1; 1, 0, 0, 0)
 counters: 10 0 1;
-sessions: s1 1 1767607500 Ended; r1 0 1767607620 NeverOpened;
+sessions: r1 0 1767607620 NeverOpened; s1 1 1767607500 Ended;
 groups: s1 10 used 60 not reserved;
 charges: 1 at 1767607500 of s1 10 1 100000 100000 0;"##;
 
