@@ -1,10 +1,10 @@
 //! The ten commands over files that stop: what is found when they are opened again is what a
 //! beginning of the commands leaves, with each that was answered.
 
-use crate::tests::ten::{ALL, commands, told, wanted_answers};
 use crate::tests::files::{Bytes, Calls, Left, NO_STOP, Stopping, connected, files_of, into_files};
 use crate::tests::making::made;
 use crate::tests::seen::seen_again;
+use crate::tests::ten::{ALL, commands, told, wanted_answers};
 use charging::{Answer, DatedCommand, run};
 use keepers::MemoryKeeper;
 use sql_keeper::SqlKeeper;
@@ -90,17 +90,7 @@ fn try_each(rt: &impl Abort, alloc: Global, is_log: bool) -> Result<(), Fail> {
     let base = made(alloc)?;
     let beginnings = beginnings(alloc)?;
     for calls in 0..1_000 {
-        let calls = if is_log {
-            Calls {
-                log: calls,
-                db: u64::MAX,
-            }
-        } else {
-            Calls {
-                log: u64::MAX,
-                db: calls,
-            }
-        };
+        let calls = Calls::of_one(is_log, calls);
         let (answered, is_well) = stopped(alloc, &base, &beginnings, calls)?;
         assert!(rt; is_well);
         if answered == ALL {
