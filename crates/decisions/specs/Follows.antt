@@ -12,6 +12,7 @@ use Rattle.tariffs.specs.Books.{Book}
 use Rattle.reserving.specs.declared.charge.ChargeRow.{ChargeRow}
 use Rattle.reserving.specs.Ledger.{Ledger}
 use Rattle.reserving.specs.Rows.{AccountRows}
+use Rattle.reserving.specs.Sessions.{is_live_in}
 use Rattle.reserving.specs.Left.{LeftRows, NotLeft, IsWith}
 use Rattle.reserving.specs.Settlement.{settled_by, passes_limit}
 use Rattle.reserving.specs.Charges.{charge_rows}
@@ -20,6 +21,10 @@ use Rattle.decisions.specs.Granting.{Answered, grant_answers, after_grants}
 use Rattle.decisions.specs.Settling.{settled_services, any_passes}
 use Rattle.decisions.specs.Decided.{Decision}
 use Rattle.decisions.specs.Decisions.{session_refusal}
+
+-- the account's session is live at a moment
+abbrev pub IsLive : AccountRows → ℕ → List ℕ → Type 0
+IsLive a t s = is_live_in a.book.validity t a.sessions s ≡ true
 
 -- ---- what is asked of a ledger and of the rows left, beside that the account is with them
 

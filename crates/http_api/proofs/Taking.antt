@@ -13,7 +13,7 @@ use Rattle.http_api.specs.declared.hearing.Heard.{Heard}
 use Rattle.http_api.specs.Clocks.{GivesInTurn}
 use Rattle.http_api.specs.Hearing.{Hears, HearsNext}
 use Rattle.http_api.specs.Replies.{reply_text, ForEachList, IsReplied, Replies}
-use Rattle.http_api.specs.Connections.{Connection, new_connection, left_after, after_reply, IsAnswered, Takes, IsTurn, Turns, IsTaken, IsServed, IsBegun}
+use Rattle.http_api.specs.Connections.{Connection, new_connection, left_after, after_reply, IsAnswered, Takes, IsTurn, Turns, IsTaken, IsOver, IsServed, IsBegun}
 
 plus_one : (n : ℕ) → suc n ≡ n + 1
 plus_one n = omega arith
@@ -223,6 +223,21 @@ module _ {C : Type 0} (gives : C → Option ℕ → C → Type 0) (b : Book) whe
         taken = λ list time are. (one.at list time are).taken;
       }
 
+  -- what was taken so far is all, where the connection is over
+  served_over : (stream : List ℕ) (count left : ℕ) (r1 : Option (List ℕ)) (c0 c1 : C) (w0 w1 : Option (List ℕ)) (old new : Tables) →
+      (so : IsSoFar stream count left r1 c0 c1 w0 w1 old new) →
+      ((list : List Accepted) → (at : IsAt b stream count left so.rest so.moments so.text new list) → IsOver at.taken.last) →
+      IsServed gives b stream count c0 c1 w0 w1 old new
+  served_over stream count left r1 c0 c1 w0 w1 old new so over = record {
+    moments = so.moments;
+    given = so.given;
+    text = so.text;
+    written = so.written;
+    whole = λ list time are.
+        let at : IsAt b stream count left so.rest so.moments so.text new list = so.at list time are in
+        record { taken = at.taken; over = over list at };
+  }
+
   -- the stream ends before the next request does
   pub so_far-ended : (count left : ℕ) (r0 r1 r2 : Option (List ℕ)) (c0 c1 : C) (w0 w1 : Option (List ℕ)) (old new : Tables) (o : Option Heard) →
       o ≡ None → IfSome r0 (λ stream. IsSoFar stream count left r1 c0 c1 w0 w1 old new) → IfSome r1 (λ s. Hears s o r2) → IfSome r0 (λ stream. IsServed gives b stream count c0 c1 w0 w1 old new)
@@ -230,30 +245,16 @@ module _ {C : Type 0} (gives : C → Option ℕ → C → Type 0) (b : Book) whe
   so_far-ended count left (Some stream) r1 r2 c0 c1 w0 w1 old new o is so hears =
       let here : Hears so.rest None r2 = subst (λ (r : Option (List ℕ)). IfSome r (λ s. Hears s None r2)) so.rest_is (subst (λ (x : Option Heard). IfSome r1 (λ s. Hears s x r2)) is hears) in
       let nothing : IsNext so.rest ended = subst (IsNext so.rest) (ended_case here.next r2 here.hears) here.is_next in
-      record {
-        moments = so.moments;
-        given = so.given;
-        text = so.text;
-        written = so.written;
-        whole = λ list time are.
-            let at : IsAt b stream count left so.rest so.moments so.text new list = so.at list time are in
-            record { taken = at.taken; over = inr (subst (λ r. IsNext r ended) (sym at.rest_is) nothing) };
-      }
+      served_over stream count left r1 c0 c1 w0 w1 old new so
+      (λ list at. inr (subst (λ r. IsNext r ended) (sym at.rest_is) nothing))
 
   -- no more requests are taken
   pub so_far-full : (count total left : ℕ) (r0 r1 : Option (List ℕ)) (c0 c1 : C) (w0 w1 : Option (List ℕ)) (old new : Tables) →
       total ≡ count → left ≡ 0 → IfSome r0 (λ stream. IsSoFar stream count left r1 c0 c1 w0 w1 old new) → IfSome r0 (λ stream. IsServed gives b stream total c0 c1 w0 w1 old new)
   so_far-full count total left None r1 c0 c1 w0 w1 old new count_is none so = tt
   so_far-full count total left (Some stream) r1 c0 c1 w0 w1 old new count_is none so =
-      let whole : IsServed gives b stream count c0 c1 w0 w1 old new = record {
-        moments = so.moments;
-        given = so.given;
-        text = so.text;
-        written = so.written;
-        whole = λ list time are.
-            let at : IsAt b stream count left so.rest so.moments so.text new list = so.at list time are in
-            record { taken = at.taken; over = inl (at.left_is ∙ none) };
-      } in
+      let whole : IsServed gives b stream count c0 c1 w0 w1 old new =
+      served_over stream count left r1 c0 c1 w0 w1 old new so (λ list at. inl (at.left_is ∙ none)) in
       subst (λ n. IsServed gives b stream n c0 c1 w0 w1 old new) (sym count_is) whole
 
   -- the next request isn't read

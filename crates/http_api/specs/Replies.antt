@@ -108,6 +108,10 @@ pub record IsContinued (b : Book) (content : Tables) (list : List Accepted) : Ty
   pub tables : AreTables b (after_commands b list commands) content
   pub time : IsInTime (after_commands b list commands)
 
+-- whatever list the tables before are of, commands came to it, and the tables after are those of the longer list
+abbrev pub Continues : Book → Tables → Tables → Type 0
+Continues b old new = ForEachList b old (IsContinued b new)
+
 -- the text is that of a reply, and the tables are those of the list after it
 pub record IsReplied (b : Book) (asking : Asking) (closes : Bool) (moments : List (Option ℕ)) (text : List ℕ) (content : Tables)
     (list : List Accepted) : Type 0 where

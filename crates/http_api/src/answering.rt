@@ -4,7 +4,7 @@ ghost use Rattle.wire_answers.specs.Spelled.{answer_text};
 ghost use Rattle.http_heads.specs.declared.status.Status.TheVariants.{Ok};
 ghost use Rattle.http_answers.specs.Asking.{Asking, reads, IsAsked};
 ghost use Rattle.http_answers.specs.Texts.{response, Begins};
-ghost use Rattle.http_api.specs.Replies.{ForEachList, IsContinued, Replies};
+ghost use Rattle.http_api.specs.Replies.{Continues, Replies};
 
 use crate::clock::Clock;
 use crate::stating::serve_statement;
@@ -40,8 +40,7 @@ pub(crate) fn answer_request<W: Write, K: ChargeSource, C: Clock>(
     ensures err { K.clean keeper.new → OnErr result ((asking : Asking) → IsAsked asking asked →
         Replies C.gives book.now asking closes clock.old clock.new (Begins (W.contents writer.old) (W.contents writer.new))
         (K.content keeper.old) (K.content keeper.new)) }
-    ensures continued { K.clean keeper.new →
-        ForEachList book.now (K.content keeper.old) (IsContinued book.now (K.content keeper.new)) }
+    ensures continued { K.clean keeper.new → Continues book.now (K.content keeper.old) (K.content keeper.new) }
     ensures cleanness { K.clean keeper.new → K.clean keeper.old }
     ensures failures { K.failed keeper.old ≤ K.failed keeper.new }
 {
@@ -71,8 +70,7 @@ fn serve_command<W: Write, K: ChargeSource, C: Clock>(
     ensures err { K.clean keeper.new → OnErr result
         (Replies C.gives book.now (reads (OkOf command)) closes clock.old clock.new (Begins (W.contents writer.old) (W.contents writer.new))
         (K.content keeper.old) (K.content keeper.new)) }
-    ensures continued { K.clean keeper.new →
-        ForEachList book.now (K.content keeper.old) (IsContinued book.now (K.content keeper.new)) }
+    ensures continued { K.clean keeper.new → Continues book.now (K.content keeper.old) (K.content keeper.new) }
     ensures cleanness { K.clean keeper.new → K.clean keeper.old }
     ensures failures { K.failed keeper.old ≤ K.failed keeper.new }
 {

@@ -1,6 +1,6 @@
 ghost use Rattle.std.specs.Prelude.{◌≡◌, ◌≤◌, ◌<◌, ◌+◌, ◌*◌, length, IfOk, OnErr, IfSome};
 ghost use Rattle.http_answers.specs.Routes.{table};
-ghost use Rattle.http_api.specs.Replies.{ForEachList, IsContinued};
+ghost use Rattle.http_api.specs.Replies.{Continues};
 ghost use Rattle.http_api.specs.Connections.{left_after, IsServed, IsBegun, Serves, Starts};
 
 use crate::answering::answer_request;
@@ -50,8 +50,7 @@ pub fn serve<R: Read, W: Write, K: ChargeSource, C: Clock>(
         IsBegun C.gives book.now stream clock.old clock.new (W.contents writer.old) (W.contents writer.new)
         (K.content keeper.old) (K.content keeper.new))) }
     ensures bounded { IfOk result (λ done. done.requests ≤ 1000) }
-    ensures continued { K.clean keeper.new →
-        ForEachList book.now (K.content keeper.old) (IsContinued book.now (K.content keeper.new)) }
+    ensures continued { K.clean keeper.new → Continues book.now (K.content keeper.old) (K.content keeper.new) }
     ensures cleanness { K.clean keeper.new → K.clean keeper.old }
     ensures failures { K.failed keeper.old ≤ K.failed keeper.new }
 {
@@ -114,8 +113,7 @@ fn serve_requests<R: BufRead, W: Write, K: ChargeSource, C: Clock>(
         clock.old clock.new (W.contents writer.old) (W.contents writer.new)
         (K.content keeper.old) (K.content keeper.new) result }
     ensures bounded { IfOk result (λ done. done.requests ≤ 1000) }
-    ensures continued { K.clean keeper.new →
-        ForEachList book.now (K.content keeper.old) (IsContinued book.now (K.content keeper.new)) }
+    ensures continued { K.clean keeper.new → Continues book.now (K.content keeper.old) (K.content keeper.new) }
     ensures cleanness { K.clean keeper.new → K.clean keeper.old }
     ensures failures { K.failed keeper.old ≤ K.failed keeper.new }
 {

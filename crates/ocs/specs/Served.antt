@@ -1,6 +1,6 @@
 -- What the lines of a stream come to: the commands that they hand in, and the text that each line is told.
 -- Source: profile.
-use Rattle.std.specs.Prelude.{ℕ, List, [], ◌∷◌, ◌++◌, codes, length, map, take, drop, Option, Some, None, IfNone, Result, Ok, Err, ◌≡◌}
+use Rattle.std.specs.Prelude.{ℕ, List, [], ◌∷◌, ◌++◌, codes, length, map, take, drop, Option, Some, None, IfNone, IfSome, Result, Ok, Err, ◌≡◌}
 use Rattle.std.specs.Io.KnownBytes.{Appends}
 use Rattle.byte_streams.specs.Lines.{lines_of}
 use Rattle.commands.specs.declared.answer.Answer.{Answer}
@@ -86,6 +86,14 @@ text_to count b list amount stream = told_text amount stream (answers_to b list 
 -- the text of a stream, before any command: the first request's account is opened with this amount
 abbrev pub once_text : Book → ℕ → List ℕ → List ℕ
 once_text b credit stream = text_of b [] (Some credit) stream
+
+-- where the reader tells its bytes, that text of them is written
+abbrev pub WritesOnce : Book → ℕ → Option (List ℕ) → Option (List ℕ) → Option (List ℕ) → Type 0
+WritesOnce b credit bytes old new = IfSome bytes (λ stream. Appends old new (once_text b credit stream))
+
+-- or a beginning of it
+abbrev pub BeginsOnce : Book → ℕ → Option (List ℕ) → Option (List ℕ) → Option (List ℕ) → Type 0
+BeginsOnce b credit bytes old new = IfSome bytes (λ stream. WritesBeginning old new (once_text b credit stream))
 
 -- ---- a run
 

@@ -7,6 +7,7 @@ use Rattle.sql_tables.specs.Statements.{HasIdleBook, OnlyReads, Reads}
 use Rattle.sql_tables.proofs.Keeps.{on_ok, only_reads_then}
 use Rattle.sql_tables.proofs.Telling.{survive_then}
 use Rattle.sql_keeper.specs.LiveGroups.{Gathers}
+use Rattle.sql_keeper.proofs.Whole.{survives_self}
 
 -- what reads that answered leave
 pub record HaveRead (old new : State) : Type 0 where
@@ -25,14 +26,7 @@ none_read s idle = record {
     closes = λ clean on. inl on;
   };
   stays = λ clean on. on;
-  survives = record {
-    clean = omega arith;
-    shield = λ h. h;
-    counts = omega arith;
-    limit = refl;
-    closes = λ clean on. inl on;
-    crash = λ clean db may. inl may;
-  };
+  survives = survives_self s (λ _. s.is_open ≡ false);
 }
 
 pub have_read : {A E : Type 0} (told : Trees → A → Type 0) (old new : State) (x : A)

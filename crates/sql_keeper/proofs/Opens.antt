@@ -38,17 +38,7 @@ use Rattle.sql_keeper.specs.Opened.{IsCreated, IsFresh, IsKept, IsLeft, IsNotCre
 use Rattle.sql_keeper.specs.declared.books.ReadBook.{ReadBook}
 use Rattle.sql_keeper.specs.declared.create_fault.CreateFault.{CreateFault}
 use Rattle.sql_keeper.specs.declared.create_fault.CreateFault.TheVariants.{Store, Memory}
-use Rattle.sql_keeper.proofs.Whole.{not_shut}
-
-pub survives_self : (s : State) (P : Trees → Type 0) → Survives s s P
-survives_self s P = record {
-  clean = omega arith;
-  shield = λ h. h;
-  counts = omega arith;
-  limit = refl;
-  closes = λ clean on. inl on;
-  crash = λ clean db may. inl may;
-}
+use Rattle.sql_keeper.proofs.Whole.{not_shut, survives_self}
 
 -- ---- the tables of a book
 

@@ -1,6 +1,6 @@
 -- What is committed whole.
 use Rattle.std.proofs.Common.{◌≡◌, ◌⊎◌, inl, inr, ◌∙◌, ap, sym, IsTrue, Bool, true, false, true≢false}
-use Rattle.std.proofs.Common.{Ok, Err, Result, arith}
+use Rattle.std.proofs.Common.{Ok, Err, Result, refl, arith}
 use Rattle.sqlite.specs.Effect.{Database}
 use Rattle.sqlite.specs.State.{State, HasCleanDisk, Survives}
 use Rattle.sqlite.proofs.StateLemmas.{survives_then, survives_weaker}
@@ -14,6 +14,17 @@ use Rattle.sql_keeper.specs.Commits.{CommitsWhole, Transacts}
 pub not_shut : (b : Bool) → IsTrue b → b ≡ false → ⊥
 not_shut true on e = true≢false e
 not_shut false on e = absurd (let no : false ≡ true = on in cc)
+
+-- nothing is done, so a stop leaves what it would have left
+pub survives_self : (s : State) (P : Trees → Type 0) → Survives s s P
+survives_self s P = record {
+  clean = omega arith;
+  shield = λ h. h;
+  counts = omega arith;
+  limit = refl;
+  closes = λ clean on. inl on;
+  crash = λ clean db may. inl may;
+}
 
 -- ---- after what was only read, what is written
 

@@ -36,7 +36,7 @@ use Rattle.sql_rows.specs.Values.{nat, head_cells, head_values, head_key, head_i
 use Rattle.sql_rows.specs.Content.{with_account, with_head, rows_in, content_of}
 use Rattle.sql_rows.specs.Makes.{Makes}
 use Rattle.sql_rows.proofs.Stays.{only_changed, rows_turn}
-use Rattle.sql_rows.proofs.Writes.{writes}
+use Rattle.sql_rows.proofs.Writes.{writes, makes_turned}
 
 abbrev pub put_account_text : List ℕ
 put_account_text =
@@ -114,15 +114,8 @@ module _ (a : List ℕ) (h : Head) where
       → Attempts (λ old new. ExecutesInside 0 put_account_text params old new r) old new r
       → Attempts (Makes (with_account a h)) old new r
   makes_account = writes put_account_text values (Puts accounts values) (with_account a h) puts
-      (λ old new p. record {
-        turns = record {
-          content = turns old.now.trees new.now.trees p.changes p.counts;
-          catalog = p.changes.catalog;
-          stored = p.book.stored;
-        };
-        book = p.book;
-        shows = p.shows;
-      })
+      (λ old new p. makes_turned (with_account a h) old new
+      (turns old.now.trees new.now.trees p.changes p.counts) p.changes.catalog p.book p.shows)
 
   -- the parameters, as they are bound
   pub bound_account : (v1 v2 v3 v4 v5 : Value)

@@ -59,14 +59,14 @@ pub read_counter_plain : IsPlain (understood book_schema read_counter_text)
 unfolding understood everything
 read_counter_plain = (refl, refl)
 
-abbrev columns : Row → Row
+abbrev pub columns : Row → Row
 columns r = column r 2 ∷ column r 3 ∷ column r 4 ∷ []
 
 same_columns : (r : Row) → counter_in (drop 1 r) ≡ counter_in (Null ∷ columns r)
 same_columns [] = refl
 same_columns (v ∷ vs) = refl
 
-back : (x : Counter) (r : Row) → counter_cells x ≡ columns r → counter_in (drop 1 r) ≡ x
+pub back : (x : Counter) (r : Row) → counter_cells x ≡ columns r → counter_in (drop 1 r) ≡ x
 back x r is = same_columns r ∙ ap (λ w. counter_in (Null ∷ w)) (sym is) ∙ refl
 
 module _ (a : List ℕ) (g y : ℕ) where

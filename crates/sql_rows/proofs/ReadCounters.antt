@@ -1,11 +1,11 @@
 -- What the text of `read_counters_in` answers.
 use Rattle.std.specs.Prelude.{codes, if◌then◌else◌}
-use Rattle.std.proofs.Common.{◌≡◌, inl, inr, ℕ, pos, List, [], ◌∷◌, ◌++◌, map, drop, Bool, true, false, ◌&&◌}
+use Rattle.std.proofs.Common.{◌≡◌, inl, inr, ℕ, pos, List, [], ◌∷◌, ◌++◌, map, Bool, true, false, ◌&&◌}
 use Rattle.std.proofs.Common.{Some, None, Option, is_eq, refl, sym, ap, ap₂, subst, ◌∙◌, nat_eq}
 use Rattle.std.proofs.lemmas.Bool.{and_parts, cases_Bool}
 use Rattle.std.specs.Cmp.{unsigned_Decides}
 use Rattle.std.specs.List.{find}
-use Rattle.sqlite_value.specs.declared.value.Value.TheVariants.{Null, Int, Text}
+use Rattle.sqlite_value.specs.declared.value.Value.TheVariants.{Int, Text}
 use Rattle.sqlite_value.specs.declared.keys.Collation.TheVariants.{Binary}
 use Rattle.sqlite_value.specs.declared.keys.Key.{Key}
 use Rattle.sqlite_value.specs.Order.{Row, column, value_cmp}
@@ -33,22 +33,13 @@ use Rattle.reserving.specs.declared.session.Counter.{Counter}
 use Rattle.sql_rows.specs.Values.{nat, counter_key, counter_in, counter_cells}
 use Rattle.sql_rows.specs.Content.{rows_in}
 use Rattle.sql_rows.specs.Lists.{AreCountersIn}
+use Rattle.sql_rows.proofs.ReadCounter.{columns, back}
 
 abbrev project : List Term
 project = col 1 2 ∷ col 1 3 ∷ col 1 4 ∷ []
 
 abbrev names : List (List ℕ)
 names = codes "rating_group" ∷ codes "cycle" ∷ codes "blocks" ∷ []
-
-abbrev columns : Row → Row
-columns r = column r 2 ∷ column r 3 ∷ column r 4 ∷ []
-
-same_columns : (r : Row) → counter_in (drop 1 r) ≡ counter_in (Null ∷ columns r)
-same_columns [] = refl
-same_columns (v ∷ vs) = refl
-
-back : (x : Counter) (r : Row) → counter_cells x ≡ columns r → counter_in (drop 1 r) ≡ x
-back x r is = same_columns r ∙ ap (λ w. counter_in (Null ∷ w)) (sym is) ∙ refl
 
 abbrev pub read_counters_in_text : List ℕ
 read_counters_in_text = codes "SELECT rating_group, cycle, blocks FROM counters WHERE account = ?1 AND cycle = ?2"

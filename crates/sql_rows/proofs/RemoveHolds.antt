@@ -34,7 +34,7 @@ use Rattle.sql_rows.specs.Values.{nat, group_key, hold_key, hold_in}
 use Rattle.sql_rows.specs.Content.{Rows, Content, with_rows, without_holds, rows_in, content_of}
 use Rattle.sql_rows.specs.Makes.{Makes}
 use Rattle.sql_rows.proofs.Stays.{only_changed, rows_turn, at_each}
-use Rattle.sql_rows.proofs.Writes.{writes}
+use Rattle.sql_rows.proofs.Writes.{writes, makes_turned}
 
 abbrev pub remove_holds_text : List ℕ
 remove_holds_text = codes "DELETE FROM holds WHERE account = ?1 AND session = ?2 AND rating_group = ?3"
@@ -110,15 +110,8 @@ module _ (a s : List ℕ) (g : ℕ) where
       → Attempts (λ old new. ExecutesInside 0 remove_holds_text params old new r) old new r
       → Attempts (Makes (with_rows a (without_holds s g))) old new r
   makes_none = writes remove_holds_text wanted (Removes holds wanted) (with_rows a (without_holds s g)) removes
-      (λ old new p. record {
-        turns = record {
-          content = turns old.now.trees new.now.trees p.changes;
-          catalog = p.changes.catalog;
-          stored = p.book.stored;
-        };
-        book = p.book;
-        shows = p.shows;
-      })
+      (λ old new p. makes_turned (with_rows a (without_holds s g)) old new
+      (turns old.now.trees new.now.trees p.changes) p.changes.catalog p.book p.shows)
 
   -- the parameters, as they are bound
   pub bound_group : (v1 v2 v3 : Value) → v1 ≡ Text a → v2 ≡ Text s → v3 ≡ nat g

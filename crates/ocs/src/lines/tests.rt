@@ -59,7 +59,7 @@ struct Played {
 /// Answers a scenario's lines, at 100,000 micro-units a minute.
 fn play(alloc: Global, credit: u64, text: &str) -> Result<Played, Fail> {
     let book = once_book(alloc, 100_000, 60)?;
-    let credit = Money::new(credit).ok_or("an amount")?;
+    let credit = Some(Money::new(credit).ok_or("an amount")?);
     let Scenario {
         lines: asked,
         answers: wanted,
@@ -67,19 +67,19 @@ fn play(alloc: Global, credit: u64, text: &str) -> Result<Played, Fail> {
     let mut input = asked.as_bytes();
     let mut keeper = MemoryKeeper::new(alloc);
     let mut written = Vec::new(alloc);
-    lines(
-        alloc,
-        &mut keeper,
-        &book,
-        Some(credit),
-        &mut input,
-        &mut written,
-    )?;
+    lines(alloc, &mut keeper, &book, credit, &mut input, &mut written)?;
     Ok(Played {
         keeper,
         written,
         wanted,
     })
+}
+
+/// The same of a scenario that is told by two texts.
+fn play_in_turn(alloc: Global, credit: u64, first: &str, then: &str) -> Result<Played, Fail> {
+    let mut text = String::from_str(alloc, first)?;
+    text.push_str(then)?;
+    play(alloc, credit, text.as_str())
 }
 
 /// The last bucket of account 49151 in the order of use, with its number: credited, available, reserved, charged,
@@ -130,6 +130,15 @@ fn a_session_from_line_to_line(rt: HostRuntime) -> Result<(), Fail> {
     Ok(())
 }
 
+/// An update, and its answer.
+const UPDATE: &str = r#"{"Session-Id":"s11","CC-Request-Type":2,"CC-Request-Number":1,
+  "Subscription-Id":{"Subscription-Id-Type":0,"Subscription-Id-Data":"49151"},
+  "Multiple-Services-Credit-Control":[{"Rating-Group":10,
+  "Requested-Service-Unit":{"CC-Time":60},"Used-Service-Unit":[{"CC-Time":60}]}]}
+< {"CC-Request-Number":1,"CC-Request-Type":2,
+  "Multiple-Services-Credit-Control":[{"Granted-Service-Unit":{"CC-Time":60},"Rating-Group":10,
+  "Result-Code":2001,"Validity-Time":3600}],"Result-Code":2001,"Session-Id":"s11"}"#;
+
 /// An update, a repeat of it, and another content under its number.
 const REPEATS: &str = r#"> 1767607200 {"Session-Id":"s11","CC-Request-Type":1,"CC-Request-Number":0,
   "Subscription-Id":{"Subscription-Id-Type":0,"Subscription-Id-Data":"49151"},
@@ -138,20 +147,8 @@ const REPEATS: &str = r#"> 1767607200 {"Session-Id":"s11","CC-Request-Type":1,"C
 < {"CC-Request-Number":0,"CC-Request-Type":1,
   "Multiple-Services-Credit-Control":[{"Granted-Service-Unit":{"CC-Time":600},"Rating-Group":10,
   "Result-Code":2001,"Validity-Time":3600}],"Result-Code":2001,"Session-Id":"s11"}
-> 1767607500 {"Session-Id":"s11","CC-Request-Type":2,"CC-Request-Number":1,
-  "Subscription-Id":{"Subscription-Id-Type":0,"Subscription-Id-Data":"49151"},
-  "Multiple-Services-Credit-Control":[{"Rating-Group":10,
-  "Requested-Service-Unit":{"CC-Time":60},"Used-Service-Unit":[{"CC-Time":60}]}]}
-< {"CC-Request-Number":1,"CC-Request-Type":2,
-  "Multiple-Services-Credit-Control":[{"Granted-Service-Unit":{"CC-Time":60},"Rating-Group":10,
-  "Result-Code":2001,"Validity-Time":3600}],"Result-Code":2001,"Session-Id":"s11"}
-> 1767607560 {"Session-Id":"s11","CC-Request-Type":2,"CC-Request-Number":1,
-  "Subscription-Id":{"Subscription-Id-Type":0,"Subscription-Id-Data":"49151"},
-  "Multiple-Services-Credit-Control":[{"Rating-Group":10,
-  "Requested-Service-Unit":{"CC-Time":60},"Used-Service-Unit":[{"CC-Time":60}]}]}
-< {"CC-Request-Number":1,"CC-Request-Type":2,
-  "Multiple-Services-Credit-Control":[{"Granted-Service-Unit":{"CC-Time":60},"Rating-Group":10,
-  "Result-Code":2001,"Validity-Time":3600}],"Result-Code":2001,"Session-Id":"s11"}
+> 1767607500 UPDATE
+> 1767607560 UPDATE
 > 1767607560 {"Session-Id":"s11","CC-Request-Type":2,"CC-Request-Number":1,
   "Subscription-Id":{"Subscription-Id-Type":0,"Subscription-Id-Data":"49151"},
   "Multiple-Services-Credit-Control":[{"Rating-Group":10,
@@ -164,22 +161,26 @@ const REPEATS: &str = r#"> 1767607200 {"Session-Id":"s11","CC-Request-Type":1,"C
 #[test]
 fn a_repeat_has_the_first_answer(rt: HostRuntime) -> Result<(), Fail> {
     let alloc = rt.alloc();
-    let mut played = play(alloc, 1_000_000, REPEATS)?;
+    let text = REPEATS.replace(alloc, "UPDATE", UPDATE)?;
+    let mut played = play(alloc, 1_000_000, text.as_str())?;
     assert_eq!(rt; played.written.as_slice(), played.wanted.as_bytes());
     let seen = last_bucket(alloc, &played.keeper)?;
     assert_eq!(rt; seen, [1, 1_000_000, 800_000, 100_000, 100_000, 0]);
     Ok(())
 }
 
-/// An update in the last second of a session.
-const IN_TIME: &str = r#"> 1767607200 {"Session-Id":"s13","CC-Request-Type":1,"CC-Request-Number":0,
+/// A session begins.
+const BEGUN: &str = r#"> 1767607200 {"Session-Id":"s13","CC-Request-Type":1,"CC-Request-Number":0,
   "Subscription-Id":{"Subscription-Id-Type":0,"Subscription-Id-Data":"49151"},
   "Multiple-Services-Credit-Control":[{"Rating-Group":10,
   "Requested-Service-Unit":{"CC-Time":600}}]}
 < {"CC-Request-Number":0,"CC-Request-Type":1,
   "Multiple-Services-Credit-Control":[{"Granted-Service-Unit":{"CC-Time":600},"Rating-Group":10,
   "Result-Code":2001,"Validity-Time":3600}],"Result-Code":2001,"Session-Id":"s13"}
-> 1767614399 {"Session-Id":"s13","CC-Request-Type":2,"CC-Request-Number":1,
+"#;
+
+/// An update in its last second.
+const IN_TIME: &str = r#"> 1767614399 {"Session-Id":"s13","CC-Request-Type":2,"CC-Request-Number":1,
   "Subscription-Id":{"Subscription-Id-Type":0,"Subscription-Id-Data":"49151"},
   "Multiple-Services-Credit-Control":[{"Rating-Group":10,
   "Requested-Service-Unit":{"CC-Time":600}}]}
@@ -192,21 +193,14 @@ const IN_TIME: &str = r#"> 1767607200 {"Session-Id":"s13","CC-Request-Type":1,"C
 #[test]
 fn a_session_in_time(rt: HostRuntime) -> Result<(), Fail> {
     let alloc = rt.alloc();
-    let played = play(alloc, 1_000_000, IN_TIME)?;
+    let played = play_in_turn(alloc, 1_000_000, BEGUN, IN_TIME)?;
     assert_eq!(rt; played.written.as_slice(), played.wanted.as_bytes());
     Ok(())
 }
 
 /// An update in the second after it.
 const TOO_LATE: &str =
-    r#"> 1767607200 {"Session-Id":"s13","CC-Request-Type":1,"CC-Request-Number":0,
-  "Subscription-Id":{"Subscription-Id-Type":0,"Subscription-Id-Data":"49151"},
-  "Multiple-Services-Credit-Control":[{"Rating-Group":10,
-  "Requested-Service-Unit":{"CC-Time":600}}]}
-< {"CC-Request-Number":0,"CC-Request-Type":1,
-  "Multiple-Services-Credit-Control":[{"Granted-Service-Unit":{"CC-Time":600},"Rating-Group":10,
-  "Result-Code":2001,"Validity-Time":3600}],"Result-Code":2001,"Session-Id":"s13"}
-> 1767614400 {"Session-Id":"s13","CC-Request-Type":2,"CC-Request-Number":1,
+    r#"> 1767614400 {"Session-Id":"s13","CC-Request-Type":2,"CC-Request-Number":1,
   "Subscription-Id":{"Subscription-Id-Type":0,"Subscription-Id-Data":"49151"},
   "Multiple-Services-Credit-Control":[{"Rating-Group":10,
   "Requested-Service-Unit":{"CC-Time":600}}]}
@@ -217,7 +211,7 @@ const TOO_LATE: &str =
 #[test]
 fn a_session_that_ended_by_itself(rt: HostRuntime) -> Result<(), Fail> {
     let alloc = rt.alloc();
-    let mut played = play(alloc, 1_000_000, TOO_LATE)?;
+    let mut played = play_in_turn(alloc, 1_000_000, BEGUN, TOO_LATE)?;
     assert_eq!(rt; played.written.as_slice(), played.wanted.as_bytes());
     let seen = last_bucket(alloc, &played.keeper)?;
     assert_eq!(rt; seen, [1, 1_000_000, 0, 1_000_000, 0, 0]);
@@ -372,8 +366,9 @@ fn checks_and_enquiries(rt: HostRuntime) -> Result<(), Fail> {
     Ok(())
 }
 
-/// Two debits, of which one is covered.
-const DEBITS: &str = r#"> 1767607200 {"Session-Id":"d8","CC-Request-Type":4,"CC-Request-Number":0,
+/// Two debits, and the answer to the first.
+const ONE_DEBIT: &str =
+    r#"> 1767607200 {"Session-Id":"d8","CC-Request-Type":4,"CC-Request-Number":0,
   "Subscription-Id":{"Subscription-Id-Type":0,"Subscription-Id-Data":"49151"},
   "Requested-Action":0,"Multiple-Services-Credit-Control":[{"Rating-Group":10,
   "Requested-Service-Unit":{"CC-Time":60}}]}
@@ -384,14 +379,17 @@ const DEBITS: &str = r#"> 1767607200 {"Session-Id":"d8","CC-Request-Type":4,"CC-
   "Subscription-Id":{"Subscription-Id-Type":0,"Subscription-Id-Data":"49151"},
   "Requested-Action":0,"Multiple-Services-Credit-Control":[{"Rating-Group":10,
   "Requested-Service-Unit":{"CC-Time":60}}]}
-< {"CC-Request-Number":0,"CC-Request-Type":4,"Result-Code":4012,"Session-Id":"d8b"}
 "#;
+
+/// The answer to the second where the first took all there was.
+const NOT_COVERED: &str =
+    "< {\"CC-Request-Number\":0,\"CC-Request-Type\":4,\"Result-Code\":4012,\"Session-Id\":\"d8b\"}\n";
 
 /// A debit takes the price at once; one that isn't covered takes nothing.
 #[test]
 fn debits(rt: HostRuntime) -> Result<(), Fail> {
     let alloc = rt.alloc();
-    let mut played = play(alloc, 100_000, DEBITS)?;
+    let mut played = play_in_turn(alloc, 100_000, ONE_DEBIT, NOT_COVERED)?;
     assert_eq!(rt; played.written.as_slice(), played.wanted.as_bytes());
     let seen = last_bucket(alloc, &played.keeper)?;
     assert_eq!(rt; seen, [1, 100_000, 0, 0, 100_000, 0]);
@@ -430,27 +428,12 @@ fn no_opening(rt: HostRuntime) -> Result<(), Fail> {
 /// The calls of a keeper by which an account is opened and credited, and one debit is charged.
 const CALLS_OF_ONE_DEBIT: u64 = 12;
 
-/// The same where the store fails after the first one.
-const ONE_DEBIT: &str =
-    r#"> 1767607200 {"Session-Id":"d8","CC-Request-Type":4,"CC-Request-Number":0,
-  "Subscription-Id":{"Subscription-Id-Type":0,"Subscription-Id-Data":"49151"},
-  "Requested-Action":0,"Multiple-Services-Credit-Control":[{"Rating-Group":10,
-  "Requested-Service-Unit":{"CC-Time":60}}]}
-< {"CC-Request-Number":0,"CC-Request-Type":4,
-  "Multiple-Services-Credit-Control":[{"Granted-Service-Unit":{"CC-Time":60},"Rating-Group":10,
-  "Result-Code":2001}],"Result-Code":2001,"Session-Id":"d8"}
-> 1767607200 {"Session-Id":"d8b","CC-Request-Type":4,"CC-Request-Number":0,
-  "Subscription-Id":{"Subscription-Id-Type":0,"Subscription-Id-Data":"49151"},
-  "Requested-Action":0,"Multiple-Services-Credit-Control":[{"Rating-Group":10,
-  "Requested-Service-Unit":{"CC-Time":60}}]}
-"#;
-
-/// At a store fault the answers before it are written.
+/// At a store fault after the first debit, the answers before it are written.
 #[test]
 fn a_store_fault(rt: HostRuntime) -> Result<(), Fail> {
     let alloc = rt.alloc();
     let book = once_book(alloc, 100_000, 60)?;
-    let credit = Money::new(100_000).ok_or("an amount")?;
+    let credit = Some(Money::new(100_000).ok_or("an amount")?);
     let Scenario {
         lines: asked,
         answers: wanted,
@@ -458,14 +441,7 @@ fn a_store_fault(rt: HostRuntime) -> Result<(), Fail> {
     let mut input = asked.as_bytes();
     let mut written = Vec::new(alloc);
     let mut keeper = Failing::new(MemoryKeeper::new(alloc), CALLS_OF_ONE_DEBIT);
-    let ended = lines(
-        alloc,
-        &mut keeper,
-        &book,
-        Some(credit),
-        &mut input,
-        &mut written,
-    );
+    let ended = lines(alloc, &mut keeper, &book, credit, &mut input, &mut written);
     assert_eq!(rt; ended, Err(LinesFault::Store(StoreFault::Store)));
     assert_eq!(rt; written.as_slice(), wanted.as_bytes());
     Ok(())
