@@ -20,6 +20,7 @@ use written_numbers::Month;
 /// A statement that is asked for.
 #[derive(Debug, Drop)]
 pub struct StatementAsked {
+    /// Whose charges it tells.
     pub account: AccountNumber,
     /// The civil month in the book's zone.
     pub month: Month,
@@ -159,7 +160,7 @@ fn told(read: Result<Command, WireFault>) -> Asked
 
 /// A statement that is asked for, or the fault of its path.
 #[tactic(auto, using(crate::proofs::StatedLemmas::stated_is, crate::proofs::StatedLemmas::unstated_is))]
-fn stated(read: Result<StatementAsked, WireFault>) -> Asked
+fn told_statement(read: Result<StatementAsked, WireFault>) -> Asked
     ensures { (reading : Result StatementAsked WireFault) → Gives (λ q. q) read reading →
         IsAsked (stated reading) result }
 {
@@ -176,7 +177,7 @@ fn asked_by(alloc: Global, route: Route, method: Method, target: &str, body: &[u
     match route {
         Route::Ccr => told(read_request(alloc, body)),
         Route::Account => told(read_account(alloc, method, target)),
-        Route::Statement => stated(read_statement(alloc, target)),
+        Route::Statement => told_statement(read_statement(alloc, target)),
         Route::Credits => told(read_credits(alloc, target, body)),
         Route::Redeem => told(read_redemption(alloc, target, body)),
         Route::Sweep => Asked::Does(Command::Sweep),

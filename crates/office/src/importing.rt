@@ -50,7 +50,7 @@ pub fn import<K: Keeper>(
     let mut counts = no_counts();
     for row in rows {
         let addition = add_voucher(alloc, keeper, book, row, moment)?;
-        counts = counted(counts, addition);
+        counts = count_one(counts, addition);
     }
     Ok(counts)
 }

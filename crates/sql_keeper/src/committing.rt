@@ -106,8 +106,8 @@ pub(crate) fn commit_change<S: Alter>(
 
 impl<S: Alter> SqlKeeper<S> {
     /// Makes the change, in one transaction: the account's rows, the charges, the kept answer, the
-    /// voucher that is redeemed and the moment together. At a fault nothing has changed, and whatever a stop leaves is the rows before
-    /// the change or with it.
+    /// voucher that is redeemed and the moment together. At a fault nothing has changed, and
+    /// whatever a stop leaves is the rows before the change or with it.
     ///
     /// # Errors
     /// Want of memory; a fault of the store, which is counted, as is a change that may not be

@@ -1,7 +1,6 @@
 -- What a file of vouchers says: all its vouchers in order, or its first fault with the number of
--- its record. Records are
--- those of the csv crate: a byte order mark at the start is no part of them, and an empty line is
--- none.
+-- its record. Records are those of the csv crate: a byte order mark at the start is no part of
+-- them, and an empty line is none.
 -- Source: profile; RFC 4180.
 use Rattle.std.specs.Prelude.{◌≡◌, ℕ, ◌+◌, ◌≤◌, ◌&&◌, Bool, Option, List, [], ◌∷◌, length, IfErr, Result, Ok, Err, if◌then◌else◌}
 use Rattle.csv.specs.Reading.{ReadRecord, records, default_config, strip_bom}
