@@ -9,6 +9,10 @@ use Rattle.clap.specs.Words.{IsAmong, Kinds, Text, fault_of}
 use Rattle.clap.specs.declared.error.kind.ErrorKind.{ErrorKind}
 use Rattle.keepers.specs.Faults.{max_failures}
 use Rattle.keepers.specs.declared.fault.StoreFault.TheVariants as store
+use Rattle.commands.specs.declared.answer.Answer.{Answer}
+use Rattle.commands.specs.declared.answer.Answer.TheVariants as answer
+use Rattle.office.specs.Printed.{IsEnded, PrintsAnswer}
+use Rattle.office.specs.Told.{status_of}
 use Rattle.office.specs.Written.{WritesBeginning}
 use Rattle.office.proofs.Beginnings.{beginning_before, nothing_written, some_written}
 use Rattle.office.specs.declared.status.Status.{Status}
@@ -20,7 +24,7 @@ use Rattle.operator.specs.declared.fault.WordsFault.TheVariants as fault
 use Rattle.operator.specs.declared.parsed.OnceWords.{OnceWords}
 use Rattle.operator.specs.declared.parsed.ProgramWords.{ProgramWords}
 use Rattle.operator.specs.declared.parsed.ProgramWords.TheVariants as words
-use Rattle.ocs.specs.Ends.{IfOnce, Imports, IsEnd, IsEndBy, IsEndOf, IsEnded, IsMemory, MayBeRefused, Says, Stores}
+use Rattle.ocs.specs.Ends.{HasPrinted, IfOnce, Imports, IsEnd, IsEndBy, IsEndOf, IsMemory, IsRefused, Says, Stores}
 use Rattle.ocs.specs.Told.{IsReached, IsReachedByLines, IsTextTold, IsTold, IsToldAtEnd, IsToldBy, IsToldOf, ServesConnections, TellsAs, TellsFault, fault_line, line_of}
 use Rattle.ocs.specs.declared.fault.LinesFault.{LinesFault}
 use Rattle.ocs.specs.declared.fault.LinesFault.TheVariants.{Read, Store, Write}
@@ -97,12 +101,13 @@ done_said texts (words.Office office) old new h told = inl (keeps_of old new tol
 done_said texts (words.Statement statement) old new h told = inl (keeps_of old new told)
 done_said texts (words.Replay replay) old new h told = inl (keeps_of old new told)
 
-pub told_said : (texts : List Text) (said : ProgramWords) (status : Status) (old new : Option (List ℕ)) → IsSaid texts said → IsToldBy said status old new → IsTold texts status old new
-told_said texts said Done old new h told = done_said texts said old new h told
-told_said texts said Failed old new h (inl told) =
+pub told_said : (texts : List Text) (said : ProgramWords) (before after : Option (List ℕ)) (status : Status) (old new : Option (List ℕ)) → IsSaid texts said →
+    IsToldBy said before after status old new → IsTold texts before after status old new
+told_said texts said before after Done old new h told = done_said texts said old new h told
+told_said texts said before after Failed old new h (inl told) =
     inl (tells_from (Imports said) (Says texts Imports) (Stores said) (Says texts Stores) old new (λ adds. record { said = said; says = h; is = adds }) (λ stores. record { said = said; says = h; is = stores }) told)
-told_said texts said Failed old new h (inr refused) = inr (record { said = said; says = h; is = refused.0 }, refused.1)
-told_said texts said Unread old new h told = absurd told
+told_said texts said before after Failed old new h (inr refused) = inr (record { said = said; says = h; is = refused.0 }, refused.1)
+told_said texts said before after Unread old new h told = absurd told
 
 -- what is so of the words of `once`
 pub once_said : (texts : List Text) (said : ProgramWords) (P : OnceWords → Type 0) (once : OnceWords) → IsSaid texts said → IfOnce said P → IsSaid texts (words.Once once) → P once
@@ -122,30 +127,55 @@ ends_read status end e = subst IsEndBy e end
 
 -- ---- what is done
 
-refused_told : (said : ProgramWords) (old new : Option (List ℕ)) → MayBeRefused said → IsToldAtEnd said old new → Keeps old new
-refused_told (words.Once once) old new may told = absurd may
-refused_told (words.Init init) old new may told = absurd may
-refused_told (words.Serve serve) old new may told = absurd may
-refused_told (words.Import import) old new may told = absurd may
-refused_told (words.Office office) old new may told = keeps_of old new told
-refused_told (words.Statement statement) old new may told = keeps_of old new told
-refused_told (words.Replay replay) old new may told = absurd may
+refused_told : (said : ProgramWords) (before after old new : Option (List ℕ)) → IsRefused said before after → IsToldAtEnd said old new → Keeps old new
+refused_told (words.Once once) before after old new refused told = absurd refused
+refused_told (words.Init init) before after old new refused told = absurd refused
+refused_told (words.Serve serve) before after old new refused told = absurd refused
+refused_told (words.Import import) before after old new refused told = absurd refused
+refused_told (words.Office office) before after old new refused told = keeps_of old new told
+refused_told (words.Statement statement) before after old new refused told = keeps_of old new told
+refused_told (words.Replay replay) before after old new refused told = absurd refused
 
 -- what ends by itself
-pub ended_told : (said : ProgramWords) (status : Status) (old new : Option (List ℕ)) → IsEnded (MayBeRefused said) status → IsToldAtEnd said old new → IsToldBy said status old new
-ended_told said Done old new ended told = told
-ended_told said Failed old new ended told = inr (ended, refused_told said old new ended told)
-ended_told said Unread old new ended told = absurd ended
+pub ended_told : (said : ProgramWords) (before after : Option (List ℕ)) (status : Status) (old new : Option (List ℕ)) → IsEnded (IsRefused said before after) status →
+    IsToldAtEnd said old new → IsToldBy said before after status old new
+ended_told said before after Done old new ended told = told
+ended_told said before after Failed old new ended told = inr (ended, refused_told said before after old new ended told)
+ended_told said before after Unread old new ended told = absurd ended
+
+-- what has printed as it ended
+pub printed_done : (said : ProgramWords) (before after : Option (List ℕ)) (status : Status) → HasPrinted said before after status → status ≡ Done →
+    HasPrinted said before after Done
+printed_done said before after status printed done = subst (HasPrinted said before after) done printed
+
+abbrev IsRead : Status → Type 0
+IsRead Done = Unit {0}
+IsRead Failed = Unit {0}
+IsRead Unread = ⊥
+
+is_read : (a : Answer) → IsRead (status_of a)
+is_read (answer.Request given) = tt
+is_read answer.Done = tt
+is_read (answer.Bucket number) = tt
+is_read (answer.Swept count) = tt
+is_read (answer.Balance balance) = tt
+is_read (answer.Refused refusal) = tt
+
+-- an answer is printed: it is a refusal, or all is done
+pub answered_ends : (status : Status) (old new : Option (List ℕ)) → PrintsAnswer status old new → IsEnded (PrintsAnswer Failed old new) status
+answered_ends Done old new printed = tt
+answered_ends Failed old new printed = printed
+answered_ends Unread old new printed = subst IsRead (sym printed.is) (is_read printed.answer)
 
 -- a fault by its line, or want of memory for that
 tells_as : (Adds Over : Type 0) (f : ProgramFault) (old new : Option (List ℕ)) → IsReached Adds Over f → TellsAs f old new → TellsFault Adds Over old new
 tells_as Adds Over f old new reached (inl written) = record { fault = f; reached = reached; written = written }
 tells_as Adds Over f old new reached (inr written) = record { fault = program.Stream stream.Memory; reached = tt; written = written }
 
-pub fault_told : (said : ProgramWords) (f : ProgramFault) (status : Status) (old mid new : Option (List ℕ)) → status ≡ Failed → IsReached (Imports said) (Stores said) f → mid ≡ old →
-    TellsAs f mid new → IsToldBy said status old new
-fault_told said f status old mid new is reached same told =
-    subst (λ (s : Status). IsToldBy said s old new) (sym is)
+pub fault_told : (said : ProgramWords) (before after : Option (List ℕ)) (f : ProgramFault) (status : Status) (old mid new : Option (List ℕ)) → status ≡ Failed →
+    IsReached (Imports said) (Stores said) f → mid ≡ old → TellsAs f mid new → IsToldBy said before after status old new
+fault_told said before after f status old mid new is reached same told =
+    subst (λ (s : Status). IsToldBy said before after s old new) (sym is)
     (inl (tells_as (Imports said) (Stores said) f old new reached (subst (λ (w : Option (List ℕ)). TellsAs f w new) same told)))
 
 pub fault_end : (status : Status) → status ≡ Failed → IsEndBy status
@@ -157,28 +187,32 @@ ended_end Refused Failed ended = tt
 ended_end Refused Unread ended = absurd ended
 
 -- the lines of `once` are never refused
-pub once_ends : (said : ProgramWords) (status : Status) (P : OnceWords → Type 0) → IsEnded (MayBeRefused said) status → status ≡ Failed → IfOnce said P
-once_ends (words.Once once) status P ended failed = absurd (subst (IsEnded ⊥) failed ended)
-once_ends (words.Init init) status P ended failed = tt
-once_ends (words.Serve serve) status P ended failed = tt
-once_ends (words.Import import) status P ended failed = tt
-once_ends (words.Office office) status P ended failed = tt
-once_ends (words.Statement statement) status P ended failed = tt
-once_ends (words.Replay replay) status P ended failed = tt
+pub once_ends : (said : ProgramWords) (before after : Option (List ℕ)) (status : Status) (P : OnceWords → Type 0) → IsEnded (IsRefused said before after) status → status ≡ Failed → IfOnce said P
+once_ends (words.Once once) before after status P ended failed = absurd (subst (IsEnded ⊥) failed ended)
+once_ends (words.Init init) before after status P ended failed = tt
+once_ends (words.Serve serve) before after status P ended failed = tt
+once_ends (words.Import import) before after status P ended failed = tt
+once_ends (words.Office office) before after status P ended failed = tt
+once_ends (words.Statement statement) before after status P ended failed = tt
+once_ends (words.Replay replay) before after status P ended failed = tt
 
 -- words that print one line are never refused
-pub line_ends : (said : ProgramWords) (status : Status) (P : List ℕ → Type 0) → IsEnded (MayBeRefused said) status → status ≡ Failed → IfSome (line_of said) P
-line_ends (words.Once once) status P ended failed = tt
-line_ends (words.Init init) status P ended failed = absurd (subst (IsEnded ⊥) failed ended)
-line_ends (words.Serve serve) status P ended failed = absurd (subst (IsEnded ⊥) failed ended)
-line_ends (words.Import import) status P ended failed = tt
-line_ends (words.Office office) status P ended failed = tt
-line_ends (words.Statement statement) status P ended failed = tt
-line_ends (words.Replay replay) status P ended failed = tt
+pub line_ends : (said : ProgramWords) (before after : Option (List ℕ)) (status : Status) (P : List ℕ → Type 0) → IsEnded (IsRefused said before after) status → status ≡ Failed → IfSome (line_of said) P
+line_ends (words.Once once) before after status P ended failed = tt
+line_ends (words.Init init) before after status P ended failed = absurd (subst (IsEnded ⊥) failed ended)
+line_ends (words.Serve serve) before after status P ended failed = absurd (subst (IsEnded ⊥) failed ended)
+line_ends (words.Import import) before after status P ended failed = tt
+line_ends (words.Office office) before after status P ended failed = tt
+line_ends (words.Statement statement) before after status P ended failed = tt
+line_ends (words.Replay replay) before after status P ended failed = tt
 
 -- what is so of one said of all that the words say
 pub line_said : (texts : List Text) (said other : ProgramWords) (P : List ℕ → Type 0) → IsSaid texts said → IsSaid texts other → IfSome (line_of said) P → IfSome (line_of other) P
 line_said texts said other P h k is = subst (λ (s : ProgramWords). IfSome (line_of s) P) (same_said texts said other h k) is
+
+pub printed_said : (texts : List Text) (said other : ProgramWords) (before after : Option (List ℕ)) → IsSaid texts said → IsSaid texts other → HasPrinted said before after Done →
+    HasPrinted other before after Done
+printed_said texts said other before after h k is = subst (λ (s : ProgramWords). HasPrinted s before after Done) (same_said texts said other h k) is
 
 -- ---- words that aren't read
 
@@ -214,16 +248,17 @@ end_unread texts fault.Memory Unread unread end = absurd end
 none_tells : (B D : Type 0) (old new : Option (List ℕ)) → TellsFault ⊥ ⊥ old new → TellsFault B D old new
 none_tells B D old new t = tells_from ⊥ B ⊥ D old new (λ none. absurd none) (λ none. absurd none) t
 
-pub told_unread : (texts : List Text) (f : WordsFault) (status : Status) (old new : Option (List ℕ)) → IsUnread texts f → IsEndOf f status → IsToldOf f status old new → IsTold texts status old new
-told_unread texts (fault.Unread error) Done old new unread end told = inl told
-told_unread texts (fault.Unread error) Failed old new unread end told = inl (none_tells (Says texts Imports) (Says texts Stores) old new told)
-told_unread texts (fault.Unread error) Unread old new unread end told = λ invalid. absurd (not_among (kind_of error) (fault_of program_app texts) invalid.taken unread)
-told_unread texts fault.Invalid Done old new unread end told = absurd end
-told_unread texts fault.Invalid Failed old new unread end told = absurd end
-told_unread texts fault.Invalid Unread old new unread end told = λ invalid. told
-told_unread texts fault.Memory Done old new unread end told = absurd end
-told_unread texts fault.Memory Failed old new unread end told = inl (none_tells (Says texts Imports) (Says texts Stores) old new told)
-told_unread texts fault.Memory Unread old new unread end told = absurd end
+pub told_unread : (texts : List Text) (before after : Option (List ℕ)) (f : WordsFault) (status : Status) (old new : Option (List ℕ)) → IsUnread texts f → IsEndOf f status →
+    IsToldOf f status old new → IsTold texts before after status old new
+told_unread texts before after (fault.Unread error) Done old new unread end told = inl told
+told_unread texts before after (fault.Unread error) Failed old new unread end told = inl (none_tells (Says texts Imports) (Says texts Stores) old new told)
+told_unread texts before after (fault.Unread error) Unread old new unread end told = λ invalid. absurd (not_among (kind_of error) (fault_of program_app texts) invalid.taken unread)
+told_unread texts before after fault.Invalid Done old new unread end told = absurd end
+told_unread texts before after fault.Invalid Failed old new unread end told = absurd end
+told_unread texts before after fault.Invalid Unread old new unread end told = λ invalid. told
+told_unread texts before after fault.Memory Done old new unread end told = absurd end
+told_unread texts before after fault.Memory Failed old new unread end told = inl (none_tells (Says texts Imports) (Says texts Stores) old new told)
+told_unread texts before after fault.Memory Unread old new unread end told = absurd end
 
 -- words that say something weren't read only for want of memory
 pub memory_alone : (texts : List Text) (f : WordsFault) (said : ProgramWords) → IsUnread texts f → IsSaid texts said → IsMemory f

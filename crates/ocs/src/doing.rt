@@ -1,10 +1,11 @@
 ghost use Rattle.std.specs.Prelude.{◌≡◌, ◌≢◌, ◌++◌, ◌∷◌, [], codes, Err, IfErr, IfOk, IfSome, OnOk, OnErr};
 ghost use Rattle.std.specs.Io.KnownBytes.{Appends};
 ghost use Rattle.keepers.specs.declared.fault.StoreFault.TheVariants.{Store as StoreFailed};
+ghost use Rattle.office.specs.Printed.{IsEnded};
 ghost use Rattle.office.specs.Written.{WritesBeginning};
 ghost use Rattle.one_price.specs.OnceBook.{once_book};
 ghost use Rattle.operator.specs.Read.{IsInRange, IsOnceInRange};
-ghost use Rattle.ocs.specs.Ends.{IfOnce, Imports, IsEnded, MayBeRefused, Stores};
+ghost use Rattle.ocs.specs.Ends.{HasPrinted, IfOnce, Imports, IsRefused, Stores};
 ghost use Rattle.ocs.specs.Served.{BeginsOnce, WritesOnce};
 ghost use Rattle.ocs.specs.Told.{IsReached, IsReachedByLines, IsToldAtEnd, line_of};
 
@@ -32,7 +33,10 @@ pub(crate) fn do_said<I: Read, O: Write, E: Write>(
     errors: &mut E,
 ) -> Result<Status, ProgramFault>
     requires { IsInRange said }
-    ensures ended { IfOk result (IsEnded (MayBeRefused said)) }
+    ensures ended { IfOk result (IsEnded
+        (IsRefused said (O.contents output.old) (O.contents output.new))) }
+    ensures answered { IfOk result
+        (HasPrinted said (O.contents output.old) (O.contents output.new)) }
     ensures reached { IfErr result (IsReached (Imports said) (Stores said)) }
     ensures told { OnOk result (IsToldAtEnd said (E.contents errors.old) (E.contents errors.new)) }
     ensures untold { OnErr result (errors.new ≡ errors.old) }

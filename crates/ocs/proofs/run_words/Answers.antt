@@ -6,7 +6,7 @@ use Rattle.ocs.specs.Served.{once_text}
 use Rattle.std.specs.Io.KnownBytes.{Appends}
 use Rattle.office.specs.Written.{WritesBeginning}
 use Rattle.ocs.specs.Told.{line_of}
-use Rattle.ocs.proofs.EndLemmas.{line_said, memory_alone, not_done, not_once, told_said, unwritten_begins, unwritten_line}
+use Rattle.ocs.proofs.EndLemmas.{line_said, memory_alone, printed_said, not_done, not_once, told_said, unwritten_begins, unwritten_line}
 use Rattle.ocs.proofs.run_words.Goals as goal
 
 pub returns-in-Ok-clause-unread : goal.returns-in-Ok-clause-unread
@@ -39,5 +39,14 @@ returns-in-Err-clause-begun g c = λ said says failed.
 
 pub returns-in-Ok-clause-told : goal.returns-in-Ok-clause-told
 returns-in-Ok-clause-told g c =
-    told_said (texts_of c.args.words.now) c.in-Ok.said c.run_said.result (g.E.Write.contents c.args.errors.now) (g.E.Write.contents c.run_said.new.errors) c.in-Ok.ensures.read
+    told_said (texts_of c.args.words.now) c.in-Ok.said (g.O.Write.contents c.args.output.now) (g.O.Write.contents c.run_said.new.output) c.run_said.result (g.E.Write.contents c.args.errors.now) (g.E.Write.contents c.run_said.new.errors) c.in-Ok.ensures.read
     c.run_said.ensures.told
+
+pub returns-in-Ok-clause-answered : goal.returns-in-Ok-clause-answered
+returns-in-Ok-clause-answered g c = λ other says done.
+    printed_said (texts_of c.args.words.now) c.in-Ok.said other (g.O.Write.contents c.args.output.now) (g.O.Write.contents c.run_said.new.output) c.in-Ok.ensures.read says
+    (c.run_said.ensures.answered done)
+
+pub returns-in-Err-clause-answered : goal.returns-in-Err-clause-answered
+returns-in-Err-clause-answered g c = λ said says done.
+    absurd (not_done c.in-Err.fault c.tell_unread.result (memory_alone (texts_of c.args.words.now) c.in-Err.fault said c.in-Err.ensures.unread says) c.tell_unread.ensures.end done)
