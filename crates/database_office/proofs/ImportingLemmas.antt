@@ -1,5 +1,6 @@
 -- What becomes of a file of vouchers, by what its reading and its import gave.
-use Rattle.std.proofs.Common.{◌≡◌, ℕ, List, Option, Some, None, IfSome, Result, Ok, Err, IsTrue, false}
+use Rattle.std.proofs.Common.{◌≡◌, ℕ, List, Option, Some, None, IfSome, Result, Ok, Err, IsTrue}
+use Rattle.std.proofs.Common.{false}
 use Rattle.std.specs.Io.KnownBytes.{Appends}
 use Rattle.byte_streams.specs.declared.StreamFault.{StreamFault}
 use Rattle.commands.specs.declared.command.VoucherAddition.{VoucherAddition}

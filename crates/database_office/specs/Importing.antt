@@ -14,7 +14,9 @@ use Rattle.vouchers.specs.Faults.{is_in_file}
 use Rattle.vouchers.specs.Files.{MayStopAt, vouchers_in}
 use Rattle.database_office.specs.Opening.{IsUnanswered}
 use Rattle.database_office.specs.declared.fault.DatabaseFault.{DatabaseFault}
-use Rattle.database_office.specs.declared.fault.DatabaseFault.TheVariants.{File, Clock, Book as BookFault, Open, Net, Memory, Office}
+use Rattle.database_office.specs.declared.fault.DatabaseFault.TheVariants.{File, Clock}
+use Rattle.database_office.specs.declared.fault.DatabaseFault.TheVariants.{Book as BookFault, Open}
+use Rattle.database_office.specs.declared.fault.DatabaseFault.TheVariants.{Net, Memory, Office}
 use Rattle.database_office.specs.declared.importing.ImportFault.{ImportFault}
 use Rattle.database_office.specs.declared.importing.ImportFault.TheVariants.{Vouchers, Database}
 
@@ -44,8 +46,8 @@ IsOverKeeper b text t old new before after (Office (Store fault)) = IsFileBegun 
 IsOverKeeper b text t old new before after (Office (Write fault)) =
     IsFileImported b text t old new (λ counts. WritesBeginning before after (counts_line counts))
 
--- one of the text is its first, or reading it stopped, which it may do at that record: then no table
--- has changed
+-- one of the text is its first, or reading it stopped, which it may do at that record: then no
+-- table has changed
 abbrev pub IsImportFault : Book → List ℕ → ℕ → Tables → Tables → Option (List ℕ) →
     Option (List ℕ) → ImportFault → Type 0
 IsImportFault b text t old new before after (Vouchers fault) =

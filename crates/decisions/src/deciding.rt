@@ -1,4 +1,5 @@
-ghost use Rattle.std.specs.Prelude.{◌≡◌, ◌≤◌, ℕ, true, false, [], None, Some, is_some, IfOk, IfErr, IfSome, OnOk, ◌++◌, if◌then◌else◌};
+ghost use Rattle.std.specs.Prelude.{◌≡◌, ◌≤◌, ℕ, true, false, [], None, Some, is_some, IfOk, IfErr};
+ghost use Rattle.std.specs.Prelude.{IfSome, OnOk, ◌++◌, if◌then◌else◌};
 ghost use Rattle.reserving.specs.Ledger.{Ledger};
 ghost use Rattle.reserving.specs.Left.{LeftRows, IsWith};
 ghost use Rattle.reserving.specs.Charges.{charge_rows};
@@ -8,7 +9,8 @@ ghost use Rattle.decisions.specs.Free.{AreFree};
 ghost use Rattle.decisions.specs.Asked.{IsAsked, Knows, KnowsUnlessRead};
 ghost use Rattle.decisions.specs.Follows.{Always, IsLive, IsRuledBy, Settles, IsRefusal};
 ghost use Rattle.decisions.specs.Events.{event_decision};
-ghost use Rattle.decisions.specs.Decisions.{decision, decided, initial_decision, update_decision, termination_decision, answer_of, is_read};
+ghost use Rattle.decisions.specs.Decisions.{decision, decided, initial_decision, update_decision};
+ghost use Rattle.decisions.specs.Decisions.{termination_decision, answer_of, is_read};
 
 use crate::answering::settled_answers;
 use crate::events::{debit, refund};

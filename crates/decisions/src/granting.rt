@@ -8,7 +8,8 @@ ghost use Rattle.reserving.specs.Left.{LeftRows, IsWith};
 ghost use Rattle.commands.specs.Services.{groups_differ};
 ghost use Rattle.decisions.specs.Known.{is_known};
 ghost use Rattle.decisions.specs.Free.{AreFree, OthersKept};
-ghost use Rattle.decisions.specs.Granting.{granted, granted_units, grants_new, any_grants, denial, first_denial};
+ghost use Rattle.decisions.specs.Granting.{granted, granted_units, grants_new, any_grants, denial};
+ghost use Rattle.decisions.specs.Granting.{first_denial};
 ghost use Rattle.decisions.specs.Decisions.{opened_unless_barred};
 ghost use Rattle.decisions.specs.Follows.{Grants, GrantsAll, IsLive, IsNew, IsRuledBy};
 

@@ -1,4 +1,5 @@
-ghost use Rattle.std.specs.Prelude.{◌≡◌, ◌≤◌, ◌≢◌, true, ◌∷◌, [], false, None, length, OnOk, OnErr, IfOk, Err};
+ghost use Rattle.std.specs.Prelude.{◌≡◌, ◌≤◌, ◌≢◌, true, ◌∷◌, [], false, None, length, OnOk, OnErr};
+ghost use Rattle.std.specs.Prelude.{IfOk, Err};
 ghost use Rattle.reserving.specs.Ledger.{Ledger};
 ghost use Rattle.reserving.specs.Requests.{touched, closed};
 ghost use Rattle.reserving.specs.Changes.{advanced};

@@ -5,7 +5,10 @@ ghost use Rattle.json_fields.specs.Gives.{Gives, or_fault};
 ghost use Rattle.json_fields.specs.declared.fault.WireFault.{WireFault};
 ghost use Rattle.http_heads.specs.Requests.{seen};
 ghost use Rattle.http_answers.specs.Routes.{table};
-ghost use Rattle.http_answers.specs.Asking.{is_slash, second_part, fourth_part, account_command, account_in, account_asked, code_in, credit_asked, month_in, redemption_asked, statement_in, reads, stated, asking_by, asked_of, IsAsked};
+ghost use Rattle.http_answers.specs.Asking.{is_slash, second_part, fourth_part, account_command};
+ghost use Rattle.http_answers.specs.Asking.{account_in, account_asked, code_in, credit_asked};
+ghost use Rattle.http_answers.specs.Asking.{month_in, redemption_asked, statement_in, reads};
+ghost use Rattle.http_answers.specs.Asking.{stated, asking_by, asked_of, IsAsked};
 ghost use Rattle.http_answers.specs.declared.asking.StatementAsked.{StatementAsked};
 
 use crate::routes::{Route, is_get, route_of};

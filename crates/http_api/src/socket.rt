@@ -27,7 +27,8 @@ pub fn serve_socket<K: ChargeSource, C: Clock>(
     clock: &mut C,
 ) -> Result<Served, ServeFault>
     ensures bounded { IfOk result (λ done. done.requests ≤ 1000) }
-    ensures continued { K.clean keeper.new → Continues book.now (K.content keeper.old) (K.content keeper.new) }
+    ensures continued { K.clean keeper.new →
+        Continues book.now (K.content keeper.old) (K.content keeper.new) }
     ensures cleanness { K.clean keeper.new → K.clean keeper.old }
     ensures failures { K.failed keeper.old ≤ K.failed keeper.new }
 {

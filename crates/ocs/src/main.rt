@@ -54,9 +54,9 @@ fn run_own_words(rt: &HostRuntime) -> io::Result<Status> {
 
 /// Runs the program's words. `Done` where what they say was done, or a text that they ask for was
 /// written: the help or the version; of connections that were served, each one's fault is one line
-/// on `errors`. `Failed` where an operator's command or a statement is refused, and at a fault, which
-/// is one line on `errors`. `Unread` where they aren't words of the program: then `output` gets
-/// nothing, and `errors` a text that says why.
+/// on `errors`. `Failed` where an operator's command or a statement is refused, and at a fault,
+/// which is one line on `errors`. `Unread` where they aren't words of the program: then `output`
+/// gets nothing, and `errors` a text that says why.
 pub fn run_words<'a, I: Read, O: Write, E: Write>(
     rt: &HostRuntime,
     words: &'a [&'a str],
@@ -70,9 +70,11 @@ pub fn run_words<'a, I: Read, O: Write, E: Write>(
     ensures unread { ((once : OnceWords) → IsSaid (texts_of words.entry.now) (Once once) → ⊥) →
         input.new ≡ input.old }
     ensures unwritten { result ≡ Unread → output.new ≡ output.old }
-    ensures printed { (said : ProgramWords) → IsSaid (texts_of words.entry.now) said → result ≡ Done →
+    ensures printed { (said : ProgramWords) → IsSaid (texts_of words.entry.now) said →
+        result ≡ Done →
         IfSome (line_of said) (Appends (O.contents output.old) (O.contents output.new)) }
-    ensures begun { (said : ProgramWords) → IsSaid (texts_of words.entry.now) said → result ≡ Failed →
+    ensures begun { (said : ProgramWords) → IsSaid (texts_of words.entry.now) said →
+        result ≡ Failed →
         IfSome (line_of said) (WritesBeginning (O.contents output.old) (O.contents output.new)) }
     ensures answered { (said : ProgramWords) → IsSaid (texts_of words.entry.now) said →
         result ≡ Done → HasPrinted said (O.contents output.old) (O.contents output.new) Done }

@@ -8,7 +8,8 @@ ghost use Rattle.keepers.specs.Keeping.{Keeps};
 ghost use Rattle.keepers.specs.declared.fault.StoreFault.{StoreFault};
 ghost use Rattle.keepers.specs.declared.fault.StoreFault.TheVariants.{Store as StoreFailed};
 ghost use Rattle.office.specs.Counts.{counts_line, total};
-ghost use Rattle.office.specs.Imports.{Adds, BeginsImport, Imports, TellsImport, addition_at, additions};
+ghost use Rattle.office.specs.Imports.{Adds, BeginsImport, Imports, TellsImport, addition_at};
+ghost use Rattle.office.specs.Imports.{additions};
 ghost use Rattle.office.specs.Printed.{PrintsCounts};
 ghost use Rattle.office.specs.Written.{WritesBeginning};
 ghost use Rattle.office.specs.declared.fault.OfficeFault.TheVariants.{Store, Write};
@@ -79,8 +80,8 @@ fn add_voucher<K: Keeper>(
 ///
 /// # Errors
 /// `Store` where the keeper failed: then a beginning of the vouchers was added, and nothing is
-/// written. `Write` where memory ran out for the line or the writer failed: then all were added, and
-/// a beginning of the line is written.
+/// written. `Write` where memory ran out for the line or the writer failed: then all were added,
+/// and a beginning of the line is written.
 #[tactic(auto, using(crate::proofs::ImportLemmas::told_from, crate::proofs::ImportLemmas::untold_from, crate::proofs::ImportLemmas::begun_from))]
 pub fn serve_import<K: Keeper, W: Write>(
     alloc: Global,

@@ -6,7 +6,8 @@ ghost use Rattle.charge_sources.specs.Rows.{AreCharges};
 ghost use Rattle.keepers.specs.declared.fault.StoreFault.TheVariants.{Store as StoreFailed};
 ghost use Rattle.reserving.specs.ChargeColumns.{ChargeColumns};
 ghost use Rattle.statements.specs.Charges.{Asks, Writes};
-ghost use Rattle.office.specs.Months.{IsMonthTold, OnlyReads, Tells, month_fault, rows_text, unknown_line};
+ghost use Rattle.office.specs.Months.{IsMonthTold, OnlyReads, Tells, month_fault, rows_text};
+ghost use Rattle.office.specs.Months.{unknown_line};
 ghost use Rattle.office.specs.Printed.{IsEnded};
 ghost use Rattle.office.specs.Written.{WritesBeginning};
 ghost use Rattle.office.specs.declared.fault.OfficeFault.TheVariants.{Store};
@@ -44,7 +45,8 @@ pub struct MonthQuery {
 /// nothing. An account that isn't there is refused, and the status is `Failed` then.
 ///
 /// # Errors
-/// `Store` where the keeper failed; `Write` where memory ran out for the text, or the writer failed.
+/// `Store` where the keeper failed; `Write` where memory ran out for the text, or the writer
+/// failed.
 /// Then a beginning of the text is written.
 pub fn serve_statement<K: ChargeSource, W: Write>(
     alloc: Global,
@@ -105,7 +107,8 @@ fn write_month<K: ChargeSource, W: Write>(
     ensures writes { K.clean keeper.new →
         Writes ((K.content keeper.old).charges query.now.account)
         (W.contents writer.old) (W.contents writer.new)
-        (λ rows. rows_text book.now query.now state.now.moment rows state.now.buckets.items) result }
+        (λ rows. rows_text book.now query.now state.now.moment rows state.now.buckets.items)
+        result }
     ensures asks { Asks K.content K.failed K.clean keeper.old keeper.new result }
 {
     let MonthQuery {
@@ -142,7 +145,8 @@ fn month_fault(fault: StatementFault) -> OfficeFault
 
 /// Tells that the account isn't there.
 fn tell_unknown<W: Write>(alloc: Global, writer: &mut W) -> Result<Status, OfficeFault>
-    ensures told { Tells Failed (W.contents writer.old) (W.contents writer.new) unknown_line result }
+    ensures told { Tells Failed (W.contents writer.old)
+        (W.contents writer.new) unknown_line result }
     ensures ended { IfOk result (IsEnded
         (Appends (W.contents writer.old) (W.contents writer.new) unknown_line)) }
     ensures unstored { IsErrOf result (Store StoreFailed) → ⊥ }

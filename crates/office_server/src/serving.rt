@@ -27,7 +27,8 @@ pub fn serve_connections<K: ChargeSource, C: Clock, E: Write>(
 ) -> u32
     ensures told { TellsFaults result (E.contents errors.old) (E.contents errors.new) }
     ensures bounded { result ≤ connections }
-    ensures continued { K.clean keeper.new → Continues book.now (K.content keeper.old) (K.content keeper.new) }
+    ensures continued { K.clean keeper.new →
+        Continues book.now (K.content keeper.old) (K.content keeper.new) }
     ensures cleanness { K.clean keeper.new → K.clean keeper.old }
     ensures failures { K.failed keeper.old ≤ K.failed keeper.new }
 {
@@ -49,7 +50,8 @@ fn serve_next<K: ChargeSource, C: Clock, E: Write>(
 ) -> u32
     ensures told { TellsFaults result (E.contents errors.old) (E.contents errors.new) }
     ensures bounded { result ≤ 1 }
-    ensures continued { K.clean keeper.new → Continues book.now (K.content keeper.old) (K.content keeper.new) }
+    ensures continued { K.clean keeper.new →
+        Continues book.now (K.content keeper.old) (K.content keeper.new) }
     ensures cleanness { K.clean keeper.new → K.clean keeper.old }
     ensures failures { K.failed keeper.old ≤ K.failed keeper.new }
 {
@@ -70,7 +72,8 @@ fn serve_accepted<K: ChargeSource, C: Clock>(
     book: &TariffBook,
     clock: &mut C,
 ) -> Result<Served, ServeFault>
-    ensures continued { K.clean keeper.new → Continues book.now (K.content keeper.old) (K.content keeper.new) }
+    ensures continued { K.clean keeper.new →
+        Continues book.now (K.content keeper.old) (K.content keeper.new) }
     ensures cleanness { K.clean keeper.new → K.clean keeper.old }
     ensures failures { K.failed keeper.old ≤ K.failed keeper.new }
 {

@@ -12,7 +12,12 @@ operand id = record (new_rule id) { required = true; action = Some Set }
 -- a word after `--id`, or joined to it by `=`, which may have to be there
 abbrev pub valued : Bool → Text → Rule
 valued is_needed id =
-    record (new_rule id) { long = Some id; value_names = 1; required = is_needed; action = Some Set }
+    record (new_rule id) {
+      long = Some id;
+      value_names = 1;
+      required = is_needed;
+      action = Some Set;
+    }
 
 -- an option that may be left out
 abbrev pub option : Text → Rule

@@ -1,7 +1,10 @@
 ghost use Rattle.std.specs.Prelude.{◌≡◌, IfOk, false};
 ghost use Rattle.clap.specs.Words.{app_of, with_rule, with_subcommand};
 ghost use Rattle.clap.specs.declared.builder.command.Command.TheViews.{out-Command as fields_of};
-ghost use Rattle.operator.specs.Program.{account_app, accounts_app, at, credit_app, credit_operands_app, files_app, first_app, import_app, init_app, office_app, once_app, program_app, replay_app, serve_app, statement_app, sweep_app, top_app};
+ghost use Rattle.operator.specs.Program.{account_app, accounts_app, at, credit_app};
+ghost use Rattle.operator.specs.Program.{credit_operands_app, files_app, first_app, import_app};
+ghost use Rattle.operator.specs.Program.{init_app, office_app, once_app, program_app, replay_app};
+ghost use Rattle.operator.specs.Program.{serve_app, statement_app, sweep_app, top_app};
 
 use crate::arguments::{with_flag, with_operand, with_option};
 use clap::Command;

@@ -12,14 +12,17 @@ use Rattle.sql_rows.specs.Content.{Content, content_of}
 use Rattle.sql_rows.specs.Makes.{Makes}
 
 -- the parameters are the values that the text was read with
-pub writes : (text : List ℕ) (values : Row) (does : State → State → Type 0) (change : Content → Content)
+pub writes : (text : List ℕ) (values : Row) (does : State → State → Type 0)
+    (change : Content → Content)
     → ((old new : State) (r : Result ℕ Error) → (IsTrue old.is_open → IsBook old)
     → OnOk r (ExecutesInside 0 text values old new r) → OnOk r (does old new))
     → ((old new : State) → does old new → Makes change old new)
     → (params : Row) → params ≡ values → (old new : State) (r : Result ℕ Error) → HasBook old
-    → Attempts (λ old new. ExecutesInside 0 text params old new r) old new r → Attempts (Makes change) old new r
-writes text values does change runs makes params same old new r has = done_as _ (Makes change) old new r
-    (λ clean ran. made r (runs old new r (has clean) (subst (λ p. OnOk r (ExecutesInside 0 text p old new r)) same ran)))
+    → Attempts (λ old new. ExecutesInside 0 text params old new r) old new r
+    → Attempts (Makes change) old new r
+writes text values does change runs makes params same old new r has =
+    done_as _ (Makes change) old new r (λ clean ran. made r
+    (runs old new r (has clean) (subst (λ p. OnOk r (ExecutesInside 0 text p old new r)) same ran)))
   where
     made : (r : Result ℕ Error) → OnOk r (does old new) → OnOk r (Makes change old new)
     made (Ok count) h = makes old new h
@@ -40,4 +43,5 @@ pub puts_make : (table : Table) (values : Row) (change : Content → Content)
     → ((old new : Trees) → Changes table values old new → content_of new ≡ change (content_of old))
     → (old new : State) → Puts table values old new → Makes change old new
 puts_make table values change turns old new p =
-    makes_turned change old new (turns old.now.trees new.now.trees p.changes) p.changes.catalog p.book p.shows
+    makes_turned change old new
+    (turns old.now.trees new.now.trees p.changes) p.changes.catalog p.book p.shows

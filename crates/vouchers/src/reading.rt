@@ -1,4 +1,5 @@
-ghost use Rattle.std.specs.Prelude.{◌≡◌, ◌≢◌, if◌then◌else◌, All, IfErr, IfOk, IfSome, IsTrue, OnOk, Ok, Err, false};
+ghost use Rattle.std.specs.Prelude.{◌≡◌, ◌≢◌, if◌then◌else◌, All, IfErr, IfOk, IfSome, IsTrue};
+ghost use Rattle.std.specs.Prelude.{OnOk, Ok, Err, false};
 ghost use Rattle.csv.specs.Reading.{ReadRecord, Ready, error_kind, is_io, reader_trim};
 ghost use Rattle.csv.specs.Records.{fields_of};
 ghost use Rattle.csv.specs.declared.reader.Trim.TheVariants as trim;

@@ -20,7 +20,8 @@ const UPDATE: &str = r##"{"Session-Id":"s1","CC-Request-Type":2,"CC-Request-Numb
   "Result-Code":2001,"Validity-Time":3600}],"Result-Code":2001,"Session-Id":"s1"}"##;
 
 /// Ten commands: an account is opened and credited; a session begins, reports, and sends its report
-/// again; the account is barred and gets money back; a voucher is added, and the account redeems it;
+/// again; the account is barred and gets money back; a voucher is added, and the account redeems
+/// it;
 /// and a sweep ends the session.
 const TEN: &str = r##"1767571200 open 49151
 = {"Result-Code":2001}

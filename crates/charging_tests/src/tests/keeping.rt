@@ -1,5 +1,5 @@
-//! Scenarios of a keeper alone: what each call gives, a line a call. An account has a credit of 150,000
-//! micro-units until 1767607800, 10:10 on a day in January 2026.
+//! Scenarios of a keeper alone: what each call gives, a line a call. An account has a credit of
+//! 150,000 micro-units until 1767607800, 10:10 on a day in January 2026.
 
 use crate::tests::book::book;
 use crate::tests::lines::account;

@@ -7,8 +7,8 @@ use std::io::{self, ErrorKind};
 use std::test::Fail;
 use units::Moment;
 
-// A scenario has the lines that are handed in (`> `), each with its answer below it (`< `). An indented line goes on
-// with the one above.
+// A scenario has the lines that are handed in (`> `), each with its answer below it (`< `). An
+// indented line goes on with the one above.
 
 /// The text of a scenario's lines and that of the answers that are wanted.
 struct Scenario {
@@ -82,8 +82,8 @@ fn play_in_turn(alloc: Global, credit: u64, first: &str, then: &str) -> Result<P
     play(alloc, credit, text.as_str())
 }
 
-/// The last bucket of account 49151 in the order of use, with its number: credited, available, reserved, charged,
-/// expired. All are 0 where there is none.
+/// The last bucket of account 49151 in the order of use, with its number: credited, available,
+/// reserved, charged, expired. All are 0 where there is none.
 fn last_bucket(alloc: Global, keeper: &MemoryKeeper) -> Result<[u64; 6], Fail> {
     let number = AccountNumber::new(alloc, "49151")?.ok_or("an account number")?;
     let mut buckets = keeper.whole(&number)?.buckets;
@@ -233,7 +233,8 @@ const UNREAD: &str = r#"> 0 {}
 < {"Result-Code":5012}
 "#;
 
-/// An event is read by the table of fields; a line without a moment isn't read. None of them opens an account.
+/// An event is read by the table of fields; a line without a moment isn't read. None of them opens
+/// an account.
 #[test]
 fn lines_that_are_no_requests(rt: HostRuntime) -> Result<(), Fail> {
     let alloc = rt.alloc();
@@ -499,7 +500,8 @@ fn answer<R: Read, W: Write>(
     Ok(lines(alloc, &mut keeper, &book, None, reader, writer))
 }
 
-/// A reader that fails at any of its calls, one a byte and one for the end, is told as such; nothing is written.
+/// A reader that fails at any of its calls, one a byte and one for the end, is told as such;
+/// nothing is written.
 #[test]
 fn a_reader_that_fails(rt: HostRuntime) -> Result<(), Fail> {
     let alloc = rt.alloc();
@@ -520,8 +522,8 @@ fn a_reader_that_fails(rt: HostRuntime) -> Result<(), Fail> {
     Ok(())
 }
 
-/// A writer that fails at any of its calls is told as such; a beginning of the answers is written. The answers are 47
-/// and 21 bytes: 6 and 3 calls.
+/// A writer that fails at any of its calls is told as such; a beginning of the answers is written.
+/// The answers are 47 and 21 bytes: 6 and 3 calls.
 #[test]
 fn a_writer_that_fails(rt: HostRuntime) -> Result<(), Fail> {
     let alloc = rt.alloc();

@@ -107,8 +107,8 @@ fn groups(alloc: Global) -> Result<Vec<SessionGroup>, Fail> {
     Ok(rows)
 }
 
-/// An account with two buckets, the first of them dead, two sessions, one of them over, and counters
-/// of two months.
+/// An account with two buckets, the first of them dead, two sessions, one of them over, and
+/// counters of two months.
 fn account(alloc: Global) -> Result<StoredAccount, Fail> {
     let rows = GivenRows {
         as_of: moment(AT)?,

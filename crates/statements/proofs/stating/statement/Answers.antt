@@ -40,7 +40,8 @@ pub returns-clause-writes : goal.returns-clause-writes
 returns-clause-writes g c = λ clean. record {
   whole = λ rows are.
       let month = of_month c.args.book.now c.args.month rows in
-      three_written (g.W.Write.contents c.args.writer.now) (g.W.Write.contents c.write_head.new.writer)
+      three_written (g.W.Write.contents c.args.writer.now)
+      (g.W.Write.contents c.write_head.new.writer)
       (g.W.Write.contents c.write_charges.new.writer) (g.W.Write.contents c.write_foot.new.writer)
       (head_text c.args.account.now c.args.month c.args.moment) (charges_text Lines month)
       (λ s. foot_text s c.args.buckets.now) _ (sums_of month)
