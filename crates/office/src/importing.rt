@@ -14,7 +14,7 @@ ghost use Rattle.office.specs.Printed.{PrintsCounts};
 ghost use Rattle.office.specs.Written.{WritesBeginning};
 ghost use Rattle.office.specs.declared.fault.OfficeFault.TheVariants.{Store, Write};
 
-use crate::counts::{Counts, counted, counts_text, no_counts};
+use crate::counts::{Counts, count_one, counts_text, no_counts};
 use crate::fault::OfficeFault;
 use crate::writing::write_line;
 use byte_streams::StreamFault;
