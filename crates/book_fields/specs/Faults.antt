@@ -2,7 +2,10 @@
 -- Source: profile.
 use Rattle.std.specs.Prelude.{ℕ, Result}
 use Rattle.book_fields.specs.declared.fault.BookFault.{BookFault}
-use Rattle.book_fields.specs.declared.fault.BookFault.TheVariants.{NotToml, Missing, WrongKind, OutOfRange, UnknownPeriod, WeekNotCovered, TiersNotRising, TooMany, Memory}
+use Rattle.book_fields.specs.declared.fault.BookFault.TheVariants.{NotToml, Missing, WrongKind}
+use Rattle.book_fields.specs.declared.fault.BookFault.TheVariants.{OutOfRange, UnknownPeriod}
+use Rattle.book_fields.specs.declared.fault.BookFault.TheVariants.{WeekNotCovered, TiersNotRising}
+use Rattle.book_fields.specs.declared.fault.BookFault.TheVariants.{TooMany, Memory}
 use Rattle.first_fault.specs.Steps.{GivesUnless}
 pub use Rattle.first_fault.specs.Steps.{◌>>=◌, or_fault, where_holds, Says}
 

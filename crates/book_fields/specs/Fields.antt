@@ -1,9 +1,12 @@
 -- A value under a key of a table, by its kind and its range. Faults come in the order missing,
 -- wrong kind, too many entries, out of range. Source: TOML 1.0; the faults: profile.
-use Rattle.std.specs.Prelude.{ℕ, suc, ◌&&◌, List, [], ◌∷◌, Result, nat_le, pos, int_le, unsigned_abs}
-use Rattle.toml.specs.Data.{Data, Items, no_items, item, Members, get_member, as_str, as_integer, as_array, as_table}
+use Rattle.std.specs.Prelude.{ℕ, suc, ◌&&◌, List, [], ◌∷◌, Result, nat_le, pos, int_le}
+use Rattle.std.specs.Prelude.{unsigned_abs}
+use Rattle.toml.specs.Data.{Data, Items, no_items, item, Members, get_member, as_str, as_integer}
+use Rattle.toml.specs.Data.{as_array, as_table}
 use Rattle.book_fields.specs.declared.fault.BookFault.{BookFault}
-use Rattle.book_fields.specs.declared.fault.BookFault.TheVariants.{Missing, WrongKind, OutOfRange, TooMany}
+use Rattle.book_fields.specs.declared.fault.BookFault.TheVariants.{Missing, WrongKind, OutOfRange}
+use Rattle.book_fields.specs.declared.fault.BookFault.TheVariants.{TooMany}
 use Rattle.first_fault.specs.Steps as steps
 use Rattle.book_fields.specs.Faults.{◌>>=◌, or_fault, where_holds}
 

@@ -1,7 +1,8 @@
 ghost use Rattle.std.specs.Prelude.{◌≡◌, ◌≤◌, ◌<◌, ◌^◌, IfOk, length};
 ghost use Rattle.toml.specs.View.{view, table_view, items_view};
 ghost use Rattle.book_fields.specs.Faults.{Says};
-ghost use Rattle.book_fields.specs.Fields.{member_of, text_of, number_in, array_of, filled_array_of, text_at, table_at};
+ghost use Rattle.book_fields.specs.Fields.{member_of, text_of, number_in, array_of};
+ghost use Rattle.book_fields.specs.Fields.{filled_array_of, text_at, table_at};
 
 use crate::fault::BookFault;
 use toml::{Table, Value};

@@ -1,12 +1,16 @@
 -- What each purse keeps is kept by what is done to its buckets.
-use Rattle.std.proofs.Common.{◌≢◌, ℕ, ◌+◌, ◌-◌, ◌<◌, ◌≤◌, Bool, true, false, List, [], ◌∷◌, map, sym, ◌∙◌, arith}
+use Rattle.std.proofs.Common.{◌≢◌, ℕ, ◌+◌, ◌-◌, ◌<◌, ◌≤◌, Bool, true, false, List, [], ◌∷◌, map}
+use Rattle.std.proofs.Common.{sym, ◌∙◌, arith}
 use Rattle.std.specs.Prelude.{if◌then◌else◌, nat_lt, min}
 use Rattle.buckets.specs.declared.holds.Hold.{Hold}
-use Rattle.buckets.specs.Row.{Row, IsBalanced, eligible_amount, is_eligible, with_hold, with_charge, with_charge_of_hold, with_release, with_end}
+use Rattle.buckets.specs.Row.{Row, IsBalanced, eligible_amount, is_eligible, with_hold, with_charge}
+use Rattle.buckets.specs.Row.{with_charge_of_hold, with_release, with_end}
 use Rattle.buckets.specs.Share.{along}
 use Rattle.buckets.specs.Spend.{Each, DiffersFromAll, AreDistinct, IsSound, IsBelow, inserted}
 use Rattle.buckets.specs.Holding.{held_in, IsWithin}
-use Rattle.buckets.proofs.SharesAlong.{KeepsPlace, KeepsPlaces, IsInOrder-along, IsInOrder-map, IsInOrder-inserted, with_hold_keeps, with_charge_keeps, with_charge_of_hold_keeps, with_end_keeps, released_keeps}
+use Rattle.buckets.proofs.SharesAlong.{KeepsPlace, KeepsPlaces, IsInOrder-along, IsInOrder-map}
+use Rattle.buckets.proofs.SharesAlong.{IsInOrder-inserted, with_hold_keeps, with_charge_keeps}
+use Rattle.buckets.proofs.SharesAlong.{with_charge_of_hold_keeps, with_end_keeps, released_keeps}
 
 -- ---- numbers
 

@@ -1,5 +1,6 @@
 -- What a walk along holds and buckets meets is what the holds have of each bucket.
-use Rattle.std.proofs.Common.{◌≡◌, ◌≢◌, ℕ, ◌+◌, ◌-◌, ◌<◌, Bool, true, false, List, [], ◌∷◌, length, get_or, set, drop, refl, sym, ap, ◌∙◌, subst, arith}
+use Rattle.std.proofs.Common.{◌≡◌, ◌≢◌, ℕ, ◌+◌, ◌-◌, ◌<◌, Bool, true, false, List, [], ◌∷◌, length}
+use Rattle.std.proofs.Common.{get_or, set, drop, refl, sym, ap, ◌∙◌, subst, arith}
 use Rattle.std.specs.Prelude.{if◌then◌else◌, ◌==◌}
 use Rattle.std.proofs.lemmas.Bool.{eqb-true}
 use Rattle.std.proofs.lemmas.List.{drop_more, drop-set-lt}
@@ -78,7 +79,8 @@ next_same holds rest b [] away h = tt
 next_same holds rest b (x ∷ xs) away h =
     (h.0 ∙ next_is rest b x away.0, next_same holds rest b xs away.1 h.1)
 
-each_same : (holds : List Hold) (rows : List Row) → Each (λ b. held_in holds b ≡ held_in holds b) rows
+each_same : (holds : List Hold) (rows : List Row) →
+    Each (λ b. held_in holds b ≡ held_in holds b) rows
 each_same holds [] = tt
 each_same holds (b ∷ bs) = (refl, each_same holds bs)
 

@@ -1,5 +1,6 @@
 -- The parts of an amount, by the number of the bucket; and that they are within what is reserved.
-use Rattle.std.proofs.Common.{◌≡◌, ◌≢◌, ℕ, ◌+◌, ◌-◌, ◌≤◌, List, [], ◌∷◌, map, refl, sym, ap, ◌∙◌, arith}
+use Rattle.std.proofs.Common.{◌≡◌, ◌≢◌, ℕ, ◌+◌, ◌-◌, ◌≤◌, List, [], ◌∷◌, map, refl, sym, ap, ◌∙◌}
+use Rattle.std.proofs.Common.{arith}
 use Rattle.std.specs.Prelude.{if◌then◌else◌, ◌==◌}
 use Rattle.std.proofs.lemmas.Bool.Decides.{nat_tests}
 use Rattle.std.proofs.lemmas.List.Sums.{sum_by-cons}
@@ -7,7 +8,8 @@ use Rattle.buckets.specs.declared.holds.Hold.{Hold}
 use Rattle.buckets.specs.Row.{Row, eligible_amount, with_hold, with_charge, with_charge_of_hold}
 use Rattle.buckets.specs.Share.{share, parts}
 use Rattle.buckets.specs.Spend.{Each, DiffersFromAll, AreDistinct, held_rows}
-use Rattle.buckets.specs.Holding.{held_in, held_sum, IsWithin, holds_of, rest_of_holds, charged_rows}
+use Rattle.buckets.specs.Holding.{held_in, held_sum, IsWithin, holds_of, rest_of_holds}
+use Rattle.buckets.specs.Holding.{charged_rows}
 
 -- what holds have of a number
 abbrev pub sum_at : ℕ → List Hold → ℕ

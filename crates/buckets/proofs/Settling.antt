@@ -3,12 +3,16 @@ use Rattle.std.proofs.Common.{◌≡◌, ℕ, ◌+◌, ◌-◌, ◌≤◌, List,
 use Rattle.std.specs.Prelude.{if◌then◌else◌, min}
 use Rattle.std.proofs.lemmas.List.Sums.{sum_by-cons}
 use Rattle.buckets.specs.declared.holds.Hold.{Hold}
-use Rattle.buckets.specs.Row.{Row, IsBalanced, precedes, eligible_amount, with_charge, with_charge_of_hold, with_release}
+use Rattle.buckets.specs.Row.{Row, IsBalanced, precedes, eligible_amount, with_charge}
+use Rattle.buckets.specs.Row.{with_charge_of_hold, with_release}
 use Rattle.buckets.specs.Share.{sum_before, share, by_shares, along}
 use Rattle.buckets.specs.Spend.{Each, IsInOrder, IsSound}
-use Rattle.buckets.specs.Holding.{held_in, held_sum, IsWithin, IsLeftWithin, with_rest_released, settled_row, settled_rows, rest_of_holds}
+use Rattle.buckets.specs.Holding.{held_in, held_sum, IsWithin, IsLeftWithin, with_rest_released}
+use Rattle.buckets.specs.Holding.{settled_row, settled_rows, rest_of_holds}
 use Rattle.buckets.specs.Laws.{SettlesAsCharged}
-use Rattle.buckets.proofs.SharesAlong.{KeepsPlaces, with_release_number, with_release_until, by_shares-along, charged_rows-along, IsInOrder-along, with_charge_keeps, with_charge_of_hold_keeps}
+use Rattle.buckets.proofs.SharesAlong.{KeepsPlaces, with_release_number, with_release_until}
+use Rattle.buckets.proofs.SharesAlong.{by_shares-along, charged_rows-along, IsInOrder-along}
+use Rattle.buckets.proofs.SharesAlong.{with_charge_keeps, with_charge_of_hold_keeps}
 use Rattle.buckets.proofs.Kept.{AreDistinct-along, balanced_release}
 use Rattle.buckets.proofs.Parts.{sum_at, sum_at-parts, held_in-sum_at}
 

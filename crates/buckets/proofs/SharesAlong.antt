@@ -1,10 +1,12 @@
 -- The shares of an amount, by one walk along the buckets in order.
-use Rattle.std.proofs.Common.{length, get_or, drop, ◌≡◌, ℕ, ◌+◌, ◌-◌, ◌<◌, ◌≤◌, Bool, true, false, List, [], ◌∷◌, map, refl, sym, ap, ◌∙◌, add-one, arith}
+use Rattle.std.proofs.Common.{length, get_or, drop, ◌≡◌, ℕ, ◌+◌, ◌-◌, ◌<◌, ◌≤◌, Bool, true, false}
+use Rattle.std.proofs.Common.{List, [], ◌∷◌, map, refl, sym, ap, ◌∙◌, add-one, arith}
 use Rattle.std.specs.Prelude.{insert, if◌then◌else◌, nat_lt, min}
 use Rattle.std.proofs.lemmas.Bool.Decides.{nat_tests}
 use Rattle.std.proofs.lemmas.List.{drop_more}
 use Rattle.std.proofs.lemmas.List.Sums.{sum_by-cons}
-use Rattle.buckets.specs.Row.{Row, precedes, with_hold, with_charge, with_charge_of_hold, with_end, with_release, eligible_amount}
+use Rattle.buckets.specs.Row.{Row, precedes, with_hold, with_charge, with_charge_of_hold, with_end}
+use Rattle.buckets.specs.Row.{with_release, eligible_amount}
 use Rattle.buckets.specs.Share.{sum_before, share, by_shares, along, parts, parts_along}
 use Rattle.buckets.specs.Spend.{PrecedesAll, IsInOrder, IsBelow, inserted, place, funds}
 use Rattle.buckets.specs.declared.holds.Hold.{Hold}

@@ -1,9 +1,11 @@
 -- What is short: all holds are used up, and what is eligible is empty.
-use Rattle.std.proofs.Common.{◌≡◌, ℕ, ◌+◌, ◌-◌, ◌≤◌, Bool, true, false, List, [], ◌∷◌, refl, ap, ◌∙◌, arith, inl, inr}
+use Rattle.std.proofs.Common.{◌≡◌, ℕ, ◌+◌, ◌-◌, ◌≤◌, Bool, true, false, List, [], ◌∷◌, refl, ap}
+use Rattle.std.proofs.Common.{◌∙◌, arith, inl, inr}
 use Rattle.std.specs.Prelude.{if◌then◌else◌, nat_lt, nat_le, ◌==◌, ◌&&◌, ◌||◌, sum_by}
 use Rattle.std.proofs.lemmas.Bool.Decides.{nat_tests}
 use Rattle.std.proofs.lemmas.List.Sums.{sum_by-cons}
-use Rattle.buckets.specs.Row.{Row, precedes, covers, is_eligible, eligible_amount, with_charge, with_charge_of_hold, with_release}
+use Rattle.buckets.specs.Row.{Row, precedes, covers, is_eligible, eligible_amount, with_charge}
+use Rattle.buckets.specs.Row.{with_charge_of_hold, with_release}
 use Rattle.buckets.specs.Share.{sum_before, share}
 use Rattle.buckets.specs.Holding.{held_in, held_sum, paid_of_hold, paid_of_rest}
 use Rattle.buckets.specs.Laws.{IsAmong, IsSpentWhereShort}

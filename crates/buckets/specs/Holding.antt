@@ -1,6 +1,7 @@
 -- What a reservation holds of the buckets.
 -- Source: TS 32.299, session charging with unit reservation; shares in order: profile.
-use Rattle.std.specs.Prelude.{◌≢◌, ℕ, ◌-◌, ◌+◌, ◌≤◌, ◌<◌, List, [], ◌∷◌, map, sum_by, ◌==◌, if◌then◌else◌, min}
+use Rattle.std.specs.Prelude.{◌≢◌, ℕ, ◌-◌, ◌+◌, ◌≤◌, ◌<◌, List, [], ◌∷◌, map, sum_by, ◌==◌}
+use Rattle.std.specs.Prelude.{if◌then◌else◌, min}
 use Rattle.std.specs.List.{AllByRecursion}
 use Rattle.buckets.specs.declared.holds.Hold.{Hold}
 use Rattle.buckets.specs.Row.{Row, eligible_amount, with_charge_of_hold, with_charge, with_release}

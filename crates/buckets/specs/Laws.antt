@@ -4,7 +4,8 @@ use Rattle.std.specs.Prelude.{◌≡◌, ◌⊎◌, ℕ, ◌+◌, ◌<◌, List,
 use Rattle.buckets.specs.declared.holds.Hold.{Hold}
 use Rattle.buckets.specs.Row.{Row, eligible_amount}
 use Rattle.buckets.specs.Spend.{IsInOrder, AreDistinct}
-use Rattle.buckets.specs.Holding.{held_in, uncollected, paid, paid_of_hold, settled_row, settled_rows, charged_rows, released_rows, rest_of_holds}
+use Rattle.buckets.specs.Holding.{held_in, uncollected, paid, paid_of_hold, settled_row}
+use Rattle.buckets.specs.Holding.{settled_rows, charged_rows, released_rows, rest_of_holds}
 
 abbrev pub IsAmong : Row → List Row → Type 0
 IsAmong b [] = ⊥

@@ -1,7 +1,8 @@
 -- A bucket as a caller sees it.
 -- Source: TS 32.296, account balance management function; the four columns, scopes and the order of
 -- use: profile.
-use Rattle.std.specs.Prelude.{◌≡◌, ℕ, ◌+◌, ◌-◌, ◌≤◌, Option, Some, None, Bool, true, ◌==◌, ◌&&◌, ◌||◌, nat_lt, nat_le, if◌then◌else◌}
+use Rattle.std.specs.Prelude.{◌≡◌, ℕ, ◌+◌, ◌-◌, ◌≤◌, Option, Some, None, Bool, true, ◌==◌, ◌&&◌}
+use Rattle.std.specs.Prelude.{◌||◌, nat_lt, nat_le, if◌then◌else◌}
 
 pub record Row : Type 0 where
   pub number : ℕ

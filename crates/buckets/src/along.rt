@@ -1,8 +1,11 @@
 //! Walks along buckets in order.
 
-ghost use Rattle.std.specs.Prelude.{◌≡◌, ◌-◌, ◌≤◌, [], true, min, length, map, drop, IfOk, vec_len, vec_capacity};
-ghost use Rattle.buckets.specs.Row.{Row, eligible_amount, with_hold, with_charge, with_charge_of_hold, with_release, with_end};
-ghost use Rattle.buckets.specs.Holding.{held_in, held_sum, IsWithin, IsLeftWithin, with_rest_released};
+ghost use Rattle.std.specs.Prelude.{◌≡◌, ◌-◌, ◌≤◌, [], true, min, length, map, drop, IfOk, vec_len};
+ghost use Rattle.std.specs.Prelude.{vec_capacity};
+ghost use Rattle.buckets.specs.Row.{Row, eligible_amount, with_hold, with_charge};
+ghost use Rattle.buckets.specs.Row.{with_charge_of_hold, with_release, with_end};
+ghost use Rattle.buckets.specs.Holding.{held_in, held_sum, IsWithin, IsLeftWithin};
+ghost use Rattle.buckets.specs.Holding.{with_rest_released};
 ghost use Rattle.buckets.specs.Merged.{first_held, next_of, unmet};
 ghost use Rattle.buckets.specs.Spend.{funds, place, AreDistinct};
 ghost use Rattle.buckets.specs.Share.{along, parts_along};

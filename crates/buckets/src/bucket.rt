@@ -1,5 +1,7 @@
 ghost use Rattle.std.specs.Prelude.{◌≡◌, ℕ, ◌+◌, ◌-◌, ◌≤◌, ◌<◌, ◌==◌, ◌&&◌, IsTrue, ◌↔◌};
-ghost use Rattle.buckets.specs.Row.{is_eligible, eligible_amount, with_hold, with_charge, with_charge_of_hold, with_release, with_end, new_row, IsBalanced};
+ghost use Rattle.buckets.specs.Row.{is_eligible, eligible_amount, with_hold, with_charge};
+ghost use Rattle.buckets.specs.Row.{with_charge_of_hold, with_release, with_end, new_row};
+ghost use Rattle.buckets.specs.Row.{IsBalanced};
 
 mod columns;
 

@@ -1,7 +1,9 @@
-ghost use Rattle.std.specs.Prelude.{◌≡◌, ℕ, ◌+◌, ◌-◌, ◌≤◌, ◌<◌, ◌^◌, ◌↔◌, ◌==◌, ◌&&◌, not, [], OnOk, OnErr, IfOk, IsErrOf, map, length, filter};
+ghost use Rattle.std.specs.Prelude.{◌≡◌, ℕ, ◌+◌, ◌-◌, ◌≤◌, ◌<◌, ◌^◌, ◌↔◌, ◌==◌, ◌&&◌, not, []};
+ghost use Rattle.std.specs.Prelude.{OnOk, OnErr, IfOk, IsErrOf, map, length, filter};
 ghost use Rattle.buckets.specs.Row.{Row, with_end, new_row};
 ghost use Rattle.buckets.specs.Spend.{funds, held_rows, IsBelow, inserted, IsSound};
-ghost use Rattle.buckets.specs.Holding.{holds_of, IsWithin, charged_rows, released_rows, uncollected, rest_of_holds, settled_rows};
+ghost use Rattle.buckets.specs.Holding.{holds_of, IsWithin, charged_rows, released_rows};
+ghost use Rattle.buckets.specs.Holding.{uncollected, rest_of_holds, settled_rows};
 
 mod tested;
 

@@ -17,7 +17,8 @@ after_line (b ∷ bs) = if b == 10 then bs else after_line bs
 abbrev pub IsLineOf : List ℕ → Option (Vec ℕ Global) → Option (List ℕ) → Type 0
 IsLineOf [] (Some line) left = ⊥
 IsLineOf [] None left = left ≡ Some []
-IsLineOf (b ∷ bs) (Some line) left = (line.items ≡ line_of (b ∷ bs)) × (left ≡ Some (after_line (b ∷ bs)))
+IsLineOf (b ∷ bs) (Some line) left = (line.items ≡ line_of (b ∷ bs))
+    × (left ≡ Some (after_line (b ∷ bs)))
 IsLineOf (b ∷ bs) None left = ⊥
 
 -- a byte before the first of some lines

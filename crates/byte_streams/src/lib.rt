@@ -2,7 +2,8 @@
 //! writer. A read or a write that is interrupted is tried again, up to 100 times.
 #![tactic(auto)]
 
-ghost use Rattle.std.specs.Prelude.{◌≡◌, ◌≢◌, ◌==◌, ◌≤◌, ◌<◌, ◌-◌, ℕ, List, length, take, All, OnOk, OnErr, IfOk, IfNone, IfSome, option_to_list};
+ghost use Rattle.std.specs.Prelude.{◌≡◌, ◌≢◌, ◌==◌, ◌≤◌, ◌<◌, ◌-◌, ℕ, List, length, take, All};
+ghost use Rattle.std.specs.Prelude.{OnOk, OnErr, IfOk, IfNone, IfSome, option_to_list};
 ghost use Rattle.std.specs.Io.KnownBytes.{Appends, Consumes, IsAtEnd, Keeps};
 ghost use Rattle.byte_streams.specs.Lines.{IsLineOf};
 ghost use Rattle.byte_streams.specs.Parts.{IsPartOf, TakesPiece};
@@ -45,7 +46,8 @@ impl<T: Drop> From<AllocFailed<T>> for StreamFault {
 /// # Errors
 /// `Read` where the reader failed, or was interrupted 100 times. Then no byte is taken.
 pub fn next_byte<R: Read>(reader: &mut R) -> Result<Option<u8>, StreamFault>
-    ensures taken { IfOk result (λ byte. Consumes (R.remaining reader.old) (R.remaining reader.new) (option_to_list byte)) }
+    ensures taken { IfOk result
+        (λ byte. Consumes (R.remaining reader.old) (R.remaining reader.new) (option_to_list byte)) }
     ensures end { IfOk result (λ byte. IfNone byte (IsAtEnd (R.remaining reader.new))) }
     ensures err { OnErr result (Keeps (R.remaining reader.old) (R.remaining reader.new)) }
 {
@@ -104,9 +106,11 @@ fn take_shown<R: BufRead>(
 ) -> Result<Option<usize>, StreamFault>
     requires { 0 < most }
     ensures taken { IfOk result (λ taken. IfSome taken
-        (TakesPiece stop most part.old.items part.new.items (R.remaining reader.old) (R.remaining reader.new))) }
+        (TakesPiece stop most part.old.items part.new.items (R.remaining reader.old)
+        (R.remaining reader.new))) }
     ensures interrupted { IfOk result (λ taken. IfNone taken
-        ((part.new.items ≡ part.old.items) × Keeps (R.remaining reader.old) (R.remaining reader.new))) }
+        ((part.new.items ≡ part.old.items)
+        × Keeps (R.remaining reader.old) (R.remaining reader.new))) }
 {
     let shown = match reader.fill_buf() {
         Ok(shown) => shown,
@@ -137,7 +141,8 @@ pub fn take_piece<R: BufRead>(
     most: usize,
 ) -> Result<usize, StreamFault>
     requires { 0 < most }
-    ensures { IfOk result (TakesPiece stop most part.old.items part.new.items (R.remaining reader.old) (R.remaining reader.new)) }
+    ensures { IfOk result (TakesPiece stop most part.old.items part.new.items
+        (R.remaining reader.old) (R.remaining reader.new)) }
 {
     for _attempt in 0..MAX_ATTEMPTS {
         if let Some(count) = take_shown(reader, part, stop, most)? {
@@ -204,7 +209,8 @@ pub fn next_line<R: Read>(alloc: Global, reader: &mut R) -> Result<Option<Vec<u8
 fn write_some<W: Write>(writer: &mut W, text: &[u8]) -> Result<usize, StreamFault>
     ensures some { IfOk result (λ n. 0 < n) }
     ensures within { IfOk result (λ n. n ≤ length text.now) }
-    ensures ok { IfOk result (λ n. Appends (W.contents writer.old) (W.contents writer.new) (take n text.now)) }
+    ensures ok { IfOk result
+        (λ n. Appends (W.contents writer.old) (W.contents writer.new) (take n text.now)) }
     ensures err { OnErr result (Keeps (W.contents writer.old) (W.contents writer.new)) }
 {
     for _attempt in 0..MAX_ATTEMPTS {
@@ -228,7 +234,8 @@ fn write_some<W: Write>(writer: &mut W, text: &[u8]) -> Result<usize, StreamFaul
 /// the text is written.
 pub fn write_whole<W: Write>(writer: &mut W, text: &[u8]) -> Result<(), StreamFault>
     ensures ok { OnOk result (Appends (W.contents writer.old) (W.contents writer.new) text.now) }
-    ensures err { OnErr result ((n : ℕ) × Appends (W.contents writer.old) (W.contents writer.new) (take n text.now)) }
+    ensures err { OnErr result
+        ((n : ℕ) × Appends (W.contents writer.old) (W.contents writer.new) (take n text.now)) }
 {
     let mut at = 0;
     for _turn in 0..text.len() {

@@ -1,5 +1,7 @@
 -- The end of a civil day, from jiff's numbers.
-use Rattle.std.proofs.Common.{◌≡◌, ℕ, zero, suc, ◌+◌, ◌*◌, ◌<◌, ◌≤◌, arith, ℤ, pos, ◌-ℤ◌, ◌*ℤ◌, Bool, Option, Some, None, true, false, nat_lt, refl, ◌∙◌, ap, sym, inl, inr}
+use Rattle.std.proofs.Common.{◌≡◌, ℕ, zero, suc, ◌+◌, ◌*◌, ◌<◌, ◌≤◌, arith, ℤ, pos, ◌-ℤ◌, ◌*ℤ◌}
+use Rattle.std.proofs.Common.{Bool, Option, Some, None, true, false, nat_lt, refl, ◌∙◌, ap, sym}
+use Rattle.std.proofs.Common.{inl, inr}
 use Rattle.std.proofs.lemmas.Bool.Decides.{nat_tests}
 use Rattle.std.specs.Prelude.{int_div, IsSome, IfSome, IfNone, ◌↔◌, find}
 use Rattle.std.proofs.lemmas.Bool.{cases_lt, false≢true}

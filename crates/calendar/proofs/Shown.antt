@@ -1,5 +1,6 @@
 -- What a datetime of jiff says of the seconds that a zone's clock has shown.
-use Rattle.std.proofs.Common.{◌≡◌, ℕ, ◌+◌, ◌*◌, ◌≤◌, arith, ℤ, pos, ◌+ℤ◌, ◌*ℤ◌, unsigned_abs, ◌≤ℤ◌, negsuc, refl}
+use Rattle.std.proofs.Common.{◌≡◌, ℕ, ◌+◌, ◌*◌, ◌≤◌, arith, ℤ, pos, ◌+ℤ◌, ◌*ℤ◌, unsigned_abs, ◌≤ℤ◌}
+use Rattle.std.proofs.Common.{negsuc, refl}
 use Rattle.jiff.specs.Types.{Date, DateTime}
 use Rattle.jiff.specs.Words.{civil_nanos, nanos_of_seconds, epoch_day, IsWithin, weekday_of}
 use Rattle.jiff.proofs.SpanFacts.{signed_arith}

@@ -1,5 +1,8 @@
 -- From one entry's end to the next.
-use Rattle.std.proofs.Common.{◌≡◌, ◌≢◌, ℕ, zero, suc, ◌+◌, ◌-◌, ◌*◌, ◌/◌, ◌%◌, ◌<◌, ◌≤◌, Bool, true, false, cond, ◌&&◌, nat_le, nat_lt, List, [], ◌∷◌, length, get_or, refl, ap, sym, ◌∙◌, arith, inl, inr, ℤ, pos, negsuc, ◌+ℤ◌, unsigned_abs}
+use Rattle.std.proofs.Common.{◌≡◌, ◌≢◌, ℕ, zero, suc, ◌+◌, ◌-◌, ◌*◌, ◌/◌, ◌%◌, ◌<◌, ◌≤◌, Bool, true}
+use Rattle.std.proofs.Common.{false, cond, ◌&&◌, nat_le, nat_lt, List, [], ◌∷◌, length, get_or}
+use Rattle.std.proofs.Common.{refl, ap, sym, ◌∙◌, arith, inl, inr, ℤ, pos, negsuc, ◌+ℤ◌}
+use Rattle.std.proofs.Common.{unsigned_abs}
 use Rattle.std.specs.Prelude.{count_by, unwrap_or, slice_get}
 use Rattle.std.proofs.lemmas.Bool.{cases_Bool, cases_lt, and_from, and_parts, and_right}
 use Rattle.std.proofs.lemmas.Bool.Decides.{nat_tests}
@@ -9,9 +12,11 @@ use Rattle.jiff.specs.Words.{IsWithin}
 use Rattle.jiff.proofs.SpanFacts.{signed_arith}
 use Rattle.calendar.specs.declared.week.Entry.{Entry}
 use Rattle.calendar.specs.declared.week.Period.{Period}
-use Rattle.calendar.specs.Clock.{ZoneRule, IsZone, offset, clock, shown_weekday, shown_minute, day, weekday, minute}
+use Rattle.calendar.specs.Clock.{ZoneRule, IsZone, offset, clock, shown_weekday, shown_minute, day}
+use Rattle.calendar.specs.Clock.{weekday, minute}
 use Rattle.calendar.specs.Week.{covers, IsEntryFor, period_in}
-use Rattle.calendar.specs.Timetable.{Timetable, IsTimetable, IsEntryAt, period_at, IsChange, minute_start}
+use Rattle.calendar.specs.Timetable.{Timetable, IsTimetable, IsEntryAt, period_at, IsChange}
+use Rattle.calendar.specs.Timetable.{minute_start}
 use Rattle.calendar.proofs.Shown.{size_is}
 use Rattle.calendar.proofs.Entries.{one_entry}
 

@@ -1,12 +1,14 @@
 -- The walk from one entry's end to the next, as far as it has come.
-use Rattle.std.proofs.Common.{◌≡◌, ◌≢◌, ℕ, ◌+◌, ◌-◌, ◌*◌, ◌/◌, ◌%◌, ◌<◌, ◌≤◌, List, arith, refl, sym, inl, inr}
+use Rattle.std.proofs.Common.{◌≡◌, ◌≢◌, ℕ, ◌+◌, ◌-◌, ◌*◌, ◌/◌, ◌%◌, ◌<◌, ◌≤◌, List, arith, refl}
+use Rattle.std.proofs.Common.{sym, inl, inr}
 use Rattle.std.proofs.lemmas.Bool.{cases_lt}
 use Rattle.calendar.specs.declared.week.Entry.{Entry}
 use Rattle.calendar.specs.declared.week.Period.{Period}
 use Rattle.calendar.specs.Clock.{clock, shown_weekday, shown_minute, day, weekday, minute}
 use Rattle.calendar.specs.Week.{IsEntryFor}
 use Rattle.calendar.specs.Timetable.{Timetable, IsTimetable, period_at, IsChange}
-use Rattle.calendar.proofs.Turns.{Turn, Next, next_is, later, later_few, end_of, clock_later, change_is, no_change}
+use Rattle.calendar.proofs.Turns.{Turn, Next, next_is, later, later_few, end_of, clock_later}
+use Rattle.calendar.proofs.Turns.{change_is, no_change}
 
 -- at the beginning of a minute, past which no change of the period `here` before the end lies,
 -- after some steps from `base` on

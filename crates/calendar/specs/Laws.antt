@@ -1,11 +1,13 @@
 -- What the definitions of periods, weekdays and day ends say in other words.
 -- Source: profile; the Gregorian calendar.
-use Rattle.std.specs.Prelude.{◌≡◌, ℕ, ◌+◌, ◌*◌, pos, ◌+ℤ◌, ◌-ℤ◌, unsigned_abs, nat_lt, Option, Some, None, if◌then◌else◌}
+use Rattle.std.specs.Prelude.{◌≡◌, ℕ, ◌+◌, ◌*◌, pos, ◌+ℤ◌, ◌-ℤ◌, unsigned_abs, nat_lt, Option, Some}
+use Rattle.std.specs.Prelude.{None, if◌then◌else◌}
 use Rattle.jiff.specs.Types.{Date}
 use Rattle.jiff.specs.Words.{epoch_day, weekday_of}
 use Rattle.calendar.specs.declared.week.Entry.{Entry}
 use Rattle.calendar.specs.Clock.{ZoneRule, IsZone, clock, day, weekday, offset}
-use Rattle.calendar.specs.Timetable.{Timetable, IsTimetable, IsEntryAt, period_at, day_end, IsDayEnd}
+use Rattle.calendar.specs.Timetable.{Timetable, IsTimetable, IsEntryAt, period_at, day_end}
+use Rattle.calendar.specs.Timetable.{IsDayEnd}
 
 -- the period at a moment is that of any entry that holds its civil minute, wherever in the list it
 -- stands

@@ -1,7 +1,9 @@
 -- Tariff periods, switches, validity times, cycles and day ends in the zone and the week of a book.
 -- Source: RFC 8506 sections 5.1.1 (Tariff-Time-Change) and 8.33 (Validity-Time); cycles and days:
 -- profile.
-use Rattle.std.specs.Prelude.{◌≡◌, ◌≢◌, ℕ, zero, suc, ◌+◌, ◌-◌, ◌*◌, ◌/◌, ◌%◌, ◌<◌, ◌≤◌, ◌==◌, Bool, not, List, [], ◌∷◌, if◌then◌else◌, find, Option, Some, None, unwrap_or}
+use Rattle.std.specs.Prelude.{◌≡◌, ◌≢◌, ℕ, zero, suc, ◌+◌, ◌-◌, ◌*◌, ◌/◌, ◌%◌, ◌<◌, ◌≤◌, ◌==◌, Bool}
+use Rattle.std.specs.Prelude.{not, List, [], ◌∷◌, if◌then◌else◌, find, Option, Some, None}
+use Rattle.std.specs.Prelude.{unwrap_or}
 use Rattle.std.specs.Option.{option_map}
 use Rattle.calendar.specs.declared.week.Entry.{Entry}
 use Rattle.calendar.specs.declared.week.Period.{Period}

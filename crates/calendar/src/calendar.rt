@@ -1,9 +1,12 @@
-ghost use Rattle.std.specs.Prelude.{◌≡◌, ◌≢◌, ◌↔◌, ◌≤◌, ◌<◌, ◌^◌, ◌+◌, ◌*◌, ◌-◌, ℕ, Some, IsSome, IfSome, IfNone, pos, ◌+ℤ◌, ◌*ℤ◌};
+ghost use Rattle.std.specs.Prelude.{◌≡◌, ◌≢◌, ◌↔◌, ◌≤◌, ◌<◌, ◌^◌, ◌+◌, ◌*◌, ◌-◌, ℕ, Some, IsSome};
+ghost use Rattle.std.specs.Prelude.{IfSome, IfNone, pos, ◌+ℤ◌, ◌*ℤ◌};
 ghost use Rattle.jiff.specs.Types.{Date};
 ghost use Rattle.jiff.specs.Words.{epoch_day};
 ghost use Rattle.calendar.specs.Clock.{day};
 ghost use Rattle.calendar.specs.Week.{IsWeek};
-ghost use Rattle.calendar.specs.Timetable.{timetable_of, IsTimetable, period_at, IsEntryAt, IsChange, switch_within, cut_after, validity_from, cycle_of, day_end, IsDayEnd};
+ghost use Rattle.calendar.specs.Timetable.{timetable_of, IsTimetable, period_at, IsEntryAt};
+ghost use Rattle.calendar.specs.Timetable.{IsChange, switch_within, cut_after, validity_from};
+ghost use Rattle.calendar.specs.Timetable.{cycle_of, day_end, IsDayEnd};
 
 use crate::covered;
 use crate::cycle::Cycle;

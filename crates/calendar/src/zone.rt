@@ -1,4 +1,5 @@
-ghost use Rattle.std.specs.Prelude.{◌≡◌, ◌↔◌, ◌≤◌, ◌<◌, ◌^◌, ◌+◌, ◌*◌, IsSome, IfSome, IfNone, ℕ, ℤ, pos, ◌+ℤ◌, ◌*ℤ◌};
+ghost use Rattle.std.specs.Prelude.{◌≡◌, ◌↔◌, ◌≤◌, ◌<◌, ◌^◌, ◌+◌, ◌*◌, IsSome, IfSome, IfNone, ℕ};
+ghost use Rattle.std.specs.Prelude.{ℤ, pos, ◌+ℤ◌, ◌*ℤ◌};
 ghost use Rattle.jiff.specs.Words.{civil_nanos, nanos_of_seconds, epoch_day, IsWithin};
 ghost use Rattle.jiff.specs.Types.{Date};
 ghost use Rattle.calendar.specs.Clock.{IsZone, minutes_ahead, offset, clock, day};

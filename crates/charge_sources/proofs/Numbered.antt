@@ -1,12 +1,14 @@
 -- The charges of a ledger rise in their numbers.
-use Rattle.std.proofs.Common.{◌≡◌, ◌⊎◌, inl, inr, ℕ, ◌+◌, ◌<◌, ◌≤◌, true, List, [], ◌∷◌, ◌++◌, refl, sym, ap, ◌∙◌, subst, arith, append-nil}
+use Rattle.std.proofs.Common.{◌≡◌, ◌⊎◌, inl, inr, ℕ, ◌+◌, ◌<◌, ◌≤◌, true, List, [], ◌∷◌, ◌++◌, refl}
+use Rattle.std.proofs.Common.{sym, ap, ◌∙◌, subst, arith, append-nil}
 use Rattle.std.specs.Prelude.{◌&&◌, nat_le}
 use Rattle.std.proofs.lemmas.Bool.{and_from}
 use Rattle.std.proofs.lemmas.Bool.Decides.{nat_tests}
 use Rattle.reserving.specs.ChargeColumns.{ChargeColumns}
 use Rattle.reserving.specs.Charges.{charge_of, charge_rows}
 use Rattle.reserving.specs.Ledger.{Fact, Dated, Ledger, next_charge, uses_in}
-use Rattle.reserving.specs.Ledger.Fact.{Credit, Grant, Hold, End, Use, Charge, Touch, Close, Recorded, Barred}
+use Rattle.reserving.specs.Ledger.Fact.{Credit, Grant, Hold, End, Use, Charge, Touch, Close}
+use Rattle.reserving.specs.Ledger.Fact.{Recorded, Barred}
 use Rattle.charge_sources.specs.Rows.{are_rising}
 use Rattle.charge_sources.proofs.Unique.{rising_parts}
 
@@ -27,7 +29,8 @@ record AddsNone (n : ℕ) (d : Dated) : Type 0 where
 
 adds : (n t : ℕ) (f : Fact) →
     AddsOne n (record { at = t; fact = f }) ⊎ AddsNone n (record { at = t; fact = f })
-adds n t (Use s g u blocks rated left) = inl (record { row = _; is = refl; number = refl; counts = refl })
+adds n t (Use s g u blocks rated left) =
+    inl (record { row = _; is = refl; number = refl; counts = refl })
 adds n t (Credit m from until scope amount) = inr (record { is = refl; counts = refl })
 adds n t (Grant s g p u c) = inr (record { is = refl; counts = refl })
 adds n t (Hold s g m amount) = inr (record { is = refl; counts = refl })
@@ -40,16 +43,20 @@ adds n t (Barred x) = inr (record { is = refl; counts = refl })
 
 more_below : (n m : ℕ) (rows : List ChargeColumns) → n ≤ m → AreBelow n rows → AreBelow m rows
 more_below n m [] le h = tt
-more_below n m (c ∷ rest) le h = let low = h.0 in (omega (arith, low, le), more_below n m rest le h.1)
+more_below n m (c ∷ rest) le h = let low = h.0 in
+    (omega (arith, low, le), more_below n m rest le h.1)
 
-below_push : (n : ℕ) (rows : List ChargeColumns) (c : ChargeColumns) → AreBelow n rows → c.number < n →
+below_push : (n : ℕ) (rows : List ChargeColumns) (c : ChargeColumns) → AreBelow n rows →
+    c.number < n →
     AreBelow n (rows ++ c ∷ [])
 below_push n [] c h low = (low, tt)
 below_push n (d ∷ rest) c h low = (h.0, below_push n rest c h.1 low)
 
-rising_push : (least : ℕ) (rows : List ChargeColumns) (c : ChargeColumns) → are_rising least rows ≡ true →
+rising_push : (least : ℕ) (rows : List ChargeColumns) (c : ChargeColumns) →
+    are_rising least rows ≡ true →
     AreBelow c.number rows → least ≤ c.number → are_rising least (rows ++ c ∷ []) ≡ true
-rising_push least [] c h below low = and_from (nat_le least c.number) true (grind (arith, nat_tests, low)) refl
+rising_push least [] c h below low =
+    and_from (nat_le least c.number) true (grind (arith, nat_tests, low)) refl
 rising_push least (d ∷ rest) c h below low =
     let parts = rising_parts least d rest h in
     let first = parts.0 in

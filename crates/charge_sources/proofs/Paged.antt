@@ -1,5 +1,6 @@
 -- An account's charges, shown page by page.
-use Rattle.std.proofs.Common.{◌≡◌, ℕ, ◌+◌, ◌<◌, ◌≤◌, Bool, true, false, List, [], ◌∷◌, ◌++◌, Some, None, refl, sym, ap, ◌∙◌, subst, arith, take, length}
+use Rattle.std.proofs.Common.{◌≡◌, ℕ, ◌+◌, ◌<◌, ◌≤◌, Bool, true, false, List, [], ◌∷◌, ◌++◌, Some}
+use Rattle.std.proofs.Common.{None, refl, sym, ap, ◌∙◌, subst, arith, take, length}
 use Rattle.std.specs.Prelude.{◌&&◌, nat_le, Option, Result, Ok, Err, IfOk, OnErr}
 use Rattle.std.specs.Result.{IsErr}
 use Rattle.std.specs.List.{filter}
@@ -28,11 +29,14 @@ from_one : (rows : List ChargeColumns) → are_rising 0 rows ≡ true → charge
 from_one [] h none = refl
 from_one (c ∷ rest) h none = at (nat_le 1 c.number) refl
   where
-    at : (t : Bool) → nat_le 1 c.number ≡ t → (nat_le 1 c.number && are_rising (c.number + 1) rest) ≡ true
-    at true e = and_from (nat_le 1 c.number) (are_rising (c.number + 1) rest) e (rising_parts 0 c rest h).1
+    at : (t : Bool) → nat_le 1 c.number ≡ t →
+        (nat_le 1 c.number && are_rising (c.number + 1) rest) ≡ true
+    at true e =
+        and_from (nat_le 1 c.number) (are_rising (c.number + 1) rest) e (rising_parts 0 c rest h).1
     at false e =
         let first : c.number ≡ 0 = grind (arith, nat_tests, e) in
-        absurd (none-some c (sym none ∙ ap (λ n. charge_in n (c ∷ rest)) (sym first) ∙ first_is c rest))
+        absurd (none-some c
+        (sym none ∙ ap (λ n. charge_in n (c ∷ rest)) (sym first) ∙ first_is c rest))
 
 pub none_yet : {charges : ℕ → Option ChargeColumns} {rows : List ChargeColumns} → charges 0 ≡ None →
     AreCharges charges rows → up_to 0 rows ≡ []
@@ -41,7 +45,8 @@ none_yet {charges} {rows} none are =
 
 -- of the range, those up to a number are the first
 pub first_of_range : (from until a : ℕ) (rows : List ChargeColumns) → are_rising 0 rows ≡ true →
-    take (length (filter (is_between from until) (up_to a rows))) (filter (is_between from until) rows)
+    take (length (filter (is_between from until) (up_to a rows)))
+    (filter (is_between from until) rows)
     ≡ filter (is_between from until) (up_to a rows)
 first_of_range from until a rows rising =
     let p = is_between from until in
@@ -70,7 +75,8 @@ module _ {K V : Type 0} (content : K → Tables) (failed : K → ℕ) (clean : K
     pub same : clean now → content now ≡ content old
     pub cleanness : clean now → clean old
     pub kept : failed old ≤ failed now
-    pub shown : clean now → (rows : List ChargeColumns) → AreCharges ((content old).charges account) rows →
+    pub shown : clean now → (rows : List ChargeColumns) →
+        AreCharges ((content old).charges account) rows →
         Shows Sees (filter (is_between from until) (up_to after rows)) true before seen
 
   pub none_shown : (k : K) (v : V) → (content k).charges account 0 ≡ None → HasShown 0 k k v v
@@ -79,29 +85,34 @@ module _ {K V : Type 0} (content : K → Tables) (failed : K → ℕ) (clean : K
     cleanness = λ clean. clean;
     kept = omega arith;
     shown = λ clean rows are.
-        subst (λ l. Shows Sees (filter (is_between from until) l) true v v) (sym (none_yet none are)) (refl, refl);
+        subst (λ l. Shows Sees (filter (is_between from until) l) true v v)
+        (sym (none_yet none are)) (refl, refl);
   }
 
   -- what a page's rows are shown for
   paged : (after : ℕ) (old mid now : K) (page : ChargePage) (before seen next : V) (all : Bool) →
-      HasShown after old mid before seen → Reads content failed clean mid now (Pages mid after) (Ok page) →
+      HasShown after old mid before seen →
+      Reads content failed clean mid now (Pages mid after) (Ok page) →
       Shows Sees (filter (is_between from until) page.rows.items) all seen next → clean now →
       (rows : List ChargeColumns) → AreCharges ((content old).charges account) rows →
       Shows Sees (filter (is_between from until) (up_to page.last rows)) all before next
   paged after old mid now page before seen next all had read shows ok rows are =
       let p = is_between from until in
       let was = read.cleanness ok in
-      let is = subst (λ (t : Tables). IsPage (t.charges account) after page) (had.same was) (read.found ok) in
+      let is = subst (λ (t : Tables). IsPage (t.charges account) after page) (had.same was)
+      (read.found ok) in
       subst (λ l. Shows Sees l all before next)
       (sym (filter-append p (up_to after rows) (filter (is_within after page.last) rows))
       ∙ ap (filter p) (grown after page.last 0 rows are.rising is.from_there))
-      (shows_then Sees (filter p (up_to after rows)) (filter p (filter (is_within after page.last) rows)) all before seen next
+      (shows_then Sees (filter p (up_to after rows))
+      (filter p (filter (is_within after page.last) rows)) all before seen next
       (had.shown was rows are)
       (subst (λ l. Shows Sees (filter p l) all seen next) (is.rows rows are) shows))
 
   -- one page more
   pub page_shown : (after : ℕ) (old mid now : K) (page : ChargePage) (before seen next : V) →
-      HasShown after old mid before seen → Reads content failed clean mid now (Pages mid after) (Ok page) →
+      HasShown after old mid before seen →
+      Reads content failed clean mid now (Pages mid after) (Ok page) →
       Shows Sees (filter (is_between from until) page.rows.items) true seen next →
       HasShown page.last old now before next
   page_shown after old mid now page before seen next had read shows = record {
@@ -113,7 +124,8 @@ module _ {K V : Type 0} (content : K → Tables) (failed : K → ℕ) (clean : K
 
   -- an answer after a page
   answers : (after : ℕ) (old mid now : K) (page : ChargePage) (before seen next : V) →
-      HasShown after old mid before seen → Reads content failed clean mid now (Pages mid after) (Ok page) →
+      HasShown after old mid before seen →
+      Reads content failed clean mid now (Pages mid after) (Ok page) →
       (clean now → SeesCharges Sees from until ((content old).charges account) before next) →
       Reads {T = Unit {0}} content failed clean old now
       (λ done. SeesCharges Sees from until ((content old).charges account) before next) (Ok tt)
@@ -129,7 +141,8 @@ module _ {K V : Type 0} (content : K → Tables) (failed : K → ℕ) (clean : K
 
   -- the visitor stopped
   pub stopped : (after : ℕ) (old mid now : K) (page : ChargePage) (before seen next : V) →
-      HasShown after old mid before seen → Reads content failed clean mid now (Pages mid after) (Ok page) →
+      HasShown after old mid before seen →
+      Reads content failed clean mid now (Pages mid after) (Ok page) →
       Shows Sees (filter (is_between from until) page.rows.items) false seen next →
       Reads {T = Unit {0}} content failed clean old now
       (λ done. SeesCharges Sees from until ((content old).charges account) before next) (Ok tt)
@@ -138,15 +151,19 @@ module _ {K V : Type 0} (content : K → Tables) (failed : K → ℕ) (clean : K
       answers after old mid now page before seen next had read
       (λ ok rows are.
       subst (λ l. Visits Sees l before next)
-      (sym (filter-append p (up_to page.last rows) (beyond page.last rows)) ∙ ap (filter p) (parted page.last 0 rows are.rising))
-      (shown_visits Sees (filter p (up_to page.last rows) ++ filter p (beyond page.last rows)) false before next
-      (shows_stopped Sees (filter p (up_to page.last rows)) (filter p (beyond page.last rows)) before next
+      (sym (filter-append p (up_to page.last rows) (beyond page.last rows))
+      ∙ ap (filter p) (parted page.last 0 rows are.rising)) (shown_visits Sees
+      (filter p (up_to page.last rows) ++ filter p (beyond page.last rows)) false before next
+      (shows_stopped Sees (filter p (up_to page.last rows))
+      (filter p (beyond page.last rows)) before next
       (paged after old mid now page before seen next false had read shows ok rows are))))
 
   -- no page is left
   pub ended : (after : ℕ) (old mid now : K) (page : ChargePage) (before seen next : V) →
-      HasShown after old mid before seen → Reads content failed clean mid now (Pages mid after) (Ok page) →
-      Shows Sees (filter (is_between from until) page.rows.items) true seen next → page.is_last ≡ true →
+      HasShown after old mid before seen →
+      Reads content failed clean mid now (Pages mid after) (Ok page) →
+      Shows Sees (filter (is_between from until) page.rows.items) true seen next →
+      page.is_last ≡ true →
       Reads {T = Unit {0}} content failed clean old now
       (λ done. SeesCharges Sees from until ((content old).charges account) before next) (Ok tt)
   ended after old mid now page before seen next had read shows last =
@@ -154,16 +171,19 @@ module _ {K V : Type 0} (content : K → Tables) (failed : K → ℕ) (clean : K
       answers after old mid now page before seen next had read
       (λ ok rows are.
       let was = read.cleanness ok in
-      let is = subst (λ (t : Tables). IsPage (t.charges account) after page) (had.same was) (read.found ok) in
+      let is = subst (λ (t : Tables). IsPage (t.charges account) after page) (had.same was)
+      (read.found ok) in
       subst (λ l. Visits Sees (filter p l) before next)
       (all_up_to page.last 0 rows are.rising (λ n less. are.listed n ∙ is.end last n less))
       (shown_visits Sees (filter p (up_to page.last rows)) true before next
       (paged after old mid now page before seen next true had read shows ok rows are)))
 
   -- a page failed: its fault is told
-  pub failed_then : {A B : Type 0} (after : ℕ) (old mid now : K) (before seen : V) (Found : A → Type 0)
-      (Seen : B → Type 0) (e : StoreFault) → HasShown after old mid before seen →
-      Reads content failed clean mid now Found (Err e) → Reads content failed clean old now Seen (Err e)
+  pub failed_then : {A B : Type 0} (after : ℕ) (old mid now : K) (before seen : V)
+      (Found : A → Type 0) (Seen : B → Type 0) (e : StoreFault) →
+      HasShown after old mid before seen →
+      Reads content failed clean mid now Found (Err e) →
+      Reads content failed clean old now Seen (Err e)
   failed_then after old mid now before seen Found Seen e had read = record {
     found = λ ok. tt;
     same = λ ok. read.same ok ∙ had.same (read.cleanness ok);
@@ -171,24 +191,28 @@ module _ {K V : Type 0} (content : K → Tables) (failed : K → ℕ) (clean : K
     cause = record {
       kept = let one = had.kept in let two = read.cause.kept in omega (arith, one, two);
       cause = λ is.
-          let one = had.kept in let two = read.cause.cause (same_fault e Store is) in omega (arith, one, two);
+          let one = had.kept in let two = read.cause.cause (same_fault e Store is) in
+          omega (arith, one, two);
     };
   }
 
   -- what was shown until then is a beginning
-  pub begun : {A : Type 0} (after : ℕ) (old mid now : K) (before seen : V) (Found : A → Type 0) (r : Result A StoreFault) →
+  pub begun : {A : Type 0} (after : ℕ) (old mid now : K) (before seen : V) (Found : A → Type 0)
+      (r : Result A StoreFault) →
       HasShown after old mid before seen → Reads content failed clean mid now Found r → clean now →
       SeesBeginning Sees from until ((content old).charges account) before seen
   begun after old mid now before seen Found r had read ok rows are =
       let p = is_between from until in (
         length (filter p (up_to after rows)),
-        subst (λ l. Visits Sees l before seen) (sym (first_of_range from until after rows are.rising))
+        subst (λ l. Visits Sees l before seen)
+            (sym (first_of_range from until after rows are.rising))
             (shown_visits Sees (filter p (up_to after rows)) true before seen
             (had.shown (read.cleanness ok) rows are)),
       )
 
   -- nothing is said of a store that isn't clean
-  pub never : (after : ℕ) (old now : K) (before seen : V) → HasShown after old now before seen → (clean now → ⊥) →
+  pub never : (after : ℕ) (old now : K) (before seen : V) → HasShown after old now before seen →
+      (clean now → ⊥) →
       Reads {T = Unit {0}} content failed clean old now
       (λ done. SeesCharges Sees from until ((content old).charges account) before seen) (Ok tt)
   never after old now before seen had unclean = record {

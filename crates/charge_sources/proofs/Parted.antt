@@ -1,5 +1,6 @@
 -- Charges whose numbers rise, parted by their numbers.
-use Rattle.std.proofs.Common.{◌≡◌, ℕ, ◌+◌, ◌<◌, ◌≤◌, Bool, true, false, cond, List, [], ◌∷◌, ◌++◌, Some, None, refl, sym, ap, ◌∙◌, arith, nat_lt}
+use Rattle.std.proofs.Common.{◌≡◌, ℕ, ◌+◌, ◌<◌, ◌≤◌, Bool, true, false, cond, List, [], ◌∷◌, ◌++◌}
+use Rattle.std.proofs.Common.{Some, None, refl, sym, ap, ◌∙◌, arith, nat_lt}
 use Rattle.std.specs.Prelude.{◌==◌, ◌&&◌, nat_le, Option}
 use Rattle.std.specs.List.{filter}
 use Rattle.std.proofs.lemmas.Bool.{and_parts, and_from}
@@ -40,8 +41,10 @@ rising_filtered p least (c ∷ rest) h =
     at : (t : Bool) → nat_le least c.number ≡ true → least ≤ c.number →
         are_rising (c.number + 1) (filter p rest) ≡ true →
         are_rising least (cond t (c ∷ filter p rest) (filter p rest)) ≡ true
-    at true low above later = and_from (nat_le least c.number) (are_rising (c.number + 1) (filter p rest)) low later
-    at false low above later = weaker least (c.number + 1) (filter p rest) (omega (arith, above)) later
+    at true low above later =
+        and_from (nat_le least c.number) (are_rising (c.number + 1) (filter p rest)) low later
+    at false low above later =
+        weaker least (c.number + 1) (filter p rest) (omega (arith, above)) later
 
 pub find_filtered : (p : ChargeColumns → Bool) (least n : ℕ) (rows : List ChargeColumns) →
     are_rising least rows ≡ true → charge_in n (filter p rows) ≡ only p (charge_in n rows)
@@ -55,10 +58,13 @@ find_filtered p least n (c ∷ rest) h =
 
     at : (t u : Bool) → p c ≡ t → (c.number == n) ≡ u → are_rising (c.number + 1) rest ≡ true →
         charge_in n (filter p rest) ≡ only p (charge_in n rest) →
-        charge_in n (cond t (c ∷ filter p rest) (filter p rest)) ≡ only p (cond u (Some c) (charge_in n rest))
+        charge_in n (cond t (c ∷ filter p rest) (filter p rest))
+        ≡ only p (cond u (Some c) (charge_in n rest))
     at true true e f after later =
-        ap (λ b. cond b (Some c) (charge_in n (filter p rest))) f ∙ sym (ap (λ b. cond b (Some c) None) e)
-    at true false e f after later = ap (λ b. cond b (Some c) (charge_in n (filter p rest))) f ∙ later
+        ap (λ b. cond b (Some c) (charge_in n (filter p rest))) f
+        ∙ sym (ap (λ b. cond b (Some c) None) e)
+    at true false e f after later =
+        ap (λ b. cond b (Some c) (charge_in n (filter p rest))) f ∙ later
     at false true e f after later =
         later ∙ ap (only p) (none f after) ∙ sym (ap (λ b. cond b (Some c) None) e)
     at false false e f after later = later
@@ -66,12 +72,16 @@ find_filtered p least n (c ∷ rest) h =
 filter_twice : (p q r : ChargeColumns → Bool) → ((c : ChargeColumns) → (q c && p c) ≡ r c) →
     (rows : List ChargeColumns) → filter p (filter q rows) ≡ filter r rows
 filter_twice p q r same [] = refl
-filter_twice p q r same (c ∷ rest) = at (q c) (p c) (r c) refl refl (same c) (filter_twice p q r same rest)
+filter_twice p q r same (c ∷ rest) =
+    at (q c) (p c) (r c) refl refl (same c) (filter_twice p q r same rest)
   where
-    at : (t u v : Bool) → q c ≡ t → p c ≡ u → (t && u) ≡ v → filter p (filter q rest) ≡ filter r rest →
-        filter p (cond t (c ∷ filter q rest) (filter q rest)) ≡ cond v (c ∷ filter r rest) (filter r rest)
+    at : (t u v : Bool) → q c ≡ t → p c ≡ u → (t && u) ≡ v →
+        filter p (filter q rest) ≡ filter r rest →
+        filter p (cond t (c ∷ filter q rest) (filter q rest))
+        ≡ cond v (c ∷ filter r rest) (filter r rest)
     at true true true e f g later =
-        ap (λ b. cond b (c ∷ filter p (filter q rest)) (filter p (filter q rest))) f ∙ ap (λ l. c ∷ l) later
+        ap (λ b. cond b (c ∷ filter p (filter q rest)) (filter p (filter q rest))) f
+        ∙ ap (λ l. c ∷ l) later
     at true false false e f g later =
         ap (λ b. cond b (c ∷ filter p (filter q rest)) (filter p (filter q rest))) f ∙ later
     at false u false e f g later = later
@@ -81,7 +91,8 @@ filter_twice p q r same (c ∷ rest) = at (q c) (p c) (r c) refl refl (same c) (
 
 -- ---- parts
 
-pub none_up_to : (a least : ℕ) (rows : List ChargeColumns) → are_rising least rows ≡ true → a < least →
+pub none_up_to : (a least : ℕ) (rows : List ChargeColumns) →
+    are_rising least rows ≡ true → a < least →
     up_to a rows ≡ []
 none_up_to a least [] h less = refl
 none_up_to a least (c ∷ rest) h less =
@@ -100,11 +111,14 @@ parted a least (c ∷ rest) h =
     at (nat_le c.number a) (nat_lt a c.number) refl refl after (parted a (c.number + 1) rest after)
   where
     none : nat_lt a c.number ≡ true → are_rising (c.number + 1) rest ≡ true → up_to a rest ≡ []
-    none e after = none_up_to a (c.number + 1) rest after (let low : a < c.number = grind (arith, nat_tests, e) in omega (arith, low))
+    none e after = none_up_to a (c.number + 1) rest after
+        (let low : a < c.number = grind (arith, nat_tests, e) in omega (arith, low))
 
-    at : (t u : Bool) → nat_le c.number a ≡ t → nat_lt a c.number ≡ u → are_rising (c.number + 1) rest ≡ true →
+    at : (t u : Bool) → nat_le c.number a ≡ t → nat_lt a c.number ≡ u →
+        are_rising (c.number + 1) rest ≡ true →
         up_to a rest ++ beyond a rest ≡ rest →
-        cond t (c ∷ up_to a rest) (up_to a rest) ++ cond u (c ∷ beyond a rest) (beyond a rest) ≡ c ∷ rest
+        cond t (c ∷ up_to a rest) (up_to a rest)
+        ++ cond u (c ∷ beyond a rest) (beyond a rest) ≡ c ∷ rest
     at true false e f after later = ap (λ l. c ∷ l) later
     at false true e f after later =
         let empty = none f after in
@@ -114,16 +128,19 @@ parted a least (c ∷ rest) h =
     at false false e f after later = absurd (grind (arith, nat_tests, e, f))
 
 -- those of a page follow those up to it
-pub grown : (after last least : ℕ) (rows : List ChargeColumns) → are_rising least rows ≡ true → after ≤ last →
+pub grown : (after last least : ℕ) (rows : List ChargeColumns) → are_rising least rows ≡ true →
+    after ≤ last →
     up_to after rows ++ filter (is_within after last) rows ≡ up_to last rows
 grown after last least rows h less =
     sym (ap (λ l. l ++ filter (is_within after last) rows)
-    (filter_twice (λ c. nat_le c.number after) (λ c. nat_le c.number last) (λ c. nat_le c.number after)
+    (filter_twice (λ c. nat_le c.number after) (λ c. nat_le c.number last)
+    (λ c. nat_le c.number after)
     (λ c. low c.number (nat_le c.number last) (nat_le c.number after) refl refl) rows))
     ∙ sym (ap (λ l. up_to after (up_to last rows) ++ l)
     (filter_twice (λ c. nat_lt after c.number) (λ c. nat_le c.number last) (is_within after last)
     (λ c. turned (nat_le c.number last) (nat_lt after c.number)) rows))
-    ∙ parted after least (up_to last rows) (rising_filtered (λ c. nat_le c.number last) least rows h)
+    ∙ parted after least (up_to last rows)
+    (rising_filtered (λ c. nat_le c.number last) least rows h)
   where
     low : (n : ℕ) (t u : Bool) → nat_le n last ≡ t → nat_le n after ≡ u → (t && u) ≡ u
     low n true u e f = refl
@@ -142,7 +159,8 @@ pub all_up_to : (a least : ℕ) (rows : List ChargeColumns) → are_rising least
 all_up_to a least [] h none = refl
 all_up_to a least (c ∷ rest) h none =
     let after = (rising_parts least c rest h).1 in
-    at (nat_le c.number a) refl (λ in_row. all_up_to a (c.number + 1) rest after (λ n less. past in_row n less (none n less)))
+    at (nat_le c.number a) refl
+    (λ in_row. all_up_to a (c.number + 1) rest after (λ n less. past in_row n less (none n less)))
   where
     past : c.number ≤ a → (n : ℕ) → a < n → charge_in n (c ∷ rest) ≡ None → charge_in n rest ≡ None
     past small n less e =

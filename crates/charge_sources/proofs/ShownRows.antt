@@ -1,17 +1,20 @@
 -- Visitors that are shown rows in parts.
-use Rattle.std.proofs.Common.{◌≡◌, ℕ, Bool, true, false, List, [], ◌∷◌, ◌++◌, refl, sym, ap, ◌∙◌, subst, true≢false}
+use Rattle.std.proofs.Common.{◌≡◌, ℕ, Bool, true, false, List, [], ◌∷◌, ◌++◌, refl, sym, ap, ◌∙◌}
+use Rattle.std.proofs.Common.{subst, true≢false}
 use Rattle.reserving.specs.ChargeColumns.{ChargeColumns}
 use Rattle.charge_sources.specs.Visits.{GoesOn, Visits, Shows}
 
 module _ {V : Type 0} (Sees : V → ChargeColumns → Bool → V → Type 0) where
   -- one row, and what follows
   abbrev After : List ChargeColumns → Bool → V → V → Bool → Type 0
-  After rest all next new goes = GoesOn goes (Shows Sees rest all next new) ((all ≡ false) × (new ≡ next))
+  After rest all next new goes =
+      GoesOn goes (Shows Sees rest all next new) ((all ≡ false) × (new ≡ next))
 
   pub shown_visits : (rows : List ChargeColumns) (all : Bool) (old new : V) →
       Shows Sees rows all old new → Visits Sees rows old new
   shown_visits [] all old new h = h.1
-  shown_visits (c ∷ rest) all old new h = at h.1 h.0 h.2 h.3 (λ next r. shown_visits rest all next new r)
+  shown_visits (c ∷ rest) all old new h =
+      at h.1 h.0 h.2 h.3 (λ next r. shown_visits rest all next new r)
     where
       at : (goes : Bool) (next : V) → Sees old c goes next → After rest all next new goes →
           ((next : V) → Shows Sees rest all next new → Visits Sees rest next new) →
@@ -36,7 +39,8 @@ module _ {V : Type 0} (Sees : V → ChargeColumns → Bool → V → Type 0) whe
   pub shows_stopped : (xs ys : List ChargeColumns) (old new : V) →
       Shows Sees xs false old new → Shows Sees (xs ++ ys) false old new
   shows_stopped [] ys old new h = absurd (true≢false (sym h.0))
-  shows_stopped (c ∷ xs) ys old new h = at h.1 h.0 h.2 h.3 (λ next r. shows_stopped xs ys next new r)
+  shows_stopped (c ∷ xs) ys old new h =
+      at h.1 h.0 h.2 h.3 (λ next r. shows_stopped xs ys next new r)
     where
       at : (goes : Bool) (next : V) → Sees old c goes next → After xs false next new goes →
           ((next : V) → Shows Sees xs false next new → Shows Sees (xs ++ ys) false next new) →

@@ -1,5 +1,6 @@
 -- An account's charges are one list.
-use Rattle.std.proofs.Common.{◌≡◌, ℕ, ◌+◌, ◌<◌, ◌≤◌, Bool, true, false, cond, List, [], ◌∷◌, Some, None, refl, sym, ap, ◌∙◌, arith}
+use Rattle.std.proofs.Common.{◌≡◌, ℕ, ◌+◌, ◌<◌, ◌≤◌, Bool, true, false, cond, List, [], ◌∷◌, Some}
+use Rattle.std.proofs.Common.{None, refl, sym, ap, ◌∙◌, arith}
 use Rattle.std.specs.Prelude.{◌==◌, ◌&&◌, nat_le, Option}
 use Rattle.std.proofs.lemmas.Bool.{and_parts}
 use Rattle.std.proofs.lemmas.Bool.Decides.{nat_tests}
@@ -10,7 +11,8 @@ use Rattle.charge_sources.specs.Rows.{are_rising, AreCharges}
 
 -- the first of rising rows, and the others
 pub rising_parts : (least : ℕ) (c : ChargeColumns) (rest : List ChargeColumns) →
-    are_rising least (c ∷ rest) ≡ true → (least ≤ c.number) × (are_rising (c.number + 1) rest ≡ true)
+    are_rising least (c ∷ rest) ≡ true →
+    (least ≤ c.number) × (are_rising (c.number + 1) rest ≡ true)
 rising_parts least c rest h =
     let parts = and_parts (nat_le least c.number) (are_rising (c.number + 1) rest) h in
     let low = parts.0 in
@@ -35,7 +37,8 @@ pub itself : (n : ℕ) → (n == n) ≡ true
 itself n = grind (arith, nat_tests)
 
 -- the first row's charge is the row
-pub first_is : (c : ChargeColumns) (rest : List ChargeColumns) → charge_in c.number (c ∷ rest) ≡ Some c
+pub first_is : (c : ChargeColumns) (rest : List ChargeColumns) →
+    charge_in c.number (c ∷ rest) ≡ Some c
 first_is c rest = ap (λ t. cond t (Some c) (charge_in c.number rest)) (itself c.number)
 
 abbrev SameCharges : List ChargeColumns → List ChargeColumns → Type 0

@@ -1,6 +1,7 @@
 -- The charges of an account, some of them at a time.
 -- Source: profile.
-use Rattle.std.specs.Prelude.{◌≡◌, ℕ, ◌<◌, ◌≤◌, ◌&&◌, Bool, true, false, List, Option, None, nat_lt, nat_le}
+use Rattle.std.specs.Prelude.{◌≡◌, ℕ, ◌<◌, ◌≤◌, ◌&&◌, Bool, true, false, List, Option, None, nat_lt}
+use Rattle.std.specs.Prelude.{nat_le}
 use Rattle.std.specs.List.{filter}
 use Rattle.reserving.specs.ChargeColumns.{ChargeColumns}
 use Rattle.charge_sources.specs.Rows.{AreCharges}
@@ -11,7 +12,8 @@ abbrev pub is_within : ℕ → ℕ → ChargeColumns → Bool
 is_within after last c = nat_lt after c.number && nat_le c.number last
 
 -- the page has an account's charges beyond a number, up to its last one
-pub record IsPage (charges : ℕ → Option ChargeColumns) (after : ℕ) (page : ChargePage) : Type 0 where
+pub record IsPage (charges : ℕ → Option ChargeColumns) (after : ℕ)
+    (page : ChargePage) : Type 0 where
   pub rows : (all : List ChargeColumns) → AreCharges charges all →
       page.rows.items ≡ filter (is_within after page.last) all
   -- it goes on from there, and where more may follow it goes further

@@ -14,6 +14,7 @@ are_rising least [] = true
 are_rising least (c ∷ rest) = nat_le least c.number && are_rising (c.number + 1) rest
 
 -- the rows are an account's charges, in the order of their numbers
-pub record AreCharges (charges : ℕ → Option ChargeColumns) (rows : List ChargeColumns) : Type 0 where
+pub record AreCharges (charges : ℕ → Option ChargeColumns)
+    (rows : List ChargeColumns) : Type 0 where
   pub rising : are_rising 0 rows ≡ true
   pub listed : (n : ℕ) → charge_in n rows ≡ charges n

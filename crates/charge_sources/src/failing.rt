@@ -1,17 +1,19 @@
 use crate::source::{ChargeSource, ChargeVisitor};
 use identifiers::AccountNumber;
-use keepers::{Failing, Keeper, StoreFault};
+use keepers::{Failing, StoreFault};
 use units::Moment;
 
-/// Its charges can't be asked for: there is no room for them.
-impl<K: Keeper> ChargeSource for Failing<K> {
+impl<K: ChargeSource> ChargeSource for Failing<K> {
     fn each<V: ChargeVisitor>(
         &mut self,
-        _account: &AccountNumber,
-        _from: Moment,
-        _until: Moment,
-        _visitor: &mut V,
+        account: &AccountNumber,
+        from: Moment,
+        until: Moment,
+        visitor: &mut V,
     ) -> Result<(), StoreFault> {
-        Err(StoreFault::Memory)
+        if self.fails() {
+            return Err(StoreFault::Store);
+        }
+        self.inner.each(account, from, until, visitor)
     }
 }

@@ -1,6 +1,7 @@
 -- The tables of accepted commands: before any, after a sweep, after a voucher that was added, and
 -- after a command that names an account.
-use Rattle.std.proofs.Common.{◌≡◌, ℕ, ◌+◌, ◌≤◌, Bool, true, false, List, [], ◌∷◌, ◌++◌, refl, sym, ap, subst, ◌∙◌, arith, Option, Some, None}
+use Rattle.std.proofs.Common.{◌≡◌, ℕ, ◌+◌, ◌≤◌, Bool, true, false, List, [], ◌∷◌, ◌++◌, refl, sym}
+use Rattle.std.proofs.Common.{ap, subst, ◌∙◌, arith, Option, Some, None}
 use Rattle.std.specs.Prelude.{if◌then◌else◌, is_some, ◌==◌}
 use Rattle.std.specs.Cmp.Lexicographic.{bytes_decides}
 use Rattle.identifiers.specs.Texts.{same_name}
@@ -17,10 +18,14 @@ use Rattle.reserving.specs.Left.{first_of}
 use Rattle.reserving.proofs.LeftParted.{find_both}
 use Rattle.keepers.specs.declared.key.Key.{Key}
 use Rattle.charging.specs.Histories.{History, kept_under}
-use Rattle.charging.specs.Accepted.{Accepted, Outcome, one, each, concerned_by, names, reaches, is_opening, names_code, voucher_after, voucher_under, standing_for, last_moment, as_of, account_count, IsInTime, IsRowOf, IsRow, history_of, AreTablesOf}
+use Rattle.charging.specs.Accepted.{Accepted, Outcome, one, each, concerned_by, names, reaches}
+use Rattle.charging.specs.Accepted.{is_opening, names_code, voucher_after, voucher_under}
+use Rattle.charging.specs.Accepted.{standing_for, last_moment, as_of, account_count, IsInTime}
+use Rattle.charging.specs.Accepted.{IsRowOf, IsRow, history_of, AreTablesOf}
 use Rattle.keepers.specs.declared.loaded.Change.{Change}
 use Rattle.keepers.specs.Tables.{Head, Rows, Tables, no_rows, no_tables, charge_in}
-use Rattle.keepers.specs.Change.{kept_after, over, redeemed_over, changed, with_voucher, AreRowsAt, IsSwept}
+use Rattle.keepers.specs.Change.{kept_after, over, redeemed_over, changed, with_voucher, AreRowsAt}
+use Rattle.keepers.specs.Change.{IsSwept}
 
 -- an account's rows, by what its head is
 pub row_none : (book : Book) (t : ℕ) (history : History) (r : Rows) → r.head ≡ None →
@@ -195,7 +200,8 @@ module _ (ends : DayEnds) (outcome : Option Voucher → History → Command → 
           (if same_name n a then over change.after (tables.rows a) else tables.rows a)
       account a true e =
           let same : n ≡ a = (bytes_decides n a).0 e in
-          subst (λ (r : Rows). IsRow book (as_of a (d ∷ list)) (history_of ends outcome a (d ∷ list)) r)
+          subst (λ (r : Rows).
+          IsRow book (as_of a (d ∷ list)) (history_of ends outcome a (d ∷ list)) r)
           (sym (ap (λ t. if t then over change.after (tables.rows a) else tables.rows a) e))
           (subst (λ m. IsRow book (as_of a (d ∷ list)) (history_of ends outcome m (d ∷ list))
           (over change.after (tables.rows m))) same
@@ -209,7 +215,8 @@ module _ (ends : DayEnds) (outcome : Option Voucher → History → Command → 
           let o : (if same_name n a then over change.after (tables.rows a) else tables.rows a) ≡
           tables.rows a = ap (λ t. if t then over change.after (tables.rows a)
           else tables.rows a) e in
-          subst (λ (r : Rows). IsRow book (as_of a (d ∷ list)) (history_of ends outcome a (d ∷ list)) r)
+          subst (λ (r : Rows).
+          IsRow book (as_of a (d ∷ list)) (history_of ends outcome a (d ∷ list)) r)
           (sym o) (rw (moment, same) (h.accounts a))
 
       answer : (a : List ℕ) (k : Key) (t : Bool) → same_name n a ≡ t →
@@ -239,8 +246,8 @@ module _ (ends : DayEnds) (outcome : Option Voucher → History → Command → 
           ap (λ t. if t then first_of (tables.charges a m) (charge_in m change.charges.items)
           else tables.charges a m) e
           ∙ ap (λ o. first_of o (charge_in m change.charges.items)) (h.charges a m)
-          ∙ sym (find_both (λ c. c.number == m) (charge_rows (history_of ends outcome a list).ledger)
-          change.charges.items)
+          ∙ sym (find_both (λ c. c.number == m)
+          (charge_rows (history_of ends outcome a list).ledger) change.charges.items)
           ∙ subst (λ b. charge_in m
           (charge_rows (history_of ends outcome b list).ledger ++ change.charges.items) ≡
           charge_in m (charge_rows (history_of ends outcome b (d ∷ list)).ledger)) same

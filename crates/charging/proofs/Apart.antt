@@ -1,6 +1,7 @@
 -- An account is served by its own history, the vouchers of its codes and the moments of commands
 -- alone: lists of accepted commands that differ in those of others and in sweeps leave it alike.
-use Rattle.std.proofs.Common.{◌≡◌, ℕ, ◌≤◌, List, [], ◌∷◌, Option, Some, None, Bool, true, false, true≢false, refl, sym, ap, subst, ◌∙◌, arith}
+use Rattle.std.proofs.Common.{◌≡◌, ℕ, ◌≤◌, List, [], ◌∷◌, Option, Some, None, Bool, true, false}
+use Rattle.std.proofs.Common.{true≢false, refl, sym, ap, subst, ◌∙◌, arith}
 use Rattle.std.specs.Prelude.{if◌then◌else◌, ◌&&◌, ◌||◌, filter, is_some, option_map}
 use Rattle.identifiers.specs.Texts.{same_name}
 use Rattle.std.specs.Cmp.Lexicographic.{bytes_decides}
@@ -20,13 +21,17 @@ use Rattle.charging.specs.Histories.{History, no_history, kept_under}
 use Rattle.keepers.specs.Tables.{Head, Rows, Tables, head_of, group_row, held_of, charge_in}
 use Rattle.keepers.specs.Change.{AreRowsAt}
 use Rattle.keepers.proofs.Told.{rows_told}
-use Rattle.charging.specs.Accepted.{Accepted, Concerned, one, each, none, concerned_by, names, names_code, voucher_after, last_moment, as_of, IsInTime, IsRow}
+use Rattle.charging.specs.Accepted.{Accepted, Concerned, one, each, none, concerned_by, names}
+use Rattle.charging.specs.Accepted.{names_code, voucher_after, last_moment, as_of, IsInTime, IsRow}
 use Rattle.charging.proofs.AcceptedTables.{row_none, row_some, as_of-last}
 use Rattle.charging.specs.declared.running.DatedCommand.{DatedCommand}
 use Rattle.charging.specs.Outcomes.{book_days, outcome}
-use Rattle.charging.specs.Served.{AreTables, history, voucher, standing, moment_of, answer_on, answer_to, accepts_on, accepts, with_command}
+use Rattle.charging.specs.Served.{AreTables, history, voucher, standing, moment_of, answer_on}
+use Rattle.charging.specs.Served.{answer_to, accepts_on, accepts, with_command}
 use Rattle.charging.specs.Runs.{after_command, after_commands, answers_to}
-use Rattle.charging.specs.Isolation.{is_redemption_of, redeems, adds_for, is_own, HasOwnCodes, own_commands, own_answers, TellTheSame, AreRowsBroughtTo, DontFall, ShowAlike, IsIsolated}
+use Rattle.charging.specs.Isolation.{is_redemption_of, redeems, adds_for, is_own, HasOwnCodes}
+use Rattle.charging.specs.Isolation.{own_commands, own_answers, TellTheSame, AreRowsBroughtTo}
+use Rattle.charging.specs.Isolation.{DontFall, ShowAlike, IsIsolated}
 
 -- ---- rows
 

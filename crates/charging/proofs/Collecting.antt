@@ -1,5 +1,6 @@
 -- What is collected of an account is what is charged to its buckets.
-use Rattle.std.proofs.Common.{◌≡◌, ℕ, ◌+◌, ◌≤◌, List, [], ◌∷◌, ◌++◌, true, map, refl, sym, ap, ◌∙◌, arith, Option, None, append-nil}
+use Rattle.std.proofs.Common.{◌≡◌, ℕ, ◌+◌, ◌≤◌, List, [], ◌∷◌, ◌++◌, true, map, refl, sym, ap, ◌∙◌}
+use Rattle.std.proofs.Common.{arith, Option, None, append-nil}
 use Rattle.std.specs.Prelude.{sum_by}
 use Rattle.std.proofs.lemmas.List.Sums.{sum_by-cons, sum_by_push}
 use Rattle.std.proofs.lemmas.Bool.{leb-true}
@@ -21,7 +22,9 @@ use Rattle.reserving.specs.Requests.{recorded, touched, credited}
 use Rattle.reserving.specs.Settlement.{charge_facts, reported, report_price, settled, settled_by}
 use Rattle.reserving.specs.Reservation.{reserved}
 use Rattle.reserving.specs.Debiting.{event_price, is_covered, debited}
-use Rattle.reserving.proofs.ChargeRows.{charge_rows-touched, charge_rows-credited, charge_rows-reserved, charge_rows-settled, charge_rows-charged_use}
+use Rattle.reserving.proofs.ChargeRows.{charge_rows-touched, charge_rows-credited}
+use Rattle.reserving.proofs.ChargeRows.{charge_rows-reserved, charge_rows-settled}
+use Rattle.reserving.proofs.ChargeRows.{charge_rows-charged_use}
 use Rattle.reserving.proofs.SettledFacts.{charged-charge_facts, charged-hold_facts}
 use Rattle.reserving.proofs.SettledRows.{differs_above, sum_at_none}
 use Rattle.charging.specs.Collected.{collected_to_date, charged_to_date}
@@ -52,7 +55,8 @@ charged_in ledger = sum_by (λ c. charged c.number ledger) (credits ledger)
 
 -- it is what they show as charged, at any moment
 shown : (v t : ℕ) (ledger : Ledger) (cs : List Row) →
-    sum_by (λ x. x.charged) (map (bucket_at v t ledger) cs) ≡ sum_by (λ c. charged c.number ledger) cs
+    sum_by (λ x. x.charged) (map (bucket_at v t ledger) cs)
+    ≡ sum_by (λ c. charged c.number ledger) cs
 shown v t ledger [] = refl
 shown v t ledger (c ∷ cs) =
     sum_by-cons (λ x. x.charged) (bucket_at v t ledger c) (map (bucket_at v t ledger) cs)
@@ -116,7 +120,8 @@ same_quiet t (Barred x) ledger q = record {
 }
 same_quiet t _ ledger q = cc
 
-same_touched : (t : ℕ) (s : List ℕ) (n : ℕ) (ledger : Ledger) → SameSums (touched t s n ledger) ledger
+same_touched : (t : ℕ) (s : List ℕ) (n : ℕ) (ledger : Ledger) →
+    SameSums (touched t s n ledger) ledger
 same_touched t s n ledger = record {
   rows = charge_rows-touched t s n ledger;
   credits_are = refl;
@@ -253,7 +258,8 @@ collecting_debited b t s g units reports more ledger covered paying h =
           (omega (arith, le, more_are)) (h.fresh n (omega (arith, le, more_are))) in
           omega (arith, none);
       sums =
-          ap (sum_by (λ c. c.collected.0)) (charge_rows-charged_use v t s g units blocks rated ledger)
+          ap (sum_by (λ c. c.collected.0))
+          (charge_rows-charged_use v t s g units blocks rated ledger)
           ∙ sum_by_push (λ c. c.collected.0) (charge_rows ledger) _
           ∙ (let all = amounts-parts (paid [] g t rated rows) rows in
           let both = sum_by-paid [] g t rated rows (in_order v t ledger h.paying.credits) in
@@ -282,7 +288,8 @@ collecting_settle b t s g [] reports ledger touches h =
     ((keeps_paying b).settle t s g [] reports ledger touches h.paying) h
 collecting_settle b t s g (p ∷ ps) reports ledger touches h =
     collecting_settled b t s g (reported (p ∷ ps)) (report_price b t s g (p ∷ ps) ledger).blocks
-    (report_price b t s g (p ∷ ps) ledger).amount.0 reports (with_report t s g (p ∷ ps) reports) ledger
+    (report_price b t s g (p ∷ ps) ledger).amount.0 reports
+    (with_report t s g (p ∷ ps) reports) ledger
     ((keeps_paying b).settle t s g (p ∷ ps) reports ledger touches h.paying) h
 
 collecting_event : (b : Book) (t : ℕ) (s : List ℕ) (g units n : ℕ) (reports : List Report)
@@ -292,7 +299,8 @@ collecting_event : (b : Book) (t : ℕ) (s : List ℕ) (g units n : ℕ) (report
 collecting_event b t s g units n reports ledger new covered paying h =
     collecting_same b reports reports (recorded t s n (debited b t s g units ledger))
     (debited b t s g units ledger) (same_quiet t (Recorded s n) (debited b t s g units ledger) refl)
-    ((keeps_paying b).quiet t (Recorded s n) reports (debited b t s g units ledger) refl refl paying)
+    ((keeps_paying b).quiet t (Recorded s n) reports
+    (debited b t s g units ledger) refl refl paying)
     (collecting_debited b t s g units reports reports ledger covered paying h)
 
 pub collecting_none : (b : Book) → IsCollecting b [] []
@@ -321,4 +329,5 @@ keeps_collecting b = record {
 pub collected_is_charged : (b : Book) (reports : List Report) (ledger : Ledger) →
     IsCollecting b reports ledger → (t : ℕ) →
     collected_to_date ledger ≡ charged_to_date b.validity t ledger
-collected_is_charged b reports ledger h t = h.sums ∙ sym (shown b.validity t ledger (credits ledger))
+collected_is_charged b reports ledger h t = h.sums
+    ∙ sym (shown b.validity t ledger (credits ledger))

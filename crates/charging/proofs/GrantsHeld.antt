@@ -1,5 +1,6 @@
 -- For each open grant of a ledger as much is held as its units can cost.
-use Rattle.std.proofs.Common.{◌≡◌, ℕ, ◌+◌, ◌≤◌, Bool, true, false, List, [], ◌∷◌, ◌++◌, refl, sym, ap, subst, ◌∙◌, arith, Option, Some, None}
+use Rattle.std.proofs.Common.{◌≡◌, ℕ, ◌+◌, ◌≤◌, Bool, true, false, List, [], ◌∷◌, ◌++◌, refl, sym}
+use Rattle.std.proofs.Common.{ap, subst, ◌∙◌, arith, Option, Some, None}
 use Rattle.std.specs.Prelude.{if◌then◌else◌, ◌==◌, sum_by, find}
 use Rattle.std.specs.List.{All}
 use Rattle.std.proofs.lemmas.List.Elements.{All-head, All-tail}
@@ -14,7 +15,8 @@ use Rattle.buckets.specs.Share.{share, parts}
 use Rattle.buckets.specs.Spend.{funds}
 use Rattle.buckets.specs.Holding.{held_sum, holds_of, paid}
 use Rattle.buckets.proofs.Parts.{sum_at, held_in-sum_at}
-use Rattle.reserving.specs.Ledger.{Fact, Ledger, or_else, inner, newest, last_recording, used, counter, held, only, open_grant, grant_in, next_bucket}
+use Rattle.reserving.specs.Ledger.{Fact, Ledger, or_else, inner, newest, last_recording, used}
+use Rattle.reserving.specs.Ledger.{counter, held, only, open_grant, grant_in, next_bucket}
 use Rattle.reserving.specs.Ledger.Fact.{Grant, End, Use, Touch, Close, Recorded, Barred}
 use Rattle.reserving.specs.Pricing.{tariff_of, cycle_at, periods_at}
 use Rattle.reserving.specs.Balance.{credits, buckets_at}
@@ -31,7 +33,8 @@ use Rattle.charging.proofs.BucketSums.{sum_by-most, sum_by-moved, held_sum-parts
 use Rattle.charging.proofs.Steps.{is_quiet, with_grant, granted}
 use Rattle.charging.proofs.Credited.{AreCredited, in_order, distinct}
 use Rattle.charging.proofs.GrantPrices.{grant_price, HasBlocks, grant_covers, grant_within}
-use Rattle.charging.proofs.GrantsLeft.{held_together, LeavesGrant, leaves_both, leaves_same, leaves_one, leaves_charges, leaves_holds, tells}
+use Rattle.charging.proofs.GrantsLeft.{held_together, LeavesGrant, leaves_both, leaves_same}
+use Rattle.charging.proofs.GrantsLeft.{leaves_one, leaves_charges, leaves_holds, tells}
 
 -- ---- groups with a tariff have blocks
 

@@ -1,11 +1,14 @@
 -- What facts in front of a ledger leave of a session's grant of a group, and of what is held for
 -- it.
-use Rattle.std.proofs.Common.{◌≡◌, ℕ, ◌≤◌, Bool, true, false, List, [], ◌∷◌, ◌++◌, refl, ◌∙◌, arith, Option, Some, None}
+use Rattle.std.proofs.Common.{◌≡◌, ℕ, ◌≤◌, Bool, true, false, List, [], ◌∷◌, ◌++◌, refl, ◌∙◌, arith}
+use Rattle.std.proofs.Common.{Option, Some, None}
 use Rattle.std.specs.Prelude.{if◌then◌else◌, ◌&&◌, not, sum_by}
 use Rattle.buckets.specs.declared.holds.Hold.{Hold}
 use Rattle.buckets.specs.Row.{Row, new_row}
-use Rattle.reserving.specs.Ledger.{Fact, Ledger, or_else, is_same, last_recording, used, held, counts_before, only, open_grant}
-use Rattle.reserving.specs.Ledger.Fact.{Credit, Grant, Hold as HoldFact, End, Use, Charge, Touch, Close, Recorded, Barred}
+use Rattle.reserving.specs.Ledger.{Fact, Ledger, or_else, is_same, last_recording, used, held}
+use Rattle.reserving.specs.Ledger.{counts_before, only, open_grant}
+use Rattle.reserving.specs.Ledger.Fact.{Credit, Grant, Hold as HoldFact, End, Use, Charge, Touch}
+use Rattle.reserving.specs.Ledger.Fact.{Close, Recorded, Barred}
 use Rattle.reserving.specs.Balance.{credits}
 use Rattle.reserving.specs.Settlement.{charge_facts}
 use Rattle.reserving.specs.Reservation.{hold_facts}

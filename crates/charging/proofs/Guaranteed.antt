@@ -1,5 +1,6 @@
 -- A report within its grant is collected whole.
-use Rattle.std.proofs.Common.{◌≡◌, ℕ, ◌≤◌, true, List, [], ◌∷◌, ◌++◌, refl, sym, ap, subst, ◌∙◌, arith, Option, Some}
+use Rattle.std.proofs.Common.{◌≡◌, ℕ, ◌≤◌, true, List, [], ◌∷◌, ◌++◌, refl, sym, ap, subst, ◌∙◌}
+use Rattle.std.proofs.Common.{arith, Option, Some}
 use Rattle.std.specs.Prelude.{unwrap_or}
 use Rattle.calendar.specs.Timetable.{period_at}
 use Rattle.tariffs.specs.Books.{Book, IsBook}
@@ -20,10 +21,13 @@ use Rattle.charging.specs.Quotas.{OpenGrant, grant_open, IsWithinGrant, AreQuota
 use Rattle.charging.proofs.BucketSums.{sum_by-moved, held_sum-parts}
 use Rattle.charging.proofs.Steps.{is_quiet, with_grant, granted, Keeps}
 use Rattle.charging.proofs.Credited.{AreCredited, distinct}
-use Rattle.charging.proofs.Paying.{IsPaying, paying_none, keeps_paying, before_charges-charges, paid_parts}
+use Rattle.charging.proofs.Paying.{IsPaying, paying_none, keeps_paying, before_charges-charges}
+use Rattle.charging.proofs.Paying.{paid_parts}
 use Rattle.charging.proofs.GrantPrices.{grant_price, report_within}
 use Rattle.charging.proofs.GrantsLeft.{held_together}
-use Rattle.charging.proofs.GrantsHeld.{has_blocks, IsCovered, AreCovered, covered_none, covered_quiet, covered_credit, covered_settle, covered_debit, covered_grant}
+use Rattle.charging.proofs.GrantsHeld.{has_blocks, IsCovered, AreCovered, covered_none}
+use Rattle.charging.proofs.GrantsHeld.{covered_quiet, covered_credit, covered_settle, covered_debit}
+use Rattle.charging.proofs.GrantsHeld.{covered_grant}
 
 -- what each ledger of an account keeps: it is paid, its open grants are covered, and its uses
 -- within them are collected

@@ -1,15 +1,18 @@
 -- What each step of a ledger keeps, each decision keeps.
-use Rattle.std.proofs.Common.{◌≡◌, ℕ, Bool, true, false, List, [], ◌∷◌, ◌++◌, refl, sym, ap, subst, ◌∙◌, Option, Some, None}
+use Rattle.std.proofs.Common.{◌≡◌, ℕ, Bool, true, false, List, [], ◌∷◌, ◌++◌, refl, sym, ap, subst}
+use Rattle.std.proofs.Common.{◌∙◌, Option, Some, None}
 use Rattle.std.specs.Prelude.{if◌then◌else◌, not, is_some, nat_lt, option_map}
 use Rattle.std.proofs.lemmas.Bool.{and_parts}
 use Rattle.commands.specs.declared.answer.Failure.{Failure}
 use Rattle.commands.specs.declared.answer.Failure.TheVariants.{UnknownSessionId}
 use Rattle.commands.specs.declared.avp.Avp.TheVariants.{SessionId}
 use Rattle.commands.specs.declared.request.Ask.{Ask}
-use Rattle.commands.specs.declared.request.Ask.TheVariants.{Initial, Update, Termination, Event as Debit, Refund}
+use Rattle.commands.specs.declared.request.Ask.TheVariants.{Initial, Update, Termination}
+use Rattle.commands.specs.declared.request.Ask.TheVariants.{Event as Debit, Refund}
 use Rattle.commands.specs.declared.request.Event.{Event}
 use Rattle.commands.specs.declared.request.EventAction.{EventAction}
-use Rattle.commands.specs.declared.request.EventAction.TheVariants.{DirectDebiting, CheckBalance, PriceEnquiry}
+use Rattle.commands.specs.declared.request.EventAction.TheVariants.{DirectDebiting, CheckBalance}
+use Rattle.commands.specs.declared.request.EventAction.TheVariants.{PriceEnquiry}
 use Rattle.commands.specs.declared.service.Service.{Service}
 use Rattle.commands.specs.declared.service.Requested.{Requested}
 use Rattle.commands.specs.Refunds.{Refunded}
@@ -20,7 +23,9 @@ use Rattle.units.specs.declared.blocks.UsedPart.{UsedPart}
 use Rattle.buckets.specs.declared.holds.Hold.{Hold}
 use Rattle.buckets.specs.Share.{parts}
 use Rattle.buckets.specs.Holding.{holds_of, paid}
-use Rattle.reserving.specs.Ledger.{Ledger, Recording, or_else, is_barred, is_within, is_live, is_closed, last_touch, last_recording, recording_in, used, next_bucket}
+use Rattle.reserving.specs.Ledger.{Ledger, Recording, or_else, is_barred, is_within, is_live}
+use Rattle.reserving.specs.Ledger.{is_closed, last_touch, last_recording, recording_in, used}
+use Rattle.reserving.specs.Ledger.{next_bucket}
 use Rattle.reserving.specs.Ledger.Fact.{Close, Recorded}
 use Rattle.reserving.specs.Balance.{buckets_at}
 use Rattle.reserving.specs.Sessions.{holds_at}
@@ -36,9 +41,13 @@ use Rattle.decisions.specs.Known.{is_known}
 use Rattle.decisions.specs.Reports.{units_of, parts_of}
 use Rattle.decisions.specs.Decided.{Decision, invalid, refused_or}
 use Rattle.decisions.specs.Settling.{settled_service, settled_services}
-use Rattle.decisions.specs.Granting.{Answered, granted_units, granted_if, granted_by, granted, after_grants, any_grants}
-use Rattle.decisions.specs.Events.{event_fault, event_units, debit_refusal, charged, charged_by, charged_unless_barred, debit_decision, read_refusal, decided_action, refund_refusal, refunded, refund_decision}
-use Rattle.decisions.specs.Decisions.{initial_refusal, opened, opened_unless_barred, session_refusal, settled_touched, updated, ended, decided}
+use Rattle.decisions.specs.Granting.{Answered, granted_units, granted_if, granted_by, granted}
+use Rattle.decisions.specs.Granting.{after_grants, any_grants}
+use Rattle.decisions.specs.Events.{event_fault, event_units, debit_refusal, charged, charged_by}
+use Rattle.decisions.specs.Events.{charged_unless_barred, debit_decision, read_refusal}
+use Rattle.decisions.specs.Events.{decided_action, refund_refusal, refunded, refund_decision}
+use Rattle.decisions.specs.Decisions.{initial_refusal, opened, opened_unless_barred}
+use Rattle.decisions.specs.Decisions.{session_refusal, settled_touched, updated, ended, decided}
 use Rattle.charging.specs.SessionReports.{Report, with_services, with_ask}
 use Rattle.charging.specs.Paid.{is_touched}
 use Rattle.charging.proofs.Steps.{with_grant, Keeps}

@@ -26,7 +26,11 @@ use Rattle.keepers.specs.declared.key.KeptAnswer.{KeptAnswer}
 use Rattle.keepers.specs.Keys.{key_of}
 use Rattle.charging.specs.Histories.{History, kept_under}
 use Rattle.charging.specs.Accepted.{Accepted, Outcome, concerned_by, names}
-use Rattle.charging.specs.Outcomes.{told, keeping, unless_kept, decided_by, request_outcome, from_of, until_of, is_full, is_out_of_range, new_credit, credit_outcome, addition_outcome, book_days, redeemed_outcome, redemption_outcome, new_redemption, redeem_outcome, opened_outcome, unopened_outcome, outcome}
+use Rattle.charging.specs.Outcomes.{told, keeping, unless_kept, decided_by, request_outcome}
+use Rattle.charging.specs.Outcomes.{from_of, until_of, is_full, is_out_of_range, new_credit}
+use Rattle.charging.specs.Outcomes.{credit_outcome, addition_outcome, book_days, redeemed_outcome}
+use Rattle.charging.specs.Outcomes.{redemption_outcome, new_redemption, redeem_outcome}
+use Rattle.charging.specs.Outcomes.{opened_outcome, unopened_outcome, outcome}
 use Rattle.charging.specs.Served.{history, standing}
 use Rattle.charging.specs.SessionReports.{Report, with_ask, with_reports, reports_of}
 use Rattle.charging.proofs.Steps.{Keeps}

@@ -1,5 +1,6 @@
 -- Commands with a key: what is kept under it, and what they come to where nothing is.
-use Rattle.std.proofs.Common.{◌≡◌, ℕ, Bool, true, false, true≢false, List, refl, sym, ap, ◌∙◌, arith, Option, Some, None}
+use Rattle.std.proofs.Common.{◌≡◌, ℕ, Bool, true, false, true≢false, List, refl, sym, ap, ◌∙◌}
+use Rattle.std.proofs.Common.{arith, Option, Some, None}
 use Rattle.std.specs.Prelude.{if◌then◌else◌, IsTrue, ◌↔◌}
 use Rattle.std.specs.Bool.{Decides}
 use Rattle.commands.proofs.Exact.{request_exact, credit_exact, redemption_exact}
@@ -25,14 +26,17 @@ use Rattle.tariffs.specs.Books.{Book}
 use Rattle.reserving.specs.Ledger.{Ledger}
 use Rattle.reserving.proofs.Lists.{no_some}
 use Rattle.decisions.specs.Decided.{refused_or, told as told_of}
-use Rattle.decisions.specs.Events.{is_read_action, decided_action, read_refusal, checked_by, priced_by}
+use Rattle.decisions.specs.Events.{is_read_action, decided_action, read_refusal, checked_by}
+use Rattle.decisions.specs.Events.{priced_by}
 use Rattle.decisions.specs.Decisions.{decision, decided, answer_of, is_read}
 use Rattle.reserving.specs.Pricing.{tariff_of}
 use Rattle.keepers.specs.declared.key.KeptAnswer.{KeptAnswer}
 use Rattle.keepers.specs.Keys.{key_of}
 use Rattle.charging.specs.Histories.{History, kept_under}
 use Rattle.charging.specs.Accepted.{Outcome}
-use Rattle.charging.specs.Outcomes.{told, keeping, same_content, repeated, unless_kept, failed, decided_by, request_outcome, new_credit, credit_outcome, new_redemption, redeem_outcome}
+use Rattle.charging.specs.Outcomes.{told, keeping, same_content, repeated, unless_kept, failed}
+use Rattle.charging.specs.Outcomes.{decided_by, request_outcome, new_credit, credit_outcome}
+use Rattle.charging.specs.Outcomes.{new_redemption, redeem_outcome}
 
 -- ---- equal contents
 

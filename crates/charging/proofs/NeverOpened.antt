@@ -1,5 +1,6 @@
 -- An account that was never opened has an empty ledger, and nothing is kept of it.
-use Rattle.std.proofs.Common.{◌≡◌, ℕ, Bool, true, false, true≢false, List, [], ◌∷◌, refl, sym, ap, subst, ◌∙◌, Option, Some, None}
+use Rattle.std.proofs.Common.{◌≡◌, ℕ, Bool, true, false, true≢false, List, [], ◌∷◌, refl, sym, ap}
+use Rattle.std.proofs.Common.{subst, ◌∙◌, Option, Some, None}
 use Rattle.std.specs.Prelude.{if◌then◌else◌, Result, Ok, Err}
 use Rattle.std.specs.List.{find}
 use Rattle.commands.specs.declared.command.Command.{Command}
@@ -32,7 +33,11 @@ use Rattle.keepers.specs.declared.key.KeptAnswer.{KeptAnswer}
 use Rattle.keepers.specs.Keys.{key_of}
 use Rattle.charging.specs.Histories.{History, is_kept_under, kept_under}
 use Rattle.charging.specs.Accepted.{Accepted, Outcome, concerned_by, names}
-use Rattle.charging.specs.Outcomes.{outcome, opened_outcome, unopened_outcome, told, keeping, unless_kept, failed, decided_by, request_outcome, from_of, until_of, is_full, is_out_of_range, new_credit, addition_outcome, book_days, redeemed_outcome, redemption_outcome, new_redemption}
+use Rattle.charging.specs.Outcomes.{outcome, opened_outcome, unopened_outcome, told, keeping}
+use Rattle.charging.specs.Outcomes.{unless_kept, failed, decided_by, request_outcome, from_of}
+use Rattle.charging.specs.Outcomes.{until_of, is_full, is_out_of_range, new_credit}
+use Rattle.charging.specs.Outcomes.{addition_outcome, book_days, redeemed_outcome}
+use Rattle.charging.specs.Outcomes.{redemption_outcome, new_redemption}
 use Rattle.charging.specs.Served.{history, standing}
 
 -- ---- an account that is there stays

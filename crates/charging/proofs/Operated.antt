@@ -1,10 +1,13 @@
 -- What operators' commands come to.
-use Rattle.std.proofs.Common.{◌≡◌, ℕ, ◌+◌, ◌≤◌, Bool, true, false, true≢false, List, [], ◌∷◌, ◌++◌, refl, sym, ap, subst, ◌∙◌, Option, Some, None}
+use Rattle.std.proofs.Common.{◌≡◌, ℕ, ◌+◌, ◌≤◌, Bool, true, false, true≢false, List, [], ◌∷◌, ◌++◌}
+use Rattle.std.proofs.Common.{refl, sym, ap, subst, ◌∙◌, Option, Some, None}
 use Rattle.std.proofs.lemmas.List.{append-nil}
-use Rattle.std.specs.Prelude.{max, is_some, option_map, ◌||◌, IfOk, IfSome, Result, Ok, Err, if◌then◌else◌}
+use Rattle.std.specs.Prelude.{max, is_some, option_map, ◌||◌, IfOk, IfSome, Result, Ok, Err}
+use Rattle.std.specs.Prelude.{if◌then◌else◌}
 use Rattle.commands.specs.declared.answer.Answer.{Answer}
 use Rattle.commands.specs.declared.answer.Answer.TheVariants as answer
-use Rattle.commands.specs.declared.answer.Refusal.TheVariants.{AccountExists, AccountUnknown, ContentDiffers, OutOfRange}
+use Rattle.commands.specs.declared.answer.Refusal.TheVariants.{AccountExists, AccountUnknown}
+use Rattle.commands.specs.declared.answer.Refusal.TheVariants.{ContentDiffers, OutOfRange}
 use Rattle.commands.specs.declared.command.Command.TheVariants as command
 use Rattle.commands.specs.declared.command.Content.TheVariants as content
 use Rattle.commands.specs.declared.command.Credit.{Credit}
@@ -29,15 +32,20 @@ use Rattle.keepers.specs.Keys.{key_of}
 use Rattle.keepers.specs.Tables.{Head, Rows, Tables, group_row, held_of, no_rows}
 use Rattle.keepers.specs.Change.{AreRowsAt, IsMadeFrom, held_over, over, changed, IsSwept}
 use Rattle.charging.specs.Histories.{History}
-use Rattle.charging.specs.Accepted.{Accepted, one, concerned_by, is_opening, names_code, last_moment, IsInTime}
-use Rattle.charging.specs.Outcomes.{book_days, outcome, told, done, keeping, repeated, with_ledger, from_of, until_of, is_unusable, is_full, is_out_of_range, new_credit, opened_outcome, unopened_outcome}
+use Rattle.charging.specs.Accepted.{Accepted, one, concerned_by, is_opening, names_code}
+use Rattle.charging.specs.Accepted.{last_moment, IsInTime}
+use Rattle.charging.specs.Outcomes.{book_days, outcome, told, done, keeping, repeated, with_ledger}
+use Rattle.charging.specs.Outcomes.{from_of, until_of, is_unusable, is_full, is_out_of_range}
+use Rattle.charging.specs.Outcomes.{new_credit, opened_outcome, unopened_outcome}
 use Rattle.charging.specs.Served.{history, standing, AreTables, IsServed}
 use Rattle.charging.specs.Stepping.{IsTaken, Credits, Makes, bar_command}
 use Rattle.charging.proofs.AcceptedTables.{tables_swept}
 use Rattle.charging.proofs.NeverOpened.{unopened-ledger}
 use Rattle.charging.proofs.KeptKeys.{credit-repeated, credit-fresh}
 use Rattle.charging.proofs.Grows.{one_more}
-use Rattle.charging.proofs.Serving.{IsOpened, is_opened, keeps-none, keeps-some, none-spent, served-told, served-done, served-loaded, is-there, not-opened, outcome-unopened, outcome-opened, outcome-kept}
+use Rattle.charging.proofs.Serving.{IsOpened, is_opened, keeps-none, keeps-some, none-spent}
+use Rattle.charging.proofs.Serving.{served-told, served-done, served-loaded, is-there, not-opened}
+use Rattle.charging.proofs.Serving.{outcome-unopened, outcome-opened, outcome-kept}
 
 -- ---- a sweep
 
@@ -46,7 +54,8 @@ pub sweep-served : (b : Book) (list : List Accepted) (t n : ℕ) (old new : Tabl
     IsServed b list command.Sweep t old new (answer.Swept n)
 sweep-served b list t n old new time tables le count swept = record {
   answer = ap answer.Swept (count ∙ tables.count);
-  tables = tables_swept (book_days b) (outcome b) b (record { moment = t; command = command.Sweep }) list old new
+  tables = tables_swept (book_days b) (outcome b) b
+      (record { moment = t; command = command.Sweep }) list old new
       time le refl refl (λ code. refl) swept tables;
   time = (le, time);
   same = λ e. absurd (true≢false e);
@@ -209,7 +218,8 @@ bar-unknown b list n barred t old new time le tables none same =
     (told (answer.Refused AccountUnknown) (history b n list))
     (answer.Refused AccountUnknown) old new
     (outcome-unopened b list (bar_command n barred) t n (bar-named n barred) old tables none
-    ∙ bar-unopened (standing b (bar_command n barred) list) (history b n list) n barred) refl refl same tables
+    ∙ bar-unopened (standing b (bar_command n barred) list) (history b n list) n barred) refl
+    refl same tables
 
 -- the change tells the account as it stands after a command without charges
 pub record Tells (change : Change) (found : Loaded) (x : AccountRows) (kept : Option KeptAnswer)
@@ -303,7 +313,8 @@ credits_made (Ok (Some n)) c t from until old new p q usable makes = λ ledger l
       ap (λ v. v || is_full ledger) usable ∙ made.0,
       made.1,
       subst (λ (u : ℕ). IsWith (credited t (from_of c t) u c.scope c.amount ledger) left t new) q
-          (subst (λ (f : ℕ). IsWith (credited t f until c.scope c.amount ledger) left t new) p made.2),
+          (subst (λ (f : ℕ).
+          IsWith (credited t f until c.scope c.amount ledger) left t new) p made.2),
     )
 credits_made (Err e) c t from until old new p q usable makes = tt
 

@@ -1,5 +1,6 @@
 -- Each use in a ledger is paid, or nothing is left that could pay it.
-use Rattle.std.proofs.Common.{◌≡◌, ℕ, ◌+◌, ◌≤◌, List, [], ◌∷◌, ◌++◌, Bool, true, false, true≢false, refl, sym, ap, subst, ◌∙◌, arith, Option, Some, None}
+use Rattle.std.proofs.Common.{◌≡◌, ℕ, ◌+◌, ◌≤◌, List, [], ◌∷◌, ◌++◌, Bool, true, false, true≢false}
+use Rattle.std.proofs.Common.{refl, sym, ap, subst, ◌∙◌, arith, Option, Some, None}
 use Rattle.std.specs.Prelude.{if◌then◌else◌, is_some}
 use Rattle.std.proofs.lemmas.Bool.{leb-true}
 use Rattle.units.specs.declared.blocks.UsedPart.{UsedPart}
@@ -10,7 +11,8 @@ use Rattle.buckets.specs.Share.{parts}
 use Rattle.buckets.specs.Spend.{funds}
 use Rattle.buckets.specs.Holding.{paid, uncollected, holds_of}
 use Rattle.buckets.proofs.Short.{spent}
-use Rattle.reserving.specs.Ledger.{Fact, Ledger, Recording, or_else, is_same, last_touch, last_recording, next_bucket}
+use Rattle.reserving.specs.Ledger.{Fact, Ledger, Recording, or_else, is_same, last_touch}
+use Rattle.reserving.specs.Ledger.{last_recording, next_bucket}
 use Rattle.reserving.specs.Ledger.Fact.{Touch, Close, Recorded, Barred}
 use Rattle.reserving.specs.Balance.{credits, buckets_at}
 use Rattle.reserving.specs.Sessions.{holds_at}
@@ -20,10 +22,13 @@ use Rattle.reserving.specs.Reservation.{hold_facts, reserved}
 use Rattle.reserving.specs.Debiting.{event_price, is_covered, debited}
 use Rattle.reserving.proofs.Lists.{no_some}
 use Rattle.charging.specs.SessionReports.{Report, with_report}
-use Rattle.charging.specs.Paid.{before_charges, collected, is_touched, IsReport, IsEvent, without_last, ArePaid}
+use Rattle.charging.specs.Paid.{before_charges, collected, is_touched, IsReport, IsEvent}
+use Rattle.charging.specs.Paid.{without_last, ArePaid}
 use Rattle.buckets.proofs.Paid.{amounts, amounts-parts, sum_by-paid}
 use Rattle.charging.proofs.Steps.{is_quiet, is_touch, with_grant, Keeps}
-use Rattle.charging.proofs.Credited.{AreCredited, no_credits, more_credits, SameCredits, same_credits, quiet_credits, charge_credits, hold_credits, in_order}
+use Rattle.charging.proofs.Credited.{AreCredited, no_credits, more_credits, SameCredits}
+use Rattle.charging.proofs.Credited.{same_credits, quiet_credits, charge_credits, hold_credits}
+use Rattle.charging.proofs.Credited.{in_order}
 
 -- ---- charges in front
 

@@ -1,13 +1,16 @@
 -- Each group and each touch of an account's ledger is of a recorded session.
-use Rattle.std.proofs.Common.{◌≡◌, ℕ, Bool, true, false, true≢false, List, [], ◌∷◌, ◌++◌, refl, sym, ap, ◌∙◌, Option, Some, None}
+use Rattle.std.proofs.Common.{◌≡◌, ℕ, Bool, true, false, true≢false, List, [], ◌∷◌, ◌++◌, refl, sym}
+use Rattle.std.proofs.Common.{ap, ◌∙◌, Option, Some, None}
 use Rattle.std.specs.Prelude.{if◌then◌else◌, ◌&&◌, ◌||◌, ◌==◌, is_some}
 use Rattle.units.specs.declared.blocks.UsedPart.{UsedPart}
 use Rattle.buckets.specs.declared.holds.Hold.{Hold}
 use Rattle.buckets.specs.Holding.{paid}
 use Rattle.buckets.specs.Share.{parts}
 use Rattle.tariffs.specs.Books.{Book}
-use Rattle.reserving.specs.Ledger.{Fact, Ledger, Recording, is_same, or_else, names_group, touch_in, has_group, last_touch, last_recording}
-use Rattle.reserving.specs.Ledger.Fact.{Credit, Grant, Hold as HoldFact, End, Use, Charge, Touch, Close, Recorded, Barred}
+use Rattle.reserving.specs.Ledger.{Fact, Ledger, Recording, is_same, or_else, names_group, touch_in}
+use Rattle.reserving.specs.Ledger.{has_group, last_touch, last_recording}
+use Rattle.reserving.specs.Ledger.Fact.{Credit, Grant, Hold as HoldFact, End, Use, Charge, Touch}
+use Rattle.reserving.specs.Ledger.Fact.{Close, Recorded, Barred}
 use Rattle.reserving.specs.Requests.{recorded, touched}
 use Rattle.reserving.specs.Settlement.{charge_facts, report_price, settled_by}
 use Rattle.reserving.specs.Reservation.{hold_facts}

@@ -1,6 +1,7 @@
 -- What an account keeps of an accepted command stays kept whatever commands come, so a repeat is
 -- answered by it.
-use Rattle.std.proofs.Common.{◌≡◌, ℕ, List, [], ◌∷◌, Option, Some, None, Bool, true, false, true≢false, not, refl, sym, ap, subst, ◌∙◌}
+use Rattle.std.proofs.Common.{◌≡◌, ℕ, List, [], ◌∷◌, Option, Some, None, Bool, true, false}
+use Rattle.std.proofs.Common.{true≢false, not, refl, sym, ap, subst, ◌∙◌}
 use Rattle.std.proofs.lemmas.Option.{none-some}
 use Rattle.std.specs.Prelude.{if◌then◌else◌, Result, Ok, Err}
 use Rattle.std.specs.List.{find}
@@ -33,7 +34,11 @@ use Rattle.keepers.specs.Keys.{key_of, key_decides}
 use Rattle.charging.specs.Histories.{History, is_kept_under, kept_under}
 use Rattle.charging.specs.Accepted.{Accepted, Outcome, one, concerned_by, names}
 use Rattle.charging.specs.declared.running.DatedCommand.{DatedCommand}
-use Rattle.charging.specs.Outcomes.{told, keeping, repeated, unless_kept, failed, decided_by, request_outcome, from_of, until_of, is_full, is_out_of_range, new_credit, credit_outcome, book_days, refused_as, redemption_outcome, new_redemption, redeem_outcome, opened_outcome, unopened_outcome, outcome}
+use Rattle.charging.specs.Outcomes.{told, keeping, repeated, unless_kept, failed, decided_by}
+use Rattle.charging.specs.Outcomes.{request_outcome, from_of, until_of, is_full, is_out_of_range}
+use Rattle.charging.specs.Outcomes.{new_credit, credit_outcome, book_days, refused_as}
+use Rattle.charging.specs.Outcomes.{redemption_outcome, new_redemption, redeem_outcome}
+use Rattle.charging.specs.Outcomes.{opened_outcome, unopened_outcome, outcome}
 use Rattle.charging.specs.Served.{history, standing, moment_of, accepts, answer_to}
 use Rattle.charging.specs.Runs.{after_command, after_commands}
 use Rattle.charging.specs.Repeats.{AnswersOnce}
@@ -159,7 +164,8 @@ keeps_opened b kept s h (command.Credit c) t keeps =
     of_credit (λ o. Keeps kept o.after) c t h (λ given. keeps)
     (λ given ledger free. keeps_kept kept
     (record { content = content.Credit c; answer = given }) h ledger keeps free)
-keeps_opened b kept s h (command.Bar n) t keeps = record { there = keeps.there; found = keeps.found }
+keeps_opened b kept s h (command.Bar n) t keeps =
+    record { there = keeps.there; found = keeps.found }
 keeps_opened b kept s h (command.Unbar n) t keeps =
     record { there = keeps.there; found = keeps.found }
 keeps_opened b kept s h (command.AddVoucher v) t keeps =
@@ -270,7 +276,8 @@ repeat_credit : (b : Book) (c : Credit) (given : Answer) (t : ℕ) (h : History)
     Keeps (record { content = content.Credit c; answer = given }) h →
     outcome b None h (command.Credit c) t ≡ told given h
 repeat_credit b c given t h keeps =
-    ap (λ o. if o then credit_outcome c t h else unopened_outcome None h (command.Credit c)) keeps.there
+    ap (λ o. if o then credit_outcome c t h
+    else unopened_outcome None h (command.Credit c)) keeps.there
     ∙ ap (λ found. unless_kept found (content.Credit c) (answer.Refused ContentDiffers) h
     (new_credit c t h)) keeps.found
     ∙ ap (λ same. told (if same then given else answer.Refused ContentDiffers) h)

@@ -1,7 +1,9 @@
 -- What a request comes to: of an unknown account, of a key that is kept, a read, of a session that
 -- is known, and one that is decided.
-use Rattle.std.proofs.Common.{◌≡◌, ℕ, ◌≤◌, Bool, true, false, true≢false, List, ◌∷◌, ◌++◌, refl, sym, ap, subst, ◌∙◌, Option, Some, None}
-use Rattle.std.specs.Prelude.{if◌then◌else◌, ◌&&◌, is_some, max, Result, MatchResult, IfOk, OnErr, Ok, Err}
+use Rattle.std.proofs.Common.{◌≡◌, ℕ, ◌≤◌, Bool, true, false, true≢false, List, ◌∷◌, ◌++◌, refl}
+use Rattle.std.proofs.Common.{sym, ap, subst, ◌∙◌, Option, Some, None}
+use Rattle.std.specs.Prelude.{if◌then◌else◌, ◌&&◌, is_some, max, Result, MatchResult, IfOk, OnErr}
+use Rattle.std.specs.Prelude.{Ok, Err}
 use Rattle.std.proofs.lemmas.Bool.{and_parts}
 use Rattle.commands.specs.declared.answer.Answer.{Answer}
 use Rattle.commands.specs.declared.answer.Answer.TheVariants as answer
@@ -13,10 +15,12 @@ use Rattle.commands.specs.declared.avp.Avp.TheVariants.{RequestNumber, SessionId
 use Rattle.commands.specs.declared.command.Command.TheVariants.{Ccr}
 use Rattle.commands.specs.declared.command.Content.TheVariants as content
 use Rattle.commands.specs.declared.request.Ask.{Ask}
-use Rattle.commands.specs.declared.request.Ask.TheVariants.{Initial, Update, Termination, Event, Refund}
+use Rattle.commands.specs.declared.request.Ask.TheVariants.{Initial, Update, Termination, Event}
+use Rattle.commands.specs.declared.request.Ask.TheVariants.{Refund}
 use Rattle.commands.specs.declared.request.Event.{Event as EventOf}
 use Rattle.commands.specs.declared.request.EventAction.{EventAction}
-use Rattle.commands.specs.declared.request.EventAction.TheVariants.{DirectDebiting, CheckBalance, PriceEnquiry}
+use Rattle.commands.specs.declared.request.EventAction.TheVariants.{DirectDebiting, CheckBalance}
+use Rattle.commands.specs.declared.request.EventAction.TheVariants.{PriceEnquiry}
 use Rattle.commands.specs.declared.request.Request.{Request}
 use Rattle.tariffs.specs.Books.{Book, IsBook}
 use Rattle.reserving.specs.Ledger.{Ledger, Recording, last_recording}
@@ -40,14 +44,17 @@ use Rattle.keepers.specs.Change.{IsLoadedFrom, IsView, IsMadeFrom, changed}
 use Rattle.keepers.proofs.Asked.{known_is, new_unleft}
 use Rattle.charging.specs.Histories.{History}
 use Rattle.charging.specs.Accepted.{Accepted, last_moment, IsInTime}
-use Rattle.charging.specs.Outcomes.{outcome, failed, repeated, told, keeping, decided_by, unopened_outcome}
+use Rattle.charging.specs.Outcomes.{outcome, failed, repeated, told, keeping, decided_by}
+use Rattle.charging.specs.Outcomes.{unopened_outcome}
 use Rattle.charging.specs.Served.{history, AreTables, IsServed}
 use Rattle.charging.specs.Stepping.{IsTaken, is_known, kept_of_request}
 use Rattle.charging.proofs.AcceptedTables.{row_none, row_some}
 use Rattle.charging.proofs.Grows.{grown}
 use Rattle.charging.proofs.Recorded.{new_has_no_groups}
-use Rattle.charging.proofs.KeptKeys.{reads-refused, request-repeated, request-fresh, decided-told, decided-kept}
-use Rattle.charging.proofs.Serving.{IsOpened, is_opened, keeps-some, none-spent, served-told, served-loaded, outcome-unopened, outcome-opened, outcome-kept}
+use Rattle.charging.proofs.KeptKeys.{reads-refused, request-repeated, request-fresh, decided-told}
+use Rattle.charging.proofs.KeptKeys.{decided-kept}
+use Rattle.charging.proofs.Serving.{IsOpened, is_opened, keeps-some, none-spent, served-told}
+use Rattle.charging.proofs.Serving.{served-loaded, outcome-unopened, outcome-opened, outcome-kept}
 
 pub request-unknown : (b : Book) (list : List Accepted) (r : Request) (t : ℕ) (old new : Tables)
     (given : Answer) →

@@ -1,5 +1,6 @@
 -- What a command comes to that names an account: its answer, the list after it, and the tables.
-use Rattle.std.proofs.Common.{◌≡◌, ℕ, ◌+◌, Bool, true, false, true≢false, List, ◌∷◌, ◌++◌, ◌≤◌, refl, sym, ap, subst, ◌∙◌, arith, Option, Some, None}
+use Rattle.std.proofs.Common.{◌≡◌, ℕ, ◌+◌, Bool, true, false, true≢false, List, ◌∷◌, ◌++◌, ◌≤◌}
+use Rattle.std.proofs.Common.{refl, sym, ap, subst, ◌∙◌, arith, Option, Some, None}
 use Rattle.std.proofs.Math.Nat.{max-eq_left}
 use Rattle.std.specs.Prelude.{if◌then◌else◌, is_some, max, Result, Ok, Err, OnOk}
 use Rattle.std.specs.Cmp.Lexicographic.{bytes_decides}
@@ -17,16 +18,19 @@ use Rattle.keepers.specs.declared.key.KeptAnswer.{KeptAnswer}
 use Rattle.keepers.specs.declared.loaded.Change.{Change}
 use Rattle.keepers.specs.declared.loaded.Loaded.{Loaded}
 use Rattle.keepers.specs.Tables.{Head, Tables, no_rows, head_of}
-use Rattle.keepers.specs.Change.{IsLoad, IsLoadedFrom, AreRowsAt, IsMadeFrom, kept_after, over, redeemed_over, changed}
+use Rattle.keepers.specs.Change.{IsLoad, IsLoadedFrom, AreRowsAt, IsMadeFrom, kept_after, over}
+use Rattle.keepers.specs.Change.{redeemed_over, changed}
 use Rattle.keepers.specs.Steps.{Extends}
 use Rattle.keepers.proofs.Taking.{taken}
 use Rattle.keepers.proofs.Leaving.{left_behind}
 use Rattle.charging.specs.Histories.{History, kept_under}
-use Rattle.charging.specs.Accepted.{Accepted, Outcome, one, concerned_by, names, is_opening, names_code, voucher_after, as_of, last_moment, IsInTime}
+use Rattle.charging.specs.Accepted.{Accepted, Outcome, one, concerned_by, names, is_opening}
+use Rattle.charging.specs.Accepted.{names_code, voucher_after, as_of, last_moment, IsInTime}
 use Rattle.charging.proofs.AcceptedTables.{Adds, tables_changed, row_none, row_some, as_of-last}
 use Rattle.charging.specs.Outcomes.{book_days, outcome, opened_outcome, unopened_outcome}
 use Rattle.charging.proofs.NeverOpened.{kept-opened}
-use Rattle.charging.specs.Served.{history, voucher, standing, AreTables, answer_on, answer_to, accepts_on, accepts, with_command, IsServed}
+use Rattle.charging.specs.Served.{history, voucher, standing, AreTables, answer_on, answer_to}
+use Rattle.charging.specs.Served.{accepts_on, accepts, with_command, IsServed}
 use Rattle.charging.specs.Stepping.{IsTaken}
 
 name_itself : (a : List ℕ) → same_name a a ≡ true
@@ -239,7 +243,8 @@ module _ (b : Book) (list : List Accepted) (c : Command) (t : ℕ) (a : List ℕ
     tables = subst (λ (x : List Accepted). AreTables b x new)
         (sym (with_accepted ((λ i. (is i).accepted) ∙ done)))
         (subst (λ (x : Tables). AreTables b (record { moment = t; command = c } ∷ list) x)
-        (sym grown) (tables_changed (book_days b) (outcome b) b (record { moment = t; command = c }) list
+        (sym grown)
+        (tables_changed (book_days b) (outcome b) b (record { moment = t; command = c }) list
         change old (adds o change old is number x) tables));
     time = in-time b list c t time le;
     same = λ e. absurd (true≢false (sym done ∙ sym (λ i. (is i).accepted) ∙ sym accepts_named ∙ e));

@@ -1,5 +1,6 @@
 -- What a balance comes to: the state that is found of an account is its ledger's.
-use Rattle.std.proofs.Common.{◌≡◌, ℕ, ◌≤◌, false, List, ◌++◌, map, refl, sym, ap, subst, ◌∙◌, Some, None}
+use Rattle.std.proofs.Common.{◌≡◌, ℕ, ◌≤◌, false, List, ◌++◌, map, refl, sym, ap, subst, ◌∙◌, Some}
+use Rattle.std.proofs.Common.{None}
 use Rattle.std.proofs.Math.Nat.{le-max_right}
 use Rattle.std.specs.Prelude.{if◌then◌else◌}
 use Rattle.buckets.specs.Row.{Row}
@@ -45,7 +46,8 @@ some-stated b a t list old x dead s time tables le loads found h =
     is_opened b list t a old x time le tables loads h.account in
     let ledger : Ledger = (history b a list).ledger in
     let left : LeftRows = left_of t (priced b there.are.listed) in
-    let early : x.as_of ≤ t = subst (λ (m : ℕ). x.as_of ≤ m) there.moment (le-max_right t x.as_of) in
+    let early : x.as_of ≤ t =
+    subst (λ (m : ℕ). x.as_of ≤ m) there.moment (le-max_right t x.as_of) in
     let later : IsWith ledger left t (advanced t x) =
     with_advanced ledger left t x early there.with_left in
     let same : (n : ℕ) → bucket_in n dead ≡ bucket_in n left.buckets = λ n. found.found n

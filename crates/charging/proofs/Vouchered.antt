@@ -1,11 +1,13 @@
 -- What adding a voucher and redeeming one come to.
-use Rattle.std.proofs.Common.{◌≡◌, ℕ, ◌≤◌, Bool, true, false, true≢false, List, ◌∷◌, ◌++◌, refl, sym, ap, subst, ◌∙◌, Option, Some, None}
+use Rattle.std.proofs.Common.{◌≡◌, ℕ, ◌≤◌, Bool, true, false, true≢false, List, ◌∷◌, ◌++◌, refl}
+use Rattle.std.proofs.Common.{sym, ap, subst, ◌∙◌, Option, Some, None}
 use Rattle.std.specs.Prelude.{if◌then◌else◌, is_some, max, IfSome, Result, Ok, Err}
 use Rattle.std.specs.Cmp.Lexicographic.{bytes_decides}
 use Rattle.identifiers.specs.Texts.{same_name}
 use Rattle.commands.specs.declared.answer.Answer.{Answer}
 use Rattle.commands.specs.declared.answer.Answer.TheVariants as answer
-use Rattle.commands.specs.declared.answer.Refusal.TheVariants.{AccountUnknown, ContentDiffers, OutOfRange}
+use Rattle.commands.specs.declared.answer.Refusal.TheVariants.{AccountUnknown, ContentDiffers}
+use Rattle.commands.specs.declared.answer.Refusal.TheVariants.{OutOfRange}
 use Rattle.commands.specs.declared.command.Command.TheVariants as command
 use Rattle.commands.specs.declared.command.Content.TheVariants as content
 use Rattle.commands.specs.declared.command.VoucherAddition.{VoucherAddition}
@@ -35,14 +37,17 @@ use Rattle.keepers.specs.Tables.{Tables}
 use Rattle.keepers.specs.Change.{IsLoad, IsMadeFrom, redeemed_over, changed, with_voucher}
 use Rattle.charging.specs.Histories.{History, no_history}
 use Rattle.charging.specs.Accepted.{Accepted, last_moment, IsInTime}
-use Rattle.charging.specs.Outcomes.{book_days, outcome, told, keeping, repeated, refused_as, is_full, addition_outcome, redeemed_outcome, redemption_outcome}
+use Rattle.charging.specs.Outcomes.{book_days, outcome, told, keeping, repeated, refused_as}
+use Rattle.charging.specs.Outcomes.{is_full, addition_outcome, redeemed_outcome, redemption_outcome}
 use Rattle.charging.specs.Served.{history, voucher, standing, AreTables, with_command, IsServed}
 use Rattle.charging.specs.Stepping.{IsTaken, Makes}
 use Rattle.charging.proofs.AcceptedTables.{tables_added}
 use Rattle.charging.proofs.KeptKeys.{redemption-repeated, redemption-fresh}
 use Rattle.charging.proofs.Grows.{one_more}
 use Rattle.charging.proofs.Operated.{Tells}
-use Rattle.charging.proofs.Serving.{IsOpened, is_opened, in-time, AreSpent, keeps-some, served-told, served-loaded, is-there, outcome-unopened, outcome-opened, outcome-kept}
+use Rattle.charging.proofs.Serving.{IsOpened, is_opened, in-time, AreSpent, keeps-some, served-told}
+use Rattle.charging.proofs.Serving.{served-loaded, is-there, outcome-unopened, outcome-opened}
+use Rattle.charging.proofs.Serving.{outcome-kept}
 
 -- ---- a voucher that is added
 
@@ -67,7 +72,8 @@ module _ (b : Book) (list : List Accepted) (v : VoucherAddition) (t : ℕ) (old 
   adds-is : addition (voucher b v.code list) v.terms ≡ x
   adds-is = ap (λ o. addition o v.terms) (sym (tables.vouchers v.code)) ∙ adds
 
-  comes-to : outcome b (standing b (command.AddVoucher v) list) no_history (command.AddVoucher v) t ≡
+  comes-to : outcome b (standing b (command.AddVoucher v) list) no_history (command.AddVoucher v) t
+      ≡
       addition_outcome x no_history
   comes-to = ap (λ y. addition_outcome y no_history) adds-is
 

@@ -1,7 +1,8 @@
 -- What a command comes to over the voucher whose code it names and on the history of the account
 -- that it names: its answer, whether it is accepted, and the history after it (requests: RFC 8506;
 -- operators' commands, vouchers, keys and repeats: profile).
-use Rattle.std.specs.Prelude.{ℕ, ◌==◌, ◌||◌, nat_le, nat_lt, Bool, true, false, if◌then◌else◌, ◌∷◌, Option, Some, None, Result, Ok, Err, unwrap_or}
+use Rattle.std.specs.Prelude.{ℕ, ◌==◌, ◌||◌, nat_le, nat_lt, Bool, true, false, if◌then◌else◌, ◌∷◌}
+use Rattle.std.specs.Prelude.{Option, Some, None, Result, Ok, Err, unwrap_or}
 use Rattle.commands.specs.Alike.{same_request, same_credit, same_redemption}
 use Rattle.commands.specs.declared.avp.Avp.TheVariants.{RequestNumber}
 use Rattle.commands.specs.declared.answer.Answer.{Answer}
@@ -10,7 +11,9 @@ use Rattle.commands.specs.declared.answer.Failure.{Failure}
 use Rattle.commands.specs.declared.answer.Failure.TheVariants.{UserUnknown, InvalidAvpValue}
 use Rattle.commands.specs.declared.answer.Outcome.TheVariants.{Failed}
 use Rattle.commands.specs.declared.answer.Refusal.{Refusal}
-use Rattle.commands.specs.declared.answer.Refusal.TheVariants.{AccountExists, AccountUnknown, VoucherUnknown, VoucherSpent, ContentDiffers, OutOfRange}
+use Rattle.commands.specs.declared.answer.Refusal.TheVariants.{AccountExists, AccountUnknown}
+use Rattle.commands.specs.declared.answer.Refusal.TheVariants.{VoucherUnknown, VoucherSpent}
+use Rattle.commands.specs.declared.answer.Refusal.TheVariants.{ContentDiffers, OutOfRange}
 use Rattle.commands.specs.declared.command.Command.{Command}
 use Rattle.commands.specs.declared.command.Command.TheVariants as command
 use Rattle.commands.specs.declared.command.Content.{Content}

@@ -1,6 +1,7 @@
 -- The quota guarantee: a report within its grant is collected whole (TS 32.299, session charging
 -- with unit reservation).
-use Rattle.std.specs.Prelude.{◌≡◌, ℕ, ◌≤◌, ◌==◌, ◌&&◌, List, [], ◌∷◌, Option, Some, None, if◌then◌else◌}
+use Rattle.std.specs.Prelude.{◌≡◌, ℕ, ◌≤◌, ◌==◌, ◌&&◌, List, [], ◌∷◌, Option, Some, None}
+use Rattle.std.specs.Prelude.{if◌then◌else◌}
 use Rattle.tariffs.specs.Books.{Book}
 use Rattle.reserving.specs.Ledger.{Fact, Dated, Ledger, is_same, newest, inner, counter}
 use Rattle.reserving.specs.Ledger.Fact.{Grant, End, Use}

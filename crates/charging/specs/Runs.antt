@@ -1,6 +1,7 @@
 -- A run of dated commands: the answers, and the list of accepted commands after it.
 -- Source: profile.
-use Rattle.std.specs.Prelude.{◌≡◌, ◌≤◌, ◌<◌, ◌+◌, ℕ, List, [], ◌∷◌, Some, take, length, min, IfNone, IfSome}
+use Rattle.std.specs.Prelude.{◌≡◌, ◌≤◌, ◌<◌, ◌+◌, ℕ, List, [], ◌∷◌, Some, take, length, min, IfNone}
+use Rattle.std.specs.Prelude.{IfSome}
 use Rattle.commands.specs.declared.answer.Answer.{Answer}
 use Rattle.charging.specs.declared.answers.Run.{Run}
 use Rattle.charging.specs.declared.running.DatedCommand.{DatedCommand}

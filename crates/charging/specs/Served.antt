@@ -1,6 +1,7 @@
 -- What a command is answered after a list of accepted commands, and the list after it.
 -- Source: profile.
-use Rattle.std.specs.Prelude.{◌≡◌, ℕ, Bool, true, false, List, ◌∷◌, Option, Result, if◌then◌else◌, max, MatchResult}
+use Rattle.std.specs.Prelude.{◌≡◌, ℕ, Bool, true, false, List, ◌∷◌, Option, Result, if◌then◌else◌}
+use Rattle.std.specs.Prelude.{max, MatchResult}
 use Rattle.commands.specs.declared.answer.Answer.{Answer}
 use Rattle.commands.specs.declared.answer.Answer.TheVariants.{Swept}
 use Rattle.commands.specs.declared.command.Command.{Command}
@@ -9,7 +10,8 @@ use Rattle.tariffs.specs.Books.{Book}
 use Rattle.keepers.specs.declared.fault.StoreFault.{StoreFault}
 use Rattle.keepers.specs.Tables.{Tables}
 use Rattle.charging.specs.Histories.{History, no_history}
-use Rattle.charging.specs.Accepted.{Accepted, Concerned, one, each, none, concerned_by, last_moment, account_count, IsInTime}
+use Rattle.charging.specs.Accepted.{Accepted, Concerned, one, each, none, concerned_by, last_moment}
+use Rattle.charging.specs.Accepted.{account_count, IsInTime}
 use Rattle.charging.specs.Accepted as accepted
 use Rattle.charging.specs.Outcomes.{book_days, outcome}
 

@@ -5,7 +5,8 @@ use Rattle.units.specs.declared.blocks.UsedPart.{UsedPart}
 use Rattle.commands.specs.declared.command.Command.{Command}
 use Rattle.commands.specs.declared.command.Command.TheVariants as command
 use Rattle.commands.specs.declared.request.Ask.{Ask}
-use Rattle.commands.specs.declared.request.Ask.TheVariants.{Initial, Update, Termination, Event, Refund}
+use Rattle.commands.specs.declared.request.Ask.TheVariants.{Initial, Update, Termination, Event}
+use Rattle.commands.specs.declared.request.Ask.TheVariants.{Refund}
 use Rattle.commands.specs.declared.service.Service.{Service}
 use Rattle.tariffs.specs.Books.{Book}
 use Rattle.decisions.specs.Known.{is_known}

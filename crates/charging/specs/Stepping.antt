@@ -1,7 +1,8 @@
 -- What the parts of a step come to, for every list of accepted commands whose tables a keeper
 -- holds.
 -- Source: profile.
-use Rattle.std.specs.Prelude.{◌≡◌, ℕ, ◌≤◌, Bool, true, false, List, Option, Some, None, Result, ◌&&◌, is_some, if◌then◌else◌, MatchResult}
+use Rattle.std.specs.Prelude.{◌≡◌, ℕ, ◌≤◌, Bool, true, false, List, Option, Some, None, Result}
+use Rattle.std.specs.Prelude.{◌&&◌, is_some, if◌then◌else◌, MatchResult}
 use Rattle.commands.specs.declared.answer.Answer.{Answer}
 use Rattle.commands.specs.declared.command.Command.{Command}
 use Rattle.commands.specs.declared.command.Command.TheVariants.{Bar, Unbar}

@@ -19,8 +19,8 @@ pub(crate) fn moment_on(account: &Account, moment: Moment) -> Moment
     moment.max(account.as_of())
 }
 
-/// Commits an account as it stands, with the charges that a command made, what is kept of it and the
-/// voucher that it redeemed.
+/// Commits an account as it stands, with the charges that a command made, what is kept of it and
+/// the voucher that it redeemed.
 pub(crate) fn commit<K: Keeper>(
     keeper: &mut K,
     loaded: Loaded,

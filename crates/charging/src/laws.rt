@@ -46,8 +46,8 @@ pub fn collection()
         charged_to_date b.validity t (history b a list).ledger }
 {}
 
-/// Repeats: once a request that isn't a read, a credit, a redemption or the addition of a voucher is
-/// accepted, it has one answer for good. Whatever commands stand between, the same command is
+/// Repeats: once a request that isn't a read, a credit, a redemption or the addition of a voucher
+/// is accepted, it has one answer for good. Whatever commands stand between, the same command is
 /// answered as the first time and isn't accepted again (RFC 8506 section 8.2; references of credits
 /// and redemptions, and codes of vouchers: profile).
 pub fn repeats()

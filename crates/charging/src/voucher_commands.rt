@@ -88,7 +88,7 @@ pub(crate) fn serve_redemption<K: Keeper>(
         Ok(redeemed) => credit_redeemed(alloc, keeper, loaded, asked, code, redeemed, moment),
         Err(refusal) => {
             keeper.abandon(loaded);
-            Ok(Answer::Refused(refused(refusal)))
+            Ok(Answer::Refused(told_refusal(refusal)))
         }
     }
 }
@@ -133,7 +133,7 @@ fn redeem_by(
 }
 
 /// The refusal as an operator is told it.
-fn refused(refusal: RedeemRefusal) -> Refusal
+fn told_refusal(refusal: RedeemRefusal) -> Refusal
     ensures { result ≡ refused_as refusal }
 {
     match refusal {

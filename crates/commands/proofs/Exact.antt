@@ -42,7 +42,8 @@ report_exact a b = (
   λ e.
       let p = and_parts (kind.eq a.kind b.kind) (pointwise part.eq a.parts b.parts) e in
       report_path a b ((kind_exact a.kind b.kind).0 p.0) ((parts_exact a.parts b.parts).0 p.1),
-  λ e. both_true ((kind_exact a.kind b.kind).1 (ap (λ (u : Used). u.kind) e)) ((parts_exact a.parts b.parts).1 (ap (λ (u : Used). u.parts) e)),
+  λ e. both_true ((kind_exact a.kind b.kind).1 (ap (λ (u : Used). u.kind) e))
+      ((parts_exact a.parts b.parts).1 (ap (λ (u : Used). u.parts) e)),
 )
 
 pub service_exact : (a b : Service) → Decides (service.eq a b) (a ≡ b)
@@ -63,9 +64,17 @@ request_exact a b = search (ask_exact, rules)
 option_exact : (a b : Option ℕ) → Decides (option_eq nat_eq a b) (a ≡ b)
 option_exact a b = search rules
 
-credit_path : (a b : Credit) → a.account ≡ b.account → a.amount ≡ b.amount → a.from ≡ b.from → a.until ≡ b.until → a.scope ≡ b.scope → a.reference ≡ b.reference → a ≡ b
+credit_path : (a b : Credit) → a.account ≡ b.account → a.amount ≡ b.amount → a.from ≡ b.from →
+    a.until ≡ b.until → a.scope ≡ b.scope → a.reference ≡ b.reference → a ≡ b
 credit_path a b account amount from until scope reference i =
-    record { account = account i; amount = amount i; from = from i; until = until i; scope = scope i; reference = reference i }
+    record {
+      account = account i;
+      amount = amount i;
+      from = from i;
+      until = until i;
+      scope = scope i;
+      reference = reference i;
+    }
 
 credit_sound : (a b : Credit) → same_credit a b ≡ true → a ≡ b
 credit_sound a b e =
@@ -73,9 +82,12 @@ credit_sound a b e =
     let amount = and_parts (nat_eq a.amount b.amount) _ account.1 in
     let from = and_parts (option_eq nat_eq a.from b.from) _ amount.1 in
     let until = and_parts (option_eq nat_eq a.until b.until) _ from.1 in
-    let scope = and_parts (option_eq nat_eq a.scope b.scope) (same_name a.reference b.reference) until.1 in
-    credit_path a b ((bytes_decides a.account b.account).0 account.0) ((unsigned_Decides a.amount b.amount).0 amount.0) ((option_exact a.from b.from).0 from.0)
-    ((option_exact a.until b.until).0 until.0) ((option_exact a.scope b.scope).0 scope.0) ((bytes_decides a.reference b.reference).0 scope.1)
+    let scope =
+    and_parts (option_eq nat_eq a.scope b.scope) (same_name a.reference b.reference) until.1 in
+    credit_path a b ((bytes_decides a.account b.account).0 account.0)
+    ((unsigned_Decides a.amount b.amount).0 amount.0) ((option_exact a.from b.from).0 from.0)
+    ((option_exact a.until b.until).0 until.0) ((option_exact a.scope b.scope).0 scope.0)
+    ((bytes_decides a.reference b.reference).0 scope.1)
 
 pub credit_exact : (a b : Credit) → Decides (same_credit a b) (a ≡ b)
 credit_exact a b = (credit_sound a b, λ e. subst (λ c. same_credit a c ≡ true) e (search rules))

@@ -1,5 +1,6 @@
 -- The tables of names and numbers go both ways.
-use Rattle.std.proofs.Common.{◌≡◌, ℕ, List, [], ◌∷◌, Bool, true, false, Option, Some, None, refl, nat_eq}
+use Rattle.std.proofs.Common.{◌≡◌, ℕ, List, [], ◌∷◌, Bool, true, false, Option, Some, None, refl}
+use Rattle.std.proofs.Common.{nat_eq}
 use Rattle.std.specs.Prelude.{◌==◌, cond}
 use Rattle.std.specs.List.{find}
 use Rattle.std.specs.Cmp.{unsigned_Decides}
@@ -20,13 +21,17 @@ use Rattle.commands.specs.declared.answer.Refusal.TheVariants as refusal
 use Rattle.units.specs.declared.blocks.TariffChangeUsage.{TariffChangeUsage}
 use Rattle.units.specs.declared.blocks.TariffChangeUsage.TheVariants as usage
 use Rattle.commands.specs.Names.{name_of, all_avps, avp_named}
-use Rattle.commands.specs.Codes.{all_kinds, all_actions, all_service_failures, all_balances, all_refusals, kind_number, kind_numbered, action_number, action_numbered, service_failure_number, service_failure_numbered, balance_number, balance_numbered, refusal_name, refusal_named}
+use Rattle.commands.specs.Codes.{all_kinds, all_actions, all_service_failures, all_balances}
+use Rattle.commands.specs.Codes.{all_refusals, kind_number, kind_numbered, action_number}
+use Rattle.commands.specs.Codes.{action_numbered, service_failure_number, service_failure_numbered}
+use Rattle.commands.specs.Codes.{balance_number, balance_numbered, refusal_name, refusal_named}
 use Rattle.commands.specs.Reports.{all_usages, usage_number, usage_numbered}
 use Rattle.commands.specs.Inverse.{IsTable, AreTables}
 
 -- ---- what a search finds passes its test
 
-passes_by : {X : Type 0} (p : X → Bool) (b : Bool) (y x : X) (rest : Option X) → p y ≡ b → (rest ≡ Some x → p x ≡ true) → cond b (Some y) rest ≡ Some x → p x ≡ true
+passes_by : {X : Type 0} (p : X → Bool) (b : Bool) (y x : X) (rest : Option X) → p y ≡ b →
+    (rest ≡ Some x → p x ≡ true) → cond b (Some y) rest ≡ Some x → p x ≡ true
 passes_by p true y x rest e later h = cc
 passes_by p false y x rest e later h = later h
 
@@ -103,13 +108,17 @@ usage_there usage.UnitIndeterminate = refl
 
 -- ---- and back
 
-numbers : {A : Type 0} (number : A → ℕ) (all : List A) → ((x : A) → find (λ y. number y == number x) all ≡ Some x) → IsTable number (λ n. find (λ y. number y == n) all)
+numbers : {A : Type 0} (number : A → ℕ) (all : List A) →
+    ((x : A) → find (λ y. number y == number x) all ≡ Some x) →
+    IsTable number (λ n. find (λ y. number y == n) all)
 numbers number all there = record {
   there = there;
   back = λ n x h. same_number (number x) n (passes (λ y. number y == n) all x h);
 }
 
-names : {A : Type 0} (name : A → List ℕ) (all : List A) → ((x : A) → find (λ y. pointwise nat_eq (name y) (name x)) all ≡ Some x) → IsTable name (λ s. find (λ y. pointwise nat_eq (name y) s) all)
+names : {A : Type 0} (name : A → List ℕ) (all : List A) →
+    ((x : A) → find (λ y. pointwise nat_eq (name y) (name x)) all ≡ Some x) →
+    IsTable name (λ s. find (λ y. pointwise nat_eq (name y) s) all)
 names name all there = record {
   there = there;
   back = λ s x h. same_text (name x) s (passes (λ y. pointwise nat_eq (name y) s) all x h);

@@ -7,7 +7,9 @@ use Rattle.commands.specs.declared.command.Credit.{Credit}
 use Rattle.commands.specs.declared.command.VoucherRedemption.{VoucherRedemption}
 use Rattle.commands.specs.contracts.request.RequestPartialEq.TheImpl.{ghosts as request}
 use Rattle.commands.specs.contracts.command.CreditPartialEq.TheImpl.{ghosts as credit}
-use Rattle.commands.specs.contracts.command.VoucherRedemptionPartialEq.TheImpl.{ghosts as redemption}
+use Rattle.commands.specs.contracts.command.VoucherRedemptionPartialEq.TheImpl.{
+  ghosts as redemption,
+}
 
 abbrev pub same_request : Request → Request → Bool
 same_request = request.eq

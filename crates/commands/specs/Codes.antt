@@ -9,13 +9,20 @@ use Rattle.commands.specs.declared.request.EventAction.TheVariants as action
 use Rattle.commands.specs.declared.request.Ask.{Ask}
 use Rattle.commands.specs.declared.request.Ask.TheVariants as ask
 use Rattle.commands.specs.declared.answer.ServiceFailure.{ServiceFailure}
-use Rattle.commands.specs.declared.answer.ServiceFailure.TheVariants.{EndUserServiceDenied, CreditLimitReached, RatingFailed}
+use Rattle.commands.specs.declared.answer.ServiceFailure.TheVariants.{EndUserServiceDenied}
+use Rattle.commands.specs.declared.answer.ServiceFailure.TheVariants.{CreditLimitReached}
+use Rattle.commands.specs.declared.answer.ServiceFailure.TheVariants.{RatingFailed}
 use Rattle.commands.specs.declared.answer.Failure.{Failure}
-use Rattle.commands.specs.declared.answer.Failure.TheVariants.{Denied, UnknownSessionId, InvalidAvpValue, UnableToComply, UserUnknown}
+use Rattle.commands.specs.declared.answer.Failure.TheVariants.{Denied, UnknownSessionId}
+use Rattle.commands.specs.declared.answer.Failure.TheVariants.{InvalidAvpValue, UnableToComply}
+use Rattle.commands.specs.declared.answer.Failure.TheVariants.{UserUnknown}
 use Rattle.commands.specs.declared.answer.Balance.{Balance}
 use Rattle.commands.specs.declared.answer.Balance.TheVariants.{EnoughCredit, NoCredit}
 use Rattle.commands.specs.declared.answer.Refusal.{Refusal}
-use Rattle.commands.specs.declared.answer.Refusal.TheVariants.{AccountExists, AccountUnknown, VoucherUnknown, VoucherSpent, ContentDiffers, OutOfRange, ScopeUnknown}
+use Rattle.commands.specs.declared.answer.Refusal.TheVariants.{AccountExists, AccountUnknown}
+use Rattle.commands.specs.declared.answer.Refusal.TheVariants.{VoucherUnknown, VoucherSpent}
+use Rattle.commands.specs.declared.answer.Refusal.TheVariants.{ContentDiffers, OutOfRange}
+use Rattle.commands.specs.declared.answer.Refusal.TheVariants.{ScopeUnknown}
 
 -- CC-Request-Type (RFC 8506 section 8.3)
 abbrev pub kind_number : RequestKind → ℕ

@@ -1,7 +1,9 @@
 -- That a table goes both ways: from a value to its number or name and back.
 use Rattle.std.specs.Prelude.{◌≡◌, Option, Some}
 use Rattle.commands.specs.Names.{name_of, avp_named}
-use Rattle.commands.specs.Codes.{kind_number, kind_numbered, action_number, action_numbered, service_failure_number, service_failure_numbered, balance_number, balance_numbered, refusal_name, refusal_named}
+use Rattle.commands.specs.Codes.{kind_number, kind_numbered, action_number, action_numbered}
+use Rattle.commands.specs.Codes.{service_failure_number, service_failure_numbered, balance_number}
+use Rattle.commands.specs.Codes.{balance_numbered, refusal_name, refusal_named}
 use Rattle.commands.specs.Reports.{usage_number, usage_numbered}
 
 -- a value is found by what it is written as, and what is found is written so

@@ -4,7 +4,9 @@ use Rattle.std.specs.Option.{option_eq}
 use Rattle.std.specs.List.{list_all, find}
 use Rattle.units.specs.declared.blocks.UnitKind.{UnitKind}
 use Rattle.units.specs.declared.blocks.TariffChangeUsage.{TariffChangeUsage}
-use Rattle.units.specs.declared.blocks.TariffChangeUsage.TheVariants.{UnitBeforeTariffChange, UnitAfterTariffChange, UnitIndeterminate}
+use Rattle.units.specs.declared.blocks.TariffChangeUsage.TheVariants.{UnitBeforeTariffChange}
+use Rattle.units.specs.declared.blocks.TariffChangeUsage.TheVariants.{UnitAfterTariffChange}
+use Rattle.units.specs.declared.blocks.TariffChangeUsage.TheVariants.{UnitIndeterminate}
 use Rattle.units.specs.contracts.blocks.TariffChangeUsagePartialEq.TheImpl.{ghosts as usage}
 use Rattle.units.specs.declared.blocks.UsedPart.{UsedPart}
 use Rattle.commands.specs.Differ.{all_differ}

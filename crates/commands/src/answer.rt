@@ -1,7 +1,9 @@
 ghost use Rattle.std.specs.Prelude.{◌≡◌, ◌==◌, nat_eq};
 ghost use Rattle.std.specs.List.{find};
 ghost use Rattle.std.specs.Cmp.Lexicographic.{pointwise};
-ghost use Rattle.commands.specs.Codes.{failure_number, service_failure_number, service_failure_numbered, refusal_name, refusal_named, balance_number, balance_numbered};
+ghost use Rattle.commands.specs.Codes.{failure_number, service_failure_number};
+ghost use Rattle.commands.specs.Codes.{service_failure_numbered, refusal_name, refusal_named};
+ghost use Rattle.commands.specs.Codes.{balance_number, balance_numbered};
 
 use crate::avp::Avp;
 use crate::balance::AccountBalance;

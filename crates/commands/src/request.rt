@@ -1,6 +1,7 @@
 ghost use Rattle.std.specs.Prelude.{◌≡◌, ◌==◌, ◌↔◌, IsTrue};
 ghost use Rattle.std.specs.List.{find};
-ghost use Rattle.commands.specs.Codes.{kind_number, kind_numbered, kind_of_ask, action_number, action_numbered};
+ghost use Rattle.commands.specs.Codes.{kind_number, kind_numbered, kind_of_ask, action_number};
+ghost use Rattle.commands.specs.Codes.{action_numbered};
 ghost use Rattle.commands.specs.Refunds.{is_refund};
 
 use crate::service::{InitialServices, Requested, TerminationServices, UpdateServices};

@@ -1,5 +1,6 @@
 -- What becomes of a file of vouchers, by what its reading and its import gave.
 use Rattle.std.proofs.Common.{◌≡◌, ℕ, List, Option, Some, None, IfSome, Result, Ok, Err, IsTrue}
+use Rattle.std.proofs.Common.{false}
 use Rattle.std.specs.Io.KnownBytes.{Appends}
 use Rattle.byte_streams.specs.declared.StreamFault.{StreamFault}
 use Rattle.commands.specs.declared.command.VoucherAddition.{VoucherAddition}
@@ -12,7 +13,7 @@ use Rattle.office.specs.Written.{WritesBeginning}
 use Rattle.office.specs.declared.fault.OfficeFault.{OfficeFault}
 use Rattle.office.specs.declared.fault.OfficeFault.TheVariants.{Store, Write}
 use Rattle.vouchers.specs.Faults.{is_in_file}
-use Rattle.vouchers.specs.Files.{vouchers_in}
+use Rattle.vouchers.specs.Files.{MayStopAt, vouchers_in}
 use Rattle.vouchers.specs.declared.fault.VoucherFault.{VoucherFault}
 use Rattle.database_office.specs.Importing.{IsFileImported, IsImportFault}
 use Rattle.database_office.specs.declared.fault.DatabaseFault.TheVariants.{Office}
@@ -47,7 +48,8 @@ module _ (b : Book) (t : ℕ) (old new : Tables) (before after : Option (List �
 
   -- the file has a fault, or wasn't read
   pub not_read : (r : Option (List ℕ)) (f : VoucherFault) →
-      (IsTrue (is_in_file f.kind) → IfSome r (λ text. vouchers_in text ≡ Err f)) → new ≡ old →
+      (IsTrue (is_in_file f.kind) → IfSome r (λ text. vouchers_in text ≡ Err f)) →
+      (is_in_file f.kind ≡ false → IfSome r (MayStopAt f.record_number)) → new ≡ old →
       IfSome r (λ text. IsImportFault b text t old new before after (Vouchers f))
-  not_read None f told same = tt
-  not_read (Some text) f told same = (told, same)
+  not_read None f told stopped same = tt
+  not_read (Some text) f told stopped same = (told, stopped, same)

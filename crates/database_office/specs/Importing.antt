@@ -1,7 +1,7 @@
 -- What becomes of a file of vouchers, for every list of accepted commands whose tables a keeper
 -- holds, and which faults are told.
 -- Source: profile.
-use Rattle.std.specs.Prelude.{◌≡◌, ℕ, List, Option, Ok, Err, IsTrue}
+use Rattle.std.specs.Prelude.{◌≡◌, ℕ, List, Option, Ok, Err, IsTrue, false}
 use Rattle.commands.specs.declared.command.VoucherAddition.{VoucherAddition}
 use Rattle.tariffs.specs.Books.{Book}
 use Rattle.keepers.specs.Tables.{Tables}
@@ -11,10 +11,12 @@ use Rattle.office.specs.Written.{WritesBeginning}
 use Rattle.office.specs.declared.counts.Counts.{Counts}
 use Rattle.office.specs.declared.fault.OfficeFault.TheVariants.{Store, Write}
 use Rattle.vouchers.specs.Faults.{is_in_file}
-use Rattle.vouchers.specs.Files.{vouchers_in}
+use Rattle.vouchers.specs.Files.{MayStopAt, vouchers_in}
 use Rattle.database_office.specs.Opening.{IsUnanswered}
 use Rattle.database_office.specs.declared.fault.DatabaseFault.{DatabaseFault}
-use Rattle.database_office.specs.declared.fault.DatabaseFault.TheVariants.{File, Clock, Book as BookFault, Open, Net, Memory, Office}
+use Rattle.database_office.specs.declared.fault.DatabaseFault.TheVariants.{File, Clock}
+use Rattle.database_office.specs.declared.fault.DatabaseFault.TheVariants.{Book as BookFault, Open}
+use Rattle.database_office.specs.declared.fault.DatabaseFault.TheVariants.{Net, Memory, Office}
 use Rattle.database_office.specs.declared.importing.ImportFault.{ImportFault}
 use Rattle.database_office.specs.declared.importing.ImportFault.TheVariants.{Vouchers, Database}
 
@@ -44,11 +46,13 @@ IsOverKeeper b text t old new before after (Office (Store fault)) = IsFileBegun 
 IsOverKeeper b text t old new before after (Office (Write fault)) =
     IsFileImported b text t old new (λ counts. WritesBeginning before after (counts_line counts))
 
--- one of the text is its first, or reading it stopped: then no table has changed
+-- one of the text is its first, or reading it stopped, which it may do at that record: then no
+-- table has changed
 abbrev pub IsImportFault : Book → List ℕ → ℕ → Tables → Tables → Option (List ℕ) →
     Option (List ℕ) → ImportFault → Type 0
 IsImportFault b text t old new before after (Vouchers fault) =
-    (IsTrue (is_in_file fault.kind) → vouchers_in text ≡ Err fault) × (new ≡ old)
+    (IsTrue (is_in_file fault.kind) → vouchers_in text ≡ Err fault)
+    × (is_in_file fault.kind ≡ false → MayStopAt fault.record_number text) × (new ≡ old)
 IsImportFault b text t old new before after (Database fault) =
     IsOverKeeper b text t old new before after fault
 

@@ -7,7 +7,8 @@ use Rattle.sql_keeper.specs.Faults.{IsCreateFault}
 use Rattle.sql_keeper.specs.declared.create_fault.CreateFault.{CreateFault}
 use Rattle.database_office.specs.Told.{making_fault}
 use Rattle.database_office.specs.declared.fault.DatabaseFault.{DatabaseFault}
-use Rattle.database_office.specs.declared.fault.DatabaseFault.TheVariants.{File, Clock, Book, Open, Net, Memory, Office}
+use Rattle.database_office.specs.declared.fault.DatabaseFault.TheVariants.{File, Clock, Book, Open}
+use Rattle.database_office.specs.declared.fault.DatabaseFault.TheVariants.{Net, Memory, Office}
 
 -- the fault is the book's: memory was refused, or it is the first of the text
 abbrev pub IsTextFault : List ℕ → DatabaseFault → Type 0

@@ -3,7 +3,8 @@
 use Rattle.office.specs.declared.fault.OfficeFault.{OfficeFault}
 use Rattle.office.specs.declared.fault.OfficeFault.TheVariants as office
 use Rattle.database_office.specs.declared.fault.DatabaseFault.{DatabaseFault}
-use Rattle.database_office.specs.declared.fault.DatabaseFault.TheVariants.{File, Clock, Book, Open, Net, Memory, Office}
+use Rattle.database_office.specs.declared.fault.DatabaseFault.TheVariants.{File, Clock, Book, Open}
+use Rattle.database_office.specs.declared.fault.DatabaseFault.TheVariants.{Net, Memory, Office}
 
 -- one of the tables of a database
 abbrev pub IsOpenFault : DatabaseFault → Type 0

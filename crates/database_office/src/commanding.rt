@@ -1,6 +1,7 @@
 //! An operator's command over a database.
 
-ghost use Rattle.std.specs.Prelude.{◌≡◌, IfErr};
+ghost use Rattle.std.specs.Prelude.{◌≡◌, IfErr, IfOk};
+ghost use Rattle.office.specs.Printed.{PrintsAnswer};
 ghost use Rattle.database_office.specs.Opening.{IsUnanswered};
 
 use crate::clock::command_moment;
@@ -25,6 +26,8 @@ pub fn command_office<O: Write>(
     words: OfficeWords,
     output: &mut O,
 ) -> Result<Status, DatabaseFault>
+    ensures printed { IfOk result (λ status.
+        PrintsAnswer status (O.contents output.old) (O.contents output.new)) }
     ensures unwritten { IfErr result (λ fault. IsUnanswered fault → output.new ≡ output.old) }
 {
     let OfficeWords {
@@ -46,7 +49,9 @@ fn carry_out<K: Keeper, O: Write>(
     moment: Moment,
     output: &mut O,
 ) -> Result<Status, DatabaseFault>
-    ensures { IfErr result (λ fault. IsUnanswered fault → output.new ≡ output.old) }
+    ensures printed { IfOk result (λ status.
+        PrintsAnswer status (O.contents output.old) (O.contents output.new)) }
+    ensures unwritten { IfErr result (λ fault. IsUnanswered fault → output.new ≡ output.old) }
 {
     match serve_office(alloc, keeper, book, command, moment, output) {
         Ok(status) => Ok(status),

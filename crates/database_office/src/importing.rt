@@ -3,6 +3,7 @@
 ghost use Rattle.std.specs.Prelude.{◌≡◌, ◌≤◌, IfErr, IfSome, OnOk};
 ghost use Rattle.std.specs.Io.KnownBytes.{Appends};
 ghost use Rattle.office.specs.Counts.{counts_line};
+ghost use Rattle.office.specs.Printed.{PrintsCounts};
 ghost use Rattle.database_office.specs.Importing.{IsFileImported, IsImportFault, IsUntold};
 
 use crate::clock::command_moment;
@@ -52,6 +53,7 @@ pub fn import_office<O: Write>(
     words: ImportWords,
     output: &mut O,
 ) -> Result<(), ImportFault>
+    ensures printed { OnOk result (PrintsCounts (O.contents output.old) (O.contents output.new)) }
     ensures unwritten { IfErr result (λ fault. IsUntold fault → output.new ≡ output.old) }
 {
     let ImportWords { database, file, at } = words;
@@ -80,6 +82,7 @@ pub fn import_file<K: Keeper, R: Read + Drop, O: Write>(
         IsFileImported book.now text moment (K.content keeper.old) (K.content keeper.new)
         (λ counts. Appends (O.contents output.old) (O.contents output.new)
         (counts_line counts)))) }
+    ensures printed { OnOk result (PrintsCounts (O.contents output.old) (O.contents output.new)) }
     ensures fault { K.clean keeper.new → IfErr result (λ fault.
         IfSome (R.remaining reader) (λ text.
         IsImportFault book.now text moment (K.content keeper.old) (K.content keeper.new)

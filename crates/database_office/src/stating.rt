@@ -1,6 +1,9 @@
 //! An account's month over a database.
 
-ghost use Rattle.std.specs.Prelude.{◌≡◌, IfErr};
+ghost use Rattle.std.specs.Prelude.{◌≡◌, IfErr, IfOk};
+ghost use Rattle.std.specs.Io.KnownBytes.{Appends};
+ghost use Rattle.office.specs.Months.{unknown_line};
+ghost use Rattle.office.specs.Printed.{IsEnded};
 ghost use Rattle.database_office.specs.Opening.{IsUnasked};
 
 use crate::clock::command_moment;
@@ -25,6 +28,8 @@ pub fn state_office<O: Write>(
     words: StatementWords,
     output: &mut O,
 ) -> Result<Status, DatabaseFault>
+    ensures ended { IfOk result (IsEnded
+        (Appends (O.contents output.old) (O.contents output.new) unknown_line)) }
     ensures unwritten { IfErr result (λ fault. IsUnasked fault → output.new ≡ output.old) }
 {
     let StatementWords {
@@ -53,7 +58,9 @@ fn tell_month<K: ChargeSource, O: Write>(
     moment: Moment,
     output: &mut O,
 ) -> Result<Status, DatabaseFault>
-    ensures { IfErr result (λ fault. IsUnasked fault → output.new ≡ output.old) }
+    ensures ended { IfOk result (IsEnded
+        (Appends (O.contents output.old) (O.contents output.new) unknown_line)) }
+    ensures unwritten { IfErr result (λ fault. IsUnasked fault → output.new ≡ output.old) }
 {
     match serve_statement(alloc, keeper, book, query, moment, output) {
         Ok(status) => Ok(status),

@@ -1,5 +1,6 @@
 -- A session that is opened, touched, or only goes on in time is live.
-use Rattle.std.proofs.Common.{◌≡◌, ℕ, ◌+◌, ◌*◌, ◌<◌, Bool, true, false, List, map, refl, sym, ap, subst, ◌∙◌, Option, Some, None, arith}
+use Rattle.std.proofs.Common.{◌≡◌, ℕ, ◌+◌, ◌*◌, ◌<◌, Bool, true, false, List, map, refl, sym, ap}
+use Rattle.std.proofs.Common.{subst, ◌∙◌, Option, Some, None, arith}
 use Rattle.std.specs.Prelude.{if◌then◌else◌, ◌&&◌, not, nat_lt, option_map}
 use Rattle.std.proofs.lemmas.Bool.Decides.{nat_tests}
 use Rattle.reserving.specs.declared.session.Session.{Session}
@@ -7,7 +8,8 @@ use Rattle.reserving.specs.declared.session.SessionState.TheVariants.{Open, Ende
 use Rattle.reserving.specs.declared.session.SessionGroup.{SessionGroup}
 use Rattle.reserving.specs.Sessions.{is_session, session_in, is_open, is_live_in, is_live_row}
 use Rattle.reserving.specs.Rows.{AccountRows}
-use Rattle.reserving.specs.Changes.{advanced, lapse, lapse_group, session_put, touched_session, touched_account}
+use Rattle.reserving.specs.Changes.{advanced, lapse, lapse_group, session_put, touched_session}
+use Rattle.reserving.specs.Changes.{touched_account}
 use Rattle.reserving.proofs.Lists.{find-map, find-put, find-passes}
 use Rattle.reserving.proofs.Holds.{same_itself}
 use Rattle.commands.specs.declared.service.Service.{Service}

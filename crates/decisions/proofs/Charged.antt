@@ -1,5 +1,6 @@
 -- Reports and debits that are charged.
-use Rattle.std.proofs.Common.{◌≡◌, ℕ, ◌≤◌, ◌<◌, Bool, true, false, List, [], ◌∷◌, ◌++◌, refl, sym, ap, ◌∙◌, subst, length, None, ◌≢◌, arith}
+use Rattle.std.proofs.Common.{◌≡◌, ℕ, ◌≤◌, ◌<◌, Bool, true, false, List, [], ◌∷◌, ◌++◌, refl, sym}
+use Rattle.std.proofs.Common.{ap, ◌∙◌, subst, length, None, ◌≢◌, arith}
 use Rattle.std.specs.Prelude.{nat_lt, Result, Ok, Err}
 use Rattle.std.proofs.lemmas.Bool.Decides.{nat_tests}
 use Rattle.commands.specs.declared.answer.Failure.TheVariants.{UnableToComply}
@@ -20,7 +21,8 @@ use Rattle.reserving.specs.Charges.{charge_rows}
 use Rattle.reserving.specs.Results.{IsSettlementOf, IsDebitOf}
 use Rattle.reserving.specs.Rows.{AccountRows, IsRowsOf}
 use Rattle.reserving.specs.Left.{LeftRows, joined, NotLeft, IsBeside, IsWith}
-use Rattle.reserving.proofs.ChargeRows.{told_row, charge_rows-settlement, charge_rows-debit, charge_rows-recorded, charge_rows-credited}
+use Rattle.reserving.proofs.ChargeRows.{told_row, charge_rows-settlement, charge_rows-debit}
+use Rattle.reserving.proofs.ChargeRows.{charge_rows-recorded, charge_rows-credited}
 use Rattle.decisions.specs.Decided.{Decision, accepted, told}
 use Rattle.decisions.specs.Events.{charged_if_covered, refunded}
 use Rattle.decisions.specs.Follows.{IsNew, Agrees, Follows, Reports}

@@ -1,5 +1,6 @@
 -- The answer of a service that units are reserved for.
-use Rattle.std.proofs.Common.{◌≡◌, ℕ, ◌<◌, Bool, true, false, List, refl, sym, ap, ◌∙◌, subst, Option, Some, Result, Ok, Err, arith}
+use Rattle.std.proofs.Common.{◌≡◌, ℕ, ◌<◌, Bool, true, false, List, refl, sym, ap, ◌∙◌, subst}
+use Rattle.std.proofs.Common.{Option, Some, Result, Ok, Err, arith}
 use Rattle.std.specs.Prelude.{if◌then◌else◌, nat_lt, OnOk}
 use Rattle.std.proofs.lemmas.Bool.Decides.{nat_tests}
 use Rattle.commands.specs.declared.answer.ServiceFailure.TheVariants.{CreditLimitReached}
@@ -17,7 +18,9 @@ use Rattle.reserving.specs.Results.{IsGrantOf}
 use Rattle.reserving.specs.Rows.{AccountRows, IsRowsOf}
 use Rattle.reserving.specs.Left.{LeftRows, joined, IsBeside, IsWith}
 use Rattle.decisions.specs.Reports.{units_of}
-use Rattle.decisions.specs.Granting.{Answered, final_unit, grant_answer, granted_with, granted_units, granted_unless_barred, granted_if, granted_by, granted}
+use Rattle.decisions.specs.Granting.{Answered, final_unit, grant_answer, granted_with}
+use Rattle.decisions.specs.Granting.{granted_units, granted_unless_barred, granted_if, granted_by}
+use Rattle.decisions.specs.Granting.{granted}
 use Rattle.decisions.specs.Follows.{Grants}
 
 at_least_one : (n : ℕ) → 0 < n → nat_lt 0 n ≡ true

@@ -1,11 +1,14 @@
 -- What the rows of an account tell of its ledger, beside rows that were left.
-use Rattle.std.proofs.Common.{◌≡◌, ℕ, Bool, true, false, cond, List, [], ◌∷◌, ◌++◌, refl, sym, ap, ◌∙◌, Option, Some, None}
+use Rattle.std.proofs.Common.{◌≡◌, ℕ, Bool, true, false, cond, List, [], ◌∷◌, ◌++◌, refl, sym, ap}
+use Rattle.std.proofs.Common.{◌∙◌, Option, Some, None}
 use Rattle.std.specs.Prelude.{◌==◌, ◌&&◌, ◌||◌, is_some, unwrap_or}
 use Rattle.std.specs.List.{find}
 use Rattle.reserving.specs.declared.session.SessionState.{SessionState}
 use Rattle.reserving.specs.declared.session.SessionGroup.{SessionGroup}
-use Rattle.reserving.specs.Ledger.{Ledger, Recording, has_group, open_grant, is_live, last_recording, used}
-use Rattle.reserving.specs.Sessions.{is_session, session_in, session_row, state_at, is_of, group_in, group_at, is_live_in}
+use Rattle.reserving.specs.Ledger.{Ledger, Recording, has_group, open_grant, is_live}
+use Rattle.reserving.specs.Ledger.{last_recording, used}
+use Rattle.reserving.specs.Sessions.{is_session, session_in, session_row, state_at, is_of, group_in}
+use Rattle.reserving.specs.Sessions.{group_at, is_live_in}
 use Rattle.reserving.specs.Rows.{AccountRows, EachIn, IsRowsOf}
 use Rattle.reserving.specs.Left.{LeftRows, joined, IsLeft, NotLeft, IsWith}
 use Rattle.reserving.specs.Changes.{new_group, used_in}
@@ -140,7 +143,8 @@ late_told ledger left t a s n gone h =
     (none_each (is_session s) left.sessions gone.session)))
     ∙ is_late-is ledger (joined left a) s n h.rows
 
-pub used_told : (ledger : Ledger) (left : LeftRows) (t : ℕ) (a : AccountRows) (s : List ℕ) (g : ℕ) → NotLeft s left → IsWith ledger left t a → used_in s g a.groups ≡ used s g ledger
+pub used_told : (ledger : Ledger) (left : LeftRows) (t : ℕ) (a : AccountRows) (s : List ℕ) (g : ℕ) →
+    NotLeft s left → IsWith ledger left t a → used_in s g a.groups ≡ used s g ledger
 used_told ledger left t a s g gone h =
     sym (used_joined left a s g h.apart (none_each (is_of s g) left.groups (gone.groups g)))
     ∙ used_in_is ledger (joined left a) s g h.rows

@@ -1,5 +1,6 @@
 -- The price of an event fits 64 bits.
-use Rattle.std.proofs.Common.{◌≡◌, ℕ, zero, suc, ◌+◌, ◌*◌, ◌≤◌, ◌<◌, ◌^◌, List, [], ◌∷◌, ap, ◌∙◌, subst, arith, add-zero, zero-add, Option, Some}
+use Rattle.std.proofs.Common.{◌≡◌, ℕ, zero, suc, ◌+◌, ◌*◌, ◌≤◌, ◌<◌, ◌^◌, List, [], ◌∷◌, ap, ◌∙◌}
+use Rattle.std.proofs.Common.{subst, arith, add-zero, zero-add, Option, Some}
 use Rattle.std.specs.Prelude.{slice_index_or}
 use Rattle.std.specs.List.{AllByRecursion}
 use Rattle.units.specs.Blocks.{started}

@@ -1,5 +1,6 @@
 -- What rulings come to on each ledger.
-use Rattle.std.proofs.Common.{◌≡◌, ℕ, Bool, true, false, List, [], ◌∷◌, ◌++◌, refl, sym, ap, ◌∙◌, subst, Option, Some, None}
+use Rattle.std.proofs.Common.{◌≡◌, ℕ, Bool, true, false, List, [], ◌∷◌, ◌++◌, refl, sym, ap, ◌∙◌}
+use Rattle.std.proofs.Common.{subst, Option, Some, None}
 use Rattle.std.specs.Prelude.{if◌then◌else◌, nat_lt, Result, Ok, Err, IfOk}
 use Rattle.std.proofs.lemmas.List.{append-nil}
 use Rattle.commands.specs.declared.service.Service.{Service}
@@ -9,7 +10,8 @@ use Rattle.commands.specs.declared.answer.Outcome.{Outcome}
 use Rattle.commands.specs.declared.answer.Outcome.TheVariants.{Services, Failed}
 use Rattle.commands.specs.declared.answer.ServiceAnswer.{ServiceAnswer}
 use Rattle.commands.specs.declared.answer.ServiceFailure.{ServiceFailure}
-use Rattle.commands.specs.declared.answer.ServiceFailure.TheVariants.{EndUserServiceDenied, CreditLimitReached}
+use Rattle.commands.specs.declared.answer.ServiceFailure.TheVariants.{EndUserServiceDenied}
+use Rattle.commands.specs.declared.answer.ServiceFailure.TheVariants.{CreditLimitReached}
 use Rattle.commands.specs.declared.answer.ServiceOutcome.TheVariants as service
 use Rattle.tariffs.specs.Books.{Book}
 use Rattle.tariffs.specs.Tariffs.{GroupTariff}
@@ -22,13 +24,17 @@ use Rattle.reserving.specs.Reservation.{reserved, grant_for}
 use Rattle.reserving.specs.Charges.{charge_rows}
 use Rattle.reserving.specs.Rows.{AccountRows}
 use Rattle.reserving.specs.Left.{LeftRows, NotLeft, IsWith}
-use Rattle.reserving.proofs.ChargeRows.{charge_rows-recorded, charge_rows-touched, charge_rows-closed, charge_rows-reserved}
+use Rattle.reserving.proofs.ChargeRows.{charge_rows-recorded, charge_rows-touched}
+use Rattle.reserving.proofs.ChargeRows.{charge_rows-closed, charge_rows-reserved}
 use Rattle.decisions.specs.Decided.{Decision, accepted, denied, told}
 use Rattle.decisions.specs.Settling.{settled_services, settled_answers}
-use Rattle.decisions.specs.Granting.{Answered, grant_answer, granted_with, granted_units, granted_unless_barred, granted_if, granted_by, granted, grant_answers, after_grants, any_grants}
+use Rattle.decisions.specs.Granting.{Answered, grant_answer, granted_with, granted_units}
+use Rattle.decisions.specs.Granting.{granted_unless_barred, granted_if, granted_by, granted}
+use Rattle.decisions.specs.Granting.{grant_answers, after_grants, any_grants}
 use Rattle.decisions.specs.Decisions.{opened, settled_touched, updated, ended}
 use Rattle.decisions.specs.declared.ruling.Ruling.{Ruling}
-use Rattle.decisions.specs.Follows.{Always, IsNew, Agrees, Follows, StandsAt, IsRuledBy, Settles, AreSettled, GrantsAll}
+use Rattle.decisions.specs.Follows.{Always, IsNew, Agrees, Follows, StandsAt, IsRuledBy, Settles}
+use Rattle.decisions.specs.Follows.{AreSettled, GrantsAll}
 
 -- ---- any ruling
 

@@ -1,21 +1,26 @@
 -- One-time events (RFC 8506 section 6; TS 32.299, immediate event charging): direct debiting,
 -- refund of money, check of the balance, and price enquiry.
-use Rattle.std.specs.Prelude.{ℕ, Bool, true, false, ◌==◌, ◌||◌, nat_lt, if◌then◌else◌, List, [], ◌∷◌, Option, Some, None, option_map, unwrap_or}
+use Rattle.std.specs.Prelude.{ℕ, Bool, true, false, ◌==◌, ◌||◌, nat_lt, if◌then◌else◌, List, []}
+use Rattle.std.specs.Prelude.{◌∷◌, Option, Some, None, option_map, unwrap_or}
 use Rattle.commands.specs.declared.avp.Avp.{Avp}
 use Rattle.commands.specs.declared.avp.Avp.TheVariants.{SessionId, RequestedUnit, CurrencyCode}
 use Rattle.commands.specs.declared.service.Requested.{Requested}
 use Rattle.commands.specs.declared.request.Event.{Event}
 use Rattle.commands.specs.declared.request.EventAction.{EventAction}
-use Rattle.commands.specs.declared.request.EventAction.TheVariants.{DirectDebiting, CheckBalance, PriceEnquiry}
+use Rattle.commands.specs.declared.request.EventAction.TheVariants.{DirectDebiting, CheckBalance}
+use Rattle.commands.specs.declared.request.EventAction.TheVariants.{PriceEnquiry}
 use Rattle.commands.specs.Refunds.{Refunded as Refund}
 use Rattle.commands.specs.declared.answer.Balance.{Balance}
 use Rattle.commands.specs.declared.answer.Balance.TheVariants.{EnoughCredit, NoCredit}
 use Rattle.commands.specs.declared.answer.Failure.{Failure}
 use Rattle.commands.specs.declared.answer.Failure.TheVariants.{Denied, UnableToComply}
-use Rattle.commands.specs.declared.answer.ServiceFailure.TheVariants.{EndUserServiceDenied, CreditLimitReached, RatingFailed}
+use Rattle.commands.specs.declared.answer.ServiceFailure.TheVariants.{EndUserServiceDenied}
+use Rattle.commands.specs.declared.answer.ServiceFailure.TheVariants.{CreditLimitReached}
+use Rattle.commands.specs.declared.answer.ServiceFailure.TheVariants.{RatingFailed}
 use Rattle.commands.specs.declared.answer.ServiceOutcome.TheVariants as service
 use Rattle.commands.specs.declared.answer.Outcome.{Outcome}
-use Rattle.commands.specs.declared.answer.Outcome.TheVariants.{Services, Refunded, Checked, Priced, Failed}
+use Rattle.commands.specs.declared.answer.Outcome.TheVariants.{Services, Refunded, Checked, Priced}
+use Rattle.commands.specs.declared.answer.Outcome.TheVariants.{Failed}
 use Rattle.units.specs.Blocks.{started}
 use Rattle.tariffs.specs.Books.{Book}
 use Rattle.tariffs.specs.Tariffs.{GroupTariff}

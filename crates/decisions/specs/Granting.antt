@@ -7,7 +7,9 @@ use Rattle.commands.specs.declared.service.Requested.{Requested}
 use Rattle.commands.specs.declared.answer.FinalUnit.{FinalUnit}
 use Rattle.commands.specs.declared.answer.FinalUnit.TheVariants as final
 use Rattle.commands.specs.declared.answer.ServiceFailure.{ServiceFailure}
-use Rattle.commands.specs.declared.answer.ServiceFailure.TheVariants.{EndUserServiceDenied, CreditLimitReached, RatingFailed}
+use Rattle.commands.specs.declared.answer.ServiceFailure.TheVariants.{EndUserServiceDenied}
+use Rattle.commands.specs.declared.answer.ServiceFailure.TheVariants.{CreditLimitReached}
+use Rattle.commands.specs.declared.answer.ServiceFailure.TheVariants.{RatingFailed}
 use Rattle.commands.specs.declared.answer.ServiceOutcome.{ServiceOutcome}
 use Rattle.commands.specs.declared.answer.ServiceOutcome.TheVariants as service
 use Rattle.commands.specs.declared.answer.ServiceAnswer.{ServiceAnswer}

@@ -1,15 +1,16 @@
-ghost use Rattle.std.specs.Prelude.{◌≡◌, ◌≤◌, ℕ, true, false, [], None, Some, is_some, IfOk, IfErr, IfSome, OnOk, ◌++◌, if◌then◌else◌};
+ghost use Rattle.std.specs.Prelude.{◌≡◌, ◌≤◌, ℕ, true, false, [], None, Some, is_some, IfOk, IfErr};
+ghost use Rattle.std.specs.Prelude.{IfSome, OnOk, ◌++◌, if◌then◌else◌};
 ghost use Rattle.reserving.specs.Ledger.{Ledger};
 ghost use Rattle.reserving.specs.Left.{LeftRows, IsWith};
 ghost use Rattle.reserving.specs.Charges.{charge_rows};
-ghost use Rattle.reserving.specs.Sessions.{is_live_in};
 ghost use Rattle.commands.specs.Services.{groups_differ};
 ghost use Rattle.commands.specs.declared.request.Ask.TheVariants as ask;
 ghost use Rattle.decisions.specs.Free.{AreFree};
 ghost use Rattle.decisions.specs.Asked.{IsAsked, Knows, KnowsUnlessRead};
-ghost use Rattle.decisions.specs.Follows.{Always, IsRuledBy, Settles, IsRefusal};
+ghost use Rattle.decisions.specs.Follows.{Always, IsLive, IsRuledBy, Settles, IsRefusal};
 ghost use Rattle.decisions.specs.Events.{event_decision};
-ghost use Rattle.decisions.specs.Decisions.{decision, decided, initial_decision, update_decision, termination_decision, answer_of, is_read};
+ghost use Rattle.decisions.specs.Decisions.{decision, decided, initial_decision, update_decision};
+ghost use Rattle.decisions.specs.Decisions.{termination_decision, answer_of, is_read};
 
 use crate::answering::settled_answers;
 use crate::events::{debit, refund};
@@ -79,8 +80,7 @@ fn settle_or_refuse(
         services.now)) }
     ensures same { IfOk result (λ r. IfErr r (λ failure. account.new ≡ account.old)) }
     ensures live { IfOk result
-        (λ r. OnOk r (is_live_in account.new.book.validity asked.now.moment account.new.sessions
-        asked.now.session.now ≡ true)) }
+        (λ r. OnOk r (IsLive account.new asked.now.moment asked.now.session.now)) }
     ensures free { IfOk result
         (λ r. OnOk r (AreFree account.old.book asked.now.session.now services.now
         account.new.groups)) }

@@ -6,7 +6,8 @@ ghost use Rattle.reserving.specs.Sessions.{session_in};
 ghost use Rattle.reserving.specs.Pricing.{tariff_of};
 ghost use Rattle.decisions.specs.Reports.{asks_other};
 ghost use Rattle.decisions.specs.Asked.{Knows};
-ghost use Rattle.decisions.specs.Events.{event_fault, charged_if_covered, charged_unless_barred, debit_decision, event_units, refunded, refund_decision};
+ghost use Rattle.decisions.specs.Events.{event_fault, charged_if_covered, charged_unless_barred};
+ghost use Rattle.decisions.specs.Events.{debit_decision, event_units, refunded, refund_decision};
 ghost use Rattle.decisions.specs.Follows.{IsNew, IsRuledBy};
 
 use crate::charges::charge_row;

@@ -1,16 +1,17 @@
 ghost use Rattle.std.specs.Prelude.{◌≡◌, ◌≤◌, ◌<◌, ℕ, true, None, Some, option_map, OnOk, IfOk};
 ghost use Rattle.reserving.specs.Ledger.{Ledger};
 ghost use Rattle.reserving.specs.Requests.{touched};
-ghost use Rattle.reserving.specs.Sessions.{is_live_in, session_in};
+ghost use Rattle.reserving.specs.Sessions.{session_in};
 ghost use Rattle.reserving.specs.Prepared.{reservation_in};
 ghost use Rattle.reserving.specs.Pricing.{tariff_of};
 ghost use Rattle.reserving.specs.Left.{LeftRows, IsWith};
 ghost use Rattle.commands.specs.Services.{groups_differ};
 ghost use Rattle.decisions.specs.Known.{is_known};
 ghost use Rattle.decisions.specs.Free.{AreFree, OthersKept};
-ghost use Rattle.decisions.specs.Granting.{granted, granted_units, grants_new, any_grants, denial, first_denial};
+ghost use Rattle.decisions.specs.Granting.{granted, granted_units, grants_new, any_grants, denial};
+ghost use Rattle.decisions.specs.Granting.{first_denial};
 ghost use Rattle.decisions.specs.Decisions.{opened_unless_barred};
-ghost use Rattle.decisions.specs.Follows.{Grants, GrantsAll, IsNew, IsRuledBy};
+ghost use Rattle.decisions.specs.Follows.{Grants, GrantsAll, IsLive, IsNew, IsRuledBy};
 
 use crate::answering::granted_outcome;
 use crate::looking::{is_known, tariff_of};
@@ -79,8 +80,7 @@ fn grant_units(
 ) -> Result<ServiceOutcome, AllocError>
     requires known { Some tariff.now ≡ tariff_of account.old.book group }
     requires later { account.old.as_of ≡ asked.now.moment }
-    requires live { is_live_in account.old.book.validity asked.now.moment account.old.sessions
-        asked.now.session.now ≡ true }
+    requires live { IsLive account.old asked.now.moment asked.now.session.now }
     requires free { reservation_in asked.now.session.now group account.old.groups ≡ None }
     ensures grants { IfOk result (λ outcome. (ledger : Ledger) (left : LeftRows) →
         IsWith ledger left asked.now.moment account.old →
@@ -88,9 +88,7 @@ fn grant_units(
         asked.now.session.now group
         (option_map (λ u. u.0) requested) ledger) left asked.now.moment account.new) }
     ensures moment { OnOk result (account.new.as_of ≡ asked.now.moment) }
-    ensures live { OnOk result
-        (is_live_in account.new.book.validity asked.now.moment account.new.sessions
-        asked.now.session.now ≡ true) }
+    ensures live { OnOk result (IsLive account.new asked.now.moment asked.now.session.now) }
     ensures others { OnOk result
         (OthersKept asked.now.session.now group account.old.groups account.new.groups) }
     ensures tariff { account.new.book ≡ account.old.book }
@@ -117,8 +115,7 @@ fn grant(
     service: &Service,
 ) -> Result<ServiceOutcome, AllocError>
     requires later { account.old.as_of ≡ asked.now.moment }
-    requires live { is_live_in account.old.book.validity asked.now.moment account.old.sessions
-        asked.now.session.now ≡ true }
+    requires live { IsLive account.old asked.now.moment asked.now.session.now }
     requires free { is_known account.old.book service.now.group ≡ true →
         reservation_in asked.now.session.now service.now.group account.old.groups ≡ None }
     ensures grants { IfOk result (λ outcome. (ledger : Ledger) (left : LeftRows) →
@@ -126,9 +123,7 @@ fn grant(
         Grants outcome (granted account.old.book asked.now.moment asked.now.session.now service.now
         ledger) left asked.now.moment account.new) }
     ensures moment { OnOk result (account.new.as_of ≡ asked.now.moment) }
-    ensures live { OnOk result
-        (is_live_in account.new.book.validity asked.now.moment account.new.sessions
-        asked.now.session.now ≡ true) }
+    ensures live { OnOk result (IsLive account.new asked.now.moment asked.now.session.now) }
     ensures others { OnOk result
         (OthersKept asked.now.session.now service.now.group account.old.groups account.new.groups) }
     ensures tariff { account.new.book ≡ account.old.book }
@@ -156,8 +151,7 @@ fn grant_services(
 ) -> Result<ServiceAnswers, AllocError>
     requires apart { groups_differ services.now ≡ true }
     requires later { account.old.as_of ≡ asked.now.moment }
-    requires live { is_live_in account.old.book.validity asked.now.moment account.old.sessions
-        asked.now.session.now ≡ true }
+    requires live { IsLive account.old asked.now.moment asked.now.session.now }
     requires free { AreFree account.old.book asked.now.session.now services.now account.old.groups }
     ensures grants { IfOk result (λ answers. (ledger : Ledger) (left : LeftRows) →
         IsWith ledger left asked.now.moment account.old →
@@ -219,8 +213,7 @@ pub(crate) fn renew(
 ) -> Result<ServiceAnswers, AllocError>
     requires apart { groups_differ services.now ≡ true }
     requires later { account.old.as_of ≤ asked.now.moment }
-    requires live { is_live_in account.old.book.validity asked.now.moment account.old.sessions
-        asked.now.session.now ≡ true }
+    requires live { IsLive account.old asked.now.moment asked.now.session.now }
     requires free { AreFree account.old.book asked.now.session.now services.now account.old.groups }
     ensures grants { IfOk result (λ answers. (ledger : Ledger) (left : LeftRows) →
         IsWith ledger left asked.now.moment account.old →

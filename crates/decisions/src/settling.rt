@@ -1,7 +1,7 @@
-ghost use Rattle.std.specs.Prelude.{◌≡◌, ◌≤◌, ◌≢◌, true, ◌∷◌, [], false, None, length, OnOk, OnErr, IfOk, Err};
+ghost use Rattle.std.specs.Prelude.{◌≡◌, ◌≤◌, ◌≢◌, true, ◌∷◌, [], false, None, length, OnOk, OnErr};
+ghost use Rattle.std.specs.Prelude.{IfOk, Err};
 ghost use Rattle.reserving.specs.Ledger.{Ledger};
 ghost use Rattle.reserving.specs.Requests.{touched, closed};
-ghost use Rattle.reserving.specs.Sessions.{is_live_in};
 ghost use Rattle.reserving.specs.Changes.{advanced};
 ghost use Rattle.reserving.specs.Prepared.{reservation_in};
 ghost use Rattle.reserving.specs.Settlement.{charge_count};
@@ -9,7 +9,7 @@ ghost use Rattle.reserving.specs.Left.{LeftRows, IsWith};
 ghost use Rattle.decisions.specs.Free.{AreFree, AreKept};
 ghost use Rattle.commands.specs.Services.{groups_differ};
 ghost use Rattle.decisions.specs.Settling.{service_passes_after, service_charges, any_passes};
-ghost use Rattle.decisions.specs.Follows.{Reports, Settles, Passes, charges_of};
+ghost use Rattle.decisions.specs.Follows.{IsLive, Reports, Settles, Passes, charges_of};
 
 use crate::charges::charge_row;
 use crate::looking::is_known;
@@ -30,8 +30,7 @@ fn settle_report(
     parts: &[UsedPart],
 ) -> Result<ChargeRow, AccountFault>
     requires later { account.old.as_of ≤ asked.now.moment }
-    requires live { is_live_in account.old.book.validity asked.now.moment account.old.sessions
-        asked.now.session.now ≡ true }
+    requires live { IsLive account.old asked.now.moment asked.now.session.now }
     requires reported { length parts.now ≢ 0 }
     ensures reports { IfOk result
         (λ row. Reports row account.old account.new asked.now.moment asked.now.session.now group
@@ -63,13 +62,11 @@ fn settle(
     service: &Service,
 ) -> Result<Option<ChargeRow>, AccountFault>
     requires later { account.old.as_of ≤ asked.now.moment }
-    requires live { is_live_in account.old.book.validity asked.now.moment account.old.sessions
-        asked.now.session.now ≡ true }
+    requires live { IsLive account.old asked.now.moment asked.now.session.now }
     ensures settles { IfOk result
         (λ row. Settles (charges_of row) account.old account.new asked.now.moment
         asked.now.session.now (service.now ∷ [])) }
-    ensures live { is_live_in account.new.book.validity asked.now.moment account.new.sessions
-        asked.now.session.now ≡ true }
+    ensures live { IsLive account.new asked.now.moment asked.now.session.now }
     ensures later { account.new.as_of ≤ asked.now.moment }
     ensures free { OnOk result
         (AreFree account.old.book asked.now.session.now (service.now ∷ []) account.new.groups) }
@@ -99,13 +96,11 @@ fn settle_each(
     services: &[Service],
 ) -> Result<Vec<ChargeRow>, AccountFault>
     requires later { account.old.as_of ≤ asked.now.moment }
-    requires live { is_live_in account.old.book.validity asked.now.moment account.old.sessions
-        asked.now.session.now ≡ true }
+    requires live { IsLive account.old asked.now.moment asked.now.session.now }
     ensures settles { IfOk result (λ charges.
         Settles charges.items account.old account.new asked.now.moment asked.now.session.now
         services.now) }
-    ensures live { is_live_in account.new.book.validity asked.now.moment account.new.sessions
-        asked.now.session.now ≡ true }
+    ensures live { IsLive account.new asked.now.moment asked.now.session.now }
     ensures later { account.new.as_of ≤ asked.now.moment }
     ensures free { OnOk result
         (AreFree account.old.book asked.now.session.now services.now account.new.groups) }
@@ -125,8 +120,7 @@ fn settle_each(
 /// charges of services of other groups.
 fn would_pass(account: &Account, asked: &Asked, service: &Service, charges: u64) -> bool
     requires later { account.now.as_of ≤ asked.now.moment }
-    requires live { is_live_in account.now.book.validity asked.now.moment account.now.sessions
-        asked.now.session.now ≡ true }
+    requires live { IsLive account.now asked.now.moment asked.now.session.now }
     ensures { (ledger : Ledger) (left : LeftRows) →
         IsWith ledger left asked.now.moment account.now →
         result ≡ service_passes_after charges account.now.book asked.now.moment
@@ -177,8 +171,7 @@ fn service_charges(book: &TariffBook, service: &Service) -> u64
 fn any_would_pass(account: &Account, asked: &Asked, services: &[Service]) -> bool
     requires apart { groups_differ services.now ≡ true }
     requires later { account.now.as_of ≤ asked.now.moment }
-    requires live { is_live_in account.now.book.validity asked.now.moment account.now.sessions
-        asked.now.session.now ≡ true }
+    requires live { IsLive account.now asked.now.moment asked.now.session.now }
     ensures { (ledger : Ledger) (left : LeftRows) →
         IsWith ledger left asked.now.moment account.now →
         result ≡ any_passes account.now.book asked.now.moment asked.now.session.now services.now
@@ -205,8 +198,7 @@ pub(crate) fn settle_services(
 ) -> Result<Vec<ChargeRow>, AccountFault>
     requires apart { groups_differ services.now ≡ true }
     requires later { account.old.as_of ≤ asked.now.moment }
-    requires live { is_live_in account.old.book.validity asked.now.moment account.old.sessions
-        asked.now.session.now ≡ true }
+    requires live { IsLive account.old asked.now.moment asked.now.session.now }
     ensures settles { IfOk result (λ charges.
         Settles charges.items account.old account.new asked.now.moment asked.now.session.now
         services.now) }
@@ -217,9 +209,7 @@ pub(crate) fn settle_services(
         IsWith ledger left asked.now.moment account.old →
         any_passes account.old.book asked.now.moment asked.now.session.now services.now ledger ≡
         false }
-    ensures live { OnOk result
-        (is_live_in account.new.book.validity asked.now.moment account.new.sessions
-        asked.now.session.now ≡ true) }
+    ensures live { OnOk result (IsLive account.new asked.now.moment asked.now.session.now) }
     ensures later { account.new.as_of ≤ asked.now.moment }
     ensures free { OnOk result
         (AreFree account.old.book asked.now.session.now services.now account.new.groups) }
@@ -238,8 +228,7 @@ pub(crate) fn settle_services(
 /// Ends a live session with its last request.
 pub(crate) fn end(account: &mut Account, asked: &Asked)
     requires later { account.old.as_of ≤ asked.now.moment }
-    requires live { is_live_in account.old.book.validity asked.now.moment account.old.sessions
-        asked.now.session.now ≡ true }
+    requires live { IsLive account.old asked.now.moment asked.now.session.now }
     ensures left { (ledger : Ledger) (left : LeftRows) →
         IsWith ledger left asked.now.moment account.old →
         IsWith (closed asked.now.moment asked.now.session.now

@@ -1,5 +1,6 @@
 -- Steps of reading: the first fault ends them and is the one told.
-use Rattle.std.specs.Prelude.{◌≡◌, List, [], ◌∷◌, ◌++◌, Bool, Option, Some, None, Result, Ok, Err, if◌then◌else◌}
+use Rattle.std.specs.Prelude.{◌≡◌, List, [], ◌∷◌, ◌++◌, Bool, Option, Some, None, Result, Ok, Err}
+use Rattle.std.specs.Prelude.{if◌then◌else◌}
 
 -- the first step, and what follows it; a fault of the first step is that of both
 infixl 10 ◌>>=◌

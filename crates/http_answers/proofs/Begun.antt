@@ -1,5 +1,6 @@
 -- Beginnings of texts that are written in two parts.
-use Rattle.std.proofs.Common.{◌≡◌, ℕ, ◌+◌, List, [], ◌∷◌, ◌++◌, length, take, drop, refl, sym, ap, ◌∙◌, subst, zero, suc}
+use Rattle.std.proofs.Common.{◌≡◌, ℕ, ◌+◌, List, [], ◌∷◌, ◌++◌, length, take, drop, refl, sym, ap}
+use Rattle.std.proofs.Common.{◌∙◌, subst, zero, suc}
 use Rattle.std.specs.Prelude.{Option, Result, Ok, Err, OnErr}
 use Rattle.std.specs.Io.KnownBytes.{Appends}
 use Rattle.std.proofs.KnownBytes.{Appends-trans}
@@ -22,12 +23,17 @@ take_first (suc n) (x ∷ xs) more =
     let rest = take_first n xs more in
     (suc rest.0, ap (λ l. x ∷ l) rest.1)
 
-pub begun_first : (a b : Option (List ℕ)) (text more : List ℕ) → Begins a b text → Begins a b (text ++ more)
+pub begun_first : (a b : Option (List ℕ)) (text more : List ℕ) → Begins a b text →
+    Begins a b (text ++ more)
 begun_first a b text more h =
     let first = take_first h.0 text more in
     (first.0, subst (Appends a b) (sym first.1) h.1)
 
 -- so do the text and a beginning of what is after it
-pub begun_second : (a b c : Option (List ℕ)) (text more : List ℕ) → Appends a b text → Begins b c more → Begins a c (text ++ more)
-begun_second a b c text more h k =
-    (length text + k.0, subst (Appends a c) (sym (take-append-add text more k.0)) (Appends-trans a b c text (take k.0 more) h k.1))
+pub begun_second : (a b c : Option (List ℕ)) (text more : List ℕ) → Appends a b text →
+    Begins b c more → Begins a c (text ++ more)
+begun_second a b c text more h k = (
+  length text + k.0,
+  subst (Appends a c) (sym (take-append-add text more k.0))
+      (Appends-trans a b c text (take k.0 more) h k.1),
+)

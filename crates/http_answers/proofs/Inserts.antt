@@ -6,7 +6,8 @@ use Rattle.matchit.specs.declared.InsertError.{InsertError}
 use Rattle.http_answers.specs.declared.routes.Route.{Route}
 use Rattle.http_answers.specs.Routes.{Routes, added, added_read}
 
-pub inserts_read : (x : Result Scan InsertError) (value : Route) (old new : Routes) (r : Result (Unit {0}) InsertError)
+pub inserts_read : (x : Result Scan InsertError) (value : Route) (old new : Routes)
+    (r : Result (Unit {0}) InsertError)
     → InsertsRead x value old new r → OnOk r (new ≡ added_read x value old)
 inserts_read (Ok s) value old new (Ok u) h = h.1
 inserts_read (Ok s) value old new (Err e) h = tt
@@ -14,5 +15,6 @@ inserts_read (Err e) value old new (Ok u) h = h.0
 inserts_read (Err e) value old new (Err f) h = tt
 
 -- one row more of a known table
-pub one_more : (text : List ℕ) (value : Route) (old new known : Routes) → new ≡ added text value old → old ≡ known → new ≡ added text value known
+pub one_more : (text : List ℕ) (value : Route) (old new known : Routes) →
+    new ≡ added text value old → old ≡ known → new ≡ added text value known
 one_more text value old new known e h = e ∙ ap (added text value) h

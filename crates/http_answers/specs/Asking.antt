@@ -1,6 +1,7 @@
 -- What a request asks.
 -- Source: profile.
-use Rattle.std.specs.Prelude.{◌≡◌, ℕ, Bool, ◌==◌, List, Option, Some, None, Result, Ok, Err, if◌then◌else◌}
+use Rattle.std.specs.Prelude.{◌≡◌, ℕ, Bool, ◌==◌, List, Option, Some, None, Result, Ok, Err}
+use Rattle.std.specs.Prelude.{if◌then◌else◌}
 use Rattle.std.specs.List.{before_first, after_first}
 use Rattle.identifiers.specs.Texts.{is_account_number, is_voucher_code}
 use Rattle.written_numbers.specs.Months.{month_of}
@@ -21,7 +22,8 @@ use Rattle.http_answers.specs.declared.asking.Asked.{Asked}
 use Rattle.http_answers.specs.declared.asking.Asked.TheVariants as told
 use Rattle.http_answers.specs.declared.asking.StatementAsked.{StatementAsked}
 use Rattle.http_answers.specs.declared.routes.Route.{Route}
-use Rattle.http_answers.specs.declared.routes.Route.TheVariants.{Ccr, Account, Statement, Credits, Redeem, Sweep}
+use Rattle.http_answers.specs.declared.routes.Route.TheVariants.{Ccr, Account, Statement, Credits}
+use Rattle.http_answers.specs.declared.routes.Route.TheVariants.{Redeem, Sweep}
 use Rattle.http_answers.specs.Routes.{is_get, route_of, serves}
 
 -- a request is refused, read as a command or with a fault, or asks for a statement
@@ -42,15 +44,18 @@ second_part target = before_first is_slash (after_first is_slash (after_first is
 -- between the fourth slash of a path and the fifth, or the end
 abbrev pub fourth_part : List ℕ → List ℕ
 fourth_part target = before_first is_slash
-    (after_first is_slash (after_first is_slash (after_first is_slash (after_first is_slash target))))
+    (after_first is_slash
+    (after_first is_slash (after_first is_slash (after_first is_slash target))))
 
 -- the number of an account in a path
 abbrev pub account_in : List ℕ → Result (List ℕ) WireFault
-account_in target = if is_account_number (second_part target) then Ok (second_part target) else Err (Invalid avp.SubscriptionIdData)
+account_in target = if is_account_number (second_part target) then Ok (second_part target)
+    else Err (Invalid avp.SubscriptionIdData)
 
 -- the code of a voucher in a path
 abbrev pub code_in : List ℕ → Result (List ℕ) WireFault
-code_in target = if is_voucher_code (second_part target) then Ok (second_part target) else Err (Invalid avp.VoucherCode)
+code_in target = if is_voucher_code (second_part target) then Ok (second_part target)
+    else Err (Invalid avp.VoucherCode)
 
 -- the month in a path
 abbrev pub month_in : List ℕ → Result ℕ WireFault
@@ -66,14 +71,17 @@ abbrev pub account_asked : Method → List ℕ → Result Command WireFault
 account_asked method target = account_in target >>= λ a. Ok (account_command method a)
 
 abbrev pub credit_asked : List ℕ → List ℕ → Result Command WireFault
-credit_asked target body = account_in target >>= λ a. credit_of a body >>= λ c. Ok (command.Credit c)
+credit_asked target body =
+    account_in target >>= λ a. credit_of a body >>= λ c. Ok (command.Credit c)
 
 abbrev pub redemption_asked : List ℕ → List ℕ → Result Command WireFault
-redemption_asked target body = code_in target >>= λ c. redemption_of c body >>= λ r. Ok (command.Redeem r)
+redemption_asked target body =
+    code_in target >>= λ c. redemption_of c body >>= λ r. Ok (command.Redeem r)
 
 -- the account, and then the month
 abbrev pub statement_in : List ℕ → Result StatementAsked WireFault
-statement_in target = account_in target >>= λ a. month_in target >>= λ m. Ok (record { account = a; month = m })
+statement_in target =
+    account_in target >>= λ a. month_in target >>= λ m. Ok (record { account = a; month = m })
 
 abbrev pub stated : Result StatementAsked WireFault → Asking
 stated (Ok q) = states q
@@ -91,7 +99,8 @@ asking_by Sweep method target body = reads (Ok command.Sweep)
 -- first the path, then the method, then what is read
 abbrev pub asked_by : Option Route → Ask → Asking
 asked_by None ask = refuses NotFound
-asked_by (Some route) ask = if serves route ask.method then asking_by route ask.method ask.target ask.body else refuses MethodNotAllowed
+asked_by (Some route) ask = if serves route ask.method
+    then asking_by route ask.method ask.target ask.body else refuses MethodNotAllowed
 
 abbrev pub asked_of : Ask → Asking
 asked_of ask = asked_by (route_of ask.target) ask

@@ -1,6 +1,7 @@
 -- The table of routes: what a path names, and its method.
 -- Source: profile.
-use Rattle.std.specs.Prelude.{ℕ, Bool, true, false, List, [], ◌∷◌, ◌==◌, ◌||◌, Option, None, Result, Ok, Err, codes, option_map, if◌then◌else◌}
+use Rattle.std.specs.Prelude.{ℕ, Bool, true, false, List, [], ◌∷◌, ◌==◌, ◌||◌, Option, None, Result}
+use Rattle.std.specs.Prelude.{Ok, Err, codes, option_map, if◌then◌else◌}
 use Rattle.std.specs.List.{list_any}
 use Rattle.matchit.specs.Rows.{RowsOf}
 use Rattle.matchit.specs.Seek.{first}
@@ -11,7 +12,8 @@ use Rattle.matchit.specs.declared.InsertError.{InsertError}
 use Rattle.http_heads.specs.declared.method.Method.{Method}
 use Rattle.http_heads.specs.declared.method.Method.TheVariants.{Get, Post, Put, Other}
 use Rattle.http_answers.specs.declared.routes.Route.{Route}
-use Rattle.http_answers.specs.declared.routes.Route.TheVariants.{Ccr, Account, Statement, Credits, Redeem, Sweep}
+use Rattle.http_answers.specs.declared.routes.Route.TheVariants.{Ccr, Account, Statement, Credits}
+use Rattle.http_answers.specs.declared.routes.Route.TheVariants.{Redeem, Sweep}
 
 abbrev pub Routes : Type 0
 Routes = RowsOf (RouteOf Route)

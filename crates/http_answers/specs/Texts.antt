@@ -1,5 +1,6 @@
 -- The bytes of an answer (RFC 9112 sections 4 and 6).
-use Rattle.std.specs.Prelude.{◌≡◌, ◌⊎◌, ℕ, Bool, Option, take, List, [], ◌++◌, codes, length, if◌then◌else◌}
+use Rattle.std.specs.Prelude.{◌≡◌, ◌⊎◌, ℕ, Bool, Option, take, List, [], ◌++◌, codes, length}
+use Rattle.std.specs.Prelude.{if◌then◌else◌}
 use Rattle.std.specs.Fmt.{decimal}
 use Rattle.std.specs.Io.KnownBytes.{Appends}
 use Rattle.json_fields.specs.declared.fault.WireFault.{WireFault}
@@ -8,7 +9,10 @@ use Rattle.wire_answers.specs.Spelled.{fault_text}
 use Rattle.http_heads.specs.declared.status.Status.{Status}
 use Rattle.http_answers.specs.declared.text.Media.{Media}
 use Rattle.http_answers.specs.declared.text.Media.TheVariants.{Json, Text}
-use Rattle.http_heads.specs.declared.status.Status.TheVariants.{Ok, BadRequest, NotFound, MethodNotAllowed, LengthRequired, ContentTooLarge, FieldsTooLarge, NotImplemented, Unavailable}
+use Rattle.http_heads.specs.declared.status.Status.TheVariants.{Ok, BadRequest, NotFound}
+use Rattle.http_heads.specs.declared.status.Status.TheVariants.{MethodNotAllowed, LengthRequired}
+use Rattle.http_heads.specs.declared.status.Status.TheVariants.{ContentTooLarge, FieldsTooLarge}
+use Rattle.http_heads.specs.declared.status.Status.TheVariants.{NotImplemented, Unavailable}
 
 -- the code and the phrase
 abbrev pub status_line : Status → List ℕ
@@ -32,12 +36,15 @@ type_and_length = codes "\r\nContent-Type: application/json\r\nContent-Length: "
 -- the bytes of an answer
 abbrev pub response : Status → Bool → List ℕ → List ℕ
 response status closes body =
-    codes "HTTP/1.1 " ++ (status_line status ++ (type_and_length ++ (decimal (length body) ++ (codes "\r\n" ++ (closing_line closes ++ (codes "\r\n" ++ body))))))
+    codes "HTTP/1.1 " ++ (status_line status ++ (type_and_length ++ (decimal (length body)
+    ++ (codes "\r\n" ++ (closing_line closes ++ (codes "\r\n" ++ body))))))
 
 -- the head of an answer whose body is so long and no JSON
 abbrev pub text_head : Status → Bool → ℕ → List ℕ
 text_head status closes n =
-    codes "HTTP/1.1 " ++ (status_line status ++ (codes "\r\nContent-Type: text/plain\r\nContent-Length: " ++ (decimal n ++ (codes "\r\n" ++ (closing_line closes ++ codes "\r\n")))))
+    codes "HTTP/1.1 "
+    ++ (status_line status ++ (codes "\r\nContent-Type: text/plain\r\nContent-Length: "
+    ++ (decimal n ++ (codes "\r\n" ++ (closing_line closes ++ codes "\r\n")))))
 
 -- the bytes of an answer whose body is of this kind
 abbrev pub response_of : Media → Status → Bool → List ℕ → List ℕ
@@ -54,12 +61,14 @@ unable = codes "{\"Result-Code\":5012}"
 
 -- a refusal is told, or that there is no memory
 abbrev pub TellsRefusal : Bool → Status → (List ℕ → Type 0) → Type 0
-TellsRefusal closes status Writes = Writes (response status closes no_members) ⊎ Writes (response Unavailable closes unable)
+TellsRefusal closes status Writes = Writes (response status closes no_members)
+    ⊎ Writes (response Unavailable closes unable)
 
 -- a request that isn't read is told its fault, or that there is no memory
 abbrev pub TellsFault : Bool → WireFault → (List ℕ → Type 0) → Type 0
 TellsFault closes fault Writes =
-    ((fault ≡ Memory → ⊥) × Writes (response BadRequest closes (fault_text fault))) ⊎ Writes (response Unavailable closes unable)
+    ((fault ≡ Memory → ⊥) × Writes (response BadRequest closes (fault_text fault)))
+    ⊎ Writes (response Unavailable closes unable)
 
 -- a beginning of a text is written
 abbrev pub Begins : Option (List ℕ) → Option (List ℕ) → List ℕ → Type 0

@@ -5,7 +5,10 @@ ghost use Rattle.json_fields.specs.Gives.{Gives, or_fault};
 ghost use Rattle.json_fields.specs.declared.fault.WireFault.{WireFault};
 ghost use Rattle.http_heads.specs.Requests.{seen};
 ghost use Rattle.http_answers.specs.Routes.{table};
-ghost use Rattle.http_answers.specs.Asking.{is_slash, second_part, fourth_part, account_command, account_in, account_asked, code_in, credit_asked, month_in, redemption_asked, statement_in, reads, stated, asking_by, asked_of, IsAsked};
+ghost use Rattle.http_answers.specs.Asking.{is_slash, second_part, fourth_part, account_command};
+ghost use Rattle.http_answers.specs.Asking.{account_in, account_asked, code_in, credit_asked};
+ghost use Rattle.http_answers.specs.Asking.{month_in, redemption_asked, statement_in, reads};
+ghost use Rattle.http_answers.specs.Asking.{stated, asking_by, asked_of, IsAsked};
 ghost use Rattle.http_answers.specs.declared.asking.StatementAsked.{StatementAsked};
 
 use crate::routes::{Route, is_get, route_of};
@@ -20,6 +23,7 @@ use written_numbers::Month;
 /// A statement that is asked for.
 #[derive(Debug, Drop)]
 pub struct StatementAsked {
+    /// Whose charges it tells.
     pub account: AccountNumber,
     /// The civil month in the book's zone.
     pub month: Month,
@@ -159,7 +163,7 @@ fn told(read: Result<Command, WireFault>) -> Asked
 
 /// A statement that is asked for, or the fault of its path.
 #[tactic(auto, using(crate::proofs::StatedLemmas::stated_is, crate::proofs::StatedLemmas::unstated_is))]
-fn stated(read: Result<StatementAsked, WireFault>) -> Asked
+fn told_statement(read: Result<StatementAsked, WireFault>) -> Asked
     ensures { (reading : Result StatementAsked WireFault) → Gives (λ q. q) read reading →
         IsAsked (stated reading) result }
 {
@@ -176,7 +180,7 @@ fn asked_by(alloc: Global, route: Route, method: Method, target: &str, body: &[u
     match route {
         Route::Ccr => told(read_request(alloc, body)),
         Route::Account => told(read_account(alloc, method, target)),
-        Route::Statement => stated(read_statement(alloc, target)),
+        Route::Statement => told_statement(read_statement(alloc, target)),
         Route::Credits => told(read_credits(alloc, target, body)),
         Route::Redeem => told(read_redemption(alloc, target, body)),
         Route::Sweep => Asked::Does(Command::Sweep),

@@ -1,5 +1,6 @@
 ghost use Rattle.std.specs.Prelude.{◌≡◌, IfOk, OnOk};
-ghost use Rattle.http_answers.specs.Routes.{added, table, row_of, has_query, route_of, is_get, is_post, is_put, serves};
+ghost use Rattle.http_answers.specs.Routes.{added, table, row_of, has_query, route_of, is_get};
+ghost use Rattle.http_answers.specs.Routes.{is_post, is_put, serves};
 
 use byte_streams::StreamFault;
 use http_heads::Method;

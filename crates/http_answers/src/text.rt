@@ -1,10 +1,12 @@
-ghost use Rattle.std.specs.Prelude.{◌≡◌, ◌++◌, ℕ, IfOk, OnOk, OnErr, IfSome, None, true, false, string_bytes};
+ghost use Rattle.std.specs.Prelude.{◌≡◌, ◌++◌, ℕ, IfOk, OnOk, OnErr, IfSome, None, true, false};
+ghost use Rattle.std.specs.Prelude.{string_bytes};
 ghost use Rattle.json_fields.specs.declared.fault.WireFault.TheVariants.{Memory};
 ghost use Rattle.std.specs.Io.KnownBytes.{Appends};
 ghost use Rattle.http_heads.specs.declared.status.Status.TheVariants.{BadRequest, Unavailable};
 ghost use Rattle.wire_answers.specs.Spelled.{fault_text};
 ghost use Rattle.http_answers.specs.declared.text.Media.TheVariants.{Text};
-ghost use Rattle.http_answers.specs.Texts.{status_line, closing_line, response, response_of, text_head, unable, Begins, TellsRefusal, TellsFault};
+ghost use Rattle.http_answers.specs.Texts.{status_line, closing_line, response, response_of};
+ghost use Rattle.http_answers.specs.Texts.{text_head, unable, Begins, TellsRefusal, TellsFault};
 
 use byte_streams::{StreamFault, write_whole};
 use http_heads::Status;
@@ -100,8 +102,10 @@ pub fn tell<W: Write>(
     closes: bool,
     body: &str,
 ) -> Result<(), StreamFault>
-    ensures ok { OnOk result (Appends (W.contents writer.old) (W.contents writer.new) (response status closes body.now)) }
-    ensures err { OnErr result (Begins (W.contents writer.old) (W.contents writer.new) (response status closes body.now)) }
+    ensures ok { OnOk result (Appends (W.contents writer.old) (W.contents writer.new)
+        (response status closes body.now)) }
+    ensures err { OnErr result
+        (Begins (W.contents writer.old) (W.contents writer.new) (response status closes body.now)) }
 {
     let text = response(alloc, status, closes, body)?;
     write_whole(writer, text.as_bytes())
@@ -138,8 +142,10 @@ pub fn tell_text<W: Write>(
     closes: bool,
     body: &[u8],
 ) -> Result<(), StreamFault>
-    ensures ok { OnOk result (Appends (W.contents writer.old) (W.contents writer.new) (response_of Text status closes body.now)) }
-    ensures err { OnErr result (Begins (W.contents writer.old) (W.contents writer.new) (response_of Text status closes body.now)) }
+    ensures ok { OnOk result (Appends (W.contents writer.old) (W.contents writer.new)
+        (response_of Text status closes body.now)) }
+    ensures err { OnErr result (Begins (W.contents writer.old) (W.contents writer.new)
+        (response_of Text status closes body.now)) }
 {
     let head = text_head(alloc, status, closes, body.len())?;
     write_both(writer, head.as_bytes(), body)
@@ -161,8 +167,10 @@ fn write_both<W: Write>(writer: &mut W, first: &[u8], second: &[u8]) -> Result<(
 /// # Errors
 /// `Write` where the writer failed. Then a beginning of it is written.
 pub fn tell_unable<W: Write>(writer: &mut W, closes: bool) -> Result<(), StreamFault>
-    ensures ok { OnOk result (Appends (W.contents writer.old) (W.contents writer.new) (response Unavailable closes unable)) }
-    ensures err { OnErr result (Begins (W.contents writer.old) (W.contents writer.new) (response Unavailable closes unable)) }
+    ensures ok { OnOk result (Appends (W.contents writer.old) (W.contents writer.new)
+        (response Unavailable closes unable)) }
+    ensures err { OnErr result (Begins (W.contents writer.old) (W.contents writer.new)
+        (response Unavailable closes unable)) }
 {
     if closes {
         write_whole(writer, unable_at_last())
@@ -181,8 +189,10 @@ pub fn tell_refusal<W: Write>(
     status: Status,
     closes: bool,
 ) -> Result<(), StreamFault>
-    ensures ok { OnOk result (TellsRefusal closes status (Appends (W.contents writer.old) (W.contents writer.new))) }
-    ensures err { OnErr result (TellsRefusal closes status (Begins (W.contents writer.old) (W.contents writer.new))) }
+    ensures ok { OnOk result
+        (TellsRefusal closes status (Appends (W.contents writer.old) (W.contents writer.new))) }
+    ensures err { OnErr result
+        (TellsRefusal closes status (Begins (W.contents writer.old) (W.contents writer.new))) }
 {
     match response(alloc, status, closes, NO_MEMBERS) {
         Ok(text) => write_whole(writer, text.as_bytes()),
@@ -192,7 +202,8 @@ pub fn tell_refusal<W: Write>(
 
 /// The answer to a request that isn't read; None where memory ran out.
 fn fault_response(alloc: Global, fault: WireFault, closes: bool) -> Option<String>
-    ensures text { IfSome result (λ s. string_bytes s ≡ response BadRequest closes (fault_text fault)) }
+    ensures text { IfSome result
+        (λ s. string_bytes s ≡ response BadRequest closes (fault_text fault)) }
     ensures memory { fault ≡ Memory → result ≡ None }
 {
     match fault {
@@ -214,8 +225,10 @@ pub fn tell_fault<W: Write>(
     fault: WireFault,
     closes: bool,
 ) -> Result<(), StreamFault>
-    ensures ok { OnOk result (TellsFault closes fault (Appends (W.contents writer.old) (W.contents writer.new))) }
-    ensures err { OnErr result (TellsFault closes fault (Begins (W.contents writer.old) (W.contents writer.new))) }
+    ensures ok { OnOk result
+        (TellsFault closes fault (Appends (W.contents writer.old) (W.contents writer.new))) }
+    ensures err { OnErr result
+        (TellsFault closes fault (Begins (W.contents writer.old) (W.contents writer.new))) }
 {
     match fault_response(alloc, fault, closes) {
         Some(text) => write_whole(writer, text.as_bytes()),

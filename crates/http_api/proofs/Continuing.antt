@@ -11,7 +11,8 @@ use Rattle.charging.specs.Served.{AreTables, Serves}
 use Rattle.charging.specs.Runs.{after_command, after_commands}
 use Rattle.http_api.specs.Replies.{ForEachList, IsContinued}
 
-commands_after : (b : Book) (list : List Accepted) (xs ys : List DatedCommand) → after_commands b list (xs ++ ys) ≡ after_commands b (after_commands b list xs) ys
+commands_after : (b : Book) (list : List Accepted) (xs ys : List DatedCommand) →
+    after_commands b list (xs ++ ys) ≡ after_commands b (after_commands b list xs) ys
 commands_after b list [] ys = refl
 commands_after b list (x ∷ xs) ys = commands_after b (after_command b list x) xs ys
 
@@ -20,10 +21,12 @@ pub continued_none : (b : Book) (tables : Tables) → ForEachList b tables (IsCo
 continued_none b tables = λ list time are. record { commands = []; tables = are; time = time }
 
 -- and then more
-pub continued_more : (b : Book) (old mid new : Tables) → ForEachList b old (IsContinued b mid) → ForEachList b mid (IsContinued b new) → ForEachList b old (IsContinued b new)
+pub continued_more : (b : Book) (old mid new : Tables) → ForEachList b old (IsContinued b mid) →
+    ForEachList b mid (IsContinued b new) → ForEachList b old (IsContinued b new)
 continued_more b old mid new f g = λ list time are.
     let first : IsContinued b mid list = f list time are in
-    let more : IsContinued b new (after_commands b list first.commands) = g (after_commands b list first.commands) first.time first.tables in
+    let more : IsContinued b new (after_commands b list first.commands) =
+    g (after_commands b list first.commands) first.time first.tables in
     let same = commands_after b list first.commands more.commands in
     record {
       commands = first.commands ++ more.commands;
@@ -32,9 +35,19 @@ continued_more b old mid new f g = λ list time are.
     }
 
 -- a step
-pub continued_step : (b : Book) (c : Command) (t : ℕ) (old new : Tables) (result : Result Answer StoreFault) → Serves b c t old new result → ForEachList b old (IsContinued b new)
+pub continued_step : (b : Book) (c : Command) (t : ℕ)
+    (old new : Tables) (result : Result Answer StoreFault) → Serves b c t old new result →
+    ForEachList b old (IsContinued b new)
 continued_step b c t old new (Ok given) serves = λ list time are.
     let served = serves list time are in
-    record { commands = record { moment = t; command = c } ∷ []; tables = served.tables; time = served.time }
+    record {
+      commands = record { moment = t; command = c } ∷ [];
+      tables = served.tables;
+      time = served.time;
+    }
 continued_step b c t old new (Err fault) serves = λ list time are.
-    record { commands = []; tables = subst (AreTables b list) (sym (serves list time are)) are; time = time }
+    record {
+      commands = [];
+      tables = subst (AreTables b list) (sym (serves list time are)) are;
+      time = time;
+    }

@@ -1,5 +1,6 @@
 -- The reply to one request.
-use Rattle.std.proofs.Common.{◌≡◌, ℕ, Bool, List, [], ◌∷◌, refl, sym, ap, subst, inl, inr, arith, Option, Some, None, Result, Ok, Err, OnOk, OnErr}
+use Rattle.std.proofs.Common.{◌≡◌, ℕ, Bool, List, [], ◌∷◌, refl, sym, ap, subst, inl, inr, arith}
+use Rattle.std.proofs.Common.{Option, Some, None, Result, Ok, Err, OnOk, OnErr}
 use Rattle.std.proofs.KnownBytes.{Appends-nil}
 use Rattle.commands.specs.declared.answer.Answer.{Answer}
 use Rattle.commands.specs.declared.command.Command.{Command}
@@ -46,10 +47,14 @@ may_not (states q) = omega arith
 may_once : (c : Command) (m : Option ℕ) → MayAsk (reads (Ok c)) (m ∷ [])
 may_once c m = omega arith
 
-module _ {C : Type 0} (gives : C → Option ℕ → C → Type 0) (b : Book) (closes : Bool) (Writes : List ℕ → Type 0) where
+module _ {C : Type 0} (gives : C → Option ℕ → C → Type 0) (b : Book) (closes : Bool)
+    (Writes : List ℕ → Type 0) where
   -- no memory or no store
-  pub unserved_reply : (asking : Asking) (moments : List (Option ℕ)) (c0 c1 : C) (old new : Tables) → MayAsk asking moments → GivesInTurn gives c0 moments c1 →
-      ForEachList b old (λ list. AreTables b list new) → Writes (response status.Unavailable closes unable) → Replies gives b asking closes c0 c1 Writes old new
+  pub unserved_reply : (asking : Asking) (moments : List (Option ℕ)) (c0 c1 : C)
+      (old new : Tables) → MayAsk asking moments → GivesInTurn gives c0 moments c1 →
+      ForEachList b old (λ list. AreTables b list new) →
+      Writes (response status.Unavailable closes unable) →
+      Replies gives b asking closes c0 c1 Writes old new
   unserved_reply asking moments c0 c1 old new may given same w = record {
     moments = moments;
     given = given;
@@ -65,70 +70,108 @@ module _ {C : Type 0} (gives : C → Option ℕ → C → Type 0) (b : Book) (cl
   }
 
   -- a request that changes nothing, without the clock
-  due_reply : (asking : Asking) (code : Status) (body : List ℕ) (c : C) (tables : Tables) → ((list : List Accepted) → IsDue b list asking [] (refusal list code body)) →
+  due_reply : (asking : Asking) (code : Status) (body : List ℕ) (c : C) (tables : Tables) →
+      ((list : List Accepted) → IsDue b list asking [] (refusal list code body)) →
       Writes (response code closes body) → Replies gives b asking closes c c Writes tables tables
   due_reply asking code body c tables due w = record {
     moments = [];
     given = refl;
     text = response code closes body;
     written = w;
-    replied = λ list time are. record { reply = refusal list code body; is_reply = inl (due list); written = refl; tables = are; time = time };
+    replied = λ list time are. record {
+      reply = refusal list code body;
+      is_reply = inl (due list);
+      written = refl;
+      tables = are;
+      time = time;
+    };
   }
 
-  refused_by : (code : Status) (c : C) (tables : Tables) → TellsRefusal closes code Writes → Replies gives b (refuses code) closes c c Writes tables tables
-  refused_by code c tables (inl w) = due_reply (refuses code) code no_members c tables (λ list. (refl, refl)) w
-  refused_by code c tables (inr w) = unserved_reply (refuses code) [] c c tables tables refl refl (λ list time are. are) w
+  refused_by : (code : Status) (c : C) (tables : Tables) → TellsRefusal closes code Writes →
+      Replies gives b (refuses code) closes c c Writes tables tables
+  refused_by code c tables (inl w) =
+      due_reply (refuses code) code no_members c tables (λ list. (refl, refl)) w
+  refused_by code c tables (inr w) =
+      unserved_reply (refuses code) [] c c tables tables refl refl (λ list time are. are) w
 
   -- a refusal
-  pub refused_reply : (code : Status) (c : C) (tables : Tables) → TellsRefusal closes code Writes → (asking : Asking) → IsAsked asking (told.Refused code) → Replies gives b asking closes c c Writes tables tables
-  refused_reply code c tables tells (refuses s) asked = subst (λ x. Replies gives b (refuses x) closes c c Writes tables tables) asked (refused_by code c tables tells)
+  pub refused_reply : (code : Status) (c : C) (tables : Tables) →
+      TellsRefusal closes code Writes → (asking : Asking) → IsAsked asking (told.Refused code) →
+      Replies gives b asking closes c c Writes tables tables
+  refused_reply code c tables tells (refuses s) asked =
+      subst (λ x. Replies gives b (refuses x) closes c c Writes tables tables) asked
+      (refused_by code c tables tells)
   refused_reply code c tables tells (reads read) asked = absurd asked
   refused_reply code c tables tells (states q) asked = absurd asked
 
-  unread_by : (fault : WireFault) (c : C) (tables : Tables) (read : Result Command WireFault) → TellsFault closes fault Writes → (¬ (fault ≡ Memory) → read ≡ Err fault) →
+  unread_by : (fault : WireFault) (c : C) (tables : Tables) (read : Result Command WireFault) →
+      TellsFault closes fault Writes → (¬ (fault ≡ Memory) → read ≡ Err fault) →
       Replies gives b (reads read) closes c c Writes tables tables
   unread_by fault c tables read (inl w) fails =
       due_reply (reads read) status.BadRequest (fault_text fault) c tables
-      (λ list. subst (λ r. IsDue b list (reads r) [] (refusal list status.BadRequest (fault_text fault))) (sym (fails w.0)) (refl, refl)) w.1
-  unread_by fault c tables read (inr w) fails = unserved_reply (reads read) [] c c tables tables (may_not (reads read)) refl (λ list time are. are) w
+      (λ list. subst (λ r. IsDue b list (reads r) []
+      (refusal list status.BadRequest (fault_text fault))) (sym (fails w.0)) (refl, refl)) w.1
+  unread_by fault c tables read (inr w) fails = unserved_reply (reads read) [] c c tables tables
+      (may_not (reads read)) refl (λ list time are. are) w
 
   -- memory ran out for a statement that is asked for
-  unstated_by : (fault : WireFault) (c : C) (tables : Tables) (q : StatementAsked) → TellsFault closes fault Writes → (¬ (fault ≡ Memory) → Ok q ≡ Err fault) →
+  unstated_by : (fault : WireFault) (c : C) (tables : Tables) (q : StatementAsked) →
+      TellsFault closes fault Writes → (¬ (fault ≡ Memory) → Ok q ≡ Err fault) →
       Replies gives b (states q) closes c c Writes tables tables
   unstated_by fault c tables q (inl w) fails = let same = fails w.0 in absurd (cc)
-  unstated_by fault c tables q (inr w) fails = unserved_reply (states q) [] c c tables tables (may_not (states q)) refl (λ list time are. are) w
+  unstated_by fault c tables q (inr w) fails = unserved_reply (states q) [] c c tables tables
+      (may_not (states q)) refl (λ list time are. are) w
 
   -- a request that isn't read
-  pub unread_reply : (fault : WireFault) (c : C) (tables : Tables) → TellsFault closes fault Writes → (asking : Asking) → IsAsked asking (told.Unread fault) → Replies gives b asking closes c c Writes tables tables
+  pub unread_reply : (fault : WireFault) (c : C) (tables : Tables) →
+      TellsFault closes fault Writes → (asking : Asking) → IsAsked asking (told.Unread fault) →
+      Replies gives b asking closes c c Writes tables tables
   unread_reply fault c tables tells (refuses s) asked = absurd asked
   unread_reply fault c tables tells (reads read) asked = unread_by fault c tables read tells asked
   unread_reply fault c tables tells (states q) asked = unstated_by fault c tables q tells asked
 
   -- a command, whatever it is read from
-  pub command_reply : (c : Command) (c0 c1 : C) (old new : Tables) → Replies gives b (reads (Ok c)) closes c0 c1 Writes old new → (asking : Asking) → IsAsked asking (told.Does c) → Replies gives b asking closes c0 c1 Writes old new
+  pub command_reply : (c : Command) (c0 c1 : C) (old new : Tables) →
+      Replies gives b (reads (Ok c)) closes c0 c1 Writes old new → (asking : Asking) →
+      IsAsked asking (told.Does c) → Replies gives b asking closes c0 c1 Writes old new
   command_reply c c0 c1 old new replies (refuses s) asked = absurd asked
-  command_reply c c0 c1 old new replies (reads read) asked = subst (λ r. Replies gives b (reads r) closes c0 c1 Writes old new) (sym asked) replies
+  command_reply c c0 c1 old new replies (reads read) asked =
+      subst (λ r. Replies gives b (reads r) closes c0 c1 Writes old new) (sym asked) replies
   command_reply c c0 c1 old new replies (states q) asked = absurd asked
 
   -- a statement, whatever it is read from
-  pub statement_reply : (q : StatementAsked) (c0 c1 : C) (old new : Tables) → Replies gives b (states q) closes c0 c1 Writes old new → (asking : Asking) → IsAsked asking (told.States q) → Replies gives b asking closes c0 c1 Writes old new
+  pub statement_reply : (q : StatementAsked) (c0 c1 : C) (old new : Tables) →
+      Replies gives b (states q) closes c0 c1 Writes old new → (asking : Asking) →
+      IsAsked asking (told.States q) → Replies gives b asking closes c0 c1 Writes old new
   statement_reply q c0 c1 old new replies (refuses s) asked = absurd asked
   statement_reply q c0 c1 old new replies (reads read) asked = absurd asked
-  statement_reply q c0 c1 old new replies (states a) asked = subst (λ x. Replies gives b (states x) closes c0 c1 Writes old new) (sym asked) replies
+  statement_reply q c0 c1 old new replies (states a) asked =
+      subst (λ x. Replies gives b (states x) closes c0 c1 Writes old new) (sym asked) replies
 
   -- a clock that doesn't answer
-  pub unclocked_reply : (c : Command) (c0 c1 : C) (tables : Tables) → gives c0 None c1 → Writes (response status.Unavailable closes unable) → Replies gives b (reads (Ok c)) closes c0 c1 Writes tables tables
-  unclocked_reply c c0 c1 tables given w = unserved_reply (reads (Ok c)) (None ∷ []) c0 c1 tables tables (may_once c None) (c1, given, refl) (λ list time are. are) w
+  pub unclocked_reply : (c : Command) (c0 c1 : C) (tables : Tables) →
+      gives c0 None c1 → Writes (response status.Unavailable closes unable) →
+      Replies gives b (reads (Ok c)) closes c0 c1 Writes tables tables
+  unclocked_reply c c0 c1 tables given w = unserved_reply (reads (Ok c))
+      (None ∷ []) c0 c1 tables tables (may_once c None) (c1, given, refl) (λ list time are. are) w
 
   -- a store fault
-  pub failed_reply : (c : Command) (t : ℕ) (c0 c1 : C) (old new : Tables) (fault : StoreFault) → gives c0 (Some t) c1 → Serves b c t old new (Err fault) →
-      Writes (response status.Unavailable closes unable) → Replies gives b (reads (Ok c)) closes c0 c1 Writes old new
+  pub failed_reply : (c : Command) (t : ℕ) (c0 c1 : C) (old new : Tables) (fault : StoreFault) →
+      gives c0 (Some t) c1 → Serves b c t old new (Err fault) →
+      Writes (response status.Unavailable closes unable) →
+      Replies gives b (reads (Ok c)) closes c0 c1 Writes old new
   failed_reply c t c0 c1 old new fault given serves w =
-      unserved_reply (reads (Ok c)) (Some t ∷ []) c0 c1 old new (may_once c (Some t)) (c1, given, refl) (λ list time are. subst (AreTables b list) (sym (serves list time are)) are) w
+      unserved_reply (reads (Ok c)) (Some t ∷ []) c0 c1 old new (may_once c (Some t)) (
+        c1,
+        given,
+        refl,
+      ) (λ list time are. subst (AreTables b list) (sym (serves list time are)) are) w
 
   -- a command that is served
-  pub served_reply : (c : Command) (t : ℕ) (c0 c1 : C) (old new : Tables) (answer : Answer) → gives c0 (Some t) c1 → Serves b c t old new (Ok answer) →
-      Writes (response status.Ok closes (answer_text answer)) → Replies gives b (reads (Ok c)) closes c0 c1 Writes old new
+  pub served_reply : (c : Command) (t : ℕ) (c0 c1 : C) (old new : Tables) (answer : Answer) →
+      gives c0 (Some t) c1 → Serves b c t old new (Ok answer) →
+      Writes (response status.Ok closes (answer_text answer)) →
+      Replies gives b (reads (Ok c)) closes c0 c1 Writes old new
   served_reply c t c0 c1 old new answer given serves w = record {
     moments = Some t ∷ [];
     given = (c1, given, refl);

@@ -1,5 +1,6 @@
 -- The reply to a request for a statement.
-use Rattle.std.proofs.Common.{◌≡◌, ◌∙◌, ℕ, Bool, true, false, List, [], ◌∷◌, refl, sym, ap, subst, inl, inr, arith, Option, Some, None, Result, Ok, Err}
+use Rattle.std.proofs.Common.{◌≡◌, ◌∙◌, ℕ, Bool, true, false, List, [], ◌∷◌, refl, sym, ap, subst}
+use Rattle.std.proofs.Common.{inl, inr, arith, Option, Some, None, Result, Ok, Err}
 use Rattle.std.proofs.KnownBytes.{Appends-nil}
 use Rattle.std.specs.Prelude.{◌⊎◌, if◌then◌else◌, IfOk, OnOk, OnErr}
 use Rattle.std.specs.Io.KnownBytes.{Appends}
@@ -25,36 +26,51 @@ use Rattle.http_answers.specs.declared.text.Media.TheVariants.{Text}
 use Rattle.http_answers.specs.Texts.{response, response_of, unable}
 use Rattle.charging.specs.Balances.{by_number}
 use Rattle.reserving.specs.Balance.{buckets_at}
-use Rattle.http_api.specs.Replies.{unserved, MayAsk, statement_media, statement_body, statement_reply, reply_text, ForEachList, IsReplied, IsContinued, Replies}
+use Rattle.http_api.specs.Replies.{unserved, MayAsk, statement_media, statement_body}
+use Rattle.http_api.specs.Replies.{statement_reply, reply_text, ForEachList, IsReplied, IsContinued}
+use Rattle.http_api.specs.Replies.{Replies}
 use Rattle.http_api.specs.Told.{IsTold, TellsCharges}
 use Rattle.http_api.proofs.RequestReplies.{unserved_reply}
 
 -- the charges of the tables are those of the ledger
-are_charges : (b : Book) (a : List ℕ) (list : List Accepted) (tables : Tables) → AreTables b list tables →
+are_charges : (b : Book) (a : List ℕ) (list : List Accepted) (tables : Tables) →
+    AreTables b list tables →
     AreCharges (tables.charges a) (charge_rows (history b a list).ledger)
-are_charges b a list tables h = record { rising = charges_rise (history b a list).ledger; listed = λ n. sym (h.charges a n) }
+are_charges b a list tables h =
+    record { rising = charges_rise (history b a list).ledger; listed = λ n. sym (h.charges a n) }
 
 -- a read leaves the list as it is
-pub continued_same : (b : Book) (old new : Tables) → new ≡ old → ForEachList b old (IsContinued b new)
-continued_same b old new same = λ list time are. record { commands = []; tables = subst (AreTables b list) (sym same) are; time = time }
+pub continued_same : (b : Book) (old new : Tables) → new ≡ old →
+    ForEachList b old (IsContinued b new)
+continued_same b old new same = λ list time are.
+    record { commands = []; tables = subst (AreTables b list) (sym same) are; time = time }
 
 once : (m : Option ℕ) (q : StatementAsked) → MayAsk (states q) (m ∷ [])
 once m q = omega arith
 
-module _ {C : Type 0} (gives : C → Option ℕ → C → Type 0) (b : Book) (closes : Bool) (Writes : List ℕ → Type 0) (q : StatementAsked) where
+module _ {C : Type 0} (gives : C → Option ℕ → C → Type 0) (b : Book) (closes : Bool)
+    (Writes : List ℕ → Type 0) (q : StatementAsked) where
   -- a clock that doesn't answer, no memory or no store
-  pub unstated_reply : (m : Option ℕ) (c0 c1 : C) (old new : Tables) → gives c0 m c1 → new ≡ old → Writes (response status.Unavailable closes unable) → Replies gives b (states q) closes c0 c1 Writes old new
+  pub unstated_reply : (m : Option ℕ) (c0 c1 : C) (old new : Tables) →
+      gives c0 m c1 → new ≡ old → Writes (response status.Unavailable closes unable) →
+      Replies gives b (states q) closes c0 c1 Writes old new
   unstated_reply m c0 c1 old new given same w =
-      unserved_reply gives b closes Writes (states q) (m ∷ []) c0 c1 old new (once m q) (c1, given, refl) (λ list time are. subst (AreTables b list) (sym same) are) w
+      unserved_reply gives b closes Writes (states q) (m ∷ []) c0 c1 old new (once m q)
+      (c1, given, refl) (λ list time are. subst (AreTables b list) (sym same) are) w
 
   -- the text of an account that isn't there
   unknown_text : (t : ℕ) (list : List Accepted) (h : History) → h.opened ≡ false →
-      response status.Ok closes (answer_text (Refused AccountUnknown)) ≡ reply_text closes (statement_reply b list q t h)
+      response status.Ok closes (answer_text (Refused AccountUnknown))
+      ≡ reply_text closes (statement_reply b list q t h)
   unknown_text t list h closed =
-      sym (ap (λ v. response_of (statement_media v) status.Ok closes (if v then statement_text b q.account q.month t (charge_rows h.ledger) (by_number (buckets_at b.validity t h.ledger)) else answer_text (Refused AccountUnknown))) closed)
+      sym (ap (λ v. response_of (statement_media v) status.Ok closes (if v then statement_text b
+      q.account q.month t (charge_rows h.ledger) (by_number (buckets_at b.validity t h.ledger))
+      else answer_text (Refused AccountUnknown))) closed)
 
-  pub unknown_reply : (t : ℕ) (c0 c1 : C) (old new : Tables) (found : Option AccountState) → gives c0 (Some t) c1 → TellsState b q.account t old found → found ≡ None → new ≡ old →
-      Writes (response status.Ok closes (answer_text (Refused AccountUnknown))) → Replies gives b (states q) closes c0 c1 Writes old new
+  pub unknown_reply : (t : ℕ) (c0 c1 : C) (old new : Tables) (found : Option AccountState) →
+      gives c0 (Some t) c1 → TellsState b q.account t old found → found ≡ None → new ≡ old →
+      Writes (response status.Ok closes (answer_text (Refused AccountUnknown))) →
+      Replies gives b (states q) closes c0 c1 Writes old new
   unknown_reply t c0 c1 old new found given tells is same w = record {
     moments = Some t ∷ [];
     given = (c1, given, refl);
@@ -62,7 +78,8 @@ module _ {C : Type 0} (gives : C → Option ℕ → C → Type 0) (b : Book) (cl
     written = w;
     replied = λ list time are.
         let h : History = history b q.account list in
-        let closed : h.opened ≡ false = subst (λ (o : Option AccountState). IsState b (moment_of list t) h o) is (tells list time are) in
+        let closed : h.opened ≡ false = subst (λ (o : Option AccountState).
+        IsState b (moment_of list t) h o) is (tells list time are) in
         record {
           reply = statement_reply b list q (moment_of list t) h;
           is_reply = inl (Some t, refl, refl);
@@ -73,16 +90,24 @@ module _ {C : Type 0} (gives : C → Option ℕ → C → Type 0) (b : Book) (cl
   }
 
   -- the text of one whose state was found
-  stated_text : (t : ℕ) (list : List Accepted) (h : History) (s : AccountState) → h.opened ≡ true → IsStateAt b t h.ledger s →
-      response_of Text status.Ok closes (statement_text b q.account q.month s.moment (charge_rows h.ledger) s.buckets.items) ≡ reply_text closes (statement_reply b list q t h)
+  stated_text : (t : ℕ) (list : List Accepted) (h : History) (s : AccountState) → h.opened ≡ true →
+      IsStateAt b t h.ledger s →
+      response_of Text status.Ok closes
+      (statement_text b q.account q.month s.moment (charge_rows h.ledger) s.buckets.items)
+      ≡ reply_text closes (statement_reply b list q t h)
   stated_text t list h s opened is =
-      (λ i. response_of Text status.Ok closes (statement_text b q.account q.month (is.moment i) (charge_rows h.ledger) (is.buckets i)))
-      ∙ sym (ap (λ v. response_of (statement_media v) status.Ok closes (if v then statement_text b q.account q.month t (charge_rows h.ledger) (by_number (buckets_at b.validity t h.ledger)) else answer_text (Refused AccountUnknown))) opened)
+      (λ i. response_of Text status.Ok closes
+      (statement_text b q.account q.month (is.moment i) (charge_rows h.ledger) (is.buckets i)))
+      ∙ sym (ap (λ v. response_of (statement_media v) status.Ok closes (if v then statement_text b
+      q.account q.month t (charge_rows h.ledger) (by_number (buckets_at b.validity t h.ledger))
+      else answer_text (Refused AccountUnknown))) opened)
 
   -- what is told of charges, of one list
-  told_reply : (t : ℕ) (list : List Accepted) (new : Tables) (h : History) (s : AccountState) (text : List ℕ) → h ≡ history b q.account list → AreTables b list new → IsInTime list →
+  told_reply : (t : ℕ) (list : List Accepted) (new : Tables) (h : History) (s : AccountState)
+      (text : List ℕ) → h ≡ history b q.account list → AreTables b list new → IsInTime list →
       h.opened ≡ true → IsStateAt b (moment_of list t) h.ledger s →
-      IsTold closes (statement_text b q.account q.month s.moment (charge_rows h.ledger) s.buckets.items) text →
+      IsTold closes
+      (statement_text b q.account q.month s.moment (charge_rows h.ledger) s.buckets.items) text →
       IsReplied b (states q) closes (Some t ∷ []) text new list
   told_reply t list new h s text same are time opened is (inl e) = record {
     reply = statement_reply b list q (moment_of list t) h;
@@ -99,8 +124,12 @@ module _ {C : Type 0} (gives : C → Option ℕ → C → Type 0) (b : Book) (cl
     time = time;
   }
 
-  pub stated_reply : (t : ℕ) (c0 c1 : C) (old mid new : Tables) (found : Option AccountState) (s : AccountState) → gives c0 (Some t) c1 → TellsState b q.account t old found → found ≡ Some s → mid ≡ old → new ≡ mid →
-      TellsCharges (mid.charges q.account) (λ rows. statement_text b q.account q.month s.moment rows s.buckets.items) closes Writes → Replies gives b (states q) closes c0 c1 Writes old new
+  pub stated_reply : (t : ℕ) (c0 c1 : C) (old mid new : Tables) (found : Option AccountState)
+      (s : AccountState) → gives c0 (Some t) c1 → TellsState b q.account t old found →
+      found ≡ Some s → mid ≡ old → new ≡ mid →
+      TellsCharges (mid.charges q.account)
+      (λ rows. statement_text b q.account q.month s.moment rows s.buckets.items) closes Writes →
+      Replies gives b (states q) closes c0 c1 Writes old new
   stated_reply t c0 c1 old mid new found s given states_ is first second tells = record {
     moments = Some t ∷ [];
     given = (c1, given, refl);
@@ -108,16 +137,32 @@ module _ {C : Type 0} (gives : C → Option ℕ → C → Type 0) (b : Book) (cl
     written = tells.written;
     replied = λ list time are.
         let h : History = history b q.account list in
-        let state : IsState b (moment_of list t) h (Some s) = subst (λ (o : Option AccountState). IsState b (moment_of list t) h o) is (states_ list time are) in
-        let charges : AreCharges (mid.charges q.account) (charge_rows h.ledger) = subst (λ (x : Tables). AreCharges (x.charges q.account) (charge_rows h.ledger)) (sym first) (are_charges b q.account list old are) in
-        told_reply t list new h s tells.text refl (subst (AreTables b list) (sym (second ∙ first)) are) time state.0 state.1 (tells.told (charge_rows h.ledger) charges);
+        let state : IsState b (moment_of list t) h (Some s) = subst (λ (o : Option AccountState).
+        IsState b (moment_of list t) h o) is (states_ list time are) in
+        let charges : AreCharges (mid.charges q.account) (charge_rows h.ledger) =
+        subst (λ (x : Tables). AreCharges (x.charges q.account) (charge_rows h.ledger)) (sym first)
+        (are_charges b q.account list old are) in
+        told_reply t list new h s tells.text refl (subst (AreTables b list) (sym (second ∙ first))
+        are) time state.0 state.1 (tells.told (charge_rows h.ledger) charges);
   }
 
 -- ---- what is written of charges
 
-module _ (charges : ℕ → Option ChargeColumns) (body : List ChargeColumns → List ℕ) (closes : Bool) (Writes : List ℕ → Type 0) where
-  pub tells_body : (text : List ℕ) → ((rows : List ChargeColumns) → AreCharges charges rows → text ≡ body rows) → Writes (response_of Text status.Ok closes text) → TellsCharges charges body closes Writes
-  tells_body text is w = record { text = response_of Text status.Ok closes text; written = w; told = λ rows are. inl (ap (response_of Text status.Ok closes) (is rows are)) }
+module _ (charges : ℕ → Option ChargeColumns) (body : List ChargeColumns → List ℕ) (closes : Bool)
+    (Writes : List ℕ → Type 0) where
+  pub tells_body : (text : List ℕ) →
+      ((rows : List ChargeColumns) → AreCharges charges rows → text ≡ body rows) →
+      Writes (response_of Text status.Ok closes text) → TellsCharges charges body closes Writes
+  tells_body text is w = record {
+    text = response_of Text status.Ok closes text;
+    written = w;
+    told = λ rows are. inl (ap (response_of Text status.Ok closes) (is rows are));
+  }
 
-  pub tells_nothing : Writes (response status.Unavailable closes unable) → TellsCharges charges body closes Writes
-  tells_nothing w = record { text = response status.Unavailable closes unable; written = w; told = λ rows are. inr refl }
+  pub tells_nothing : Writes (response status.Unavailable closes unable) →
+      TellsCharges charges body closes Writes
+  tells_nothing w = record {
+    text = response status.Unavailable closes unable;
+    written = w;
+    told = λ rows are. inr refl;
+  }

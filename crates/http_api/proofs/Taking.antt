@@ -1,5 +1,8 @@
--- A connection as it goes on: so many requests were taken, and one more, up to its end or to a fault.
-use Rattle.std.proofs.Common.{◌≡◌, ◌≢◌, ◌≤◌, ◌<◌, ◌+◌, ◌-◌, ◌==◌, ℕ, zero, suc, Bool, true, false, true≢false, List, [], ◌∷◌, ◌++◌, length, take, refl, sym, ap, subst, ◌∙◌, inl, inr, arith, Option, Some, None, IfSome}
+-- A connection as it goes on: so many requests were taken, and one more, up to its end or to a
+-- fault.
+use Rattle.std.proofs.Common.{◌≡◌, ◌≢◌, ◌≤◌, ◌<◌, ◌+◌, ◌-◌, ◌==◌, ℕ, zero, suc, Bool, true, false}
+use Rattle.std.proofs.Common.{true≢false, List, [], ◌∷◌, ◌++◌, length, take, refl, sym, ap, subst}
+use Rattle.std.proofs.Common.{◌∙◌, inl, inr, arith, Option, Some, None, IfSome}
 use Rattle.std.specs.Io.KnownBytes.{Appends}
 use Rattle.std.proofs.KnownBytes.{Appends-nil, Appends-trans}
 use Rattle.std.proofs.Math.Seq.{take-length, take-append-add}
@@ -13,14 +16,18 @@ use Rattle.http_api.specs.declared.hearing.Heard.{Heard}
 use Rattle.http_api.specs.Clocks.{GivesInTurn}
 use Rattle.http_api.specs.Hearing.{Hears, HearsNext}
 use Rattle.http_api.specs.Replies.{reply_text, ForEachList, IsReplied, Replies}
-use Rattle.http_api.specs.Connections.{Connection, new_connection, left_after, after_reply, IsAnswered, Takes, IsTurn, Turns, IsTaken, IsServed, IsBegun}
+use Rattle.http_api.specs.Connections.{Connection, new_connection, left_after, after_reply}
+use Rattle.http_api.specs.Connections.{IsAnswered, Takes, IsTurn, Turns, IsTaken, IsOver, IsServed}
+use Rattle.http_api.specs.Connections.{IsBegun}
 
 plus_one : (n : ℕ) → suc n ≡ n + 1
 plus_one n = omega arith
 
 -- ---- moments
 
-gives-more : {C : Type 0} (gives : C → Option ℕ → C → Type 0) (a b c : C) (ms ns : List (Option ℕ)) → GivesInTurn gives a ms b → GivesInTurn gives b ns c → GivesInTurn gives a (ms ++ ns) c
+gives-more : {C : Type 0} (gives : C → Option ℕ → C → Type 0) (a b c : C)
+    (ms ns : List (Option ℕ)) → GivesInTurn gives a ms b → GivesInTurn gives b ns c →
+    GivesInTurn gives a (ms ++ ns) c
 gives-more gives a b c [] ns f g = subst (λ x. GivesInTurn gives x ns c) f g
 gives-more gives a b c (m ∷ ms) ns f g = (f.0, f.1, gives-more gives f.0 b c ms ns f.2 g)
 
@@ -29,8 +36,13 @@ gives-more gives a b c (m ∷ ms) ns f g = (f.0, f.1, gives-more gives f.0 b c m
 begins-all : (a b : Option (List ℕ)) (text : List ℕ) → Appends a b text → Begins a b text
 begins-all a b text h = (length text, subst (Appends a b) (sym (take-length text)) h)
 
-begins-after : (a b c : Option (List ℕ)) (text more : List ℕ) → Appends a b text → Begins b c more → Begins a c (text ++ more)
-begins-after a b c text more h k = (length text + k.0, subst (Appends a c) (sym (take-append-add text more k.0)) (Appends-trans a b c text (take k.0 more) h k.1))
+begins-after : (a b c : Option (List ℕ)) (text more : List ℕ) → Appends a b text → Begins b c more →
+    Begins a c (text ++ more)
+begins-after a b c text more h k = (
+  length text + k.0,
+  subst (Appends a c) (sym (take-append-add text more k.0))
+      (Appends-trans a b c text (take k.0 more) h k.1),
+)
 
 -- ---- what is heard
 
@@ -39,22 +51,26 @@ record IsHeard (b : Book) (next : Next) (heard : Heard) (left : Option (List ℕ
   asking : Asking
   rest : List ℕ
   asked : IsAsked asking heard.asked
-  takes : (old new : Connection) → IsAnswered b asking heard.closes rest old new → Takes b next old new
+  takes : (old new : Connection) → IsAnswered b asking heard.closes rest old new →
+      Takes b next old new
   goes_on : heard.closes ≡ false → left ≡ Some rest
 
-heard_case : (b : Book) (next : Next) (heard : Heard) (left : Option (List ℕ)) → HearsNext next (Some heard) left → IsHeard b next heard left
+heard_case : (b : Book) (next : Next) (heard : Heard) (left : Option (List ℕ)) →
+    HearsNext next (Some heard) left → IsHeard b next heard left
 heard_case b (asks ask rest) heard left h = record {
   asking = asked_of ask;
   rest = rest;
   asked = h.0;
-  takes = λ old new answered. subst (λ closes. IsAnswered b (asked_of ask) closes rest old new) h.1 answered;
+  takes = λ old new answered.
+      subst (λ closes. IsAnswered b (asked_of ask) closes rest old new) h.1 answered;
   goes_on = λ e. h.2;
 }
 heard_case b (refused status) heard left h = record {
   asking = refuses status;
   rest = [];
   asked = h.0;
-  takes = λ old new answered. subst (λ closes. IsAnswered b (refuses status) closes [] old new) h.1 answered;
+  takes = λ old new answered.
+      subst (λ closes. IsAnswered b (refuses status) closes [] old new) h.1 answered;
   goes_on = λ e. absurd (true≢false (sym h.1 ∙ e));
 }
 heard_case b ended heard left h = absurd h
@@ -72,37 +88,60 @@ not_closed false left h = refl
 -- ---- one more request
 
 -- so many requests were taken, and this is left
-record IsAt (b : Book) (stream : List ℕ) (count left : ℕ) (rest : List ℕ) (moments : List (Option ℕ)) (text : List ℕ) (content : Tables) (list : List Accepted) : Type 0 where
+record IsAt (b : Book) (stream : List ℕ)
+    (count left : ℕ) (rest : List ℕ) (moments : List (Option ℕ)) (text : List ℕ) (content : Tables)
+    (list : List Accepted) : Type 0 where
   taken : IsTaken b stream count moments text content list
   left_is : taken.last.left ≡ left
   rest_is : taken.last.rest ≡ rest
 
-at-none : (b : Book) (stream : List ℕ) (tables : Tables) → ForEachList b tables (IsAt b stream 0 1000 stream [] [] tables)
+at-none : (b : Book) (stream : List ℕ) (tables : Tables) →
+    ForEachList b tables (IsAt b stream 0 1000 stream [] [] tables)
 at-none b stream tables = λ list time are. record {
-  taken = record { last = new_connection stream list; turns = refl; given = refl; written = refl; tables = are; time = time };
+  taken = record {
+    last = new_connection stream list;
+    turns = refl;
+    given = refl;
+    written = refl;
+    tables = are;
+    time = time;
+  };
   left_is = refl;
   rest_is = refl;
 }
 
-at-more : (b : Book) (stream : List ℕ) (count left : ℕ) (rest after : List ℕ) (moments ms : List (Option ℕ)) (text more : List ℕ) (mid new : Tables) (list : List Accepted) (asking : Asking) (closes : Bool) (next : Next) →
-    0 < left → IsNext rest next → ((old last : Connection) → IsAnswered b asking closes after old last → Takes b next old last) →
-    (at : IsAt b stream count left rest moments text mid list) → IsReplied b asking (left_after closes left == 0) ms more new at.taken.last.list →
+at-more : (b : Book) (stream : List ℕ) (count left : ℕ) (rest after : List ℕ)
+    (moments ms : List (Option ℕ)) (text more : List ℕ) (mid new : Tables) (list : List Accepted)
+    (asking : Asking) (closes : Bool) (next : Next) →
+    0 < left → IsNext rest next →
+    ((old last : Connection) → IsAnswered b asking closes after old last → Takes b next old last) →
+    (at : IsAt b stream count left rest moments text mid list) →
+    IsReplied b asking (left_after closes left == 0) ms more new at.taken.last.list →
     IsAt b stream (count + 1) (left_after closes left) after (moments ++ ms) (text ++ more) new list
-at-more b stream count left rest after moments ms text more mid new list asking closes next some is_next takes at replied =
+at-more b stream count left rest after moments ms text more mid new list asking closes next some
+    is_next takes at replied =
     let old : Connection = at.taken.last in
     let last : Connection = after_reply old closes after ms replied.reply in
     let turn : IsTurn b old last = record {
       taken = subst (λ n. 0 < n) (sym at.left_is) some;
       next = next;
       is_next = subst (λ r. IsNext r next) (sym at.rest_is) is_next;
-      takes = takes old last (record { moments = ms; reply = replied.reply; is_reply = replied.is_reply; after = refl });
+      takes = takes old last (record {
+        moments = ms;
+        reply = replied.reply;
+        is_reply = replied.is_reply;
+        after = refl;
+      });
     } in
     record {
       taken = record {
         last = last;
-        turns = subst (λ n. Turns b n (new_connection stream list) last) (plus_one count) (old, at.taken.turns, turn);
+        turns = subst (λ n. Turns b n (new_connection stream list) last) (plus_one count)
+            (old, at.taken.turns, turn);
         given = ap (λ l. l ++ ms) at.taken.given;
-        written = (λ i. at.taken.written i ++ reply_text (left_after closes (at.left_is i) == 0) replied.reply) ∙ ap (λ l. text ++ l) (sym replied.written);
+        written = (λ i.
+            at.taken.written i ++ reply_text (left_after closes (at.left_is i) == 0) replied.reply)
+            ∙ ap (λ l. text ++ l) (sym replied.written);
         tables = replied.tables;
         time = replied.time;
       };
@@ -112,7 +151,8 @@ at-more b stream count left rest after moments ms text more mid new list asking 
 
 module _ {C : Type 0} (gives : C → Option ℕ → C → Type 0) (b : Book) where
   -- so many requests of a stream were taken, and it goes on
-  pub record IsSoFar (stream : List ℕ) (count left : ℕ) (r : Option (List ℕ)) (c0 c1 : C) (w0 w1 : Option (List ℕ)) (old new : Tables) : Type 0 where
+  pub record IsSoFar (stream : List ℕ) (count left : ℕ) (r : Option (List ℕ)) (c0 c1 : C)
+      (w0 w1 : Option (List ℕ)) (old new : Tables) : Type 0 where
     rest : List ℕ
     rest_is : r ≡ Some rest
     moments : List (Option ℕ)
@@ -121,12 +161,23 @@ module _ {C : Type 0} (gives : C → Option ℕ → C → Type 0) (b : Book) whe
     written : Appends w0 w1 text
     at : ForEachList b old (IsAt b stream count left rest moments text new)
 
-  pub so_far-none : (r : Option (List ℕ)) (c : C) (w : Option (List ℕ)) (tables : Tables) → IfSome r (λ stream. IsSoFar stream 0 1000 r c c w w tables tables)
+  pub so_far-none : (r : Option (List ℕ)) (c : C) (w : Option (List ℕ)) (tables : Tables) →
+      IfSome r (λ stream. IsSoFar stream 0 1000 r c c w w tables tables)
   so_far-none None c w tables = tt
-  so_far-none (Some stream) c w tables = record { rest = stream; rest_is = refl; moments = []; given = refl; text = []; written = Appends-nil w; at = at-none b stream tables }
+  so_far-none (Some stream) c w tables = record {
+    rest = stream;
+    rest_is = refl;
+    moments = [];
+    given = refl;
+    text = [];
+    written = Appends-nil w;
+    at = at-none b stream tables;
+  }
 
   -- one request more, with its answer written whole or in part
-  record IsOneMore (stream : List ℕ) (count left : ℕ) (closes : Bool) (r : Option (List ℕ)) (c0 c1 : C) (w0 w1 : Option (List ℕ)) (Writes : List ℕ → Type 0) (old new : Tables) : Type 0 where
+  record IsOneMore (stream : List ℕ) (count left : ℕ) (closes : Bool)
+      (r : Option (List ℕ)) (c0 c1 : C) (w0 w1 : Option (List ℕ)) (Writes : List ℕ → Type 0)
+      (old new : Tables) : Type 0 where
     rest : List ℕ
     rest_is : closes ≡ false → r ≡ Some rest
     moments : List (Option ℕ)
@@ -135,16 +186,22 @@ module _ {C : Type 0} (gives : C → Option ℕ → C → Type 0) (b : Book) whe
     written : Appends w0 w1 text
     more : List ℕ
     wrote : Writes more
-    at : ForEachList b old (IsAt b stream (count + 1) (left_after closes left) rest moments (text ++ more) new)
+    at : ForEachList b old
+        (IsAt b stream (count + 1) (left_after closes left) rest moments (text ++ more) new)
 
-  one_more : (stream : List ℕ) (count left : ℕ) (r1 r2 : Option (List ℕ)) (c0 c1 c2 : C) (w0 w1 : Option (List ℕ)) (Writes : List ℕ → Type 0) (old mid new : Tables) (heard : Heard) → 0 < left →
+  one_more : (stream : List ℕ) (count left : ℕ) (r1 r2 : Option (List ℕ))
+      (c0 c1 c2 : C) (w0 w1 : Option (List ℕ)) (Writes : List ℕ → Type 0) (old mid new : Tables)
+      (heard : Heard) → 0 < left →
       IsSoFar stream count left r1 c0 c1 w0 w1 old mid → IfSome r1 (λ s. Hears s (Some heard) r2) →
-      ((asking : Asking) → IsAsked asking heard.asked → Replies gives b asking (left_after heard.closes left == 0) c1 c2 Writes mid new) →
+      ((asking : Asking) → IsAsked asking heard.asked →
+      Replies gives b asking (left_after heard.closes left == 0) c1 c2 Writes mid new) →
       IsOneMore stream count left heard.closes r2 c0 c2 w0 w1 Writes old new
   one_more stream count left r1 r2 c0 c1 c2 w0 w1 Writes old mid new heard some so hears replies =
-      let here : Hears so.rest (Some heard) r2 = subst (λ (r : Option (List ℕ)). IfSome r (λ s. Hears s (Some heard) r2)) so.rest_is hears in
+      let here : Hears so.rest (Some heard) r2 =
+      subst (λ (r : Option (List ℕ)). IfSome r (λ s. Hears s (Some heard) r2)) so.rest_is hears in
       let case : IsHeard b here.next heard r2 = heard_case b here.next heard r2 here.hears in
-      let reply : Replies gives b case.asking (left_after heard.closes left == 0) c1 c2 Writes mid new = replies case.asking case.asked in
+      let reply : Replies gives b case.asking
+      (left_after heard.closes left == 0) c1 c2 Writes mid new = replies case.asking case.asked in
       record {
         rest = case.rest;
         rest_is = case.goes_on;
@@ -155,27 +212,45 @@ module _ {C : Type 0} (gives : C → Option ℕ → C → Type 0) (b : Book) whe
         more = reply.text;
         wrote = reply.written;
         at = λ list time are.
-            let at : IsAt b stream count left so.rest so.moments so.text mid list = so.at list time are in
-            at-more b stream count left so.rest case.rest so.moments reply.moments so.text reply.text mid new list case.asking heard.closes here.next some here.is_next case.takes at
-            (reply.replied at.taken.last.list at.taken.time at.taken.tables);
+            let at : IsAt b stream count left so.rest so.moments so.text mid list =
+            so.at list time are in
+            at-more b stream count left so.rest case.rest so.moments reply.moments so.text
+            reply.text mid new list case.asking heard.closes here.next some here.is_next case.takes
+            at (reply.replied at.taken.last.list at.taken.time at.taken.tables);
       }
 
   -- the same, of what is known of a call
-  one_more_of : (stream : List ℕ) (count left next : ℕ) (flag : Bool) (r1 r2 : Option (List ℕ)) (c0 c1 c2 : C) (w0 w1 : Option (List ℕ)) (Writes : List ℕ → Type 0) (old mid new : Tables) (o : Option Heard) (heard : Heard) →
-      0 < left → o ≡ Some heard → next ≡ left_after heard.closes left → flag ≡ (next == 0) → IsSoFar stream count left r1 c0 c1 w0 w1 old mid → IfSome r1 (λ s. Hears s o r2) →
-      ((asking : Asking) → IsAsked asking heard.asked → Replies gives b asking flag c1 c2 Writes mid new) → IsOneMore stream count left heard.closes r2 c0 c2 w0 w1 Writes old new
-  one_more_of stream count left next flag r1 r2 c0 c1 c2 w0 w1 Writes old mid new o heard some is next_is flag_is so hears replies =
-      one_more stream count left r1 r2 c0 c1 c2 w0 w1 Writes old mid new heard some so (subst (λ (x : Option Heard). IfSome r1 (λ s. Hears s x r2)) is hears)
-      (λ asking asked. subst (λ f. Replies gives b asking f c1 c2 Writes mid new) (flag_is ∙ ap (λ n. n == 0) next_is) (replies asking asked))
+  one_more_of : (stream : List ℕ) (count left next : ℕ) (flag : Bool) (r1 r2 : Option (List ℕ))
+      (c0 c1 c2 : C) (w0 w1 : Option (List ℕ)) (Writes : List ℕ → Type 0) (old mid new : Tables)
+      (o : Option Heard) (heard : Heard) →
+      0 < left → o ≡ Some heard → next ≡ left_after heard.closes left → flag ≡ (next == 0) →
+      IsSoFar stream count left r1 c0 c1 w0 w1 old mid → IfSome r1 (λ s. Hears s o r2) →
+      ((asking : Asking) →
+      IsAsked asking heard.asked → Replies gives b asking flag c1 c2 Writes mid new) →
+      IsOneMore stream count left heard.closes r2 c0 c2 w0 w1 Writes old new
+  one_more_of stream count left next flag r1 r2 c0 c1 c2 w0 w1 Writes old mid new o heard some is
+      next_is flag_is so hears replies =
+      one_more stream count left r1 r2 c0 c1 c2 w0 w1 Writes old mid new heard some so
+      (subst (λ (x : Option Heard). IfSome r1 (λ s. Hears s x r2)) is hears)
+      (λ asking asked. subst (λ f. Replies gives b asking f c1 c2 Writes mid new)
+      (flag_is ∙ ap (λ n. n == 0) next_is) (replies asking asked))
 
   -- and the connection goes on
-  pub so_far-more : (count left next : ℕ) (flag : Bool) (r0 r1 r2 : Option (List ℕ)) (c0 c1 c2 : C) (w0 w1 w2 : Option (List ℕ)) (old mid new : Tables) (o : Option Heard) (heard : Heard) →
-      0 < left → o ≡ Some heard → next ≡ left_after heard.closes left → flag ≡ (next == 0) → next ≢ 0 → IfSome r0 (λ stream. IsSoFar stream count left r1 c0 c1 w0 w1 old mid) → IfSome r1 (λ s. Hears s o r2) →
-      ((asking : Asking) → IsAsked asking heard.asked → Replies gives b asking flag c1 c2 (Appends w1 w2) mid new) → IfSome r0 (λ stream. IsSoFar stream (count + 1) next r2 c0 c2 w0 w2 old new)
-  so_far-more count left next flag None r1 r2 c0 c1 c2 w0 w1 w2 old mid new o heard some is next_is flag_is goes so hears replies = tt
-  so_far-more count left next flag (Some stream) r1 r2 c0 c1 c2 w0 w1 w2 old mid new o heard some is next_is flag_is goes so hears replies =
+  pub so_far-more : (count left next : ℕ) (flag : Bool) (r0 r1 r2 : Option (List ℕ)) (c0 c1 c2 : C)
+      (w0 w1 w2 : Option (List ℕ)) (old mid new : Tables) (o : Option Heard) (heard : Heard) →
+      0 < left → o ≡ Some heard → next ≡ left_after heard.closes left → flag ≡ (next == 0) →
+      next ≢ 0 → IfSome r0 (λ stream. IsSoFar stream count left r1 c0 c1 w0 w1 old mid) →
+      IfSome r1 (λ s. Hears s o r2) →
+      ((asking : Asking) →
+      IsAsked asking heard.asked → Replies gives b asking flag c1 c2 (Appends w1 w2) mid new) →
+      IfSome r0 (λ stream. IsSoFar stream (count + 1) next r2 c0 c2 w0 w2 old new)
+  so_far-more count left next flag None r1 r2 c0 c1 c2 w0 w1 w2 old mid new o heard some is next_is
+      flag_is goes so hears replies = tt
+  so_far-more count left next flag (Some stream) r1 r2 c0 c1 c2 w0 w1 w2 old mid new o heard some is
+      next_is flag_is goes so hears replies =
       let one : IsOneMore stream count left heard.closes r2 c0 c2 w0 w1 (Appends w1 w2) old new =
-      one_more_of stream count left next flag r1 r2 c0 c1 c2 w0 w1 (Appends w1 w2) old mid new o heard some is next_is flag_is so hears replies in
+      one_more_of stream count left next flag r1 r2 c0 c1 c2 w0 w1
+      (Appends w1 w2) old mid new o heard some is next_is flag_is so hears replies in
       record {
         rest = one.rest;
         rest_is = one.rest_is (not_closed heard.closes left (subst (λ n. n ≢ 0) next_is goes));
@@ -183,36 +258,57 @@ module _ {C : Type 0} (gives : C → Option ℕ → C → Type 0) (b : Book) whe
         given = one.given;
         text = one.text ++ one.more;
         written = Appends-trans w0 w1 w2 one.text one.more one.written one.wrote;
-        at = subst (λ n. ForEachList b old (IsAt b stream (count + 1) n one.rest one.moments (one.text ++ one.more) new)) (sym next_is) one.at;
+        at = subst (λ n. ForEachList b old (IsAt b stream (count + 1) n one.rest one.moments
+            (one.text ++ one.more) new)) (sym next_is) one.at;
       }
 
   -- or it ends
-  pub so_far-closed : (count total left next : ℕ) (flag : Bool) (r0 r1 r2 : Option (List ℕ)) (c0 c1 c2 : C) (w0 w1 w2 : Option (List ℕ)) (old mid new : Tables) (o : Option Heard) (heard : Heard) →
-      total ≡ count + 1 → 0 < left → o ≡ Some heard → next ≡ left_after heard.closes left → flag ≡ (next == 0) → next ≡ 0 → IfSome r0 (λ stream. IsSoFar stream count left r1 c0 c1 w0 w1 old mid) → IfSome r1 (λ s. Hears s o r2) →
-      ((asking : Asking) → IsAsked asking heard.asked → Replies gives b asking flag c1 c2 (Appends w1 w2) mid new) → IfSome r0 (λ stream. IsServed gives b stream total c0 c2 w0 w2 old new)
-  so_far-closed count total left next flag None r1 r2 c0 c1 c2 w0 w1 w2 old mid new o heard count_is some is next_is flag_is over so hears replies = tt
-  so_far-closed count total left next flag (Some stream) r1 r2 c0 c1 c2 w0 w1 w2 old mid new o heard count_is some is next_is flag_is over so hears replies =
+  pub so_far-closed : (count total left next : ℕ) (flag : Bool) (r0 r1 r2 : Option (List ℕ))
+      (c0 c1 c2 : C) (w0 w1 w2 : Option (List ℕ)) (old mid new : Tables) (o : Option Heard)
+      (heard : Heard) →
+      total ≡ count + 1 →
+      0 < left → o ≡ Some heard → next ≡ left_after heard.closes left → flag ≡ (next == 0) →
+      next ≡ 0 → IfSome r0 (λ stream. IsSoFar stream count left r1 c0 c1 w0 w1 old mid) →
+      IfSome r1 (λ s. Hears s o r2) →
+      ((asking : Asking) →
+      IsAsked asking heard.asked → Replies gives b asking flag c1 c2 (Appends w1 w2) mid new) →
+      IfSome r0 (λ stream. IsServed gives b stream total c0 c2 w0 w2 old new)
+  so_far-closed count total left next flag None r1 r2 c0 c1 c2 w0 w1 w2 old mid new o heard count_is
+      some is next_is flag_is over so hears replies = tt
+  so_far-closed count total left next flag (Some stream) r1 r2 c0 c1 c2 w0 w1 w2 old mid new o heard
+      count_is some is next_is flag_is over so hears replies =
       let one : IsOneMore stream count left heard.closes r2 c0 c2 w0 w1 (Appends w1 w2) old new =
-      one_more_of stream count left next flag r1 r2 c0 c1 c2 w0 w1 (Appends w1 w2) old mid new o heard some is next_is flag_is so hears replies in
+      one_more_of stream count left next flag r1 r2 c0 c1 c2 w0 w1
+      (Appends w1 w2) old mid new o heard some is next_is flag_is so hears replies in
       let whole : IsServed gives b stream (count + 1) c0 c2 w0 w2 old new = record {
         moments = one.moments;
         given = one.given;
         text = one.text ++ one.more;
         written = Appends-trans w0 w1 w2 one.text one.more one.written one.wrote;
         whole = λ list time are.
-            let at : IsAt b stream (count + 1) (left_after heard.closes left) one.rest one.moments (one.text ++ one.more) new list = one.at list time are in
+            let at : IsAt b stream (count + 1) (left_after heard.closes left) one.rest one.moments
+            (one.text ++ one.more) new list = one.at list time are in
             record { taken = at.taken; over = inl (at.left_is ∙ sym next_is ∙ over) };
       } in
       subst (λ n. IsServed gives b stream n c0 c2 w0 w2 old new) (sym count_is) whole
 
   -- or its answer isn't written to its end
-  pub so_far-broken : (count left next : ℕ) (flag : Bool) (r0 r1 r2 : Option (List ℕ)) (c0 c1 c2 : C) (w0 w1 w2 : Option (List ℕ)) (old mid new : Tables) (o : Option Heard) (heard : Heard) →
-      0 < left → o ≡ Some heard → next ≡ left_after heard.closes left → flag ≡ (next == 0) → count < 1000 → IfSome r0 (λ stream. IsSoFar stream count left r1 c0 c1 w0 w1 old mid) → IfSome r1 (λ s. Hears s o r2) →
-      ((asking : Asking) → IsAsked asking heard.asked → Replies gives b asking flag c1 c2 (Begins w1 w2) mid new) → IfSome r0 (λ stream. IsBegun gives b stream c0 c2 w0 w2 old new)
-  so_far-broken count left next flag None r1 r2 c0 c1 c2 w0 w1 w2 old mid new o heard some is next_is flag_is few so hears replies = tt
-  so_far-broken count left next flag (Some stream) r1 r2 c0 c1 c2 w0 w1 w2 old mid new o heard some is next_is flag_is few so hears replies =
+  pub so_far-broken : (count left next : ℕ) (flag : Bool) (r0 r1 r2 : Option (List ℕ))
+      (c0 c1 c2 : C) (w0 w1 w2 : Option (List ℕ)) (old mid new : Tables) (o : Option Heard)
+      (heard : Heard) →
+      0 < left → o ≡ Some heard → next ≡ left_after heard.closes left → flag ≡ (next == 0) →
+      count < 1000 → IfSome r0 (λ stream. IsSoFar stream count left r1 c0 c1 w0 w1 old mid) →
+      IfSome r1 (λ s. Hears s o r2) →
+      ((asking : Asking) →
+      IsAsked asking heard.asked → Replies gives b asking flag c1 c2 (Begins w1 w2) mid new) →
+      IfSome r0 (λ stream. IsBegun gives b stream c0 c2 w0 w2 old new)
+  so_far-broken count left next flag None r1 r2 c0 c1 c2 w0 w1 w2 old mid new o heard some is
+      next_is flag_is few so hears replies = tt
+  so_far-broken count left next flag (Some stream) r1 r2 c0 c1 c2 w0 w1 w2 old mid new o heard some
+      is next_is flag_is few so hears replies =
       let one : IsOneMore stream count left heard.closes r2 c0 c2 w0 w1 (Begins w1 w2) old new =
-      one_more_of stream count left next flag r1 r2 c0 c1 c2 w0 w1 (Begins w1 w2) old mid new o heard some is next_is flag_is so hears replies in
+      one_more_of stream count left next flag r1 r2 c0 c1 c2 w0 w1
+      (Begins w1 w2) old mid new o heard some is next_is flag_is so hears replies in
       record {
         count = count + 1;
         bounded = omega (arith, few);
@@ -223,42 +319,58 @@ module _ {C : Type 0} (gives : C → Option ℕ → C → Type 0) (b : Book) whe
         taken = λ list time are. (one.at list time are).taken;
       }
 
+  -- what was taken so far is all, where the connection is over
+  served_over : (stream : List ℕ) (count left : ℕ) (r1 : Option (List ℕ)) (c0 c1 : C)
+      (w0 w1 : Option (List ℕ)) (old new : Tables) →
+      (so : IsSoFar stream count left r1 c0 c1 w0 w1 old new) →
+      ((list : List Accepted) →
+      (at : IsAt b stream count left so.rest so.moments so.text new list) → IsOver at.taken.last) →
+      IsServed gives b stream count c0 c1 w0 w1 old new
+  served_over stream count left r1 c0 c1 w0 w1 old new so over = record {
+    moments = so.moments;
+    given = so.given;
+    text = so.text;
+    written = so.written;
+    whole = λ list time are.
+        let at : IsAt b stream count left so.rest so.moments so.text new list =
+        so.at list time are in
+        record { taken = at.taken; over = over list at };
+  }
+
   -- the stream ends before the next request does
-  pub so_far-ended : (count left : ℕ) (r0 r1 r2 : Option (List ℕ)) (c0 c1 : C) (w0 w1 : Option (List ℕ)) (old new : Tables) (o : Option Heard) →
-      o ≡ None → IfSome r0 (λ stream. IsSoFar stream count left r1 c0 c1 w0 w1 old new) → IfSome r1 (λ s. Hears s o r2) → IfSome r0 (λ stream. IsServed gives b stream count c0 c1 w0 w1 old new)
+  pub so_far-ended : (count left : ℕ) (r0 r1 r2 : Option (List ℕ)) (c0 c1 : C)
+      (w0 w1 : Option (List ℕ)) (old new : Tables) (o : Option Heard) →
+      o ≡ None → IfSome r0 (λ stream. IsSoFar stream count left r1 c0 c1 w0 w1 old new) →
+      IfSome r1 (λ s. Hears s o r2) →
+      IfSome r0 (λ stream. IsServed gives b stream count c0 c1 w0 w1 old new)
   so_far-ended count left None r1 r2 c0 c1 w0 w1 old new o is so hears = tt
   so_far-ended count left (Some stream) r1 r2 c0 c1 w0 w1 old new o is so hears =
-      let here : Hears so.rest None r2 = subst (λ (r : Option (List ℕ)). IfSome r (λ s. Hears s None r2)) so.rest_is (subst (λ (x : Option Heard). IfSome r1 (λ s. Hears s x r2)) is hears) in
-      let nothing : IsNext so.rest ended = subst (IsNext so.rest) (ended_case here.next r2 here.hears) here.is_next in
-      record {
-        moments = so.moments;
-        given = so.given;
-        text = so.text;
-        written = so.written;
-        whole = λ list time are.
-            let at : IsAt b stream count left so.rest so.moments so.text new list = so.at list time are in
-            record { taken = at.taken; over = inr (subst (λ r. IsNext r ended) (sym at.rest_is) nothing) };
-      }
+      let here : Hears so.rest None r2 =
+      subst (λ (r : Option (List ℕ)). IfSome r (λ s. Hears s None r2)) so.rest_is
+      (subst (λ (x : Option Heard). IfSome r1 (λ s. Hears s x r2)) is hears) in
+      let nothing : IsNext so.rest ended =
+      subst (IsNext so.rest) (ended_case here.next r2 here.hears) here.is_next in
+      served_over stream count left r1 c0 c1 w0 w1 old new so
+      (λ list at. inr (subst (λ r. IsNext r ended) (sym at.rest_is) nothing))
 
   -- no more requests are taken
-  pub so_far-full : (count total left : ℕ) (r0 r1 : Option (List ℕ)) (c0 c1 : C) (w0 w1 : Option (List ℕ)) (old new : Tables) →
-      total ≡ count → left ≡ 0 → IfSome r0 (λ stream. IsSoFar stream count left r1 c0 c1 w0 w1 old new) → IfSome r0 (λ stream. IsServed gives b stream total c0 c1 w0 w1 old new)
+  pub so_far-full : (count total left : ℕ) (r0 r1 : Option (List ℕ)) (c0 c1 : C)
+      (w0 w1 : Option (List ℕ)) (old new : Tables) →
+      total ≡ count →
+      left ≡ 0 → IfSome r0 (λ stream. IsSoFar stream count left r1 c0 c1 w0 w1 old new) →
+      IfSome r0 (λ stream. IsServed gives b stream total c0 c1 w0 w1 old new)
   so_far-full count total left None r1 c0 c1 w0 w1 old new count_is none so = tt
   so_far-full count total left (Some stream) r1 c0 c1 w0 w1 old new count_is none so =
-      let whole : IsServed gives b stream count c0 c1 w0 w1 old new = record {
-        moments = so.moments;
-        given = so.given;
-        text = so.text;
-        written = so.written;
-        whole = λ list time are.
-            let at : IsAt b stream count left so.rest so.moments so.text new list = so.at list time are in
-            record { taken = at.taken; over = inl (at.left_is ∙ none) };
-      } in
+      let whole : IsServed gives b stream count c0 c1 w0 w1 old new =
+      served_over stream count left r1 c0 c1 w0 w1 old new so
+      (λ list at. inl (at.left_is ∙ none)) in
       subst (λ n. IsServed gives b stream n c0 c1 w0 w1 old new) (sym count_is) whole
 
   -- the next request isn't read
-  pub so_far-begun : (count left : ℕ) (r0 r1 : Option (List ℕ)) (c0 c1 : C) (w0 w1 : Option (List ℕ)) (old new : Tables) →
-      count ≤ 1000 → IfSome r0 (λ stream. IsSoFar stream count left r1 c0 c1 w0 w1 old new) → IfSome r0 (λ stream. IsBegun gives b stream c0 c1 w0 w1 old new)
+  pub so_far-begun : (count left : ℕ) (r0 r1 : Option (List ℕ)) (c0 c1 : C)
+      (w0 w1 : Option (List ℕ)) (old new : Tables) →
+      count ≤ 1000 → IfSome r0 (λ stream. IsSoFar stream count left r1 c0 c1 w0 w1 old new) →
+      IfSome r0 (λ stream. IsBegun gives b stream c0 c1 w0 w1 old new)
   so_far-begun count left None r1 c0 c1 w0 w1 old new few so = tt
   so_far-begun count left (Some stream) r1 c0 c1 w0 w1 old new few so = record {
     count = count;
@@ -271,15 +383,18 @@ module _ {C : Type 0} (gives : C → Option ℕ → C → Type 0) (b : Book) whe
   }
 
   -- nothing is read
-  pub begun_none : (r : Option (List ℕ)) (c : C) (w : Option (List ℕ)) (tables : Tables) → IfSome r (λ stream. IsBegun gives b stream c c w w tables tables)
-  begun_none r c w tables = so_far-begun 0 1000 r r c c w w tables tables (omega arith) (so_far-none r c w tables)
+  pub begun_none : (r : Option (List ℕ)) (c : C) (w : Option (List ℕ)) (tables : Tables) →
+      IfSome r (λ stream. IsBegun gives b stream c c w w tables tables)
+  begun_none r c w tables =
+      so_far-begun 0 1000 r r c c w w tables tables (omega arith) (so_far-none r c w tables)
 
 -- ---- how many requests are left
 
 pub some_left : (left served : ℕ) → left + served ≡ 1000 → served < 1000 → 0 < left
 some_left left served e h = omega (arith, e, h)
 
-less_one : (left next served : ℕ) → next ≡ left - 1 → next ≢ 0 → left + served ≡ 1000 → next + (served + 1) ≡ 1000
+less_one : (left next served : ℕ) → next ≡ left - 1 → next ≢ 0 → left + served ≡ 1000 →
+    next + (served + 1) ≡ 1000
 less_one zero next served e h t = absurd (h (e ∙ none))
   where
     none : zero - 1 ≡ 0
@@ -289,6 +404,7 @@ less_one (suc n) next served e h t =
     let next_is : next ≡ n = e ∙ same in
     omega (arith, next_is, t)
 
-pub turns-more : (closes : Bool) (left next served : ℕ) → next ≡ left_after closes left → next ≢ 0 → left + served ≡ 1000 → next + (served + 1) ≡ 1000
+pub turns-more : (closes : Bool) (left next served : ℕ) → next ≡ left_after closes left → next ≢ 0 →
+    left + served ≡ 1000 → next + (served + 1) ≡ 1000
 turns-more true left next served e h t = absurd (h e)
 turns-more false left next served e h t = less_one left next served e h t

@@ -1,5 +1,5 @@
--- A connection, one request after another: what is written is a function of the bytes that are read and of the clock's
--- moments, but that 503 may stand where memory or the store fails.
+-- A connection, one request after another: what is written is a function of the bytes that are read
+-- and of the clock's moments, but that 503 may stand where memory or the store fails.
 -- Source: RFC 9112 sections 2.1, 6 and 9.3; the bounds: profile.
 use Rattle.std.specs.Prelude.{◌≡◌, ◌<◌, ◌≤◌, ◌-◌, ◌==◌, ℕ, zero, suc, Bool, true, if◌then◌else◌}
 use Rattle.std.specs.Prelude.{List, [], ◌++◌, Option, ◌⊎◌, Result, IfOk, OnErr, IfSome}
@@ -16,8 +16,8 @@ use Rattle.http_api.specs.Replies.{Reply, reply_text, IsReply, ForEachList}
 use Rattle.http_api.specs.declared.fault.ServeFault.{ServeFault}
 use Rattle.http_api.specs.declared.serving.Served.{Served}
 
--- how many requests a connection still takes, what it has still to read, the accepted commands, the moments that the
--- clock gave, and what was written
+-- how many requests a connection still takes, what it has still to read, the accepted commands, the
+-- moments that the clock gave, and what was written
 pub record Connection : Type 0 where
   pub left : ℕ
   pub rest : List ℕ
@@ -27,7 +27,8 @@ pub record Connection : Type 0 where
 
 -- a new one takes 1,000 requests
 abbrev pub new_connection : List ℕ → List Accepted → Connection
-new_connection stream list = record { left = 1000; rest = stream; list = list; moments = []; written = [] }
+new_connection stream list =
+    record { left = 1000; rest = stream; list = list; moments = []; written = [] }
 
 -- how many it takes after a request: none where that ends the connection
 abbrev pub left_after : Bool → ℕ → ℕ
@@ -44,7 +45,8 @@ after_reply old closes rest moments reply = record {
 }
 
 -- a request is answered
-pub record IsAnswered (b : Book) (asking : Asking) (closes : Bool) (rest : List ℕ) (old new : Connection) : Type 0 where
+pub record IsAnswered (b : Book) (asking : Asking) (closes : Bool) (rest : List ℕ)
+    (old new : Connection) : Type 0 where
   pub moments : List (Option ℕ)
   pub reply : Reply
   pub is_reply : IsReply b old.list asking moments reply
@@ -66,7 +68,8 @@ pub record IsTurn (b : Book) (old new : Connection) : Type 0 where
 -- so many turns
 abbrev pub Turns : Book → ℕ → Connection → Connection → Type 0
 Turns b zero first last = last ≡ first
-Turns b (suc n) first last = (between : Connection) × Turns b n first between × IsTurn b between last
+Turns b (suc n) first last = (between : Connection) × Turns b n first between
+    × IsTurn b between last
 
 -- no more requests are taken, or the stream ends before a request does
 abbrev pub IsOver : Connection → Type 0
@@ -75,8 +78,8 @@ IsOver last = (last.left ≡ 0) ⊎ IsNext last.rest ended
 -- ---- over a reader, a writer, a keeper and a clock
 
 -- so many requests of a stream come to these moments, this text and these tables
-pub record IsTaken (b : Book) (stream : List ℕ) (count : ℕ) (moments : List (Option ℕ)) (text : List ℕ) (content : Tables)
-    (list : List Accepted) : Type 0 where
+pub record IsTaken (b : Book) (stream : List ℕ) (count : ℕ) (moments : List (Option ℕ))
+    (text : List ℕ) (content : Tables) (list : List Accepted) : Type 0 where
   pub last : Connection
   pub turns : Turns b count (new_connection stream list) last
   pub given : last.moments ≡ moments
@@ -85,14 +88,15 @@ pub record IsTaken (b : Book) (stream : List ℕ) (count : ℕ) (moments : List 
   pub time : IsInTime last.list
 
 -- and the connection is over
-pub record IsWhole (b : Book) (stream : List ℕ) (count : ℕ) (moments : List (Option ℕ)) (text : List ℕ) (content : Tables)
-    (list : List Accepted) : Type 0 where
+pub record IsWhole (b : Book) (stream : List ℕ) (count : ℕ) (moments : List (Option ℕ))
+    (text : List ℕ) (content : Tables) (list : List Accepted) : Type 0 where
   pub taken : IsTaken b stream count moments text content list
   pub over : IsOver taken.last
 
 -- a stream is served to the end of the connection
-pub record IsServed {C : Type 0} (gives : C → Option ℕ → C → Type 0) (b : Book) (stream : List ℕ) (count : ℕ)
-    (before after : C) (empty full : Option (List ℕ)) (old new : Tables) : Type 0 where
+pub record IsServed {C : Type 0} (gives : C → Option ℕ → C → Type 0) (b : Book)
+    (stream : List ℕ) (count : ℕ) (before after : C) (empty full : Option (List ℕ))
+    (old new : Tables) : Type 0 where
   pub moments : List (Option ℕ)
   pub given : GivesInTurn gives before moments after
   pub text : List ℕ
@@ -110,14 +114,18 @@ pub record IsBegun {C : Type 0} (gives : C → Option ℕ → C → Type 0) (b :
   pub written : Begins empty full text
   pub taken : ForEachList b old (IsTaken b stream count moments text new)
 
--- what comes of a stream, where the reader tells its bytes: it is served to the end of the connection
-abbrev pub Serves : {C : Type 0} → (C → Option ℕ → C → Type 0) → Book → Option (List ℕ) → C → C → Option (List ℕ) →
+-- what comes of a stream, where the reader tells its bytes: it is served to the end of the
+-- connection
+abbrev pub Serves : {C : Type 0} → (C → Option ℕ → C → Type 0) → Book → Option (List ℕ) → C → C →
+    Option (List ℕ) →
     Option (List ℕ) → Tables → Tables → Result Served ServeFault → Type 0
-Serves gives b bytes before after empty full old new result = IfOk result (λ done. IfSome bytes (λ stream.
+Serves gives b bytes before after empty full old new result =
+    IfOk result (λ done. IfSome bytes (λ stream.
     IsServed gives b stream done.requests before after empty full old new))
 
 -- or a beginning of it is
-abbrev pub Starts : {C : Type 0} → (C → Option ℕ → C → Type 0) → Book → Option (List ℕ) → C → C → Option (List ℕ) →
+abbrev pub Starts : {C : Type 0} → (C → Option ℕ → C → Type 0) → Book → Option (List ℕ) → C → C →
+    Option (List ℕ) →
     Option (List ℕ) → Tables → Tables → Result Served ServeFault → Type 0
 Starts gives b bytes before after empty full old new result = OnErr result (IfSome bytes (λ stream.
     IsBegun gives b stream before after empty full old new))

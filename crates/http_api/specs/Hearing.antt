@@ -6,9 +6,11 @@ use Rattle.http_api.specs.declared.hearing.Heard.{Heard}
 
 -- a refusal ends the connection
 abbrev pub HearsNext : Next → Option Heard → Option (List ℕ) → Type 0
-HearsNext (asks ask rest) (Some heard) left = IsAsked (asked_of ask) heard.asked × (heard.closes ≡ ask.closes) × (left ≡ Some rest)
+HearsNext (asks ask rest) (Some heard) left = IsAsked (asked_of ask) heard.asked
+    × (heard.closes ≡ ask.closes) × (left ≡ Some rest)
 HearsNext (asks ask rest) None left = ⊥
-HearsNext (refused status) (Some heard) left = IsAsked (refuses status) heard.asked × (heard.closes ≡ true)
+HearsNext (refused status) (Some heard) left = IsAsked (refuses status) heard.asked
+    × (heard.closes ≡ true)
 HearsNext (refused status) None left = ⊥
 HearsNext ended (Some heard) left = ⊥
 HearsNext ended None left = Unit {0}

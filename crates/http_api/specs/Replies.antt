@@ -1,6 +1,7 @@
 -- What a request is answered after a list of accepted commands, and the list after it.
 -- Source: profile; the statuses: RFC 9110 section 15.
-use Rattle.std.specs.Prelude.{◌≡◌, ◌≤◌, ℕ, Bool, true, false, if◌then◌else◌, List, [], ◌∷◌, length, Option, Some, None, Ok, Err, ◌⊎◌}
+use Rattle.std.specs.Prelude.{◌≡◌, ◌≤◌, ℕ, Bool, true, false, if◌then◌else◌, List, [], ◌∷◌, length}
+use Rattle.std.specs.Prelude.{Option, Some, None, Ok, Err, ◌⊎◌}
 use Rattle.commands.specs.declared.answer.Answer.TheVariants.{Refused}
 use Rattle.commands.specs.declared.answer.Refusal.TheVariants.{AccountUnknown}
 use Rattle.commands.specs.declared.command.Command.{Command}
@@ -55,10 +56,12 @@ abbrev pub statement_media : Bool → Media
 statement_media true = Text
 statement_media false = Json
 
--- an account's statement by its history, as of a moment: all of its charges of the month, and its buckets by number
+-- an account's statement by its history, as of a moment: all of its charges of the month, and its
+-- buckets by number
 abbrev pub statement_body : Book → StatementAsked → ℕ → History → List ℕ
 statement_body b q t h = if h.opened
-    then statement_text b q.account q.month t (charge_rows h.ledger) (by_number (buckets_at b.validity t h.ledger))
+    then statement_text b q.account q.month t (charge_rows h.ledger)
+    (by_number (buckets_at b.validity t h.ledger))
     else answer_text (Refused AccountUnknown)
 
 abbrev pub statement_reply : Book → List Accepted → StatementAsked → ℕ → History → Reply
@@ -72,18 +75,23 @@ statement_reply b list q t h = record {
 -- a statement at the clock's moment
 abbrev pub statement_at : Book → List Accepted → StatementAsked → Option ℕ → Reply
 statement_at b list q None = unserved list
-statement_at b list q (Some t) = statement_reply b list q (moment_of list t) (history b q.account list)
+statement_at b list q (Some t) =
+    statement_reply b list q (moment_of list t) (history b q.account list)
 
 -- the bytes of a reply
 abbrev pub reply_text : Bool → Reply → List ℕ
 reply_text closes reply = response_of reply.media reply.status closes reply.body
 
--- what is due, by what a request asks; the clock is asked once for a command or a statement, and for nothing else
+-- what is due, by what a request asks; the clock is asked once for a command or a statement, and
+-- for nothing else
 abbrev pub IsDue : Book → List Accepted → Asking → List (Option ℕ) → Reply → Type 0
 IsDue b list (refuses code) moments reply = (moments ≡ []) × (reply ≡ refusal list code no_members)
-IsDue b list (reads (Err fault)) moments reply = (moments ≡ []) × (reply ≡ refusal list status.BadRequest (fault_text fault))
-IsDue b list (reads (Ok c)) moments reply = (m : Option ℕ) × (moments ≡ m ∷ []) × (reply ≡ reply_at b list c m)
-IsDue b list (states q) moments reply = (m : Option ℕ) × (moments ≡ m ∷ []) × (reply ≡ statement_at b list q m)
+IsDue b list (reads (Err fault)) moments reply = (moments ≡ [])
+    × (reply ≡ refusal list status.BadRequest (fault_text fault))
+IsDue b list (reads (Ok c)) moments reply = (m : Option ℕ) × (moments ≡ m ∷ [])
+    × (reply ≡ reply_at b list c m)
+IsDue b list (states q) moments reply = (m : Option ℕ) × (moments ≡ m ∷ [])
+    × (reply ≡ statement_at b list q m)
 
 -- how often the clock may be asked before memory or the store fails
 abbrev pub MayAsk : Asking → List (Option ℕ) → Type 0
@@ -94,13 +102,15 @@ MayAsk (states q) moments = length moments ≤ 1
 
 -- what is due; or 503 where memory or the store fails: then the request isn't accepted
 abbrev pub IsReply : Book → List Accepted → Asking → List (Option ℕ) → Reply → Type 0
-IsReply b list asking moments reply = IsDue b list asking moments reply ⊎ (MayAsk asking moments × (reply ≡ unserved list))
+IsReply b list asking moments reply = IsDue b list asking moments reply
+    ⊎ (MayAsk asking moments × (reply ≡ unserved list))
 
 -- ---- over a keeper
 
 -- this is so of every list of accepted commands whose tables these are
 abbrev pub ForEachList : Book → Tables → (List Accepted → Type 0) → Type 0
-ForEachList b tables says = (list : List Accepted) → IsInTime list → AreTables b list tables → says list
+ForEachList b tables says = (list : List Accepted) → IsInTime list →
+    AreTables b list tables → says list
 
 -- some dated commands came to the list, in time, and these are its tables then
 pub record IsContinued (b : Book) (content : Tables) (list : List Accepted) : Type 0 where
@@ -108,9 +118,14 @@ pub record IsContinued (b : Book) (content : Tables) (list : List Accepted) : Ty
   pub tables : AreTables b (after_commands b list commands) content
   pub time : IsInTime (after_commands b list commands)
 
+-- whatever list the tables before are of, commands came to it, and the tables after are those of
+-- the longer list
+abbrev pub Continues : Book → Tables → Tables → Type 0
+Continues b old new = ForEachList b old (IsContinued b new)
+
 -- the text is that of a reply, and the tables are those of the list after it
-pub record IsReplied (b : Book) (asking : Asking) (closes : Bool) (moments : List (Option ℕ)) (text : List ℕ) (content : Tables)
-    (list : List Accepted) : Type 0 where
+pub record IsReplied (b : Book) (asking : Asking) (closes : Bool) (moments : List (Option ℕ))
+    (text : List ℕ) (content : Tables) (list : List Accepted) : Type 0 where
   pub reply : Reply
   pub is_reply : IsReply b list asking moments reply
   pub written : text ≡ reply_text closes reply
@@ -118,8 +133,8 @@ pub record IsReplied (b : Book) (asking : Asking) (closes : Bool) (moments : Lis
   pub time : IsInTime reply.after
 
 -- what a request leaves: moments that the clock gave, a text that is written, and tables
-pub record Replies {C : Type 0} (gives : C → Option ℕ → C → Type 0) (b : Book) (asking : Asking) (closes : Bool)
-    (before after : C) (Writes : List ℕ → Type 0) (old new : Tables) : Type 0 where
+pub record Replies {C : Type 0} (gives : C → Option ℕ → C → Type 0) (b : Book) (asking : Asking)
+    (closes : Bool) (before after : C) (Writes : List ℕ → Type 0) (old new : Tables) : Type 0 where
   pub moments : List (Option ℕ)
   pub given : GivesInTurn gives before moments after
   pub text : List ℕ

@@ -9,11 +9,12 @@ use Rattle.http_answers.specs.Texts.{response, response_of, unable}
 
 -- the body is told, or that there is no memory or no store
 abbrev pub IsTold : Bool → List ℕ → List ℕ → Type 0
-IsTold closes body text = (text ≡ response_of Text Ok closes body) ⊎ (text ≡ response Unavailable closes unable)
+IsTold closes body text = (text ≡ response_of Text Ok closes body)
+    ⊎ (text ≡ response Unavailable closes unable)
 
 -- a text is written, and it tells the body that is made of an account's charges
-pub record TellsCharges (charges : ℕ → Option ChargeColumns) (body : List ChargeColumns → List ℕ) (closes : Bool)
-    (Writes : List ℕ → Type 0) : Type 0 where
+pub record TellsCharges (charges : ℕ → Option ChargeColumns) (body : List ChargeColumns → List ℕ)
+    (closes : Bool) (Writes : List ℕ → Type 0) : Type 0 where
   pub text : List ℕ
   pub written : Writes text
   pub told : (rows : List ChargeColumns) → AreCharges charges rows → IsTold closes (body rows) text

@@ -4,7 +4,7 @@ ghost use Rattle.wire_answers.specs.Spelled.{answer_text};
 ghost use Rattle.http_heads.specs.declared.status.Status.TheVariants.{Ok};
 ghost use Rattle.http_answers.specs.Asking.{Asking, reads, IsAsked};
 ghost use Rattle.http_answers.specs.Texts.{response, Begins};
-ghost use Rattle.http_api.specs.Replies.{ForEachList, IsContinued, Replies};
+ghost use Rattle.http_api.specs.Replies.{Continues, Replies};
 
 use crate::clock::Clock;
 use crate::stating::serve_statement;
@@ -35,13 +35,15 @@ pub(crate) fn answer_request<W: Write, K: ChargeSource, C: Clock>(
     closes: bool,
 ) -> Result<(), StreamFault>
     ensures ok { K.clean keeper.new → OnOk result ((asking : Asking) → IsAsked asking asked →
-        Replies C.gives book.now asking closes clock.old clock.new (Appends (W.contents writer.old) (W.contents writer.new))
+        Replies C.gives book.now asking closes clock.old clock.new
+        (Appends (W.contents writer.old) (W.contents writer.new))
         (K.content keeper.old) (K.content keeper.new)) }
     ensures err { K.clean keeper.new → OnErr result ((asking : Asking) → IsAsked asking asked →
-        Replies C.gives book.now asking closes clock.old clock.new (Begins (W.contents writer.old) (W.contents writer.new))
+        Replies C.gives book.now asking closes clock.old clock.new
+        (Begins (W.contents writer.old) (W.contents writer.new))
         (K.content keeper.old) (K.content keeper.new)) }
     ensures continued { K.clean keeper.new →
-        ForEachList book.now (K.content keeper.old) (IsContinued book.now (K.content keeper.new)) }
+        Continues book.now (K.content keeper.old) (K.content keeper.new) }
     ensures cleanness { K.clean keeper.new → K.clean keeper.old }
     ensures failures { K.failed keeper.old ≤ K.failed keeper.new }
 {
@@ -66,13 +68,15 @@ fn serve_command<W: Write, K: ChargeSource, C: Clock>(
     closes: bool,
 ) -> Result<(), StreamFault>
     ensures ok { K.clean keeper.new → OnOk result
-        (Replies C.gives book.now (reads (OkOf command)) closes clock.old clock.new (Appends (W.contents writer.old) (W.contents writer.new))
+        (Replies C.gives book.now (reads (OkOf command)) closes clock.old clock.new
+        (Appends (W.contents writer.old) (W.contents writer.new))
         (K.content keeper.old) (K.content keeper.new)) }
     ensures err { K.clean keeper.new → OnErr result
-        (Replies C.gives book.now (reads (OkOf command)) closes clock.old clock.new (Begins (W.contents writer.old) (W.contents writer.new))
+        (Replies C.gives book.now (reads (OkOf command)) closes clock.old clock.new
+        (Begins (W.contents writer.old) (W.contents writer.new))
         (K.content keeper.old) (K.content keeper.new)) }
     ensures continued { K.clean keeper.new →
-        ForEachList book.now (K.content keeper.old) (IsContinued book.now (K.content keeper.new)) }
+        Continues book.now (K.content keeper.old) (K.content keeper.new) }
     ensures cleanness { K.clean keeper.new → K.clean keeper.old }
     ensures failures { K.failed keeper.old ≤ K.failed keeper.new }
 {
@@ -92,8 +96,10 @@ fn tell_answer<W: Write>(
     answer: &Answer,
     closes: bool,
 ) -> Result<(), StreamFault>
-    ensures ok { OnOk result (Appends (W.contents writer.old) (W.contents writer.new) (response Ok closes (answer_text answer.now))) }
-    ensures err { OnErr result (Begins (W.contents writer.old) (W.contents writer.new) (response Ok closes (answer_text answer.now))) }
+    ensures ok { OnOk result (Appends (W.contents writer.old) (W.contents writer.new)
+        (response Ok closes (answer_text answer.now))) }
+    ensures err { OnErr result (Begins (W.contents writer.old) (W.contents writer.new)
+        (response Ok closes (answer_text answer.now))) }
 {
     let body = write_answer(alloc, answer)?;
     tell(alloc, writer, Status::Ok, closes, body.as_str())

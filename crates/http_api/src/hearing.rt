@@ -30,7 +30,8 @@ pub(crate) fn hear<R: BufRead>(
 ) -> Result<Option<Heard>, StreamFault>
     requires router { router.now ≡ table }
     requires room { 8192 ≤ 3 * length room.old }
-    ensures { IfOk result (λ heard. IfSome (R.remaining reader.old) (λ stream. Hears stream heard (R.remaining reader.new))) }
+    ensures { IfOk result (λ heard.
+        IfSome (R.remaining reader.old) (λ stream. Hears stream heard (R.remaining reader.new))) }
 {
     let taken = next_request(alloc, reader, room)?;
     Ok(heard_of(alloc, router, taken))
@@ -39,7 +40,8 @@ pub(crate) fn hear<R: BufRead>(
 /// What a request that was taken asks. A refusal ends the connection.
 fn heard_of(alloc: Global, router: &Router<Route>, taken: Taken) -> Option<Heard>
     requires { router.now ≡ table }
-    ensures { (next : Next) (left : Option (List ℕ)) → Tells next taken left → HearsNext next result left }
+    ensures { (next : Next) (left : Option (List ℕ)) → Tells next taken left →
+        HearsNext next result left }
 {
     match taken {
         Taken::Request(request) => Some(heard_request(alloc, router, &request)),

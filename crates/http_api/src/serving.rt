@@ -1,6 +1,6 @@
 ghost use Rattle.std.specs.Prelude.{◌≡◌, ◌≤◌, ◌<◌, ◌+◌, ◌*◌, length, IfOk, OnErr, IfSome};
 ghost use Rattle.http_answers.specs.Routes.{table};
-ghost use Rattle.http_api.specs.Replies.{ForEachList, IsContinued};
+ghost use Rattle.http_api.specs.Replies.{Continues};
 ghost use Rattle.http_api.specs.Connections.{left_after, IsServed, IsBegun, Serves, Starts};
 
 use crate::answering::answer_request;
@@ -43,15 +43,16 @@ pub fn serve<R: Read, W: Write, K: ChargeSource, C: Clock>(
     book: &TariffBook,
     clock: &mut C,
 ) -> Result<Served, ServeFault>
-    ensures served { K.clean keeper.new → IfOk result (λ done. IfSome (R.remaining reader.old) (λ stream.
-        IsServed C.gives book.now stream done.requests clock.old clock.new (W.contents writer.old) (W.contents writer.new)
-        (K.content keeper.old) (K.content keeper.new))) }
+    ensures served { K.clean keeper.new →
+        IfOk result (λ done. IfSome (R.remaining reader.old) (λ stream.
+        IsServed C.gives book.now stream done.requests clock.old clock.new (W.contents writer.old)
+        (W.contents writer.new) (K.content keeper.old) (K.content keeper.new))) }
     ensures begun { K.clean keeper.new → OnErr result (IfSome (R.remaining reader.old) (λ stream.
-        IsBegun C.gives book.now stream clock.old clock.new (W.contents writer.old) (W.contents writer.new)
-        (K.content keeper.old) (K.content keeper.new))) }
+        IsBegun C.gives book.now stream clock.old clock.new (W.contents writer.old)
+        (W.contents writer.new) (K.content keeper.old) (K.content keeper.new))) }
     ensures bounded { IfOk result (λ done. done.requests ≤ 1000) }
     ensures continued { K.clean keeper.new →
-        ForEachList book.now (K.content keeper.old) (IsContinued book.now (K.content keeper.new)) }
+        Continues book.now (K.content keeper.old) (K.content keeper.new) }
     ensures cleanness { K.clean keeper.new → K.clean keeper.old }
     ensures failures { K.failed keeper.old ≤ K.failed keeper.new }
 {
@@ -115,7 +116,7 @@ fn serve_requests<R: BufRead, W: Write, K: ChargeSource, C: Clock>(
         (K.content keeper.old) (K.content keeper.new) result }
     ensures bounded { IfOk result (λ done. done.requests ≤ 1000) }
     ensures continued { K.clean keeper.new →
-        ForEachList book.now (K.content keeper.old) (IsContinued book.now (K.content keeper.new)) }
+        Continues book.now (K.content keeper.old) (K.content keeper.new) }
     ensures cleanness { K.clean keeper.new → K.clean keeper.old }
     ensures failures { K.failed keeper.old ≤ K.failed keeper.new }
 {

@@ -1,5 +1,5 @@
 ghost use Rattle.std.specs.Prelude.{◌≡◌, ◌≤◌, IfOk};
-ghost use Rattle.http_api.specs.Replies.{ForEachList, IsContinued};
+ghost use Rattle.http_api.specs.Replies.{Continues};
 
 use crate::clock::Clock;
 use crate::fault::ServeFault;
@@ -28,7 +28,7 @@ pub fn serve_socket<K: ChargeSource, C: Clock>(
 ) -> Result<Served, ServeFault>
     ensures bounded { IfOk result (λ done. done.requests ≤ 1000) }
     ensures continued { K.clean keeper.new →
-        ForEachList book.now (K.content keeper.old) (IsContinued book.now (K.content keeper.new)) }
+        Continues book.now (K.content keeper.old) (K.content keeper.new) }
     ensures cleanness { K.clean keeper.new → K.clean keeper.old }
     ensures failures { K.failed keeper.old ≤ K.failed keeper.new }
 {

@@ -43,10 +43,12 @@ pub(crate) fn serve_statement<W: Write, K: ChargeSource, C: Clock>(
     closes: bool,
 ) -> Result<(), StreamFault>
     ensures ok { K.clean keeper.new → OnOk result
-        (Replies C.gives book.now (states asked.now) closes clock.old clock.new (Appends (W.contents writer.old) (W.contents writer.new))
+        (Replies C.gives book.now (states asked.now) closes clock.old clock.new
+        (Appends (W.contents writer.old) (W.contents writer.new))
         (K.content keeper.old) (K.content keeper.new)) }
     ensures err { K.clean keeper.new → OnErr result
-        (Replies C.gives book.now (states asked.now) closes clock.old clock.new (Begins (W.contents writer.old) (W.contents writer.new))
+        (Replies C.gives book.now (states asked.now) closes clock.old clock.new
+        (Begins (W.contents writer.old) (W.contents writer.new))
         (K.content keeper.old) (K.content keeper.new)) }
     ensures same { K.clean keeper.new → K.content keeper.new ≡ K.content keeper.old }
     ensures cleanness { K.clean keeper.new → K.clean keeper.old }
@@ -77,12 +79,12 @@ fn tell_statement<W: Write, K: ChargeSource>(
 ) -> Result<(), StreamFault>
     ensures ok { K.clean keeper.new → OnOk result
         (TellsCharges ((K.content keeper.old).charges asked.now.account)
-        (λ rows. statement_text book.now asked.now.account asked.now.month state.now.moment rows state.now.buckets.items)
-        closes (Appends (W.contents writer.old) (W.contents writer.new))) }
+        (λ rows. statement_text book.now asked.now.account asked.now.month state.now.moment rows
+        state.now.buckets.items) closes (Appends (W.contents writer.old) (W.contents writer.new))) }
     ensures err { K.clean keeper.new → OnErr result
         (TellsCharges ((K.content keeper.old).charges asked.now.account)
-        (λ rows. statement_text book.now asked.now.account asked.now.month state.now.moment rows state.now.buckets.items)
-        closes (Begins (W.contents writer.old) (W.contents writer.new))) }
+        (λ rows. statement_text book.now asked.now.account asked.now.month state.now.moment rows
+        state.now.buckets.items) closes (Begins (W.contents writer.old) (W.contents writer.new))) }
     ensures same { K.clean keeper.new → K.content keeper.new ≡ K.content keeper.old }
     ensures cleanness { K.clean keeper.new → K.clean keeper.old }
     ensures failures { K.failed keeper.old ≤ K.failed keeper.new }
@@ -103,7 +105,8 @@ fn statement_of<K: ChargeSource>(
 ) -> Result<Vec<u8>, StatementFault>
     ensures text { K.clean keeper.new → IfOk result (λ text. (rows : List ChargeColumns) →
         AreCharges ((K.content keeper.old).charges asked.now.account) rows →
-        text.items ≡ statement_text book.now asked.now.account asked.now.month state.now.moment rows state.now.buckets.items) }
+        text.items ≡ statement_text book.now asked.now.account asked.now.month state.now.moment rows
+        state.now.buckets.items) }
     ensures asks { Asks K.content K.failed K.clean keeper.old keeper.new result }
 {
     let mut text = Vec::new(alloc);
@@ -123,8 +126,10 @@ fn statement_of<K: ChargeSource>(
 
 /// Writes that the account isn't there.
 fn tell_unknown<W: Write>(alloc: Global, writer: &mut W, closes: bool) -> Result<(), StreamFault>
-    ensures ok { OnOk result (Appends (W.contents writer.old) (W.contents writer.new) (response Ok closes (answer_text (Refused Unknown)))) }
-    ensures err { OnErr result (Begins (W.contents writer.old) (W.contents writer.new) (response Ok closes (answer_text (Refused Unknown)))) }
+    ensures ok { OnOk result (Appends (W.contents writer.old) (W.contents writer.new)
+        (response Ok closes (answer_text (Refused Unknown)))) }
+    ensures err { OnErr result (Begins (W.contents writer.old) (W.contents writer.new)
+        (response Ok closes (answer_text (Refused Unknown)))) }
 {
     let unknown = Answer::Refused(Refusal::AccountUnknown);
     let body = write_answer(alloc, &unknown)?;

@@ -12,4 +12,5 @@ mod redeeming;
 mod routes;
 mod sessions;
 mod sockets;
+mod stores;
 mod streams;

@@ -1,5 +1,6 @@
 -- What the fields of a head say of the body and of the connection.
-use Rattle.std.specs.Prelude.{ℕ, Bool, ◌&&◌, ◌||◌, ◌==◌, List, [], ◌∷◌, length, map, codes, nat_le, nat_lt, if◌then◌else◌, Option, Some, None, Result, Ok, Err, count_by}
+use Rattle.std.specs.Prelude.{ℕ, Bool, ◌&&◌, ◌||◌, ◌==◌, List, [], ◌∷◌, length, map, codes, nat_le}
+use Rattle.std.specs.Prelude.{nat_lt, if◌then◌else◌, Option, Some, None, Result, Ok, Err, count_by}
 use Rattle.std.specs.List.{list_all}
 use Rattle.std.specs.Char.{to_ascii_lowercase, is_ascii_digit}
 use Rattle.std.specs.Str.{bytes_eq}
@@ -7,7 +8,8 @@ use Rattle.std.specs.Str.Parse.{digits_value}
 use Rattle.http_heads.specs.declared.method.Method.{Method}
 use Rattle.http_heads.specs.declared.method.Method.TheVariants.{Get, Post, Put, Other}
 use Rattle.http_heads.specs.declared.status.Status.{Status}
-use Rattle.http_heads.specs.declared.status.Status.TheVariants.{BadRequest, LengthRequired, ContentTooLarge, NotImplemented}
+use Rattle.http_heads.specs.declared.status.Status.TheVariants.{BadRequest, LengthRequired}
+use Rattle.http_heads.specs.declared.status.Status.TheVariants.{ContentTooLarge, NotImplemented}
 
 -- the fields of a head, each with its name and its value
 abbrev pub Fields : Type 0
@@ -28,13 +30,16 @@ same_name a b = bytes_eq (map to_ascii_lowercase a) (map to_ascii_lowercase b)
 -- the values of the fields of a name
 abbrev pub values_of : List ℕ → Fields → List (List ℕ)
 values_of name [] = []
-values_of name (field ∷ fields) = if same_name field.0 name then field.1 ∷ values_of name fields else values_of name fields
+values_of name (field ∷ fields) =
+    if same_name field.0 name then field.1 ∷ values_of name fields else values_of name fields
 
 -- ---- the length of a body (RFC 9112 section 6)
 
 -- 1 to 18 digits say a number
 abbrev pub said_number : List ℕ → Option ℕ
-said_number value = if nat_le 1 (length value) && (nat_le (length value) 18 && list_all is_ascii_digit value) then Some (digits_value 10 value) else None
+said_number value =
+    if nat_le 1 (length value) && (nat_le (length value) 18 && list_all is_ascii_digit value)
+    then Some (digits_value 10 value) else None
 
 -- a length of at most 65,536 bytes is taken
 abbrev pub taken_length : Option ℕ → Result ℕ Status
@@ -65,7 +70,8 @@ length_unless (coding ∷ codings) length = Err NotImplemented
 -- the length of the body, or the status of a refusal
 abbrev pub body_length : Method → Fields → Result ℕ Status
 body_length method fields =
-    length_unless (values_of (codes "Transfer-Encoding") fields) (length_by method (values_of (codes "Content-Length") fields))
+    length_unless (values_of (codes "Transfer-Encoding") fields)
+    (length_by method (values_of (codes "Content-Length") fields))
 
 -- ---- the connection (RFC 9112 section 9.6)
 

@@ -1,11 +1,13 @@
--- What a stream of requests begins with: a head part is all bytes up to and with the first empty line, at most 8,192
--- (RFC 9112 section 2.1; the bound: profile).
-use Rattle.std.specs.Prelude.{◌≡◌, ◌≤◌, ℕ, Bool, List, [], ◌∷◌, ◌++◌, length, if◌then◌else◌, nat_lt, nat_eq, Option, Some}
+-- What a stream of requests begins with: a head part is all bytes up to and with the first empty
+-- line, at most 8,192 (RFC 9112 section 2.1; the bound: profile).
+use Rattle.std.specs.Prelude.{◌≡◌, ◌≤◌, ℕ, Bool, List, [], ◌∷◌, ◌++◌, length, if◌then◌else◌, nat_lt}
+use Rattle.std.specs.Prelude.{nat_eq, Option, Some}
 use Rattle.std.specs.List.{ends_with}
 use Rattle.http_heads.specs.declared.head_part.HeadPart.{HeadPart}
 use Rattle.http_heads.specs.declared.head_part.HeadPart.TheVariants as head_part
 
--- a head part and the bytes after it, or none: too many bytes without an empty line, or the stream's end before one
+-- a head part and the bytes after it, or none: too many bytes without an empty line, or the
+-- stream's end before one
 pub data Part : Type 0 where
   whole : List ℕ → List ℕ → Part
   too_long cut : Part
@@ -19,7 +21,8 @@ abbrev pub part_after : List ℕ → List ℕ → Part
 part_after taken [] = if nat_lt (length taken) 8192 then cut else too_long
 part_after taken (b ∷ bytes) =
     if nat_lt (length taken) 8192
-    then (if ends_head (taken ++ b ∷ []) then whole (taken ++ b ∷ []) bytes else part_after (taken ++ b ∷ []) bytes)
+    then (if ends_head (taken ++ b ∷ []) then whole (taken ++ b ∷ []) bytes
+    else part_after (taken ++ b ∷ []) bytes)
     else too_long
 
 -- what a stream begins with
@@ -30,7 +33,8 @@ first_part stream = part_after [] stream
 
 -- this part is told, and what follows a head part is left
 abbrev pub IsHeadPart : Part → HeadPart → Option (List ℕ) → Type 0
-IsHeadPart (whole part rest) (head_part.Whole bytes) left = (bytes.items ≡ part) × (left ≡ Some rest)
+IsHeadPart (whole part rest) (head_part.Whole bytes) left = (bytes.items ≡ part)
+    × (left ≡ Some rest)
 IsHeadPart (whole part rest) head_part.TooLong left = ⊥
 IsHeadPart (whole part rest) head_part.Ended left = ⊥
 IsHeadPart too_long (head_part.Whole bytes) left = ⊥

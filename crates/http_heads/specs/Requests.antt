@@ -1,5 +1,6 @@
 -- The next request of a stream, or why there is none.
-use Rattle.std.specs.Prelude.{◌≡◌, ℕ, Bool, List, [], map, length, take, drop, nat_lt, if◌then◌else◌, Option, Some, None, Result, Ok, Err, ◌⊎◌, string_bytes}
+use Rattle.std.specs.Prelude.{◌≡◌, ℕ, Bool, List, [], map, length, take, drop, nat_lt}
+use Rattle.std.specs.Prelude.{if◌then◌else◌, Option, Some, None, Result, Ok, Err, ◌⊎◌, string_bytes}
 use Rattle.httparse.specs.Grammar.{RequestHead, ReadsRequest}
 use Rattle.httparse.specs.Spans.{name_and_value}
 use Rattle.http_heads.specs.declared.method.Method.{Method}
@@ -51,7 +52,8 @@ ask_of head body = record {
 -- the body is the next so many bytes
 abbrev pub after_length : RequestHead → Result ℕ Status → List ℕ → Next
 after_length head (Err status) rest = refused status
-after_length head (Ok n) rest = if nat_lt (length rest) n then ended else asks (ask_of head (take n rest)) (drop n rest)
+after_length head (Ok n) rest =
+    if nat_lt (length rest) n then ended else asks (ask_of head (take n rest)) (drop n rest)
 
 abbrev pub after_head : RequestHead → List ℕ → Next
 after_head head rest = after_length head (length_of head) rest
@@ -105,4 +107,9 @@ pub record TellsNext (part : Part) (told : Taken) (left : Option (List ℕ)) : T
 
 -- a request as it is told
 abbrev pub seen : Request → Ask
-seen told = record { method = told.method; target = string_bytes told.target; closes = told.closes; body = told.body.items }
+seen told = record {
+  method = told.method;
+  target = string_bytes told.target;
+  closes = told.closes;
+  body = told.body.items;
+}

@@ -1,9 +1,11 @@
-ghost use Rattle.std.specs.Prelude.{◌≡◌, ◌<◌, ◌≤◌, ◌++◌, ◌∷◌, [], List, ℕ, true, length, map, All, Some, count_by};
+ghost use Rattle.std.specs.Prelude.{◌≡◌, ◌<◌, ◌≤◌, ◌++◌, ◌∷◌, [], List, ℕ, true, length, map, All};
+ghost use Rattle.std.specs.Prelude.{Some, count_by};
 ghost use Rattle.std.specs.List.{list_all};
 ghost use Rattle.std.specs.Char.{is_ascii_digit};
 ghost use Rattle.std.specs.Str.Parse.{digits_value};
 ghost use Rattle.httparse.specs.Spans.{IsHeaderWithin, header_bytes};
-ghost use Rattle.http_heads.specs.Fields.{same_name, values_of, said_number, said_length, length_by, body_length, says_close};
+ghost use Rattle.http_heads.specs.Fields.{same_name, values_of, said_number, said_length};
+ghost use Rattle.http_heads.specs.Fields.{length_by, body_length, says_close};
 ghost use Rattle.http_heads.specs.Found.{IsFound, FoundWithin};
 
 use crate::method::Method;
@@ -36,7 +38,8 @@ fn with_field(found: Found, part: &[u8], field: &HeaderSpan, name: &str) -> Foun
     requires { IsHeaderWithin (length part.now) field.now }
     ensures within { FoundWithin (length part.now) found → FoundWithin (length part.now) result }
     ensures found { (values : List (List ℕ)) → IsFound part.now values found
-        → IsFound part.now (values ++ values_of name.now (header_bytes part.now field.now ∷ [])) result }
+        → IsFound part.now
+        (values ++ values_of name.now (header_bytes part.now field.now ∷ [])) result }
 {
     if !same_name(field.name.of(part), name.as_bytes()) {
         return found;
@@ -52,7 +55,8 @@ fn with_field(found: Found, part: &[u8], field: &HeaderSpan, name: &str) -> Foun
 fn find_field(part: &[u8], fields: &[HeaderSpan], name: &str) -> Found
     requires { All (IsHeaderWithin (length part.now)) fields.now }
     ensures within { FoundWithin (length part.now) result }
-    ensures found { IsFound part.now (values_of name.now (map (header_bytes part.now) fields.now)) result }
+    ensures found { IsFound part.now
+        (values_of name.now (map (header_bytes part.now) fields.now)) result }
 {
     let mut found = Found::None;
     for field in fields {
@@ -110,7 +114,8 @@ fn is_digits(bytes: &[u8]) -> bool
 /// The length by the values of Content-Length.
 fn length_by(method: Method, part: &[u8], found: Found) -> Result<usize, Status>
     requires { FoundWithin (length part.now) found }
-    ensures { (values : List (List ℕ)) → IsFound part.now values found → result ≡ length_by method values }
+    ensures { (values : List (List ℕ)) → IsFound part.now values found →
+        result ≡ length_by method values }
 {
     match found {
         Found::None => match method {

@@ -27,7 +27,8 @@ pub struct Head {
 fn whole_head(part: &[u8], room: &mut [HeaderSpan]) -> Option<RequestSpans>
     requires room { length part.now ≤ 3 * length room.old }
     ensures within { IfSome result (IsRequestWithin part.now room.new) }
-    ensures head { IfSome result (λ spans. (head : RequestHead) × IsHead part.now head × IsRequestAt part.now room.new spans head) }
+    ensures head { IfSome result (λ spans. (head : RequestHead) × IsHead part.now head
+        × IsRequestAt part.now room.new spans head) }
     ensures none { IfNone result ((head : RequestHead) → ¬ (IsHead part.now head)) }
 {
     match parse_request(part, room) {

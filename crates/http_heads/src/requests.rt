@@ -66,7 +66,8 @@ fn after_part<R: BufRead>(
 ) -> Result<Taken, StreamFault>
     requires short { IsShort part }
     requires room { 8192 ≤ 3 * length room.old }
-    ensures { IfOk result (λ taken. (begun : Part) → IsHeadPart begun part (R.remaining reader.old) → TellsNext begun taken (R.remaining reader.new)) }
+    ensures { IfOk result (λ taken. (begun : Part) → IsHeadPart begun part
+        (R.remaining reader.old) → TellsNext begun taken (R.remaining reader.new)) }
 {
     match part {
         HeadPart::Whole(part) => after_bytes(alloc, reader, part.as_slice(), room),
@@ -97,7 +98,8 @@ fn after_bytes<R: BufRead>(
 /// The request of a head, with its body.
 fn with_body<R: BufRead>(alloc: Global, reader: &mut R, head: Head) -> Result<Taken, StreamFault>
     ensures { IfOk result (λ taken. IfSome (R.remaining reader.old)
-        (λ rest. (said : RequestHead) → IsHeadOf said head → Tells (after_head said rest) taken (R.remaining reader.new))) }
+        (λ rest. (said : RequestHead) → IsHeadOf said head →
+        Tells (after_head said rest) taken (R.remaining reader.new))) }
 {
     let Head {
         method,

@@ -1,5 +1,6 @@
 -- What has a compact text that is read again has its members in byte order.
-use Rattle.serde_json.specs.Data.{Data, null, boolean, number, string, array, object, Items, no_items, item, Members, no_members, member}
+use Rattle.serde_json.specs.Data.{Data, null, boolean, number, string, array, object, Items}
+use Rattle.serde_json.specs.Data.{no_items, item, Members, no_members, member}
 use Rattle.json_fields.specs.Order.{AreInByteOrder, AreItemsInByteOrder, AreMembersInByteOrder}
 use Rattle.json_fields.proofs.Compact.{IsTidy, AreTidy, AreTidyMembers}
 

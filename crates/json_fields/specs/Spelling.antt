@@ -2,7 +2,8 @@
 use Rattle.std.specs.Prelude.{ℕ, negsuc, List, [], ◌∷◌, Option, Some, None}
 use Rattle.commands.specs.declared.avp.Avp.TheVariants as avp
 use Rattle.commands.specs.Names.{name_of}
-use Rattle.serde_json.specs.Data.{Data, number, unsigned, negative, object, Members, no_members, member}
+use Rattle.serde_json.specs.Data.{Data, number, unsigned, negative, object, Members, no_members}
+use Rattle.serde_json.specs.Data.{member}
 
 -- a whole number
 abbrev pub whole : ℕ → Data

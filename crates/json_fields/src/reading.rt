@@ -2,7 +2,8 @@ ghost use Rattle.std.specs.Prelude.{◌≡◌, ◌≤◌, ◌↔◌, List, [], R
 ghost use Rattle.serde_json.specs.Data.{Data};
 ghost use Rattle.serde_json.specs.View.{view, items_view};
 ghost use Rattle.json_fields.specs.Gives.{Gives, Says, or_fault, read_each, IsReadBy};
-ghost use Rattle.json_fields.specs.Fields.{json_of, document_at, member_at, whole_in, number_at, optional_in, optional_at, text_at, object_at, array_of};
+ghost use Rattle.json_fields.specs.Fields.{json_of, document_at, member_at, whole_in, number_at};
+ghost use Rattle.json_fields.specs.Fields.{optional_in, optional_at, text_at, object_at, array_of};
 
 use crate::fault::WireFault;
 use commands::Avp;

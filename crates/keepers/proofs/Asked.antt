@@ -1,12 +1,14 @@
 -- Whether a session has a record, and that nothing of a new one was left.
-use Rattle.std.proofs.Common.{◌≡◌, ℕ, Bool, true, false, List, refl, sym, ap, subst, ◌∙◌, Option, Some, None}
+use Rattle.std.proofs.Common.{◌≡◌, ℕ, Bool, true, false, List, refl, sym, ap, subst, ◌∙◌, Option}
+use Rattle.std.proofs.Common.{Some, None}
 use Rattle.std.specs.Prelude.{if◌then◌else◌, is_some, not}
 use Rattle.tariffs.specs.Books.{Book, IsBook}
 use Rattle.reserving.specs.declared.session.Session.{Session}
 use Rattle.reserving.specs.declared.session.SessionState.{SessionState}
 use Rattle.reserving.specs.declared.session.SessionGroup.{SessionGroup}
 use Rattle.reserving.specs.Ledger.{Ledger, Recording, last_recording, has_group}
-use Rattle.reserving.specs.Sessions.{is_of, is_open, session_in, group_in, session_row, session_at, state_at, group_at}
+use Rattle.reserving.specs.Sessions.{is_of, is_open, session_in, group_in, session_row, session_at}
+use Rattle.reserving.specs.Sessions.{state_at, group_at}
 use Rattle.reserving.specs.Rows.{IsAccount}
 use Rattle.reserving.specs.Stored.{StoredRows, priced}
 use Rattle.reserving.specs.Left.{is_open_row, only, left_of}

@@ -1,5 +1,6 @@
 -- Rows that are told equal are equal.
-use Rattle.std.proofs.Common.{◌≡◌, ℕ, Bool, true, false, List, [], ◌∷◌, refl, sym, ap, ◌∙◌, Option, Some, None}
+use Rattle.std.proofs.Common.{◌≡◌, ℕ, Bool, true, false, List, [], ◌∷◌, refl, sym, ap, ◌∙◌, Option}
+use Rattle.std.proofs.Common.{Some, None}
 use Rattle.std.specs.Prelude.{◌==◌, ◌&&◌}
 use Rattle.std.specs.Cmp.Lexicographic.{pointwise}
 use Rattle.buckets.specs.declared.holds.Hold.{Hold}
@@ -13,7 +14,9 @@ use Rattle.reserving.specs.declared.session.Reservation.{Reservation}
 use Rattle.reserving.specs.declared.session.Counter.{Counter}
 use Rattle.reserving.proofs.Lists.{not_both}
 use Rattle.reserving.proofs.Holds.{same_from, number_from, both}
-use Rattle.keepers.specs.Differing.{same_scope, equal_bucket, equal_counter, same_state, equal_session, equal_periods, equal_hold, equal_reservation, equal_group}
+use Rattle.keepers.specs.Differing.{same_scope, equal_bucket, equal_counter, same_state}
+use Rattle.keepers.specs.Differing.{equal_session, equal_periods, equal_hold, equal_reservation}
+use Rattle.keepers.specs.Differing.{equal_group}
 
 scope_from : (x y : Option ℕ) → same_scope x y ≡ true → x ≡ y
 scope_from None None e = refl

@@ -1,5 +1,6 @@
 -- A ledger that grows keeps its rows: what isn't found after wasn't found before.
-use Rattle.std.proofs.Common.{◌≡◌, ℕ, ◌+◌, Bool, true, false, cond, List, [], ◌∷◌, ◌++◌, map, refl, sym, ap, subst, ◌∙◌, Option, Some, None}
+use Rattle.std.proofs.Common.{◌≡◌, ℕ, ◌+◌, Bool, true, false, cond, List, [], ◌∷◌, ◌++◌, map, refl}
+use Rattle.std.proofs.Common.{sym, ap, subst, ◌∙◌, Option, Some, None}
 use Rattle.std.specs.Prelude.{if◌then◌else◌, ◌==◌, ◌||◌, nat_lt, option_map}
 use Rattle.std.specs.List.{find}
 use Rattle.buckets.specs.Row.{Row, new_row}
@@ -8,8 +9,11 @@ use Rattle.reserving.specs.declared.session.Session.{Session}
 use Rattle.reserving.specs.declared.session.SessionGroup.{SessionGroup}
 use Rattle.reserving.specs.declared.session.SessionState.{SessionState}
 use Rattle.reserving.specs.declared.session.Counter.{Counter}
-use Rattle.reserving.specs.Ledger.{Fact, Dated, Ledger, Recording, or_else, newest, any, any_dated, recording_in, last_recording, has_group, names_group, has_counter, counts_group}
-use Rattle.reserving.specs.Ledger.Fact.{Credit, Grant, Hold, End, Use, Charge, Touch, Close, Recorded, Barred}
+use Rattle.reserving.specs.Ledger.{Fact, Dated, Ledger, Recording, or_else, newest, any, any_dated}
+use Rattle.reserving.specs.Ledger.{recording_in, last_recording, has_group, names_group}
+use Rattle.reserving.specs.Ledger.{has_counter, counts_group}
+use Rattle.reserving.specs.Ledger.Fact.{Credit, Grant, Hold, End, Use, Charge, Touch, Close}
+use Rattle.reserving.specs.Ledger.Fact.{Recorded, Barred}
 use Rattle.reserving.specs.Balance.{credits, credited_by, bucket_at, buckets_at}
 use Rattle.reserving.specs.Sessions.{session_row, session_at, state_at, group_at, counter_at}
 use Rattle.reserving.proofs.Lists.{find-map, no_some, not_both}

@@ -8,12 +8,16 @@ use Rattle.reserving.specs.Left.{is_dead}
 use Rattle.std.specs.Prelude.{is_some}
 use Rattle.keepers.specs.declared.store.LeftStore.{LeftStore}
 use Rattle.keepers.specs.declared.store.Known.{Known}
-use Rattle.keepers.specs.Parts.{AreParts, with_live, leaves_bucket, leaves_counter, leaves_session, leaves_group}
-use Rattle.keepers.specs.Named.{is_numbered, is_named, AreLeftBuckets, AreLeftCounters, AreLeftSessions, AreLeftGroups}
+use Rattle.keepers.specs.Parts.{AreParts, with_live, leaves_bucket, leaves_counter, leaves_session}
+use Rattle.keepers.specs.Parts.{leaves_group}
+use Rattle.keepers.specs.Named.{is_numbered, is_named, AreLeftBuckets, AreLeftCounters}
+use Rattle.keepers.specs.Named.{AreLeftSessions, AreLeftGroups}
 use Rattle.keepers.specs.Inside.{parts_by, AreKeptBy, AreSameRows}
-use Rattle.keepers.specs.Replacing.{IsLeaving, KnowsMore, AreNoted, IsAppended, AreKnown, IsFiltered}
+use Rattle.keepers.specs.Replacing.{IsLeaving, KnowsMore, AreNoted, IsAppended, AreKnown}
+use Rattle.keepers.specs.Replacing.{IsFiltered}
 use Rattle.keepers.proofs.PartsKept.{parts_replaced}
-use Rattle.keepers.proofs.Replaced.{left_is, buckets_known, counters_known, sessions_known, groups_known}
+use Rattle.keepers.proofs.Replaced.{left_is, buckets_known, counters_known, sessions_known}
+use Rattle.keepers.proofs.Replaced.{groups_known}
 
 pub same_parts : (live : StoredRows) (old new : LeftStore) → AreSameRows old new →
     parts_by live new ≡ parts_by live old

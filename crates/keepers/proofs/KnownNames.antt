@@ -1,5 +1,6 @@
 -- Whether a session has a row, by what is live, and by the names of those that were left.
-use Rattle.std.proofs.Common.{◌≡◌, Bool, true, false, cond, List, ◌++◌, refl, sym, ap, ◌∙◌, Option, Some, None, ℕ}
+use Rattle.std.proofs.Common.{◌≡◌, Bool, true, false, cond, List, ◌++◌, refl, sym, ap, ◌∙◌, Option}
+use Rattle.std.proofs.Common.{Some, None, ℕ}
 use Rattle.std.specs.Prelude.{is_some}
 use Rattle.std.specs.HashMap.{get}
 use Rattle.identifiers.specs.Texts.{same_name}

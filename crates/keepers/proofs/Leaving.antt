@@ -1,6 +1,7 @@
 -- What a call left beside the rows that weren't loaded: the change may be committed, and the tables
 -- after it.
-use Rattle.std.proofs.Common.{◌≡◌, ℕ, Bool, true, false, List, [], ◌++◌, refl, sym, ap, subst, ◌∙◌, Option, Some, None}
+use Rattle.std.proofs.Common.{◌≡◌, ℕ, Bool, true, false, List, [], ◌++◌, refl, sym, ap, subst, ◌∙◌}
+use Rattle.std.proofs.Common.{Option, Some, None}
 use Rattle.std.specs.Prelude.{if◌then◌else◌, ◌==◌, not, is_some, option_map}
 use Rattle.buckets.specs.Row.{Row}
 use Rattle.tariffs.specs.Books.{Book}
@@ -11,10 +12,12 @@ use Rattle.reserving.specs.declared.session.Counter.{Counter}
 use Rattle.reserving.specs.Ledger.{Ledger, is_same}
 use Rattle.reserving.specs.Pricing.{cycle_at}
 use Rattle.reserving.specs.Balance.{buckets_at}
-use Rattle.reserving.specs.Sessions.{is_session, is_of, is_counter, is_open, session_in, group_in, counter_in}
+use Rattle.reserving.specs.Sessions.{is_session, is_of, is_counter, is_open, session_in, group_in}
+use Rattle.reserving.specs.Sessions.{counter_in}
 use Rattle.reserving.specs.Rows.{AccountRows, IsAccount, IsRowsOf}
 use Rattle.reserving.specs.Stored.{stored, priced}
-use Rattle.reserving.specs.Left.{LeftRows, is_dead, IsDead, is_open_row, only, first_of, bucket_in, merged, joined, left_of, IsWith}
+use Rattle.reserving.specs.Left.{LeftRows, is_dead, IsDead, is_open_row, only, first_of, bucket_in}
+use Rattle.reserving.specs.Left.{merged, joined, left_of, IsWith}
 use Rattle.reserving.proofs.Lists.{no_some, some_of, find-passes}
 use Rattle.reserving.proofs.Holds.{same_from}
 use Rattle.reserving.proofs.Keys.{first_true, second_true, same_number}

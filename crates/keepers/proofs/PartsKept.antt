@@ -1,6 +1,8 @@
 -- What the keeper in memory has of an account stays apart: what is live, and what was left.
-use Rattle.std.proofs.Common.{◌≡◌, ℕ, ◌+◌, ◌≤◌, Bool, true, false, cond, List, [], ◌∷◌, ◌++◌, map, get_or, refl, sym, ap, subst, ◌∙◌, Option, Some, None}
-use Rattle.std.specs.Prelude.{if◌then◌else◌, ◌==◌, ◌&&◌, ◌||◌, not, filter, is_some, position, option_map, nat_lt, ◌*◌, Result, Ok, Err, IfOk}
+use Rattle.std.proofs.Common.{◌≡◌, ℕ, ◌+◌, ◌≤◌, Bool, true, false, cond, List, [], ◌∷◌, ◌++◌, map}
+use Rattle.std.proofs.Common.{get_or, refl, sym, ap, subst, ◌∙◌, Option, Some, None}
+use Rattle.std.specs.Prelude.{if◌then◌else◌, ◌==◌, ◌&&◌, ◌||◌, not, filter, is_some, position}
+use Rattle.std.specs.Prelude.{option_map, nat_lt, ◌*◌, Result, Ok, Err, IfOk}
 use Rattle.std.specs.List.{find}
 use Rattle.buckets.specs.Row.{Row, IsBalanced, with_release, with_end}
 use Rattle.buckets.specs.Spend.{AreDistinct, Each}
@@ -11,7 +13,8 @@ use Rattle.reserving.specs.declared.session.SessionState.TheVariants.{Ended}
 use Rattle.reserving.specs.declared.session.SessionGroup.{SessionGroup}
 use Rattle.reserving.specs.declared.session.Counter.{Counter}
 use Rattle.reserving.specs.Ledger.{is_same}
-use Rattle.reserving.specs.Sessions.{is_session, is_of, is_counter, is_open, session_in, group_in, counter_in, is_live_in}
+use Rattle.reserving.specs.Sessions.{is_session, is_of, is_counter, is_open, session_in, group_in}
+use Rattle.reserving.specs.Sessions.{counter_in, is_live_in}
 use Rattle.reserving.specs.Changes.{advanced, lapse, lapse_group, lapsed_in}
 use Rattle.reserving.specs.Rows.{AccountRows, EachIn, AreApart}
 use Rattle.reserving.specs.Stored.{StoredRows, IsStored, priced, advanced_stored}
@@ -20,9 +23,11 @@ use Rattle.reserving.proofs.Lists.{no_some, not_both, AreApart-map}
 use Rattle.reserving.proofs.Keys.{first_true, second_true}
 use Rattle.reserving.proofs.KeysFound.{placed, unplaced}
 use Rattle.reserving.proofs.Advancing.{session_in-advanced}
-use Rattle.reserving.proofs.LeftTests.{each_filter, each_passes, each_append, apart_filter, apart_append, none_each}
+use Rattle.reserving.proofs.LeftTests.{each_filter, each_passes, each_append, apart_filter}
+use Rattle.reserving.proofs.LeftTests.{apart_append, none_each}
 use Rattle.reserving.proofs.LeftJoined.{each_in_map}
-use Rattle.keepers.specs.Parts.{Parts, AreParts, leaves_bucket, leaves_counter, leaves_session, leaves_group, left_after, with_live, advanced_parts}
+use Rattle.keepers.specs.Parts.{Parts, AreParts, leaves_bucket, leaves_counter, leaves_session}
+use Rattle.keepers.specs.Parts.{leaves_group, left_after, with_live, advanced_parts}
 use Rattle.keepers.specs.Keyed.{same_bucket, same_session, same_group, same_counter}
 use Rattle.keepers.proofs.Found.{distinct_apart}
 

@@ -1,11 +1,13 @@
 -- As time goes on, what the keeper in memory has of an account stays the rows of each ledger whose
 -- rows it was.
-use Rattle.std.proofs.Common.{◌≡◌, ◌≢◌, ℕ, ◌+◌, ◌<◌, ◌≤◌, Bool, true, false, cond, List, [], ◌∷◌, ◌++◌, map, refl, sym, ap, subst, ◌∙◌, arith, Option, Some, None}
+use Rattle.std.proofs.Common.{◌≡◌, ◌≢◌, ℕ, ◌+◌, ◌<◌, ◌≤◌, Bool, true, false, cond, List, [], ◌∷◌}
+use Rattle.std.proofs.Common.{◌++◌, map, refl, sym, ap, subst, ◌∙◌, arith, Option, Some, None}
 use Rattle.std.specs.Prelude.{if◌then◌else◌, ◌==◌, ◌&&◌, ◌||◌, not, filter, is_some, nat_lt}
 use Rattle.std.specs.List.{find}
 use Rattle.std.proofs.lemmas.Bool.Decides.{nat_tests}
 use Rattle.buckets.specs.Row.{Row, IsBalanced, precedes}
-use Rattle.buckets.specs.Spend.{Each, IsSound, IsBelow, IsInOrder, AreDistinct, DiffersFromAll, PrecedesAll}
+use Rattle.buckets.specs.Spend.{Each, IsSound, IsBelow, IsInOrder, AreDistinct, DiffersFromAll}
+use Rattle.buckets.specs.Spend.{PrecedesAll}
 use Rattle.buckets.specs.Holding.{held_in}
 use Rattle.tariffs.specs.Books.{Book, IsBook}
 use Rattle.reserving.specs.declared.session.Session.{Session}
@@ -14,11 +16,13 @@ use Rattle.reserving.specs.declared.session.Reservation.{Reservation}
 use Rattle.reserving.specs.declared.session.Counter.{Counter}
 use Rattle.reserving.specs.Ledger.{Ledger, is_same}
 use Rattle.reserving.specs.Balance.{buckets_at}
-use Rattle.reserving.specs.Sessions.{is_session, is_of, is_counter, is_open, session_in, session_at, group_in, group_at, counter_in, holds_in, held_by}
+use Rattle.reserving.specs.Sessions.{is_session, is_of, is_counter, is_open, session_in, session_at}
+use Rattle.reserving.specs.Sessions.{group_in, group_at, counter_in, holds_in, held_by}
 use Rattle.reserving.specs.Changes.{advanced}
 use Rattle.reserving.specs.Rows.{AccountRows, EachIn, AreApart, AreInOrderOf, IsAccount, IsRowsOf}
 use Rattle.reserving.specs.Stored.{StoredRows, IsStored, stored, priced}
-use Rattle.reserving.specs.Left.{LeftRows, IsDead, is_dead, first_of, bucket_in, placed, merged, joined, IsLeft}
+use Rattle.reserving.specs.Left.{LeftRows, IsDead, is_dead, first_of, bucket_in, placed, merged}
+use Rattle.reserving.specs.Left.{joined, IsLeft}
 use Rattle.reserving.proofs.Lists.{no_some, some_of, not_both}
 use Rattle.reserving.proofs.Keys.{same_number, found_own}
 use Rattle.reserving.proofs.Advancing.{IsRowsOf-advanced}
@@ -27,7 +31,8 @@ use Rattle.reserving.proofs.StoredRows.{IsAccount-priced, IsStored-stored}
 use Rattle.reserving.proofs.LeftJoined.{each_in_map, held_behind}
 use Rattle.reserving.proofs.LeftMerged.{each_left}
 use Rattle.reserving.proofs.LeftTests.{each_append}
-use Rattle.reserving.proofs.LeftParted.{one_group, find_both, each_placed, each_merged, row_held, none_held, dead_parts}
+use Rattle.reserving.proofs.LeftParted.{one_group, find_both, each_placed, each_merged, row_held}
+use Rattle.reserving.proofs.LeftParted.{none_held, dead_parts}
 use Rattle.reserving.proofs.LeftMore.{are_told, apart_none}
 use Rattle.reserving.proofs.LeftFrames.{advanced_joined}
 use Rattle.reserving.proofs.InOrder.{order_joined}

@@ -1,5 +1,6 @@
 -- What the keeper in memory has after a commit: the change's rows over those that were there.
-use Rattle.std.proofs.Common.{◌≡◌, ℕ, Bool, true, false, List, [], ◌++◌, refl, sym, ap, ◌∙◌, Option, Some, None}
+use Rattle.std.proofs.Common.{◌≡◌, ℕ, Bool, true, false, List, [], ◌++◌, refl, sym, ap, ◌∙◌, Option}
+use Rattle.std.proofs.Common.{Some, None}
 use Rattle.std.specs.Prelude.{if◌then◌else◌, ◌==◌, ◌&&◌, not, filter, is_some, option_map}
 use Rattle.std.specs.List.{find}
 use Rattle.buckets.specs.Row.{Row}
@@ -7,7 +8,8 @@ use Rattle.reserving.specs.declared.session.Session.{Session}
 use Rattle.reserving.specs.declared.session.SessionGroup.{SessionGroup}
 use Rattle.reserving.specs.declared.session.Counter.{Counter}
 use Rattle.reserving.specs.Ledger.{is_same}
-use Rattle.reserving.specs.Sessions.{is_session, is_of, is_counter, is_open, session_in, group_in, counter_in}
+use Rattle.reserving.specs.Sessions.{is_session, is_of, is_counter, is_open, session_in, group_in}
+use Rattle.reserving.specs.Sessions.{counter_in}
 use Rattle.reserving.specs.Rows.{AreApart}
 use Rattle.reserving.specs.Stored.{StoredRows, IsStored}
 use Rattle.reserving.specs.Left.{is_dead, IsDead, only, first_of, bucket_in, none_left}
@@ -19,7 +21,8 @@ use Rattle.reserving.proofs.LeftParted.{one_session, one_group, one_counter, fin
 use Rattle.reserving.proofs.LeftMore.{apart_none}
 use Rattle.keepers.specs.Tables.{head_of, group_row, held_of, no_rows}
 use Rattle.keepers.specs.Change.{held_over, over, IsMadeFrom}
-use Rattle.keepers.specs.Parts.{Parts, AreParts, rows_of, leaves_bucket, leaves_counter, leaves_session, leaves_group, with_live}
+use Rattle.keepers.specs.Parts.{Parts, AreParts, rows_of, leaves_bucket, leaves_counter}
+use Rattle.keepers.specs.Parts.{leaves_session, leaves_group, with_live}
 use Rattle.keepers.specs.Keyed.{same_bucket, same_session, same_group, same_counter}
 use Rattle.keepers.proofs.Found.{told_by_one, one_bucket}
 use Rattle.keepers.proofs.GroupRows.{no_periods, row_over, held_over_is}

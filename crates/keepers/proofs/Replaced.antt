@@ -1,6 +1,7 @@
 -- What is left once the rows are others, by what a store in memory does: those that leave stand
 -- behind, and what there are rows of again goes.
-use Rattle.std.proofs.Common.{◌≡◌, ℕ, zero, suc, ◌+◌, ◌<◌, ◌≤◌, Bool, true, false, List, [], ◌∷◌, ◌++◌, length, take, get_or, refl, sym, ap, subst, ◌∙◌, arith}
+use Rattle.std.proofs.Common.{◌≡◌, ℕ, zero, suc, ◌+◌, ◌<◌, ◌≤◌, Bool, true, false, List, [], ◌∷◌}
+use Rattle.std.proofs.Common.{◌++◌, length, take, get_or, refl, sym, ap, subst, ◌∙◌, arith}
 use Rattle.std.specs.Prelude.{not, filter, is_some, ◌||◌}
 use Rattle.buckets.specs.Row.{Row}
 use Rattle.reserving.specs.declared.session.Session.{Session}
@@ -15,7 +16,8 @@ use Rattle.reserving.proofs.Lists.{not_both}
 use Rattle.reserving.proofs.LeftJoined.{each_in_map}
 use Rattle.reserving.proofs.LeftTests.{each_append, each_passes, each_with}
 use Rattle.keepers.specs.Parts.{leaves_bucket, leaves_session, leaves_group}
-use Rattle.keepers.specs.Named.{Numbers, Names, is_numbered, is_named, AreLeftBuckets, AreLeftCounters, AreLeftSessions, AreLeftGroups}
+use Rattle.keepers.specs.Named.{Numbers, Names, is_numbered, is_named, AreLeftBuckets}
+use Rattle.keepers.specs.Named.{AreLeftCounters, AreLeftSessions, AreLeftGroups}
 use Rattle.keepers.proofs.Unchanged.{filter_both}
 
 pub left_is : {A : Type 0} (p : A → Bool) (old live mid more back new : List A) → mid ≡ old →

@@ -1,5 +1,7 @@
 -- Each account in its turn, and the tables once all are brought to a moment.
-use Rattle.std.proofs.Common.{◌≡◌, ℕ, zero, suc, ◌+◌, ◌<◌, Bool, true, false, cond, List, [], ◌∷◌, ◌++◌, length, take, drop, get_or, set, refl, sym, ap, subst, ◌∙◌, arith, Option, Some, None}
+use Rattle.std.proofs.Common.{◌≡◌, ℕ, zero, suc, ◌+◌, ◌<◌, Bool, true, false, cond, List, [], ◌∷◌}
+use Rattle.std.proofs.Common.{◌++◌, length, take, drop, get_or, set, refl, sym, ap, subst, ◌∙◌}
+use Rattle.std.proofs.Common.{arith, Option, Some, None}
 use Rattle.std.specs.Prelude.{if◌then◌else◌, ◌≤◌, position}
 use Rattle.reserving.proofs.Lists.{no_some}
 use Rattle.std.specs.List.{find, position_from}
@@ -13,7 +15,9 @@ use Rattle.keepers.specs.Keys.{same_key}
 use Rattle.keepers.specs.declared.entries.Entry.{Entry}
 use Rattle.keepers.specs.Tables.{Rows, Tables, no_rows}
 use Rattle.keepers.specs.Change.{AreRowsAt, IsSwept}
-use Rattle.keepers.specs.Memory.{is_entry, entry_in, rows_of_entry, answer_of_entry, charges_of_entry, IsSweptEntry, AreSwept, VoucherMap, memory_tables}
+use Rattle.keepers.specs.Memory.{is_entry, entry_in, rows_of_entry, answer_of_entry}
+use Rattle.keepers.specs.Memory.{charges_of_entry, IsSweptEntry, AreSwept, VoucherMap}
+use Rattle.keepers.specs.Memory.{memory_tables}
 use Rattle.keepers.specs.Tables.{charge_in}
 
 no_less : (n : ℕ) → n < 0 → ⊥

@@ -1,5 +1,6 @@
 -- What is loaded of an account's rows, and what was left.
-use Rattle.std.proofs.Common.{◌≡◌, ℕ, Bool, true, false, List, [], refl, sym, ap, subst, ◌∙◌, Option, Some, None}
+use Rattle.std.proofs.Common.{◌≡◌, ℕ, Bool, true, false, List, [], refl, sym, ap, subst, ◌∙◌}
+use Rattle.std.proofs.Common.{Option, Some, None}
 use Rattle.std.specs.Prelude.{if◌then◌else◌, ◌==◌, ◌||◌, not, is_some, option_map, filter}
 use Rattle.tariffs.specs.Books.{Book}
 use Rattle.rating.specs.declared.grant.Periods.{Periods}
@@ -7,12 +8,15 @@ use Rattle.reserving.specs.declared.session.Session.{Session}
 use Rattle.reserving.specs.declared.session.SessionState.TheVariants.{Open, Ended, NeverOpened}
 use Rattle.reserving.specs.declared.session.SessionGroup.{SessionGroup}
 use Rattle.reserving.specs.declared.session.Reservation.{Reservation}
-use Rattle.reserving.specs.Ledger.{Ledger, Recording, is_live, last_touch, last_recording, open_grant, has_group}
+use Rattle.reserving.specs.Ledger.{Ledger, Recording, is_live, last_touch, last_recording}
+use Rattle.reserving.specs.Ledger.{open_grant, has_group}
 use Rattle.reserving.specs.Pricing.{cycle_at}
-use Rattle.reserving.specs.Sessions.{is_open, session_in, group_in, session_row, state_at, reservation_at, reservation_of, holds_at}
+use Rattle.reserving.specs.Sessions.{is_open, session_in, group_in, session_row, state_at}
+use Rattle.reserving.specs.Sessions.{reservation_at, reservation_of, holds_at}
 use Rattle.reserving.specs.Rows.{AccountRows, AreInOrderOf, IsAccount, IsRowsOf}
 use Rattle.reserving.specs.Stored.{stored, priced}
-use Rattle.reserving.specs.Left.{is_dead, is_open_row, only, left_of, IsPartOf, IsWith, IsLoadedWith}
+use Rattle.reserving.specs.Left.{is_dead, is_open_row, only, left_of, IsPartOf, IsWith}
+use Rattle.reserving.specs.Left.{IsLoadedWith}
 use Rattle.reserving.proofs.Lists.{some_of, not_both}
 use Rattle.reserving.proofs.StoredRows.{IsAccount-priced}
 use Rattle.reserving.proofs.LeftMore.{are_told}

@@ -1,5 +1,6 @@
 -- What was left stays as it is where no row has a key of its.
-use Rattle.std.proofs.Common.{◌≡◌, ℕ, Bool, true, false, cond, List, [], ◌∷◌, ◌++◌, refl, sym, ap, ◌∙◌, Option, Some, None}
+use Rattle.std.proofs.Common.{◌≡◌, ℕ, Bool, true, false, cond, List, [], ◌∷◌, ◌++◌, refl, sym, ap}
+use Rattle.std.proofs.Common.{◌∙◌, Option, Some, None}
 use Rattle.std.specs.Prelude.{◌==◌, ◌||◌, not, filter, is_some}
 use Rattle.std.specs.List.{find, list_any}
 use Rattle.buckets.specs.Row.{Row}
@@ -9,14 +10,16 @@ use Rattle.reserving.specs.declared.session.Counter.{Counter}
 use Rattle.reserving.specs.Ledger.{is_same}
 use Rattle.reserving.specs.Rows.{EachIn}
 use Rattle.reserving.specs.Stored.{StoredRows}
-use Rattle.reserving.specs.Sessions.{is_session, is_of, is_counter, is_open, session_in, group_in, counter_in}
+use Rattle.reserving.specs.Sessions.{is_session, is_of, is_counter, is_open, session_in, group_in}
+use Rattle.reserving.specs.Sessions.{counter_in}
 use Rattle.reserving.specs.Left.{is_dead, bucket_in}
 use Rattle.reserving.proofs.Lists.{not_both, some_of, no_some, find-passes}
 use Rattle.reserving.proofs.Keys.{first_true, second_true, both_true, same_number}
 use Rattle.reserving.proofs.Holds.{same_from}
 use Rattle.reserving.proofs.LeftJoined.{each_in_map}
 use Rattle.keepers.specs.Parts.{leaves_bucket, leaves_counter, leaves_session, leaves_group}
-use Rattle.keepers.specs.Named.{Numbers, Names, is_numbered, is_named, AreLeftBuckets, AreLeftCounters, AreLeftSessions, AreLeftGroups}
+use Rattle.keepers.specs.Named.{Numbers, Names, is_numbered, is_named, AreLeftBuckets}
+use Rattle.keepers.specs.Named.{AreLeftCounters, AreLeftSessions, AreLeftGroups}
 
 -- all pass: nothing is filtered out
 all_pass : {A : Type 0} (p : A → Bool) (xs : List A) → EachIn (λ x. p x ≡ true) xs →

@@ -1,6 +1,7 @@
 -- What a keeper loads of an account, and what a commit and a sweep leave.
 -- Source: profile.
-use Rattle.std.specs.Prelude.{◌≡◌, ℕ, ◌+◌, ◌++◌, ◌==◌, ◌≤◌, ◌||◌, Bool, true, false, not, Option, Some, None, List, is_some, option_map, if◌then◌else◌}
+use Rattle.std.specs.Prelude.{◌≡◌, ℕ, ◌+◌, ◌++◌, ◌==◌, ◌≤◌, ◌||◌, Bool, true, false, not, Option}
+use Rattle.std.specs.Prelude.{Some, None, List, is_some, option_map, if◌then◌else◌}
 use Rattle.identifiers.specs.Texts.{same_name}
 use Rattle.buckets.specs.Row.{Row}
 use Rattle.tariffs.specs.Books.{Book}
@@ -23,7 +24,8 @@ use Rattle.keepers.specs.declared.loaded.Loaded.{Loaded}
 use Rattle.keepers.specs.declared.loaded.Change.{Change}
 use Rattle.keepers.specs.declared.loaded.Redeemed.{Redeemed}
 use Rattle.keepers.specs.Keyed.{same_bucket}
-use Rattle.keepers.specs.Tables.{Head, Rows, Tables, GroupRow, no_rows, head_of, group_row, held_of, AreListed, charge_in}
+use Rattle.keepers.specs.Tables.{Head, Rows, Tables, GroupRow, no_rows, head_of, group_row, held_of}
+use Rattle.keepers.specs.Tables.{AreListed, charge_in}
 
 -- ---- load
 

@@ -1,6 +1,7 @@
 -- Rows that differ from those before: a change is told by them alone.
 -- Source: profile.
-use Rattle.std.specs.Prelude.{◌≡◌, ℕ, ◌==◌, ◌&&◌, Bool, true, false, List, [], ◌∷◌, Option, Some, None, option_map}
+use Rattle.std.specs.Prelude.{◌≡◌, ℕ, ◌==◌, ◌&&◌, Bool, true, false, List, [], ◌∷◌, Option, Some}
+use Rattle.std.specs.Prelude.{None, option_map}
 use Rattle.std.specs.Cmp.Lexicographic.{pointwise}
 use Rattle.buckets.specs.declared.holds.Hold.{Hold}
 use Rattle.buckets.specs.Row.{Row}
@@ -12,7 +13,8 @@ use Rattle.reserving.specs.declared.session.SessionGroup.{SessionGroup}
 use Rattle.reserving.specs.declared.session.Reservation.{Reservation}
 use Rattle.reserving.specs.declared.session.Counter.{Counter}
 use Rattle.reserving.specs.Ledger.{is_same}
-use Rattle.reserving.specs.Sessions.{is_session, is_of, is_counter, session_in, group_in, counter_in}
+use Rattle.reserving.specs.Sessions.{is_session, is_of, is_counter, session_in, group_in}
+use Rattle.reserving.specs.Sessions.{counter_in}
 use Rattle.reserving.specs.Rows.{AreApart}
 use Rattle.reserving.specs.Left.{bucket_in, differing, first_of}
 use Rattle.keepers.specs.Tables.{GroupRow, group_row, held_of}

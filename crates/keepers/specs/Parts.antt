@@ -1,14 +1,16 @@
 -- An account as the keeper in memory has it: what was live after its last command, and the rows
 -- that were left.
 -- Source: profile.
-use Rattle.std.specs.Prelude.{◌≡◌, ℕ, ◌==◌, ◌&&◌, ◌++◌, ◌≤◌, Bool, true, false, not, List, [], Option, Some, None, is_some, option_map, filter}
+use Rattle.std.specs.Prelude.{◌≡◌, ℕ, ◌==◌, ◌&&◌, ◌++◌, ◌≤◌, Bool, true, false, not, List, []}
+use Rattle.std.specs.Prelude.{Option, Some, None, is_some, option_map, filter}
 use Rattle.buckets.specs.Row.{Row, IsBalanced}
 use Rattle.buckets.specs.Spend.{Each}
 use Rattle.tariffs.specs.Books.{Book}
 use Rattle.reserving.specs.declared.session.Session.{Session}
 use Rattle.reserving.specs.declared.session.SessionGroup.{SessionGroup}
 use Rattle.reserving.specs.declared.session.Counter.{Counter}
-use Rattle.reserving.specs.Sessions.{is_session, is_of, is_counter, is_open, session_in, group_in, counter_in}
+use Rattle.reserving.specs.Sessions.{is_session, is_of, is_counter, is_open, session_in, group_in}
+use Rattle.reserving.specs.Sessions.{counter_in}
 use Rattle.reserving.specs.Rows.{EachIn, AreApart}
 use Rattle.reserving.specs.Stored.{StoredRows, advanced_stored}
 use Rattle.reserving.specs.Left.{LeftRows, IsDead, is_dead, bucket_in}

@@ -6,7 +6,8 @@ use Rattle.reserving.specs.Stored.{StoredRows}
 use Rattle.keepers.specs.declared.store.LeftStore.{LeftStore}
 use Rattle.keepers.specs.declared.store.Known.{Known}
 use Rattle.keepers.specs.Parts.{leaves_bucket, leaves_counter, leaves_session, leaves_group}
-use Rattle.keepers.specs.Named.{is_numbered, is_named, AreLeftBuckets, AreLeftCounters, AreLeftSessions, AreLeftGroups}
+use Rattle.keepers.specs.Named.{is_numbered, is_named, AreLeftBuckets, AreLeftCounters}
+use Rattle.keepers.specs.Named.{AreLeftSessions, AreLeftGroups}
 
 -- those of the live rows that leave, by the rows after
 pub record IsLeaving (after live : StoredRows) (rows : LeftStore) : Type 0 where

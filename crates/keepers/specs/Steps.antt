@@ -1,5 +1,6 @@
 -- What a step concludes from what it loaded and what the call gave.
-use Rattle.std.specs.Prelude.{◌≡◌, ℕ, ◌+◌, ◌++◌, ◌≤◌, List, ◌∷◌, Bool, Option, Some, None, true, false, is_some, if◌then◌else◌}
+use Rattle.std.specs.Prelude.{◌≡◌, ℕ, ◌+◌, ◌++◌, ◌≤◌, List, ◌∷◌, Bool, Option, Some, None, true}
+use Rattle.std.specs.Prelude.{false, is_some, if◌then◌else◌}
 use Rattle.tariffs.specs.Books.{Book, IsBook}
 use Rattle.reserving.specs.Ledger.{Ledger, has_group, last_recording}
 use Rattle.reserving.specs.Sessions.{group_in, session_in, is_session}

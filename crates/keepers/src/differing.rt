@@ -5,7 +5,9 @@ ghost use Rattle.std.specs.Prelude.{◌≡◌, ◌<◌, not, length, get_or};
 ghost use Rattle.std.specs.List.{list_any};
 ghost use Rattle.std.specs.Cmp.Lexicographic.{pointwise};
 ghost use Rattle.keepers.specs.Keyed.{same_bucket, same_counter, same_session, same_group};
-ghost use Rattle.keepers.specs.Differing.{same_scope, equal_bucket, equal_counter, same_state, equal_session, equal_hold, equal_periods, equal_reservation, equal_group};
+ghost use Rattle.keepers.specs.Differing.{same_scope, equal_bucket, equal_counter, same_state};
+ghost use Rattle.keepers.specs.Differing.{equal_session, equal_hold, equal_periods};
+ghost use Rattle.keepers.specs.Differing.{equal_reservation, equal_group};
 
 use buckets::{Bucket, Hold};
 use rating::Periods;

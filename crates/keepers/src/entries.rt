@@ -1,6 +1,7 @@
 //! The accounts of the keeper in memory, each with its charges and its kept answers.
 
-ghost use Rattle.std.specs.Prelude.{◌≡◌, ◌<◌, ◌+◌, ◌++◌, ℕ, List, Some, None, is_some, IfOk, IsOk, OnOk, OnErr, option_map, if◌then◌else◌};
+ghost use Rattle.std.specs.Prelude.{◌≡◌, ◌<◌, ◌+◌, ◌++◌, ℕ, List, Some, None, is_some, IfOk, IsOk};
+ghost use Rattle.std.specs.Prelude.{OnOk, OnErr, option_map, if◌then◌else◌};
 ghost use Rattle.std.specs.HashMap.{get, spare};
 ghost use Rattle.identifiers.specs.Texts.{same_name};
 ghost use Rattle.keepers.specs.declared.key.Key.{Key};
@@ -10,7 +11,9 @@ ghost use Rattle.keepers.specs.Tables.{no_rows};
 ghost use Rattle.keepers.specs.Whole.{AreWhole};
 ghost use Rattle.keepers.specs.Change.{IsLoad, IsView, IsMadeFrom, over};
 ghost use Rattle.keepers.specs.Parts.{rows_of};
-ghost use Rattle.keepers.specs.Memory.{entry_in, rows_of_entry, answer_of_entry, charges_of_entry, session_of_entry, IsSweptEntry, AreSwept, ArePlaced, ArePut, AreUnchanged};
+ghost use Rattle.keepers.specs.Memory.{entry_in, rows_of_entry, answer_of_entry, charges_of_entry};
+ghost use Rattle.keepers.specs.Memory.{session_of_entry, IsSweptEntry, AreSwept, ArePlaced, ArePut};
+ghost use Rattle.keepers.specs.Memory.{AreUnchanged};
 ghost use Rattle.reserving.specs.Stored.{StoredRows};
 
 use crate::accounts::Accounts;

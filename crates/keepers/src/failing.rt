@@ -15,7 +15,8 @@ use units::Moment;
 /// and is counted; each other call is that of the keeper inside. It meets the laws over any keeper.
 #[derive(Drop)]
 pub struct Failing<K> {
-    inner: K,
+    /// The keeper inside.
+    pub inner: K,
     left: u64,
     failed: bool,
 }
@@ -48,8 +49,9 @@ impl<K: Keeper> Failing<K> {
         inner
     }
 
-    /// Whether this call fails: once, when the calls before the failing one are done.
-    fn fails(&mut self) -> bool
+    /// Whether this call fails: once, when the calls before the failing one are done. A further
+    /// call over the keeper asks it first, so that it is counted.
+    pub fn fails(&mut self) -> bool
         ensures told { result ≡ (not self.old.failed && self.old.left == 0) }
         ensures left { self.old.failed ≡ false → self.new.left ≡ self.old.left - 1 }
         ensures same { self.new.inner ≡ self.old.inner }

@@ -2,7 +2,8 @@ ghost use Rattle.std.specs.Prelude.{◌≡◌, ◌≤◌, ℕ, IfOk, OnOk, is_so
 ghost use Rattle.keepers.specs.Faults.{max_failures};
 ghost use Rattle.keepers.specs.Keeping.{Reads, Keeps};
 ghost use Rattle.keepers.specs.Tables.{Tables};
-ghost use Rattle.keepers.specs.Change.{IsLoad, IsView, AreDeadOf, IsMadeFrom, changed, with_voucher, IsSwept};
+ghost use Rattle.keepers.specs.Change.{IsLoad, IsView, AreDeadOf, IsMadeFrom, changed};
+ghost use Rattle.keepers.specs.Change.{with_voucher, IsSwept};
 
 use crate::fault::StoreFault;
 use crate::key::{KeptAnswer, Key};
@@ -104,8 +105,8 @@ pub trait Keeper {
             content self.new ≡ changed change (content self.old)) }
         ensures kept { Keeps content failed clean self.old self.new result };
 
-    /// Puts a voucher of these terms, which no account has redeemed, under the code, as a command of
-    /// the moment, in one transaction. At a fault nothing has changed.
+    /// Puts a voucher of these terms, which no account has redeemed, under the code, as a command
+    /// of the moment, in one transaction. At a fault nothing has changed.
     fn add_voucher(
         &mut self,
         code: VoucherCode,

@@ -1,5 +1,7 @@
-ghost use Rattle.keepers.specs.Steps.{IsLoadStep, IsCommitStep, IsKnownStep, IsNewStep, IsBucketsTold, IsListTold};
-ghost use Rattle.keepers.specs.Differing.{AreBucketsOverlaid, AreCountersOverlaid, AreSessionsOverlaid, AreGroupsOverlaid, AreHoldsOverlaid};
+ghost use Rattle.keepers.specs.Steps.{IsLoadStep, IsCommitStep, IsKnownStep, IsNewStep};
+ghost use Rattle.keepers.specs.Steps.{IsBucketsTold, IsListTold};
+ghost use Rattle.keepers.specs.Differing.{AreBucketsOverlaid, AreCountersOverlaid};
+ghost use Rattle.keepers.specs.Differing.{AreSessionsOverlaid, AreGroupsOverlaid, AreHoldsOverlaid};
 
 /// What is loaded and what was left are together the ledger's rows, and so they are after a commit;
 /// a session has a row where it has a record; the rows of an account are those of its ledger.

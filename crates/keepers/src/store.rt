@@ -1,8 +1,11 @@
 //! The rows of an account in memory.
 
 ghost use Rattle.std.specs.List.{list_any};
-ghost use Rattle.std.specs.Prelude.{◌≡◌, ℕ, List, true, IsOk, ◌≤◌, ◌++◌, ◌&&◌, ◌||◌, ◌==◌, if◌then◌else◌, [], filter, is_some, IfOk, OnOk, OnErr, position};
-ghost use Rattle.reserving.specs.Sessions.{session_in, group_in, counter_in, is_session, is_of, is_counter};
+ghost use Rattle.std.specs.Prelude.{◌≡◌, ℕ, List, true, IsOk, ◌≤◌, ◌++◌, ◌&&◌, ◌||◌, ◌==◌};
+ghost use Rattle.std.specs.Prelude.{if◌then◌else◌, [], filter, is_some, IfOk, OnOk, OnErr};
+ghost use Rattle.std.specs.Prelude.{position};
+ghost use Rattle.reserving.specs.Sessions.{session_in, group_in, counter_in, is_session, is_of};
+ghost use Rattle.reserving.specs.Sessions.{is_counter};
 ghost use Rattle.reserving.specs.Left.{bucket_in, is_dead};
 ghost use Rattle.keepers.specs.Change.{IsLoadedFrom, IsMadeFrom, over, AreRowsAt, AreDeadOf};
 ghost use Rattle.reserving.specs.Stored.{StoredRows};
@@ -10,10 +13,14 @@ ghost use Rattle.reserving.specs.Ledger.{Ledger};
 ghost use Rattle.keepers.specs.Tables.{no_rows};
 ghost use Rattle.keepers.specs.Whole.{AreWhole};
 ghost use Rattle.reserving.specs.Rows.{EachIn};
-ghost use Rattle.keepers.specs.Parts.{rows_of, with_live, advanced_parts, leaves_bucket, leaves_counter, leaves_session, leaves_group};
-ghost use Rattle.keepers.specs.Named.{is_numbered, is_named, is_left_now, may_go_on, AreLeftBuckets, AreLeftCounters, AreLeftSessions, AreLeftGroups};
+ghost use Rattle.keepers.specs.Parts.{rows_of, with_live, advanced_parts, leaves_bucket};
+ghost use Rattle.keepers.specs.Parts.{leaves_counter, leaves_session, leaves_group};
+ghost use Rattle.keepers.specs.Named.{is_numbered, is_named, is_left_now, may_go_on};
+ghost use Rattle.keepers.specs.Named.{AreLeftBuckets, AreLeftCounters, AreLeftSessions};
+ghost use Rattle.keepers.specs.Named.{AreLeftGroups};
 ghost use Rattle.keepers.specs.Inside.{AreSameRows, HasRoom};
-ghost use Rattle.keepers.specs.Replacing.{IsLeaving, KnowsMore, AreNoted, IsAppended, AreKnown, IsFiltered};
+ghost use Rattle.keepers.specs.Replacing.{IsLeaving, KnowsMore, AreNoted, IsAppended, AreKnown};
+ghost use Rattle.keepers.specs.Replacing.{IsFiltered};
 
 use crate::whole::WholeAccount;
 use buckets::Bucket;
@@ -35,8 +42,8 @@ pub(crate) struct LeftStore {
     groups: Vec<SessionGroup>,
 }
 
-/// What the rows that were left name: the numbers of the buckets, the cycles of the counters, and the
-/// names of the sessions and of the groups' sessions.
+/// What the rows that were left name: the numbers of the buckets, the cycles of the counters, and
+/// the names of the sessions and of the groups' sessions.
 #[derive(Drop)]
 pub(crate) struct Known {
     numbers: HashMap<u32, bool>,

@@ -1,5 +1,7 @@
 -- What a run of a stream's commands leaves, and what is written of it.
-use Rattle.std.proofs.Common.{◌≡◌, ℕ, zero, suc, List, [], ◌∷◌, ◌++◌, map, length, take, drop, refl, sym, ap, subst, ◌∙◌, Option, Some, None, IfSome, IfNone, Result, Ok, Err, ◌+◌, ◌≤◌, arith}
+use Rattle.std.proofs.Common.{◌≡◌, ℕ, zero, suc, List, [], ◌∷◌, ◌++◌, map, length, take, drop, refl}
+use Rattle.std.proofs.Common.{sym, ap, subst, ◌∙◌, Option, Some, None, IfSome, IfNone, Result, Ok}
+use Rattle.std.proofs.Common.{Err, ◌+◌, ◌≤◌, arith}
 use Rattle.std.proofs.lemmas.List.{drop_all, take-append-le}
 use Rattle.std.proofs.lemmas.Bool.{false≢true}
 use Rattle.std.proofs.lemmas.Option.{none-some}
@@ -19,7 +21,9 @@ use Rattle.charging.specs.Served.{AreTables, answer_to, moment_of}
 use Rattle.charging.specs.Runs.{after_command, answers_to, after_commands, IsRun, Runs}
 use Rattle.ocs.specs.declared.input.Input.{Input}
 use Rattle.ocs.specs.Lines.{line_request}
-use Rattle.ocs.specs.Served.{requests_in, opening_for, opening_in, commands_of, faults_in, texts_of, text_of, text_to, once_text, ForEachList, IsContinued, IsAnswered, IsStopped, IsBegun, IsRunOpened}
+use Rattle.ocs.specs.Served.{requests_in, opening_for, opening_in, commands_of, faults_in, texts_of}
+use Rattle.ocs.specs.Served.{text_of, text_to, once_text, ForEachList, IsContinued, IsAnswered}
+use Rattle.ocs.specs.Served.{IsStopped, IsBegun, IsRunOpened}
 use Rattle.ocs.specs.Input.{told_fault, IsInput}
 use Rattle.office.specs.Written.{WritesBeginning}
 use Rattle.office.proofs.Beginnings.{nothing_written, beginning_before}
@@ -27,23 +31,32 @@ use Rattle.ocs.proofs.Texts.{texts_taken}
 
 -- ---- commands one after another
 
-commands_after : (b : Book) (list : List Accepted) (xs ys : List DatedCommand) → after_commands b list (xs ++ ys) ≡ after_commands b (after_commands b list xs) ys
+commands_after : (b : Book) (list : List Accepted) (xs ys : List DatedCommand) →
+    after_commands b list (xs ++ ys) ≡ after_commands b (after_commands b list xs) ys
 commands_after b list [] ys = refl
 commands_after b list (x ∷ xs) ys = commands_after b (after_command b list x) xs ys
 
-answers_after : (b : Book) (list : List Accepted) (xs ys : List DatedCommand) → answers_to b list (xs ++ ys) ≡ answers_to b list xs ++ answers_to b (after_commands b list xs) ys
+answers_after : (b : Book) (list : List Accepted) (xs ys : List DatedCommand) →
+    answers_to b list (xs ++ ys)
+    ≡ answers_to b list xs ++ answers_to b (after_commands b list xs) ys
 answers_after b list [] ys = refl
-answers_after b list (x ∷ xs) ys = ap (λ (l : List Answer). answer_to b list x.command (moment_of list x.moment) ∷ l) (answers_after b (after_command b list x) xs ys)
+answers_after b list (x ∷ xs) ys =
+    ap (λ (l : List Answer). answer_to b list x.command (moment_of list x.moment) ∷ l)
+    (answers_after b (after_command b list x) xs ys)
 
-answers_count : (b : Book) (list : List Accepted) (ds : List DatedCommand) → length (answers_to b list ds) ≡ length ds
+answers_count : (b : Book) (list : List Accepted) (ds : List DatedCommand) →
+    length (answers_to b list ds) ≡ length ds
 answers_count b list [] = refl
 answers_count b list (d ∷ ds) = ap suc (answers_count b (after_command b list d) ds)
 
 -- the answers to a beginning of the commands are a beginning of the answers
-answers_taken : (b : Book) (list : List Accepted) (ds : List DatedCommand) (n : ℕ) → answers_to b list (take n ds) ≡ take n (answers_to b list ds)
+answers_taken : (b : Book) (list : List Accepted) (ds : List DatedCommand) (n : ℕ) →
+    answers_to b list (take n ds) ≡ take n (answers_to b list ds)
 answers_taken b list ds zero = refl
 answers_taken b list [] (suc n) = refl
-answers_taken b list (d ∷ ds) (suc n) = ap (λ (l : List Answer). answer_to b list d.command (moment_of list d.moment) ∷ l) (answers_taken b (after_command b list d) ds n)
+answers_taken b list (d ∷ ds) (suc n) =
+    ap (λ (l : List Answer). answer_to b list d.command (moment_of list d.moment) ∷ l)
+    (answers_taken b (after_command b list d) ds n)
 
 -- ---- what opens an account, and then requests
 
@@ -51,50 +64,70 @@ no_none : {F : Type 0} (P : Type 0) (fault : Option F) → is_some fault ≡ tru
 no_none P (Some f) some = tt
 no_none P None some = absurd (false≢true some)
 
-pub where_none : {F : Type 0} (P : Type 0) (fault : Option F) → is_some fault ≡ false → IfNone fault P → P
+pub where_none : {F : Type 0} (P : Type 0) (fault : Option F) → is_some fault ≡ false →
+    IfNone fault P → P
 where_none P (Some f) none h = absurd (false≢true (sym none))
 where_none P None none h = h
 
 module _ (b : Book) (opening requests : List DatedCommand) where
   -- the run stopped before the requests
-  pub opening-stopped : {F : Type 0} (fault : Option F) (given : List Answer) (old new : Tables) → is_some fault ≡ true → length given ≤ length opening → Runs b opening old new given →
+  pub opening-stopped : {F : Type 0} (fault : Option F) (given : List Answer) (old new : Tables) →
+      is_some fault ≡ true → length given ≤ length opening → Runs b opening old new given →
       ForEachList b old (IsRunOpened b opening requests new [] fault)
   opening-stopped fault given old new some few runs = λ list time tables.
       let run : IsRun b list opening new given = runs list time tables in
       let n = length given in
-      let begun : take n (opening ++ requests) ≡ take n opening = take-append-le n opening requests few in
-      let told : length (answers_to b list (take n opening)) ≤ length opening = subst (λ (l : List Answer). length l ≤ length opening) run.answers few in
+      let begun : take n (opening ++ requests) ≡ take n opening =
+      take-append-le n opening requests few in
+      let told : length (answers_to b list (take n opening)) ≤ length opening =
+      subst (λ (l : List Answer). length l ≤ length opening) run.answers few in
       record {
         count = n;
-        tables = subst (λ (cs : List DatedCommand). AreTables b (after_commands b list cs) new) (sym begun) run.tables;
-        time = subst (λ (cs : List DatedCommand). IsInTime (after_commands b list cs)) (sym begun) run.time;
-        answers = sym (ap (λ (cs : List DatedCommand). drop (length opening) (answers_to b list cs)) begun ∙ drop_all (length opening) (answers_to b list (take n opening)) told);
+        tables = subst (λ (cs : List DatedCommand). AreTables b (after_commands b list cs) new)
+            (sym begun) run.tables;
+        time = subst (λ (cs : List DatedCommand). IsInTime (after_commands b list cs))
+            (sym begun) run.time;
+        answers =
+            sym (ap (λ (cs : List DatedCommand). drop (length opening) (answers_to b list cs)) begun
+            ∙ drop_all (length opening) (answers_to b list (take n opening)) told);
         whole = no_none _ fault some;
       }
 
-  all_taken : {F : Type 0} (fault : Option F) (given : List Answer) → IfNone fault (length given ≡ length requests) →
-      IfNone fault (take (length opening + length given) (opening ++ requests) ≡ opening ++ requests)
+  all_taken : {F : Type 0} (fault : Option F) (given : List Answer) →
+      IfNone fault (length given ≡ length requests) →
+      IfNone fault
+      (take (length opening + length given) (opening ++ requests) ≡ opening ++ requests)
   all_taken (Some f) given all = tt
   all_taken None given all =
-      take-append-add opening requests (length given) ∙ ap (λ n. opening ++ take n requests) all ∙ ap (λ (l : List DatedCommand). opening ++ l) (take-length requests)
+      take-append-add opening requests (length given)
+      ∙ ap (λ n. opening ++ take n requests) all
+      ∙ ap (λ (l : List DatedCommand). opening ++ l) (take-length requests)
 
   -- it came to the requests
-  pub requests-run : {F : Type 0} (fault : Option F) (before given : List Answer) (old mid new : Tables) → length before ≡ length opening → Runs b opening old mid before →
-      Runs b requests mid new given → IfNone fault (length given ≡ length requests) → ForEachList b old (IsRunOpened b opening requests new given fault)
+  pub requests-run : {F : Type 0} (fault : Option F) (before given : List Answer)
+      (old mid new : Tables) → length before ≡ length opening → Runs b opening old mid before →
+      Runs b requests mid new given → IfNone fault (length given ≡ length requests) →
+      ForEachList b old (IsRunOpened b opening requests new given fault)
   requests-run fault before given old mid new all runs later whole = λ list time tables.
       let run : IsRun b list opening mid before = runs list time tables in
-      let opened : take (length before) opening ≡ opening = ap (λ n. take n opening) all ∙ take-length opening in
+      let opened : take (length before) opening ≡ opening = ap (λ n. take n opening) all
+      ∙ take-length opening in
       let after : List Accepted = after_commands b list opening in
       let rest : IsRun b after requests new given =
-      later after (subst (λ (cs : List DatedCommand). IsInTime (after_commands b list cs)) opened run.time)
-      (subst (λ (cs : List DatedCommand). AreTables b (after_commands b list cs) mid) opened run.tables) in
+      later after
+      (subst (λ (cs : List DatedCommand). IsInTime (after_commands b list cs)) opened run.time)
+      (subst (λ (cs : List DatedCommand). AreTables b (after_commands b list cs) mid) opened
+      run.tables) in
       let n = length given in
-      let begun : take (length opening + n) (opening ++ requests) ≡ opening ++ take n requests = take-append-add opening requests n in
-      let list_is : after_commands b list (take (length opening + n) (opening ++ requests)) ≡ after_commands b after (take n requests) =
+      let begun : take (length opening + n) (opening ++ requests) ≡ opening ++ take n requests =
+      take-append-add opening requests n in
+      let list_is : after_commands b list (take (length opening + n) (opening ++ requests))
+      ≡ after_commands b after (take n requests) =
       ap (after_commands b list) begun ∙ commands_after b list opening (take n requests) in
       let ahead : List Answer = answers_to b list opening in
       let follow : List Answer = answers_to b after (take n requests) in
-      let told : drop (length opening) (answers_to b list (take (length opening + n) (opening ++ requests))) ≡ follow =
+      let told : drop (length opening)
+      (answers_to b list (take (length opening + n) (opening ++ requests))) ≡ follow =
       ap (λ (cs : List DatedCommand). drop (length opening) (answers_to b list cs)) begun
       ∙ ap (drop (length opening)) (answers_after b list opening (take n requests))
       ∙ ap (λ k. drop k (ahead ++ follow)) (sym (answers_count b list opening))
@@ -112,8 +145,10 @@ module _ (b : Book) (opening requests : List DatedCommand) where
 pub continued-same : (b : Book) (tables : Tables) → ForEachList b tables (IsContinued b tables)
 continued-same b tables = λ list time h. record { commands = []; tables = h; time = time }
 
-pub continued-run : {F : Type 0} (b : Book) (opening requests : List DatedCommand) (old new : Tables) (given : List Answer) (fault : Option F) →
-    ForEachList b old (IsRunOpened b opening requests new given fault) → ForEachList b old (IsContinued b new)
+pub continued-run : {F : Type 0} (b : Book) (opening requests : List DatedCommand)
+    (old new : Tables) (given : List Answer) (fault : Option F) →
+    ForEachList b old (IsRunOpened b opening requests new given fault) →
+    ForEachList b old (IsContinued b new)
 continued-run b opening requests old new given fault runs = λ list time tables.
     let run : IsRunOpened b opening requests new given fault list = runs list time tables in
     record { commands = take run.count (opening ++ requests); tables = run.tables; time = run.time }
@@ -122,82 +157,132 @@ continued-run b opening requests old new given fault runs = λ list time tables.
 
 module _ (b : Book) (amount : Option ℕ) (w0 w1 : Option (List ℕ)) where
   -- before the lines are read
-  pub begun-none : (r : Option (List ℕ)) (tables : Tables) → IfSome r (λ stream. ForEachList b tables (IsBegun b amount stream w0 w0 tables))
+  pub begun-none : (r : Option (List ℕ)) (tables : Tables) →
+      IfSome r (λ stream. ForEachList b tables (IsBegun b amount stream w0 w0 tables))
   begun-none None tables = tt
-  begun-none (Some stream) tables = λ list time h. record { count = 0; tables = h; written = nothing_written w0 (text_to 0 b list amount stream) }
+  begun-none (Some stream) tables = λ list time h. record {
+    count = 0;
+    tables = h;
+    written = nothing_written w0 (text_to 0 b list amount stream);
+  }
 
-  module _ {F : Type 0} (input : Input) (opening : List DatedCommand) (given : List Answer) (fault : Option F) (old new : Tables) where
+  module _ {F : Type 0} (input : Input) (opening : List DatedCommand) (given : List Answer)
+      (fault : Option F) (old new : Tables) where
     -- the commands of the stream were run
-    run_in : (stream : List ℕ) → IsInput (map line_request (lines_of stream)) input → opening ≡ opening_for amount input.requests.items →
-        ForEachList b old (IsRunOpened b opening input.requests.items new given fault) → ForEachList b old (IsRunOpened b (opening_in amount stream) (requests_in stream) new given fault)
+    run_in : (stream : List ℕ) → IsInput (map line_request (lines_of stream)) input →
+        opening ≡ opening_for amount input.requests.items →
+        ForEachList b old (IsRunOpened b opening input.requests.items new given fault) →
+        ForEachList b old
+        (IsRunOpened b (opening_in amount stream) (requests_in stream) new given fault)
     run_in stream h opened runs = λ list time tables.
-        subst (λ (rs : List DatedCommand). IsRunOpened b (opening_for amount rs) rs new given fault list) h.requests
-        (subst (λ (os : List DatedCommand). IsRunOpened b os input.requests.items new given fault list) opened (runs list time tables))
+        subst (λ (rs : List DatedCommand).
+        IsRunOpened b (opening_for amount rs) rs new given fault list) h.requests
+        (subst (λ (os : List DatedCommand).
+        IsRunOpened b os input.requests.items new given fault list) opened (runs list time tables))
 
-    text_is : (stream : List ℕ) (list : List Accepted) → IsInput (map line_request (lines_of stream)) input → (run : IsRunOpened b (opening_in amount stream) (requests_in stream) new given fault list) →
+    text_is : (stream : List ℕ) (list : List Accepted) →
+        IsInput (map line_request (lines_of stream)) input →
+        (run : IsRunOpened b (opening_in amount stream) (requests_in stream) new given fault list) →
         texts_of (map told_fault input.lines.items) given ≡ text_to run.count b list amount stream
     text_is stream list h run = λ i. texts_of (h.lines i) (run.answers i)
 
     -- what is answered isn't written whole
-    pub begun-run : (r : Option (List ℕ)) → IfSome r (λ stream. IsInput (map line_request (lines_of stream)) input) → opening ≡ opening_for amount input.requests.items →
-        ForEachList b old (IsRunOpened b opening input.requests.items new given fault) → WritesBeginning w0 w1 (texts_of (map told_fault input.lines.items) given) →
+    pub begun-run : (r : Option (List ℕ)) →
+        IfSome r (λ stream. IsInput (map line_request (lines_of stream)) input) →
+        opening ≡ opening_for amount input.requests.items →
+        ForEachList b old (IsRunOpened b opening input.requests.items new given fault) →
+        WritesBeginning w0 w1 (texts_of (map told_fault input.lines.items) given) →
         IfSome r (λ stream. ForEachList b old (IsBegun b amount stream w0 w1 new))
     begun-run None h opened runs written = tt
     begun-run (Some stream) h opened runs written = λ list time tables.
-        let run : IsRunOpened b (opening_in amount stream) (requests_in stream) new given fault list = run_in stream h opened runs list time tables in
-        record { count = run.count; tables = run.tables; written = subst (WritesBeginning w0 w1) (text_is stream list h run) written }
+        let run : IsRunOpened b (opening_in amount stream)
+        (requests_in stream) new given fault list = run_in stream h opened runs list time tables in
+        record {
+          count = run.count;
+          tables = run.tables;
+          written = subst (WritesBeginning w0 w1) (text_is stream list h run) written;
+        }
 
     -- it is, up to a fault
-    pub stopped-run : (r : Option (List ℕ)) → IfSome r (λ stream. IsInput (map line_request (lines_of stream)) input) → opening ≡ opening_for amount input.requests.items →
-        ForEachList b old (IsRunOpened b opening input.requests.items new given fault) → Appends w0 w1 (texts_of (map told_fault input.lines.items) given) →
+    pub stopped-run : (r : Option (List ℕ)) →
+        IfSome r (λ stream. IsInput (map line_request (lines_of stream)) input) →
+        opening ≡ opening_for amount input.requests.items →
+        ForEachList b old (IsRunOpened b opening input.requests.items new given fault) →
+        Appends w0 w1 (texts_of (map told_fault input.lines.items) given) →
         IfSome r (λ stream. ForEachList b old (IsStopped b amount stream w0 w1 new))
     stopped-run None h opened runs written = tt
     stopped-run (Some stream) h opened runs written = λ list time tables.
-        let run : IsRunOpened b (opening_in amount stream) (requests_in stream) new given fault list = run_in stream h opened runs list time tables in
-        record { count = run.count; tables = run.tables; written = subst (Appends w0 w1) (text_is stream list h run) written }
+        let run : IsRunOpened b (opening_in amount stream)
+        (requests_in stream) new given fault list = run_in stream h opened runs list time tables in
+        record {
+          count = run.count;
+          tables = run.tables;
+          written = subst (Appends w0 w1) (text_is stream list h run) written;
+        }
 
   -- all is
-  pub answered-run : {F : Type 0} (input : Input) (opening : List DatedCommand) (given : List Answer) (fault : Option F) (old new : Tables) (r : Option (List ℕ)) → fault ≡ None →
-      IfSome r (λ stream. IsInput (map line_request (lines_of stream)) input) → opening ≡ opening_for amount input.requests.items →
-      ForEachList b old (IsRunOpened b opening input.requests.items new given fault) → Appends w0 w1 (texts_of (map told_fault input.lines.items) given) →
+  pub answered-run : {F : Type 0} (input : Input) (opening : List DatedCommand)
+      (given : List Answer) (fault : Option F) (old new : Tables) (r : Option (List ℕ)) →
+      fault ≡ None →
+      IfSome r (λ stream. IsInput (map line_request (lines_of stream)) input) →
+      opening ≡ opening_for amount input.requests.items →
+      ForEachList b old (IsRunOpened b opening input.requests.items new given fault) →
+      Appends w0 w1 (texts_of (map told_fault input.lines.items) given) →
       IfSome r (λ stream. ForEachList b old (IsAnswered b amount stream w0 w1 new))
-  answered-run input opening given (Some f) old new r none h opened runs written = absurd (none-some f (sym none))
+  answered-run input opening given (Some f) old new r none h opened runs written =
+      absurd (none-some f (sym none))
   answered-run input opening given None old new None none h opened runs written = tt
-  answered-run {F = F} input opening given None old new (Some stream) none h opened runs written = λ list time tables.
+  answered-run {F = F} input opening given None old new (Some stream) none h opened runs written =
+      λ list time tables.
       let fault : Option F = None in
-      let run : IsRunOpened b (opening_in amount stream) (requests_in stream) new given fault list = run_in input opening given fault old new stream h opened runs list time tables in
+      let run : IsRunOpened b (opening_in amount stream) (requests_in stream) new given fault list =
+      run_in input opening given fault old new stream h opened runs list time tables in
       record {
-        written = subst (Appends w0 w1) (λ i. texts_of (h.lines i) ((run.answers ∙ ap (λ (cs : List DatedCommand). drop (length (opening_in amount stream)) (answers_to b list cs)) run.whole) i)) written;
-        tables = subst (λ (cs : List DatedCommand). AreTables b (after_commands b list cs) new) run.whole run.tables;
+        written = subst (Appends w0 w1)
+            (λ i. texts_of (h.lines i) ((run.answers ∙ ap (λ (cs : List DatedCommand).
+            drop (length (opening_in amount stream)) (answers_to b list cs)) run.whole) i)) written;
+        tables = subst (λ (cs : List DatedCommand). AreTables b (after_commands b list cs) new)
+            run.whole run.tables;
       }
 
 -- a beginning of what is told is a beginning of the stream's text
-begins : (b : Book) (list : List Accepted) (amount : Option ℕ) (stream : List ℕ) (count : ℕ) (w0 w1 : Option (List ℕ)) → WritesBeginning w0 w1 (text_to count b list amount stream) → WritesBeginning w0 w1 (text_of b list amount stream)
+begins : (b : Book) (list : List Accepted) (amount : Option ℕ) (stream : List ℕ) (count : ℕ)
+    (w0 w1 : Option (List ℕ)) → WritesBeginning w0 w1 (text_to count b list amount stream) →
+    WritesBeginning w0 w1 (text_of b list amount stream)
 begins b list amount stream count w0 w1 h =
     let all : List Answer = answers_to b list (commands_of amount stream) in
     let k = length (opening_in amount stream) in
     let rest = texts_taken (faults_in stream) k count all in
     subst (WritesBeginning w0 w1) (sym rest.1)
-    (beginning_before w0 w1 _ rest.0 (subst (λ (answers : List Answer). WritesBeginning w0 w1 (texts_of (faults_in stream) (drop k answers))) (answers_taken b list (commands_of amount stream) count) h))
+    (beginning_before w0 w1 _ rest.0 (subst (λ (answers : List Answer).
+    WritesBeginning w0 w1 (texts_of (faults_in stream) (drop k answers)))
+    (answers_taken b list (commands_of amount stream) count) h))
 
 -- ---- before any command, over a store in memory
 
-pub once-answered : {A E : Type 0} (result : Result A E) (b c : Book) (credit : ℕ) (r w0 w1 : Option (List ℕ)) (old new : Tables) → b ≡ c → old ≡ no_tables →
-    OnOk result (IfSome r (λ stream. ForEachList b old (IsAnswered b (Some credit) stream w0 w1 new))) →
+pub once-answered : {A E : Type 0} (result : Result A E) (b c : Book) (credit : ℕ)
+    (r w0 w1 : Option (List ℕ)) (old new : Tables) → b ≡ c → old ≡ no_tables →
+    OnOk result
+    (IfSome r (λ stream. ForEachList b old (IsAnswered b (Some credit) stream w0 w1 new))) →
     OnOk result (IfSome r (λ stream. Appends w0 w1 (once_text c credit stream)))
 once-answered (Err e) b c credit r w0 w1 old new same none h = tt
 once-answered (Ok x) b c credit None w0 w1 old new same none h = tt
 once-answered (Ok x) b c credit (Some stream) w0 w1 old new same none h =
-    subst (λ (book : Book). Appends w0 w1 (once_text book credit stream)) same (h [] tt (subst (AreTables b []) (sym none) (tables_none (book_days b) (outcome b) b))).written
+    subst (λ (book : Book). Appends w0 w1 (once_text book credit stream)) same
+    (h [] tt (subst (AreTables b []) (sym none) (tables_none (book_days b) (outcome b) b))).written
 
-pub once-begun : {A E : Type 0} (result : Result A E) (b c : Book) (credit : ℕ) (r w0 w1 : Option (List ℕ)) (old new : Tables) → b ≡ c → old ≡ no_tables →
-    OnErr result (IfSome r (λ stream. ForEachList b old (IsBegun b (Some credit) stream w0 w1 new))) →
+pub once-begun : {A E : Type 0} (result : Result A E) (b c : Book) (credit : ℕ)
+    (r w0 w1 : Option (List ℕ)) (old new : Tables) → b ≡ c → old ≡ no_tables →
+    OnErr result
+    (IfSome r (λ stream. ForEachList b old (IsBegun b (Some credit) stream w0 w1 new))) →
     OnErr result (IfSome r (λ stream. WritesBeginning w0 w1 (once_text c credit stream)))
 once-begun (Ok x) b c credit r w0 w1 old new same none h = tt
 once-begun (Err e) b c credit None w0 w1 old new same none h = tt
 once-begun (Err e) b c credit (Some stream) w0 w1 old new same none h =
-    let begun : IsBegun b (Some credit) stream w0 w1 new [] = h [] tt (subst (AreTables b []) (sym none) (tables_none (book_days b) (outcome b) b)) in
-    subst (λ (book : Book). WritesBeginning w0 w1 (once_text book credit stream)) same (begins b [] (Some credit) stream begun.count w0 w1 begun.written)
+    let begun : IsBegun b (Some credit) stream w0 w1 new [] =
+    h [] tt (subst (AreTables b []) (sym none) (tables_none (book_days b) (outcome b) b)) in
+    subst (λ (book : Book). WritesBeginning w0 w1 (once_text book credit stream)) same
+    (begins b [] (Some credit) stream begun.count w0 w1 begun.written)
 
 -- a count that stays at 0 has no cause
 pub no_cause : min (0 + 1) max_failures ≤ 0 → ⊥

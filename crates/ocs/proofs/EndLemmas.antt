@@ -1,5 +1,7 @@
 -- How the program ends, by what its words say and by why they weren't read.
-use Rattle.std.proofs.Common.{◌≡◌, ℕ, ◌≤◌, ◌+◌, ◌++◌, ◌∷◌, ◌⊎◌, Bool, true, false, List, [], take, sym, ap, subst, ◌∙◌, refl, inl, inr, Option, Some, None, Result, Ok, Err, arith}
+use Rattle.std.proofs.Common.{◌≡◌, ℕ, ◌≤◌, ◌+◌, ◌++◌, ◌∷◌, ◌⊎◌, Bool, true, false, List, [], take}
+use Rattle.std.proofs.Common.{sym, ap, subst, ◌∙◌, refl, inl, inr, Option, Some, None, Result, Ok}
+use Rattle.std.proofs.Common.{Err, arith}
 use Rattle.std.specs.Prelude.{IfErr, IfSome, min}
 use Rattle.std.specs.Io.KnownBytes.{Appends, Keeps}
 use Rattle.byte_streams.specs.declared.StreamFault.{StreamFault}
@@ -9,6 +11,10 @@ use Rattle.clap.specs.Words.{IsAmong, Kinds, Text, fault_of}
 use Rattle.clap.specs.declared.error.kind.ErrorKind.{ErrorKind}
 use Rattle.keepers.specs.Faults.{max_failures}
 use Rattle.keepers.specs.declared.fault.StoreFault.TheVariants as store
+use Rattle.commands.specs.declared.answer.Answer.{Answer}
+use Rattle.commands.specs.declared.answer.Answer.TheVariants as answer
+use Rattle.office.specs.Printed.{IsEnded, PrintsAnswer}
+use Rattle.office.specs.Told.{status_of}
 use Rattle.office.specs.Written.{WritesBeginning}
 use Rattle.office.proofs.Beginnings.{beginning_before, nothing_written, some_written}
 use Rattle.office.specs.declared.status.Status.{Status}
@@ -20,8 +26,10 @@ use Rattle.operator.specs.declared.fault.WordsFault.TheVariants as fault
 use Rattle.operator.specs.declared.parsed.OnceWords.{OnceWords}
 use Rattle.operator.specs.declared.parsed.ProgramWords.{ProgramWords}
 use Rattle.operator.specs.declared.parsed.ProgramWords.TheVariants as words
-use Rattle.ocs.specs.Ends.{IfOnce, Imports, IsEnd, IsEndBy, IsEndOf, IsEnded, IsMemory, MayBeRefused, Says, Stores}
-use Rattle.ocs.specs.Told.{IsReached, IsReachedByLines, IsTextTold, IsTold, IsToldAtEnd, IsToldBy, IsToldOf, ServesConnections, TellsAs, TellsFault, fault_line, line_of}
+use Rattle.ocs.specs.Ends.{HasPrinted, IfOnce, Imports, IsEnd, IsEndBy, IsEndOf, IsMemory}
+use Rattle.ocs.specs.Ends.{IsRefused, Says, Stores}
+use Rattle.ocs.specs.Told.{IsReached, IsReachedByLines, IsTextTold, IsTold, IsToldAtEnd, IsToldBy}
+use Rattle.ocs.specs.Told.{IsToldOf, ServesConnections, TellsAs, TellsFault, fault_line, line_of}
 use Rattle.ocs.specs.declared.fault.LinesFault.{LinesFault}
 use Rattle.ocs.specs.declared.fault.LinesFault.TheVariants.{Read, Store, Write}
 use Rattle.ocs.specs.declared.fault.ProgramFault.{ProgramFault}
@@ -33,7 +41,8 @@ use Rattle.ocs.specs.declared.fault.ProgramFault.TheVariants as program
 no_cause : min (0 + 1) max_failures ≤ 0 → ⊥
 no_cause h = omega (arith, h)
 
-pub reached_lines : {A : Type 0} (r : Result A LinesFault) → (r ≡ Err (Store store.Store) → min (0 + 1) max_failures ≤ 0) → IfErr r (IsReachedByLines ⊥)
+pub reached_lines : {A : Type 0} (r : Result A LinesFault) →
+    (r ≡ Err (Store store.Store) → min (0 + 1) max_failures ≤ 0) → IfErr r (IsReachedByLines ⊥)
 reached_lines (Ok x) cause = tt
 reached_lines (Err (Read f)) cause = tt
 reached_lines (Err (Store store.Memory)) cause = tt
@@ -48,14 +57,20 @@ over_from C D (Store store.Memory) h is = is
 over_from C D (Store store.Store) h is = h is
 over_from C D (Write f) h is = is
 
-reached_from : (A B C D : Type 0) (f : ProgramFault) → (A → B) → (C → D) → IsReached A C f → IsReached B D f
+reached_from : (A B C D : Type 0) (f : ProgramFault) → (A → B) → (C → D) → IsReached A C f →
+    IsReached B D f
 reached_from A B C D (program.Lines f) h k is = over_from C D f k is
 reached_from A B C D (program.Stream f) h k is = is
 reached_from A B C D (program.Database f) h k is = k is
 reached_from A B C D (program.Vouchers f) h k is = h is
 
-pub tells_from : (A B C D : Type 0) (old new : Option (List ℕ)) → (A → B) → (C → D) → TellsFault A C old new → TellsFault B D old new
-tells_from A B C D old new h k t = record { fault = t.fault; reached = reached_from A B C D t.fault h k t.reached; written = t.written }
+pub tells_from : (A B C D : Type 0) (old new : Option (List ℕ)) → (A → B) → (C → D) →
+    TellsFault A C old new → TellsFault B D old new
+tells_from A B C D old new h k t = record {
+  fault = t.fault;
+  reached = reached_from A B C D t.fault h k t.reached;
+  written = t.written;
+}
 
 -- lines over a store that may fail
 pub reached_over : {A : Type 0} (r : Result A LinesFault) → IfErr r (IsReachedByLines (Unit {0}))
@@ -75,7 +90,8 @@ same_said : (texts : List Text) (a b : ProgramWords) → IsSaid texts a → IsSa
 unfolding ok_in
 same_said texts a b h k = ap (λ r. ok_in r a) (sym h.means ∙ k.means)
 
-pub end_said : (texts : List Text) (said : ProgramWords) (status : Status) → IsSaid texts said → IsEndBy status → IsEnd texts status
+pub end_said : (texts : List Text) (said : ProgramWords) (status : Status) → IsSaid texts said →
+    IsEndBy status → IsEnd texts status
 end_said texts said Done h end = inl (record { said = said; says = h })
 end_said texts said Failed h end = tt
 end_said texts said Unread h end = absurd end
@@ -88,27 +104,37 @@ keeps_of : (old new : Option (List ℕ)) → new ≡ old → Keeps old new
 keeps_of old new e = subst (Keeps old) (sym e) (keeps_same old)
 
 -- nothing is told of what is done, but the faults of connections
-done_said : (texts : List Text) (said : ProgramWords) (old new : Option (List ℕ)) → IsSaid texts said → IsToldAtEnd said old new → Keeps old new ⊎ ServesConnections texts old new
+done_said : (texts : List Text) (said : ProgramWords) (old new : Option (List ℕ)) →
+    IsSaid texts said → IsToldAtEnd said old new → Keeps old new ⊎ ServesConnections texts old new
 done_said texts (words.Once once) old new h told = inl (keeps_of old new told)
 done_said texts (words.Init init) old new h told = inl (keeps_of old new told)
-done_said texts (words.Serve serve) old new h told = inr (record { serve = serve; says = h; told = told })
+done_said texts (words.Serve serve) old new h told =
+    inr (record { serve = serve; says = h; told = told })
 done_said texts (words.Import import) old new h told = inl (keeps_of old new told)
 done_said texts (words.Office office) old new h told = inl (keeps_of old new told)
 done_said texts (words.Statement statement) old new h told = inl (keeps_of old new told)
 done_said texts (words.Replay replay) old new h told = inl (keeps_of old new told)
 
-pub told_said : (texts : List Text) (said : ProgramWords) (status : Status) (old new : Option (List ℕ)) → IsSaid texts said → IsToldBy said status old new → IsTold texts status old new
-told_said texts said Done old new h told = done_said texts said old new h told
-told_said texts said Failed old new h (inl told) =
-    inl (tells_from (Imports said) (Says texts Imports) (Stores said) (Says texts Stores) old new (λ adds. record { said = said; says = h; is = adds }) (λ stores. record { said = said; says = h; is = stores }) told)
-told_said texts said Failed old new h (inr refused) = inr (record { said = said; says = h; is = refused.0 }, refused.1)
-told_said texts said Unread old new h told = absurd told
+pub told_said : (texts : List Text) (said : ProgramWords) (before after : Option (List ℕ))
+    (status : Status) (old new : Option (List ℕ)) → IsSaid texts said →
+    IsToldBy said before after status old new → IsTold texts before after status old new
+told_said texts said before after Done old new h told = done_said texts said old new h told
+told_said texts said before after Failed old new h (inl told) =
+    inl (tells_from (Imports said) (Says texts Imports)
+    (Stores said) (Says texts Stores) old new (λ adds. record { said = said; says = h; is = adds })
+    (λ stores. record { said = said; says = h; is = stores }) told)
+told_said texts said before after Failed old new h (inr refused) =
+    inr (record { said = said; says = h; is = refused.0 }, refused.1)
+told_said texts said before after Unread old new h told = absurd told
 
 -- what is so of the words of `once`
-pub once_said : (texts : List Text) (said : ProgramWords) (P : OnceWords → Type 0) (once : OnceWords) → IsSaid texts said → IfOnce said P → IsSaid texts (words.Once once) → P once
-once_said texts said P once h if k = subst (λ (s : ProgramWords). IfOnce s P) (same_said texts said (words.Once once) h k) if
+pub once_said : (texts : List Text) (said : ProgramWords) (P : OnceWords → Type 0)
+    (once : OnceWords) → IsSaid texts said → IfOnce said P → IsSaid texts (words.Once once) → P once
+once_said texts said P once h if k =
+    subst (λ (s : ProgramWords). IfOnce s P) (same_said texts said (words.Once once) h k) if
 
-pub not_once : (texts : List Text) (said : ProgramWords) → IsSaid texts said → ((once : OnceWords) → IsSaid texts (words.Once once) → ⊥) → IfOnce said (λ _. ⊥)
+pub not_once : (texts : List Text) (said : ProgramWords) → IsSaid texts said →
+    ((once : OnceWords) → IsSaid texts (words.Once once) → ⊥) → IfOnce said (λ _. ⊥)
 not_once texts (words.Once once) h other = other once h
 not_once texts (words.Init init) h other = tt
 not_once texts (words.Serve serve) h other = tt
@@ -122,31 +148,68 @@ ends_read status end e = subst IsEndBy e end
 
 -- ---- what is done
 
-refused_told : (said : ProgramWords) (old new : Option (List ℕ)) → MayBeRefused said → IsToldAtEnd said old new → Keeps old new
-refused_told (words.Once once) old new may told = absurd may
-refused_told (words.Init init) old new may told = absurd may
-refused_told (words.Serve serve) old new may told = absurd may
-refused_told (words.Import import) old new may told = absurd may
-refused_told (words.Office office) old new may told = keeps_of old new told
-refused_told (words.Statement statement) old new may told = keeps_of old new told
-refused_told (words.Replay replay) old new may told = absurd may
+refused_told : (said : ProgramWords) (before after old new : Option (List ℕ)) →
+    IsRefused said before after → IsToldAtEnd said old new → Keeps old new
+refused_told (words.Once once) before after old new refused told = absurd refused
+refused_told (words.Init init) before after old new refused told = absurd refused
+refused_told (words.Serve serve) before after old new refused told = absurd refused
+refused_told (words.Import import) before after old new refused told = absurd refused
+refused_told (words.Office office) before after old new refused told = keeps_of old new told
+refused_told (words.Statement statement) before after old new refused told = keeps_of old new told
+refused_told (words.Replay replay) before after old new refused told = absurd refused
 
 -- what ends by itself
-pub ended_told : (said : ProgramWords) (status : Status) (old new : Option (List ℕ)) → IsEnded (MayBeRefused said) status → IsToldAtEnd said old new → IsToldBy said status old new
-ended_told said Done old new ended told = told
-ended_told said Failed old new ended told = inr (ended, refused_told said old new ended told)
-ended_told said Unread old new ended told = absurd ended
+pub ended_told : (said : ProgramWords) (before after : Option (List ℕ)) (status : Status)
+    (old new : Option (List ℕ)) → IsEnded (IsRefused said before after) status →
+    IsToldAtEnd said old new → IsToldBy said before after status old new
+ended_told said before after Done old new ended told = told
+ended_told said before after Failed old new ended told =
+    inr (ended, refused_told said before after old new ended told)
+ended_told said before after Unread old new ended told = absurd ended
+
+-- what has printed as it ended
+pub printed_done : (said : ProgramWords) (before after : Option (List ℕ)) (status : Status) →
+    HasPrinted said before after status → status ≡ Done →
+    HasPrinted said before after Done
+printed_done said before after status printed done =
+    subst (HasPrinted said before after) done printed
+
+abbrev IsRead : Status → Type 0
+IsRead Done = Unit {0}
+IsRead Failed = Unit {0}
+IsRead Unread = ⊥
+
+is_read : (a : Answer) → IsRead (status_of a)
+is_read (answer.Request given) = tt
+is_read answer.Done = tt
+is_read (answer.Bucket number) = tt
+is_read (answer.Swept count) = tt
+is_read (answer.Balance balance) = tt
+is_read (answer.Refused refusal) = tt
+
+-- an answer is printed: it is a refusal, or all is done
+pub answered_ends : (status : Status) (old new : Option (List ℕ)) → PrintsAnswer status old new →
+    IsEnded (PrintsAnswer Failed old new) status
+answered_ends Done old new printed = tt
+answered_ends Failed old new printed = printed
+answered_ends Unread old new printed = subst IsRead (sym printed.is) (is_read printed.answer)
 
 -- a fault by its line, or want of memory for that
-tells_as : (Adds Over : Type 0) (f : ProgramFault) (old new : Option (List ℕ)) → IsReached Adds Over f → TellsAs f old new → TellsFault Adds Over old new
-tells_as Adds Over f old new reached (inl written) = record { fault = f; reached = reached; written = written }
-tells_as Adds Over f old new reached (inr written) = record { fault = program.Stream stream.Memory; reached = tt; written = written }
+tells_as : (Adds Over : Type 0) (f : ProgramFault) (old new : Option (List ℕ)) →
+    IsReached Adds Over f → TellsAs f old new → TellsFault Adds Over old new
+tells_as Adds Over f old new reached (inl written) =
+    record { fault = f; reached = reached; written = written }
+tells_as Adds Over f old new reached (inr written) =
+    record { fault = program.Stream stream.Memory; reached = tt; written = written }
 
-pub fault_told : (said : ProgramWords) (f : ProgramFault) (status : Status) (old mid new : Option (List ℕ)) → status ≡ Failed → IsReached (Imports said) (Stores said) f → mid ≡ old →
-    TellsAs f mid new → IsToldBy said status old new
-fault_told said f status old mid new is reached same told =
-    subst (λ (s : Status). IsToldBy said s old new) (sym is)
-    (inl (tells_as (Imports said) (Stores said) f old new reached (subst (λ (w : Option (List ℕ)). TellsAs f w new) same told)))
+pub fault_told : (said : ProgramWords) (before after : Option (List ℕ)) (f : ProgramFault)
+    (status : Status) (old mid new : Option (List ℕ)) → status ≡ Failed →
+    IsReached (Imports said) (Stores said) f → mid ≡ old → TellsAs f mid new →
+    IsToldBy said before after status old new
+fault_told said before after f status old mid new is reached same told =
+    subst (λ (s : Status). IsToldBy said before after s old new) (sym is)
+    (inl (tells_as (Imports said) (Stores said) f old new reached
+    (subst (λ (w : Option (List ℕ)). TellsAs f w new) same told)))
 
 pub fault_end : (status : Status) → status ≡ Failed → IsEndBy status
 fault_end status is = subst IsEndBy (sym is) tt
@@ -157,28 +220,44 @@ ended_end Refused Failed ended = tt
 ended_end Refused Unread ended = absurd ended
 
 -- the lines of `once` are never refused
-pub once_ends : (said : ProgramWords) (status : Status) (P : OnceWords → Type 0) → IsEnded (MayBeRefused said) status → status ≡ Failed → IfOnce said P
-once_ends (words.Once once) status P ended failed = absurd (subst (IsEnded ⊥) failed ended)
-once_ends (words.Init init) status P ended failed = tt
-once_ends (words.Serve serve) status P ended failed = tt
-once_ends (words.Import import) status P ended failed = tt
-once_ends (words.Office office) status P ended failed = tt
-once_ends (words.Statement statement) status P ended failed = tt
-once_ends (words.Replay replay) status P ended failed = tt
+pub once_ends : (said : ProgramWords) (before after : Option (List ℕ))
+    (status : Status) (P : OnceWords → Type 0) → IsEnded (IsRefused said before after) status →
+    status ≡ Failed → IfOnce said P
+once_ends (words.Once once) before after status P ended failed =
+    absurd (subst (IsEnded ⊥) failed ended)
+once_ends (words.Init init) before after status P ended failed = tt
+once_ends (words.Serve serve) before after status P ended failed = tt
+once_ends (words.Import import) before after status P ended failed = tt
+once_ends (words.Office office) before after status P ended failed = tt
+once_ends (words.Statement statement) before after status P ended failed = tt
+once_ends (words.Replay replay) before after status P ended failed = tt
 
 -- words that print one line are never refused
-pub line_ends : (said : ProgramWords) (status : Status) (P : List ℕ → Type 0) → IsEnded (MayBeRefused said) status → status ≡ Failed → IfSome (line_of said) P
-line_ends (words.Once once) status P ended failed = tt
-line_ends (words.Init init) status P ended failed = absurd (subst (IsEnded ⊥) failed ended)
-line_ends (words.Serve serve) status P ended failed = absurd (subst (IsEnded ⊥) failed ended)
-line_ends (words.Import import) status P ended failed = tt
-line_ends (words.Office office) status P ended failed = tt
-line_ends (words.Statement statement) status P ended failed = tt
-line_ends (words.Replay replay) status P ended failed = tt
+pub line_ends : (said : ProgramWords) (before after : Option (List ℕ)) (status : Status)
+    (P : List ℕ → Type 0) → IsEnded (IsRefused said before after) status → status ≡ Failed →
+    IfSome (line_of said) P
+line_ends (words.Once once) before after status P ended failed = tt
+line_ends (words.Init init) before after status P ended failed =
+    absurd (subst (IsEnded ⊥) failed ended)
+line_ends (words.Serve serve) before after status P ended failed =
+    absurd (subst (IsEnded ⊥) failed ended)
+line_ends (words.Import import) before after status P ended failed = tt
+line_ends (words.Office office) before after status P ended failed = tt
+line_ends (words.Statement statement) before after status P ended failed = tt
+line_ends (words.Replay replay) before after status P ended failed = tt
 
 -- what is so of one said of all that the words say
-pub line_said : (texts : List Text) (said other : ProgramWords) (P : List ℕ → Type 0) → IsSaid texts said → IsSaid texts other → IfSome (line_of said) P → IfSome (line_of other) P
-line_said texts said other P h k is = subst (λ (s : ProgramWords). IfSome (line_of s) P) (same_said texts said other h k) is
+pub line_said : (texts : List Text) (said other : ProgramWords) (P : List ℕ → Type 0) →
+    IsSaid texts said → IsSaid texts other → IfSome (line_of said) P → IfSome (line_of other) P
+line_said texts said other P h k is =
+    subst (λ (s : ProgramWords). IfSome (line_of s) P) (same_said texts said other h k) is
+
+pub printed_said : (texts : List Text) (said other : ProgramWords)
+    (before after : Option (List ℕ)) → IsSaid texts said → IsSaid texts other →
+    HasPrinted said before after Done →
+    HasPrinted other before after Done
+printed_said texts said other before after h k is =
+    subst (λ (s : ProgramWords). HasPrinted s before after Done) (same_said texts said other h k) is
 
 -- ---- words that aren't read
 
@@ -200,10 +279,13 @@ not_said : (texts : List Text) (said : ProgramWords) → IsSaid texts said → I
 unfolding is_ok
 not_said texts said h k = true_false (ap is_ok (sym h.means ∙ k.means))
 
-pub end_unread : (texts : List Text) (f : WordsFault) (status : Status) → IsUnread texts f → IsEndOf f status → IsEnd texts status
-end_unread texts (fault.Unread error) Done unread end = inr (record { kind = kind_of error; among = unread; is = end })
+pub end_unread : (texts : List Text) (f : WordsFault) (status : Status) → IsUnread texts f →
+    IsEndOf f status → IsEnd texts status
+end_unread texts (fault.Unread error) Done unread end =
+    inr (record { kind = kind_of error; among = unread; is = end })
 end_unread texts (fault.Unread error) Failed unread end = tt
-end_unread texts (fault.Unread error) Unread unread end = inr (record { kind = kind_of error; among = unread; is = end })
+end_unread texts (fault.Unread error) Unread unread end =
+    inr (record { kind = kind_of error; among = unread; is = end })
 end_unread texts fault.Invalid Done unread end = absurd end
 end_unread texts fault.Invalid Failed unread end = tt
 end_unread texts fault.Invalid Unread unread end = inl unread
@@ -211,28 +293,37 @@ end_unread texts fault.Memory Done unread end = absurd end
 end_unread texts fault.Memory Failed unread end = tt
 end_unread texts fault.Memory Unread unread end = absurd end
 
-none_tells : (B D : Type 0) (old new : Option (List ℕ)) → TellsFault ⊥ ⊥ old new → TellsFault B D old new
+none_tells : (B D : Type 0) (old new : Option (List ℕ)) → TellsFault ⊥ ⊥ old new →
+    TellsFault B D old new
 none_tells B D old new t = tells_from ⊥ B ⊥ D old new (λ none. absurd none) (λ none. absurd none) t
 
-pub told_unread : (texts : List Text) (f : WordsFault) (status : Status) (old new : Option (List ℕ)) → IsUnread texts f → IsEndOf f status → IsToldOf f status old new → IsTold texts status old new
-told_unread texts (fault.Unread error) Done old new unread end told = inl told
-told_unread texts (fault.Unread error) Failed old new unread end told = inl (none_tells (Says texts Imports) (Says texts Stores) old new told)
-told_unread texts (fault.Unread error) Unread old new unread end told = λ invalid. absurd (not_among (kind_of error) (fault_of program_app texts) invalid.taken unread)
-told_unread texts fault.Invalid Done old new unread end told = absurd end
-told_unread texts fault.Invalid Failed old new unread end told = absurd end
-told_unread texts fault.Invalid Unread old new unread end told = λ invalid. told
-told_unread texts fault.Memory Done old new unread end told = absurd end
-told_unread texts fault.Memory Failed old new unread end told = inl (none_tells (Says texts Imports) (Says texts Stores) old new told)
-told_unread texts fault.Memory Unread old new unread end told = absurd end
+pub told_unread : (texts : List Text) (before after : Option (List ℕ)) (f : WordsFault)
+    (status : Status) (old new : Option (List ℕ)) → IsUnread texts f → IsEndOf f status →
+    IsToldOf f status old new → IsTold texts before after status old new
+told_unread texts before after (fault.Unread error) Done old new unread end told = inl told
+told_unread texts before after (fault.Unread error) Failed old new unread end told =
+    inl (none_tells (Says texts Imports) (Says texts Stores) old new told)
+told_unread texts before after (fault.Unread error) Unread old new unread end told =
+    λ invalid. absurd (not_among (kind_of error) (fault_of program_app texts) invalid.taken unread)
+told_unread texts before after fault.Invalid Done old new unread end told = absurd end
+told_unread texts before after fault.Invalid Failed old new unread end told = absurd end
+told_unread texts before after fault.Invalid Unread old new unread end told = λ invalid. told
+told_unread texts before after fault.Memory Done old new unread end told = absurd end
+told_unread texts before after fault.Memory Failed old new unread end told =
+    inl (none_tells (Says texts Imports) (Says texts Stores) old new told)
+told_unread texts before after fault.Memory Unread old new unread end told = absurd end
 
 -- words that say something weren't read only for want of memory
-pub memory_alone : (texts : List Text) (f : WordsFault) (said : ProgramWords) → IsUnread texts f → IsSaid texts said → IsMemory f
-memory_alone texts (fault.Unread error) said unread h = absurd (not_among (kind_of error) (fault_of program_app texts) h.taken unread)
+pub memory_alone : (texts : List Text) (f : WordsFault) (said : ProgramWords) → IsUnread texts f →
+    IsSaid texts said → IsMemory f
+memory_alone texts (fault.Unread error) said unread h =
+    absurd (not_among (kind_of error) (fault_of program_app texts) h.taken unread)
 memory_alone texts fault.Invalid said unread h = absurd (not_said texts said h unread)
 memory_alone texts fault.Memory said unread h = tt
 
 -- and then nothing is done
-pub not_done : (f : WordsFault) (status : Status) → IsMemory f → IsEndOf f status → status ≡ Done → ⊥
+pub not_done : (f : WordsFault) (status : Status) → IsMemory f → IsEndOf f status →
+    status ≡ Done → ⊥
 not_done (fault.Unread error) status memory end e = memory
 not_done fault.Invalid status memory end e = memory
 not_done fault.Memory status memory end e = subst (IsEndOf fault.Memory) e end
@@ -240,24 +331,36 @@ not_done fault.Memory status memory end e = subst (IsEndOf fault.Memory) e end
 -- ---- lines
 
 -- a beginning of a line is one of the line with more
-pub part_told : (a b : Option (List ℕ)) (line more : List ℕ) → (n : ℕ) × Appends a b (take n line) → WritesBeginning a b (line ++ more)
+pub part_told : (a b : Option (List ℕ)) (line more : List ℕ) → (n : ℕ) × Appends a b (take n line) →
+    WritesBeginning a b (line ++ more)
 part_told a b line more h = beginning_before a b line more (some_written a b line h.0 h.1)
 
 -- nothing is a beginning of each text
-pub unwritten_begins : (r old new : Option (List ℕ)) (text : List ℕ → List ℕ) → new ≡ old → IfSome r (λ stream. WritesBeginning old new (text stream))
+pub unwritten_begins : (r old new : Option (List ℕ)) (text : List ℕ → List ℕ) → new ≡ old →
+    IfSome r (λ stream. WritesBeginning old new (text stream))
 unwritten_begins None old new text same = tt
-unwritten_begins (Some stream) old new text same = subst (λ (w : Option (List ℕ)). WritesBeginning old w (text stream)) (sym same) (nothing_written old (text stream))
+unwritten_begins (Some stream) old new text same = subst (λ (w : Option (List ℕ)).
+    WritesBeginning old w (text stream)) (sym same) (nothing_written old (text stream))
 
-pub unwritten_line : (line old new : Option (List ℕ)) → new ≡ old → IfSome line (WritesBeginning old new)
+pub unwritten_line : (line old new : Option (List ℕ)) → new ≡ old →
+    IfSome line (WritesBeginning old new)
 unwritten_line None old new same = tt
-unwritten_line (Some text) old new same = subst (λ (w : Option (List ℕ)). WritesBeginning old w text) (sym same) (nothing_written old text)
+unwritten_line (Some text) old new same = subst (λ (w : Option (List ℕ)).
+    WritesBeginning old w text) (sym same) (nothing_written old text)
 
 -- ---- want of memory, and streams
 
-pub told_stream : (f : StreamFault) (status : Status) (old new : Option (List ℕ)) → status ≡ Failed → WritesBeginning old new (fault_line (program.Stream f) ++ 10 ∷ []) → IsTextTold status old new
+pub told_stream : (f : StreamFault) (status : Status) (old new : Option (List ℕ)) →
+    status ≡ Failed → WritesBeginning old new (fault_line (program.Stream f) ++ 10 ∷ []) →
+    IsTextTold status old new
 told_stream f status old new is written =
-    subst (λ (s : Status). IsTextTold s old new) (sym is) (record { fault = program.Stream f; reached = tt; written = written })
+    subst (λ (s : Status). IsTextTold s old new) (sym is)
+    (record { fault = program.Stream f; reached = tt; written = written })
 
-pub told_memory : (f : WordsFault) (status : Status) (old new : Option (List ℕ)) → f ≡ fault.Memory → status ≡ Failed → WritesBeginning old new (fault_line (program.Stream stream.Memory) ++ 10 ∷ []) → IsToldOf f status old new
+pub told_memory : (f : WordsFault) (status : Status) (old new : Option (List ℕ)) →
+    f ≡ fault.Memory → status ≡ Failed →
+    WritesBeginning old new (fault_line (program.Stream stream.Memory) ++ 10 ∷ []) →
+    IsToldOf f status old new
 told_memory f status old new memory is written =
-    subst (λ (x : WordsFault). IsToldOf x status old new) (sym memory) (record { fault = program.Stream stream.Memory; reached = tt; written = written })
+    subst (λ (x : WordsFault). IsToldOf x status old new) (sym memory)
+    (record { fault = program.Stream stream.Memory; reached = tt; written = written })

@@ -1,10 +1,13 @@
 -- How the program ends, by what its words say.
 -- Source: profile.
-use Rattle.std.specs.Prelude.{◌≡◌, ◌⊎◌, Bool, true, false, List}
+use Rattle.std.specs.Prelude.{◌≡◌, ◌⊎◌, ℕ, Bool, true, false, List, Option}
+use Rattle.std.specs.Io.KnownBytes.{Appends}
 use Rattle.clap.specs.Values.{kind_of}
 use Rattle.clap.specs.Words.{IsAmong, Text, fault_of}
 use Rattle.clap.specs.declared.error.kind.ErrorKind.{ErrorKind}
 use Rattle.clap.specs.declared.error.kind.ErrorKind.TheVariants.{DisplayHelp, DisplayVersion}
+use Rattle.office.specs.Months.{unknown_line}
+use Rattle.office.specs.Printed.{PrintsAnswer, PrintsCounts}
 use Rattle.office.specs.declared.status.Status.{Status}
 use Rattle.office.specs.declared.status.Status.TheVariants.{Done, Failed, Unread}
 use Rattle.operator.specs.Program.{program_app}
@@ -47,15 +50,26 @@ Stores (words.Office office) = Unit {0}
 Stores (words.Statement statement) = Unit {0}
 Stores (words.Replay replay) = Unit {0}
 
--- it is an operator's or asks for a statement, which may be refused
-abbrev pub MayBeRefused : ProgramWords → Type 0
-MayBeRefused (words.Once once) = ⊥
-MayBeRefused (words.Init init) = ⊥
-MayBeRefused (words.Serve serve) = ⊥
-MayBeRefused (words.Import import) = ⊥
-MayBeRefused (words.Office office) = Unit {0}
-MayBeRefused (words.Statement statement) = Unit {0}
-MayBeRefused (words.Replay replay) = ⊥
+-- a refusal of it is printed: of an operator's command, or that the account of a statement isn't
+-- there; no other is refused
+abbrev pub IsRefused : ProgramWords → Option (List ℕ) → Option (List ℕ) → Type 0
+IsRefused (words.Once once) old new = ⊥
+IsRefused (words.Init init) old new = ⊥
+IsRefused (words.Serve serve) old new = ⊥
+IsRefused (words.Import import) old new = ⊥
+IsRefused (words.Office office) old new = PrintsAnswer Failed old new
+IsRefused (words.Statement statement) old new = Appends old new unknown_line
+IsRefused (words.Replay replay) old new = ⊥
+
+-- an import has printed its counts, an operator's command its answer, with which it ends so
+abbrev pub HasPrinted : ProgramWords → Option (List ℕ) → Option (List ℕ) → Status → Type 0
+HasPrinted (words.Once once) old new status = Unit {0}
+HasPrinted (words.Init init) old new status = Unit {0}
+HasPrinted (words.Serve serve) old new status = Unit {0}
+HasPrinted (words.Import import) old new status = PrintsCounts old new
+HasPrinted (words.Office office) old new status = PrintsAnswer status old new
+HasPrinted (words.Statement statement) old new status = Unit {0}
+HasPrinted (words.Replay replay) old new status = Unit {0}
 
 -- the words say something that is so
 pub record Says (texts : List Text) (Is : ProgramWords → Type 0) : Type 0 where
@@ -87,14 +101,6 @@ abbrev pub IsEnd : List Text → Status → Type 0
 IsEnd texts Done = SaysCommand texts ⊎ HasError texts true
 IsEnd texts Failed = Unit {0}
 IsEnd texts Unread = IsInvalid texts ⊎ HasError texts false
-
--- ---- what is done
-
--- it ends well, or is refused where this is so
-abbrev pub IsEnded : Type 0 → Status → Type 0
-IsEnded Refused Done = Unit {0}
-IsEnded Refused Failed = Refused
-IsEnded Refused Unread = ⊥
 
 -- ---- the same by the fault of the words
 

@@ -1,6 +1,8 @@
--- Lines of input: each has the moment of a command, one space, and a request for credit control as JSON.
+-- Lines of input: each has the moment of a command, one space, and a request for credit control as
+-- JSON.
 -- Source: profile.
-use Rattle.std.specs.Prelude.{ℕ, Bool, ◌==◌, ◌&&◌, List, length, Option, None, Result, Ok, nat_lt, if◌then◌else◌}
+use Rattle.std.specs.Prelude.{ℕ, Bool, ◌==◌, ◌&&◌, List, length, Option, None, Result, Ok, nat_lt}
+use Rattle.std.specs.Prelude.{if◌then◌else◌}
 use Rattle.std.specs.List.{before_first, after_first, position_or_len}
 use Rattle.std.specs.Str.{is_utf8}
 use Rattle.json_fields.specs.declared.fault.WireFault.{WireFault}
@@ -22,8 +24,8 @@ line_moment line = if is_parted line then moment_of (before_first (λ b. b == 32
 abbrev pub line_rest : List ℕ → List ℕ
 line_rest line = after_first (λ b. b == 32) line
 
--- the request of a line, or the first fault: it isn't a moment of 1 to 10 digits, a space and a body; then the
--- body's
+-- the request of a line, or the first fault: it isn't a moment of 1 to 10 digits, a space and a
+-- body; then the body's
 abbrev pub line_request : List ℕ → Result DatedCommand WireFault
 line_request line =
     or_fault NotRequest (line_moment line) >>= λ t.

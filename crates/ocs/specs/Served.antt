@@ -1,6 +1,8 @@
--- What the lines of a stream come to: the commands that they hand in, and the text that each line is told.
+-- What the lines of a stream come to: the commands that they hand in, and the text that each line
+-- is told.
 -- Source: profile.
-use Rattle.std.specs.Prelude.{ℕ, List, [], ◌∷◌, ◌++◌, codes, length, map, take, drop, Option, Some, None, IfNone, Result, Ok, Err, ◌≡◌}
+use Rattle.std.specs.Prelude.{ℕ, List, [], ◌∷◌, ◌++◌, codes, length, map, take, drop, Option, Some}
+use Rattle.std.specs.Prelude.{None, IfNone, IfSome, Result, Ok, Err, ◌≡◌}
 use Rattle.std.specs.Io.KnownBytes.{Appends}
 use Rattle.byte_streams.specs.Lines.{lines_of}
 use Rattle.commands.specs.declared.answer.Answer.{Answer}
@@ -33,7 +35,17 @@ requests_in stream = requests_of (map line_request (lines_of stream))
 abbrev pub opened_with : ℕ → List ℕ → List DatedCommand
 opened_with amount account =
     record { moment = 0; command = OpenAccount account }
-    ∷ record { moment = 0; command = Credit (record { account = account; amount = amount; from = None; until = None; scope = None; reference = codes "once" }) }
+    ∷ record {
+      moment = 0;
+      command = Credit (record {
+        account = account;
+        amount = amount;
+        from = None;
+        until = None;
+        scope = None;
+        reference = codes "once";
+      });
+    }
     ∷ []
 
 -- the account that a request names
@@ -64,7 +76,8 @@ fault_of (Err fault) = Some fault
 abbrev pub faults_in : List ℕ → List (Option WireFault)
 faults_in stream = map fault_of (map line_request (lines_of stream))
 
--- each line is told its fault, or the next answer, with a line feed after it, up to a request that has no answer
+-- each line is told its fault, or the next answer, with a line feed after it, up to a request that
+-- has no answer
 abbrev pub texts_of : List (Option WireFault) → List Answer → List ℕ
 texts_of [] answers = []
 texts_of (Some fault ∷ lines) answers = fault_text fault ++ 10 ∷ texts_of lines answers
@@ -73,25 +86,39 @@ texts_of (None ∷ lines) (a ∷ answers) = answer_text a ++ 10 ∷ texts_of lin
 
 -- the text of a stream with these answers to its commands: those of the opening aren't written
 abbrev pub told_text : Option ℕ → List ℕ → List Answer → List ℕ
-told_text amount stream answers = texts_of (faults_in stream) (drop (length (opening_in amount stream)) answers)
+told_text amount stream answers =
+    texts_of (faults_in stream) (drop (length (opening_in amount stream)) answers)
 
 -- the text of a stream, after a list of accepted commands
 abbrev pub text_of : Book → List Accepted → Option ℕ → List ℕ → List ℕ
-text_of b list amount stream = told_text amount stream (answers_to b list (commands_of amount stream))
+text_of b list amount stream =
+    told_text amount stream (answers_to b list (commands_of amount stream))
 
 -- as far as so many commands are answered
 abbrev pub text_to : ℕ → Book → List Accepted → Option ℕ → List ℕ → List ℕ
-text_to count b list amount stream = told_text amount stream (answers_to b list (take count (commands_of amount stream)))
+text_to count b list amount stream =
+    told_text amount stream (answers_to b list (take count (commands_of amount stream)))
 
 -- the text of a stream, before any command: the first request's account is opened with this amount
 abbrev pub once_text : Book → ℕ → List ℕ → List ℕ
 once_text b credit stream = text_of b [] (Some credit) stream
 
+-- where the reader tells its bytes, that text of them is written
+abbrev pub WritesOnce : Book → ℕ → Option (List ℕ) → Option (List ℕ) → Option (List ℕ) → Type 0
+WritesOnce b credit bytes old new =
+    IfSome bytes (λ stream. Appends old new (once_text b credit stream))
+
+-- or a beginning of it
+abbrev pub BeginsOnce : Book → ℕ → Option (List ℕ) → Option (List ℕ) → Option (List ℕ) → Type 0
+BeginsOnce b credit bytes old new =
+    IfSome bytes (λ stream. WritesBeginning old new (once_text b credit stream))
+
 -- ---- a run
 
 -- this is so of every list of accepted commands whose tables these are
 abbrev pub ForEachList : Book → Tables → (List Accepted → Type 0) → Type 0
-ForEachList b tables says = (list : List Accepted) → IsInTime list → AreTables b list tables → says list
+ForEachList b tables says = (list : List Accepted) → IsInTime list →
+    AreTables b list tables → says list
 
 -- some commands came to the list, in time, and these are its tables then
 pub record IsContinued (b : Book) (content : Tables) (list : List Accepted) : Type 0 where
@@ -100,26 +127,33 @@ pub record IsContinued (b : Book) (content : Tables) (list : List Accepted) : Ty
   pub time : IsInTime (after_commands b list commands)
 
 -- all is written, and the tables are those of all commands
-pub record IsAnswered (b : Book) (opening : Option ℕ) (stream : List ℕ) (old new : Option (List ℕ)) (content : Tables) (list : List Accepted) : Type 0 where
+pub record IsAnswered (b : Book) (opening : Option ℕ) (stream : List ℕ) (old new : Option (List ℕ))
+    (content : Tables) (list : List Accepted) : Type 0 where
   pub written : Appends old new (text_of b list opening stream)
   pub tables : AreTables b (after_commands b list (commands_of opening stream)) content
 
--- the tables are those of a beginning of the commands, and the text is written as far as these are answered
-pub record IsStopped (b : Book) (opening : Option ℕ) (stream : List ℕ) (old new : Option (List ℕ)) (content : Tables) (list : List Accepted) : Type 0 where
+-- the tables are those of a beginning of the commands, and the text is written as far as these are
+-- answered
+pub record IsStopped (b : Book) (opening : Option ℕ) (stream : List ℕ) (old new : Option (List ℕ))
+    (content : Tables) (list : List Accepted) : Type 0 where
   pub count : ℕ
   pub tables : AreTables b (after_commands b list (take count (commands_of opening stream))) content
   pub written : Appends old new (text_to count b list opening stream)
 
 -- or a beginning of that text
-pub record IsBegun (b : Book) (opening : Option ℕ) (stream : List ℕ) (old new : Option (List ℕ)) (content : Tables) (list : List Accepted) : Type 0 where
+pub record IsBegun (b : Book) (opening : Option ℕ) (stream : List ℕ) (old new : Option (List ℕ))
+    (content : Tables) (list : List Accepted) : Type 0 where
   pub count : ℕ
   pub tables : AreTables b (after_commands b list (take count (commands_of opening stream))) content
   pub written : WritesBeginning old new (text_to count b list opening stream)
 
 -- ---- what opens an account, and then requests
 
--- so many of the commands are run, all where there is no fault; the answers are those to the requests among them
-pub record IsRunOpened {F : Type 0} (b : Book) (opening requests : List DatedCommand) (content : Tables) (given : List Answer) (fault : Option F) (list : List Accepted) : Type 0 where
+-- so many of the commands are run, all where there is no fault; the answers are those to the
+-- requests among them
+pub record IsRunOpened {F : Type 0} (b : Book) (opening requests : List DatedCommand)
+    (content : Tables) (given : List Answer) (fault : Option F)
+    (list : List Accepted) : Type 0 where
   pub count : ℕ
   pub tables : AreTables b (after_commands b list (take count (opening ++ requests))) content
   pub time : IsInTime (after_commands b list (take count (opening ++ requests)))

@@ -20,7 +20,7 @@ use Rattle.database_office.specs.Told.{fault_line as database_line}
 use Rattle.office_server.specs.Told.{TellsFaults, listening_line}
 use Rattle.vouchers.specs.Faults.{number_of}
 use Rattle.vouchers.specs.declared.fault.VoucherFault.{VoucherFault}
-use Rattle.ocs.specs.Ends.{Imports, MayBeRefused, Says, Stores}
+use Rattle.ocs.specs.Ends.{Imports, IsRefused, Says, Stores}
 use Rattle.ocs.specs.declared.fault.LinesFault.{LinesFault}
 use Rattle.ocs.specs.declared.fault.LinesFault.TheVariants.{Read, Store, Write}
 use Rattle.ocs.specs.declared.fault.ProgramFault.{ProgramFault}
@@ -103,13 +103,16 @@ pub record ServesConnections (texts : List Text) (old new : Option (List ℕ)) :
   pub told : ConnectionsTold serve.connections old new
 
 -- nothing where all is done, but faults of connections that were served, or where an operator's
--- command or a statement is refused; a fault by its line; of words that aren't read the text is
--- `clap`'s, and where `clap` takes them a line
-abbrev pub IsTold : List Text → Status → Option (List ℕ) → Option (List ℕ) → Type 0
-IsTold texts Done old new = Keeps old new ⊎ ServesConnections texts old new
-IsTold texts Failed old new =
-    TellsFault (Says texts Imports) (Says texts Stores) old new ⊎ (Says texts MayBeRefused × Keeps old new)
-IsTold texts Unread old new = IsInvalid texts → WritesBeginning old new (invalid_line ++ 10 ∷ [])
+-- command or a statement is refused, which is printed; a fault by its line; of words that
+-- aren't read the text is `clap`'s, and where `clap` takes them a line
+abbrev pub IsTold : List Text → Option (List ℕ) → Option (List ℕ) → Status → Option (List ℕ) →
+    Option (List ℕ) → Type 0
+IsTold texts before after Done old new = Keeps old new ⊎ ServesConnections texts old new
+IsTold texts before after Failed old new =
+    TellsFault (Says texts Imports) (Says texts Stores) old new
+    ⊎ (Says texts (λ said. IsRefused said before after) × Keeps old new)
+IsTold texts before after Unread old new =
+    IsInvalid texts → WritesBeginning old new (invalid_line ++ 10 ∷ [])
 
 -- ---- the same by the fault of the words
 
@@ -135,8 +138,9 @@ IsToldAtEnd (words.Office office) old new = new ≡ old
 IsToldAtEnd (words.Statement statement) old new = new ≡ old
 IsToldAtEnd (words.Replay replay) old new = new ≡ old
 
-abbrev pub IsToldBy : ProgramWords → Status → Option (List ℕ) → Option (List ℕ) → Type 0
-IsToldBy said Done old new = IsToldAtEnd said old new
-IsToldBy said Failed old new =
-    TellsFault (Imports said) (Stores said) old new ⊎ (MayBeRefused said × Keeps old new)
-IsToldBy said Unread old new = ⊥
+abbrev pub IsToldBy : ProgramWords → Option (List ℕ) → Option (List ℕ) → Status →
+    Option (List ℕ) → Option (List ℕ) → Type 0
+IsToldBy said before after Done old new = IsToldAtEnd said old new
+IsToldBy said before after Failed old new =
+    TellsFault (Imports said) (Stores said) old new ⊎ (IsRefused said before after × Keeps old new)
+IsToldBy said before after Unread old new = ⊥

@@ -1,11 +1,13 @@
-ghost use Rattle.std.specs.Prelude.{◌≡◌, ◌≢◌, ◌++◌, ◌∷◌, [], codes, Err, IfErr, IfOk, IfSome, OnOk, OnErr};
+ghost use Rattle.std.specs.Prelude.{◌≡◌, ◌≢◌, ◌++◌, ◌∷◌, [], codes, Err, IfErr, IfOk, IfSome, OnOk};
+ghost use Rattle.std.specs.Prelude.{OnErr};
 ghost use Rattle.std.specs.Io.KnownBytes.{Appends};
 ghost use Rattle.keepers.specs.declared.fault.StoreFault.TheVariants.{Store as StoreFailed};
+ghost use Rattle.office.specs.Printed.{IsEnded};
 ghost use Rattle.office.specs.Written.{WritesBeginning};
 ghost use Rattle.one_price.specs.OnceBook.{once_book};
 ghost use Rattle.operator.specs.Read.{IsInRange, IsOnceInRange};
-ghost use Rattle.ocs.specs.Ends.{IfOnce, Imports, IsEnded, MayBeRefused, Stores};
-ghost use Rattle.ocs.specs.Served.{once_text};
+ghost use Rattle.ocs.specs.Ends.{HasPrinted, IfOnce, Imports, IsRefused, Stores};
+ghost use Rattle.ocs.specs.Served.{BeginsOnce, WritesOnce};
 ghost use Rattle.ocs.specs.Told.{IsReached, IsReachedByLines, IsToldAtEnd, line_of};
 
 use crate::fault::{LinesFault, ProgramFault};
@@ -32,7 +34,10 @@ pub(crate) fn do_said<I: Read, O: Write, E: Write>(
     errors: &mut E,
 ) -> Result<Status, ProgramFault>
     requires { IsInRange said }
-    ensures ended { IfOk result (IsEnded (MayBeRefused said)) }
+    ensures ended { IfOk result (IsEnded
+        (IsRefused said (O.contents output.old) (O.contents output.new))) }
+    ensures answered { IfOk result
+        (HasPrinted said (O.contents output.old) (O.contents output.new)) }
     ensures reached { IfErr result (IsReached (Imports said) (Stores said)) }
     ensures told { OnOk result (IsToldAtEnd said (E.contents errors.old) (E.contents errors.new)) }
     ensures untold { OnErr result (errors.new ≡ errors.old) }
@@ -41,12 +46,10 @@ pub(crate) fn do_said<I: Read, O: Write, E: Write>(
     ensures begun { IfSome (line_of said) (λ line. OnErr result
         (WritesBeginning (O.contents output.old) (O.contents output.new) line)) }
     ensures unread { IfOnce said (λ _. ⊥) → input.new ≡ input.old }
-    ensures done { IfOnce said (λ once. OnOk result (IfSome (I.remaining input.old) (λ stream.
-        Appends (O.contents output.old) (O.contents output.new)
-        (once_text (once_book once.price once.block) once.credit stream)))) }
-    ensures fault { IfOnce said (λ once. OnErr result (IfSome (I.remaining input.old) (λ stream.
-        WritesBeginning (O.contents output.old) (O.contents output.new)
-        (once_text (once_book once.price once.block) once.credit stream)))) }
+    ensures done { IfOnce said (λ once. OnOk result (WritesOnce (once_book once.price once.block)
+        once.credit (I.remaining input.old) (O.contents output.old) (O.contents output.new))) }
+    ensures fault { IfOnce said (λ once. OnErr result (BeginsOnce (once_book once.price once.block)
+        once.credit (I.remaining input.old) (O.contents output.old) (O.contents output.new))) }
 {
     match said {
         ProgramWords::Once(once) => answer_once(rt.alloc(), once, input, output),
@@ -69,12 +72,10 @@ fn answer_once<I: Read, O: Write>(
     requires { IsOnceInRange once }
     ensures ended { IfOk result (IsEnded ⊥) }
     ensures reached { IfErr result (IsReached ⊥ ⊥) }
-    ensures done { OnOk result (IfSome (I.remaining input.old) (λ stream.
-        Appends (O.contents output.old) (O.contents output.new)
-        (once_text (once_book once.price once.block) once.credit stream))) }
-    ensures fault { OnErr result (IfSome (I.remaining input.old) (λ stream.
-        WritesBeginning (O.contents output.old) (O.contents output.new)
-        (once_text (once_book once.price once.block) once.credit stream))) }
+    ensures done { OnOk result (WritesOnce (once_book once.price once.block) once.credit
+        (I.remaining input.old) (O.contents output.old) (O.contents output.new)) }
+    ensures fault { OnErr result (BeginsOnce (once_book once.price once.block) once.credit
+        (I.remaining input.old) (O.contents output.old) (O.contents output.new)) }
 {
     match answer_lines(alloc, once, input, output) {
         Ok(()) => Ok(Status::Done),
@@ -91,12 +92,10 @@ fn answer_lines<I: Read, O: Write>(
 ) -> Result<(), LinesFault>
     requires { IsOnceInRange once }
     ensures reached { IfErr result (IsReachedByLines ⊥) }
-    ensures done { OnOk result (IfSome (I.remaining input.old) (λ stream.
-        Appends (O.contents output.old) (O.contents output.new)
-        (once_text (once_book once.price once.block) once.credit stream))) }
-    ensures fault { OnErr result (IfSome (I.remaining input.old) (λ stream.
-        WritesBeginning (O.contents output.old) (O.contents output.new)
-        (once_text (once_book once.price once.block) once.credit stream))) }
+    ensures done { OnOk result (WritesOnce (once_book once.price once.block) once.credit
+        (I.remaining input.old) (O.contents output.old) (O.contents output.new)) }
+    ensures fault { OnErr result (BeginsOnce (once_book once.price once.block) once.credit
+        (I.remaining input.old) (O.contents output.old) (O.contents output.new)) }
 {
     let book = once_book(alloc, once.price, once.block)?;
     let mut keeper = MemoryKeeper::new(alloc);

@@ -1,4 +1,5 @@
-ghost use Rattle.std.specs.Prelude.{◌≡◌, ◌≢◌, ◌++◌, ◌∷◌, [], map, List, Result, Some, None, OnOk, OnErr, IfOk, IfSome};
+ghost use Rattle.std.specs.Prelude.{◌≡◌, ◌≢◌, ◌++◌, ◌∷◌, [], map, List, Result, Some, None, OnOk};
+ghost use Rattle.std.specs.Prelude.{OnErr, IfOk, IfSome};
 ghost use Rattle.byte_streams.specs.Lines.{lines_of};
 ghost use Rattle.charging.specs.declared.running.DatedCommand.{DatedCommand};
 ghost use Rattle.json_fields.specs.declared.fault.WireFault.{WireFault};
@@ -75,7 +76,8 @@ pub(crate) fn read_input<R: Read>(alloc: Global, reader: &mut R) -> Result<Input
 
 impl Input {
     fn add_line(&mut self, alloc: Global, line: &[u8]) -> Result<(), AllocError>
-        ensures { OnOk result ((read : List (Result DatedCommand WireFault)) → IsInput read self.old →
+        ensures { OnOk result
+            ((read : List (Result DatedCommand WireFault)) → IsInput read self.old →
             IsInput (read ++ line_request line.now ∷ []) self.new) }
     {
         match read_line(alloc, line) {
@@ -85,8 +87,10 @@ impl Input {
     }
 
     fn add_request(&mut self, request: DatedCommand) -> Result<(), AllocError>
-        ensures requests { OnOk result (self.new.requests.items ≡ self.old.requests.items ++ request ∷ []) }
-        ensures lines { OnOk result (map told_fault self.new.lines.items ≡ map told_fault self.old.lines.items ++ None ∷ []) }
+        ensures requests { OnOk result
+            (self.new.requests.items ≡ self.old.requests.items ++ request ∷ []) }
+        ensures lines { OnOk result (map told_fault self.new.lines.items
+            ≡ map told_fault self.old.lines.items ++ None ∷ []) }
     {
         self.requests.push(request)?;
         self.lines.push(Line::Request)?;
@@ -95,7 +99,8 @@ impl Input {
 
     fn add_fault(&mut self, fault: WireFault) -> Result<(), AllocError>
         ensures requests { OnOk result (self.new.requests ≡ self.old.requests) }
-        ensures lines { OnOk result (map told_fault self.new.lines.items ≡ map told_fault self.old.lines.items ++ Some fault ∷ []) }
+        ensures lines { OnOk result (map told_fault self.new.lines.items
+            ≡ map told_fault self.old.lines.items ++ Some fault ∷ []) }
         ensures own { OnOk result (fault ≢ Memory) }
     {
         let fault = line_fault(fault)?;

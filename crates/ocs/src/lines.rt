@@ -4,7 +4,8 @@ ghost use Rattle.keepers.specs.Faults.{max_failures};
 ghost use Rattle.keepers.specs.declared.fault.StoreFault.{StoreFault};
 ghost use Rattle.keepers.specs.declared.fault.StoreFault.TheVariants.{Store as StoreFailed};
 ghost use Rattle.ocs.specs.declared.fault.LinesFault.TheVariants.{Read, Store};
-ghost use Rattle.ocs.specs.Served.{ForEachList, IsContinued, IsAnswered, IsStopped, IsBegun, IsRunOpened};
+ghost use Rattle.ocs.specs.Served.{ForEachList, IsContinued, IsAnswered, IsStopped, IsBegun};
+ghost use Rattle.ocs.specs.Served.{IsRunOpened};
 
 use crate::fault::LinesFault;
 use crate::input::{Input, read_input};
@@ -17,16 +18,19 @@ use std::io::{Read, Write};
 use tariffs::TariffBook;
 use units::Money;
 
-/// Answers lines `MOMENT JSON` of requests for credit control, a line each. All lines are read first; then the
-/// requests are run, and what each line is told is written: a request's answer, or the fault of a line that isn't read
-/// as one. Where an opening amount in micro-units is handed in, the first request's account is opened before it with
-/// one bucket of this amount, from the beginning and without end (profile; the requests: RFC 8506 sections 5.2 to 5.4
-/// and 6).
+/// Answers lines `MOMENT JSON` of requests for credit control, a line each. All lines are read
+/// first; then the requests are run, and what each line is told is written: a request's answer, or
+/// the fault of a line that isn't read as one. Where an opening amount in micro-units is handed in,
+/// the first request's account is opened before it with one bucket of this amount, from the
+/// beginning and without end (profile; the requests: RFC 8506 sections 5.2 to 5.4 and 6).
 ///
 /// # Errors
-/// `Read` where memory ran out before the requests were run, or the reader failed: then nothing has changed. `Store`
-/// where the keeper failed: a beginning of the requests is accepted, and the answers before that are written. `Write`
-/// where memory ran out for an answer's text, or the writer failed: then a beginning of the answers is written.
+/// `Read` where memory ran out before the requests were run, or the reader failed: then nothing has
+/// changed. `Store`
+/// where the keeper failed: a beginning of the requests is accepted, and the answers before that
+/// are written. `Write`
+/// where memory ran out for an answer's text, or the writer failed: then a beginning of the answers
+/// is written.
 pub fn lines<K: Keeper, R: Read, W: Write>(
     alloc: Global,
     keeper: &mut K,
@@ -37,20 +41,26 @@ pub fn lines<K: Keeper, R: Read, W: Write>(
 ) -> Result<(), LinesFault>
     ensures answered { K.clean keeper.new → OnOk result (IfSome (R.remaining reader.old) (λ stream.
         ForEachList book.now (K.content keeper.old)
-        (IsAnswered book.now opening stream (W.contents writer.old) (W.contents writer.new) (K.content keeper.new)))) }
+        (IsAnswered book.now opening stream (W.contents writer.old) (W.contents writer.new)
+        (K.content keeper.new)))) }
     ensures begun { K.clean keeper.new → OnErr result (IfSome (R.remaining reader.old) (λ stream.
         ForEachList book.now (K.content keeper.old)
-        (IsBegun book.now opening stream (W.contents writer.old) (W.contents writer.new) (K.content keeper.new)))) }
+        (IsBegun book.now opening stream (W.contents writer.old) (W.contents writer.new)
+        (K.content keeper.new)))) }
     ensures stopped { (fault : StoreFault) → result ≡ Err (Store fault) →
-        K.clean keeper.new → IfSome (R.remaining reader.old) (λ stream. ForEachList book.now (K.content keeper.old)
-        (IsStopped book.now opening stream (W.contents writer.old) (W.contents writer.new) (K.content keeper.new))) }
+        K.clean keeper.new →
+        IfSome (R.remaining reader.old) (λ stream. ForEachList book.now (K.content keeper.old)
+        (IsStopped book.now opening stream (W.contents writer.old) (W.contents writer.new)
+        (K.content keeper.new))) }
     ensures unread { (fault : StreamFault) → result ≡ Err (Read fault) → keeper.new ≡ keeper.old }
-    ensures unwritten { (fault : StreamFault) → result ≡ Err (Read fault) → writer.new ≡ writer.old }
+    ensures unwritten { (fault : StreamFault) → result ≡ Err (Read fault) →
+        writer.new ≡ writer.old }
     ensures continued { K.clean keeper.new →
         ForEachList book.now (K.content keeper.old) (IsContinued book.now (K.content keeper.new)) }
     ensures cleanness { K.clean keeper.new → K.clean keeper.old }
     ensures failures { K.failed keeper.old ≤ K.failed keeper.new }
-    ensures cause { result ≡ Err (Store StoreFailed) → min (K.failed keeper.old + 1) max_failures ≤ K.failed keeper.new }
+    ensures cause { result ≡ Err (Store StoreFailed) →
+        min (K.failed keeper.old + 1) max_failures ≤ K.failed keeper.new }
 {
     let Input { lines, requests } = match read_input(alloc, reader) {
         Ok(input) => input,
@@ -76,10 +86,12 @@ fn run_opened<K: Keeper>(
     requests: Vec<DatedCommand>,
 ) -> Run
     ensures runs { K.clean keeper.new → ForEachList book.now (K.content keeper.old)
-        (IsRunOpened book.now opening.items requests.items (K.content keeper.new) result.answers.items result.fault) }
+        (IsRunOpened book.now opening.items requests.items
+        (K.content keeper.new) result.answers.items result.fault) }
     ensures cleanness { K.clean keeper.new → K.clean keeper.old }
     ensures failures { K.failed keeper.old ≤ K.failed keeper.new }
-    ensures cause { result.fault ≡ Some StoreFailed → min (K.failed keeper.old + 1) max_failures ≤ K.failed keeper.new }
+    ensures cause { result.fault ≡ Some StoreFailed →
+        min (K.failed keeper.old + 1) max_failures ≤ K.failed keeper.new }
 {
     let Run { answers: _, fault } = run(alloc, keeper, book, opening);
     if fault.is_some() {

@@ -21,7 +21,7 @@ ghost use Rattle.operator.specs.Read.{IsInRange, IsSaid, texts_of};
 ghost use Rattle.operator.specs.declared.parsed.OnceWords.{OnceWords};
 ghost use Rattle.operator.specs.declared.parsed.ProgramWords.{ProgramWords};
 ghost use Rattle.operator.specs.declared.parsed.ProgramWords.TheVariants.{Once};
-ghost use Rattle.ocs.specs.Ends.{IfOnce, IsEnd, IsEndBy};
+ghost use Rattle.ocs.specs.Ends.{HasPrinted, IfOnce, IsEnd, IsEndBy};
 ghost use Rattle.ocs.specs.Served.{once_text};
 ghost use Rattle.ocs.specs.Told.{IsTold, IsToldBy, line_of};
 
@@ -54,9 +54,9 @@ fn run_own_words(rt: &HostRuntime) -> io::Result<Status> {
 
 /// Runs the program's words. `Done` where what they say was done, or a text that they ask for was
 /// written: the help or the version; of connections that were served, each one's fault is one line
-/// on `errors`. `Failed` where an operator's command or a statement is refused, and at a fault, which
-/// is one line on `errors`. `Unread` where they aren't words of the program: then `output` gets
-/// nothing, and `errors` a text that says why.
+/// on `errors`. `Failed` where an operator's command or a statement is refused, and at a fault,
+/// which is one line on `errors`. `Unread` where they aren't words of the program: then `output`
+/// gets nothing, and `errors` a text that says why.
 pub fn run_words<'a, I: Read, O: Write, E: Write>(
     rt: &HostRuntime,
     words: &'a [&'a str],
@@ -65,15 +65,19 @@ pub fn run_words<'a, I: Read, O: Write, E: Write>(
     errors: &mut E,
 ) -> Status
     ensures end { IsEnd (texts_of words.entry.now) result }
-    ensures told { IsTold (texts_of words.entry.now) result (E.contents errors.old)
-        (E.contents errors.new) }
+    ensures told { IsTold (texts_of words.entry.now) (O.contents output.old)
+        (O.contents output.new) result (E.contents errors.old) (E.contents errors.new) }
     ensures unread { ((once : OnceWords) → IsSaid (texts_of words.entry.now) (Once once) → ⊥) →
         input.new ≡ input.old }
     ensures unwritten { result ≡ Unread → output.new ≡ output.old }
-    ensures printed { (said : ProgramWords) → IsSaid (texts_of words.entry.now) said → result ≡ Done →
+    ensures printed { (said : ProgramWords) → IsSaid (texts_of words.entry.now) said →
+        result ≡ Done →
         IfSome (line_of said) (Appends (O.contents output.old) (O.contents output.new)) }
-    ensures begun { (said : ProgramWords) → IsSaid (texts_of words.entry.now) said → result ≡ Failed →
+    ensures begun { (said : ProgramWords) → IsSaid (texts_of words.entry.now) said →
+        result ≡ Failed →
         IfSome (line_of said) (WritesBeginning (O.contents output.old) (O.contents output.new)) }
+    ensures answered { (said : ProgramWords) → IsSaid (texts_of words.entry.now) said →
+        result ≡ Done → HasPrinted said (O.contents output.old) (O.contents output.new) Done }
     ensures done { (once : OnceWords) → IsSaid (texts_of words.entry.now) (Once once) →
         result ≡ Done → IfSome (I.remaining input.old) (λ stream.
         Appends (O.contents output.old) (O.contents output.new)
@@ -90,7 +94,7 @@ pub fn run_words<'a, I: Read, O: Write, E: Write>(
 }
 
 /// Does what the words say, and tells a fault.
-#[tactic(auto, using(crate::proofs::EndLemmas::ended_told, crate::proofs::EndLemmas::ended_end, crate::proofs::EndLemmas::fault_end, crate::proofs::EndLemmas::once_ends, crate::proofs::EndLemmas::line_ends))]
+#[tactic(auto, using(crate::proofs::EndLemmas::ended_told, crate::proofs::EndLemmas::ended_end, crate::proofs::EndLemmas::fault_end, crate::proofs::EndLemmas::once_ends, crate::proofs::EndLemmas::line_ends, crate::proofs::EndLemmas::printed_done))]
 fn run_said<I: Read, O: Write, E: Write>(
     rt: &HostRuntime,
     said: ProgramWords,
@@ -100,11 +104,14 @@ fn run_said<I: Read, O: Write, E: Write>(
 ) -> Status
     requires { IsInRange said }
     ensures end { IsEndBy result }
-    ensures told { IsToldBy said result (E.contents errors.old) (E.contents errors.new) }
+    ensures told { IsToldBy said (O.contents output.old) (O.contents output.new) result
+        (E.contents errors.old) (E.contents errors.new) }
     ensures printed { result ≡ Done →
         IfSome (line_of said) (Appends (O.contents output.old) (O.contents output.new)) }
     ensures begun { result ≡ Failed →
         IfSome (line_of said) (WritesBeginning (O.contents output.old) (O.contents output.new)) }
+    ensures answered { result ≡ Done →
+        HasPrinted said (O.contents output.old) (O.contents output.new) Done }
     ensures unread { IfOnce said (λ _. ⊥) → input.new ≡ input.old }
     ensures done { IfOnce said (λ once. result ≡ Done → IfSome (I.remaining input.old) (λ stream.
         Appends (O.contents output.old) (O.contents output.new)

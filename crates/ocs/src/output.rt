@@ -13,7 +13,8 @@ use std::alloc::{AllocError, Global};
 use std::io::Write;
 use wire::{write_answer, write_fault};
 
-/// Writes what each line is told: its fault, or the next answer. It ends at the first request that has no answer.
+/// Writes what each line is told: its fault, or the next answer. It ends at the first request that
+/// has no answer.
 pub(crate) fn write_output<W: Write>(
     alloc: Global,
     writer: &mut W,
@@ -44,7 +45,8 @@ fn line_text(
     line: Line,
     answer: Option<&Answer>,
 ) -> Result<Option<String>, AllocError>
-    ensures { IfOk result (λ text. option_map string_bytes text ≡ line_text (told_fault line) (option_map (λ a. a.now) answer.entry)) }
+    ensures { IfOk result (λ text. option_map string_bytes text
+        ≡ line_text (told_fault line) (option_map (λ a. a.now) answer.entry)) }
 {
     match (line, answer) {
         (Line::Fault(fault), _) => Ok(Some(write_fault(alloc, fault.into())?)),

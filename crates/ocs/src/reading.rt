@@ -7,7 +7,8 @@ use operator::{DatedLine, dated_line};
 use std::alloc::Global;
 use wire::{WireFault, read_request};
 
-/// The moment and the body of a line; None where it isn't UTF-8, or isn't a moment, a space and a body.
+/// The moment and the body of a line; None where it isn't UTF-8, or isn't a moment, a space and a
+/// body.
 fn parted(line: &[u8]) -> Option<DatedLine<'_>>
     ensures moment { option_map (λ d. d.moment) result ≡ line_moment line.now }
     ensures body { IfSome result (λ d. d.body.now ≡ line_rest line.now) }

@@ -2,9 +2,9 @@
 
 ghost use Rattle.std.specs.Prelude.{◌≡◌, IfErr, IfOk, OnErr, OnOk};
 ghost use Rattle.std.specs.Io.KnownBytes.{Appends};
+ghost use Rattle.office.specs.Printed.{IsEnded};
 ghost use Rattle.office.specs.Written.{WritesBeginning};
 ghost use Rattle.office_server.specs.Told.{listening_line};
-ghost use Rattle.ocs.specs.Ends.{IsEnded};
 ghost use Rattle.ocs.specs.Told.{ConnectionsTold, IsReached};
 
 use crate::fault::ProgramFault;

@@ -2,8 +2,10 @@
 
 ghost use Rattle.std.specs.Prelude.{◌≡◌, ◌++◌, ◌∷◌, [], codes, IfErr, IfOk, OnErr, OnOk};
 ghost use Rattle.std.specs.Io.KnownBytes.{Appends};
+ghost use Rattle.office.specs.Months.{unknown_line};
+ghost use Rattle.office.specs.Printed.{IsEnded, PrintsAnswer, PrintsCounts};
 ghost use Rattle.office.specs.Written.{WritesBeginning};
-ghost use Rattle.ocs.specs.Ends.{IsEnded};
+ghost use Rattle.office.specs.declared.status.Status.TheVariants.{Failed};
 ghost use Rattle.ocs.specs.Served.{ForEachList, IsContinued};
 ghost use Rattle.ocs.specs.Told.{IsReached, IsReachedByLines};
 
@@ -45,17 +47,20 @@ pub(crate) fn answer_init<O: Write>(
 }
 
 /// Carries out an operator's command.
+#[tactic(auto, using(crate::proofs::EndLemmas::answered_ends))]
 pub(crate) fn answer_office<O: Write>(
     rt: &HostRuntime,
     words: OfficeWords,
     output: &mut O,
 ) -> Result<Status, ProgramFault>
-    ensures ended { IfOk result (IsEnded (Unit {0})) }
+    ensures ended { IfOk result (IsEnded
+        (PrintsAnswer Failed (O.contents output.old) (O.contents output.new))) }
+    ensures answered { IfOk result (λ status.
+        PrintsAnswer status (O.contents output.old) (O.contents output.new)) }
     ensures reached { IfErr result (IsReached ⊥ (Unit {0})) }
 {
     match command_office(rt, words, output) {
-        Ok(Status::Done) => Ok(Status::Done),
-        Ok(_) => Ok(Status::Failed),
+        Ok(status) => Ok(status),
         Err(fault) => Err(ProgramFault::Database(fault)),
     }
 }
@@ -66,12 +71,12 @@ pub(crate) fn answer_statement<O: Write>(
     words: StatementWords,
     output: &mut O,
 ) -> Result<Status, ProgramFault>
-    ensures ended { IfOk result (IsEnded (Unit {0})) }
+    ensures ended { IfOk result (IsEnded
+        (Appends (O.contents output.old) (O.contents output.new) unknown_line)) }
     ensures reached { IfErr result (IsReached ⊥ (Unit {0})) }
 {
     match state_office(rt, words, output) {
-        Ok(Status::Done) => Ok(Status::Done),
-        Ok(_) => Ok(Status::Failed),
+        Ok(status) => Ok(status),
         Err(fault) => Err(ProgramFault::Database(fault)),
     }
 }
@@ -83,6 +88,7 @@ pub(crate) fn answer_import<O: Write>(
     output: &mut O,
 ) -> Result<Status, ProgramFault>
     ensures ended { IfOk result (IsEnded ⊥) }
+    ensures counted { OnOk result (PrintsCounts (O.contents output.old) (O.contents output.new)) }
     ensures reached { IfErr result (IsReached (Unit {0}) (Unit {0})) }
 {
     match import_office(rt, import, output) {

@@ -12,7 +12,8 @@ use Rattle.office.specs.Told.{answer_line, status_of}
 use Rattle.office.specs.Written.{WritesBeginning}
 use Rattle.office.specs.declared.status.Status.{Status}
 
-pub carried_out : (b : Book) (c : Command) (t : ℕ) (old new : Tables) (tells : Answer → Type 0) (given : Answer)
+pub carried_out : (b : Book) (c : Command) (t : ℕ) (old new : Tables) (tells : Answer → Type 0)
+    (given : Answer)
     → Serves b c t old new (Ok given) → tells given → IsCarriedOut b c t old new tells
 carried_out b c t old new tells given serves told = λ list time tables.
     let served = serves list time tables in
@@ -23,23 +24,28 @@ carried_out b c t old new tells given serves told = λ list time tables.
 
 -- ---- by what a step and a writer gave
 
-served_from : (b : Book) (c d : Command) (t : ℕ) (old new : Tables) (r : Result Answer StoreFault) (given : Answer)
+served_from : (b : Book) (c d : Command) (t : ℕ) (old new : Tables) (r : Result Answer StoreFault)
+    (given : Answer)
     → Serves b d t old new r → r ≡ Ok given → d ≡ c → Serves b c t old new (Ok given)
 served_from b c d t old new r given serves e same =
     subst (λ (x : Command). Serves b x t old new (Ok given)) same
     (subst (λ (x : Result Answer StoreFault). Serves b d t old new x) e serves)
 
-pub done_from : (b : Book) (c d : Command) (t : ℕ) (old new : Tables) (before after : Option (List ℕ)) (status : Status)
+pub done_from : (b : Book) (c d : Command) (t : ℕ) (old new : Tables)
+    (before after : Option (List ℕ)) (status : Status)
     (r : Result Answer StoreFault) (given : Answer)
-    → Serves b d t old new r → r ≡ Ok given → d ≡ c → status ≡ status_of given → Appends before after (answer_line given)
-    → IsCarriedOut b c t old new (λ answer. (status ≡ status_of answer) × Appends before after (answer_line answer))
+    → Serves b d t old new r → r ≡ Ok given → d ≡ c → status ≡ status_of given
+    → Appends before after (answer_line given) → IsCarriedOut b c t old new
+    (λ answer. (status ≡ status_of answer) × Appends before after (answer_line answer))
 done_from b c d t old new before after status r given serves e same is written =
-    carried_out b c t old new (λ answer. (status ≡ status_of answer) × Appends before after (answer_line answer)) given
+    carried_out b c t old new
+    (λ answer. (status ≡ status_of answer) × Appends before after (answer_line answer)) given
     (served_from b c d t old new r given serves e same) (is, written)
 
-pub untold_from : (b : Book) (c d : Command) (t : ℕ) (old new : Tables) (before after : Option (List ℕ))
-    (r : Result Answer StoreFault) (given : Answer)
-    → Serves b d t old new r → r ≡ Ok given → d ≡ c → WritesBeginning before after (answer_line given)
+pub untold_from : (b : Book) (c d : Command) (t : ℕ) (old new : Tables)
+    (before after : Option (List ℕ)) (r : Result Answer StoreFault) (given : Answer)
+    → Serves b d t old new r → r ≡ Ok given → d ≡ c
+    → WritesBeginning before after (answer_line given)
     → IsCarriedOut b c t old new (λ answer. WritesBeginning before after (answer_line answer))
 untold_from b c d t old new before after r given serves e same written =
     carried_out b c t old new (λ answer. WritesBeginning before after (answer_line answer)) given

@@ -1,5 +1,6 @@
 -- Vouchers that were added so far, one more, and all.
-use Rattle.std.proofs.Common.{Option, Result, Ok, Err, ◌≡◌, ◌+◌, ◌<◌, ℕ, suc, List, [], ◌∷◌, ◌++◌, length, take, refl, sym, ap, subst, ◌∙◌, arith}
+use Rattle.std.proofs.Common.{Option, Result, Ok, Err, ◌≡◌, ◌+◌, ◌<◌, ℕ, suc, List, [], ◌∷◌, ◌++◌}
+use Rattle.std.proofs.Common.{length, take, refl, sym, ap, subst, ◌∙◌, arith}
 use Rattle.std.proofs.lemmas.Bool.{false≢true}
 use Rattle.std.proofs.lemmas.List.{length-append}
 use Rattle.std.specs.Prelude.{is_err, false, true}
@@ -23,7 +24,8 @@ use Rattle.redemptions.specs.declared.adding.Addition.{Addition}
 use Rattle.redemptions.specs.declared.adding.Addition.TheVariants.{New, Present, Conflicting}
 use Rattle.redemptions.specs.declared.voucher.Voucher.{Voucher}
 use Rattle.office.specs.Counts.{counted, counted_as, counts_line, no_counts, total}
-use Rattle.office.specs.Imports.{BeginsImport, Imports, TellsImport, IsAdded, IsImportBegun, IsImported, addition_at, additions, counted_after, counts_after}
+use Rattle.office.specs.Imports.{BeginsImport, Imports, TellsImport, IsAdded, IsImportBegun}
+use Rattle.office.specs.Imports.{IsImported, addition_at, additions, counted_after, counts_after}
 use Rattle.office.specs.Written.{WritesBeginning}
 use Rattle.office.specs.declared.counts.Counts.{Counts}
 
@@ -92,7 +94,8 @@ one-more b t list rows row old mid new n m x so added e =
 
 -- ---- at the end
 
-pub all-imported : (b : Book) (t : ℕ) (rows : List VoucherAddition) (old new : Tables) (n : Counts) →
+pub all-imported : (b : Book) (t : ℕ) (rows : List VoucherAddition) (old new : Tables)
+    (n : Counts) →
     ImportsSoFar b (additions t rows) old new n → (list : List Accepted) → IsInTime list →
     AreTables b list old → IsImported b list (additions t rows) old new n
 all-imported b t rows old new n so = λ list time tables.
@@ -198,8 +201,9 @@ not-new (New made) n none = let no : ⊥ = omega (arith, none) in absurd no
 not-new Present n none = (none, refl)
 not-new Conflicting n none = (none, refl)
 
-pub added : (b : Book) (t : ℕ) (row : VoucherAddition) (old mid new : Tables) (found : Option Voucher)
-    (x : Addition) → found ≡ old.vouchers row.code → x ≡ addition found row.terms → mid ≡ old →
+pub added : (b : Book) (t : ℕ) (row : VoucherAddition) (old mid new : Tables)
+    (found : Option Voucher) (x : Addition) → found ≡ old.vouchers row.code →
+    x ≡ addition found row.terms → mid ≡ old →
     ((list : List Accepted) → IsInTime list → AreTables b list mid →
     (given : Answer) × IsServed b list (AddVoucher row) (moment_of list t) mid new given) →
     (list : List Accepted) → IsInTime list → AreTables b list old →

@@ -1,5 +1,6 @@
 -- What is told of an account's month is its ledger's.
-use Rattle.std.proofs.Common.{◌≡◌, ℕ, Bool, true, false, List, Option, None, Some, refl, sym, ap, subst, ◌∙◌, Result, Ok, Err}
+use Rattle.std.proofs.Common.{◌≡◌, ℕ, Bool, true, false, List, Option, None, Some, refl, sym, ap}
+use Rattle.std.proofs.Common.{subst, ◌∙◌, Result, Ok, Err}
 use Rattle.std.specs.Prelude.{if◌then◌else◌, IfOk, OnErr}
 use Rattle.std.specs.Io.KnownBytes.{Appends}
 use Rattle.buckets.specs.Row.{Row}
@@ -18,29 +19,34 @@ use Rattle.statements.specs.Charges.{Writes}
 use Rattle.statements.specs.Texts.{export_text, statement_text}
 use Rattle.statements.specs.Texts as month
 use Rattle.statements.specs.declared.fault.StatementFault.{StatementFault}
-use Rattle.office.specs.Months.{IsMonthTold, Tells, ledger_text, month_status, month_text, rows_text, unknown_line}
+use Rattle.office.specs.Months.{IsMonthTold, Tells, ledger_text, month_status, month_text}
+use Rattle.office.specs.Months.{rows_text, unknown_line}
+use Rattle.office.specs.Printed.{IsEnded}
 use Rattle.office.specs.Written.{WritesBeginning}
 use Rattle.office.specs.declared.fault.OfficeFault.{OfficeFault}
 use Rattle.office.specs.declared.stating.MonthQuery.{MonthQuery}
 use Rattle.office.specs.declared.status.Status.{Status}
-use Rattle.office.specs.declared.status.Status.TheVariants.{Done, Failed}
+use Rattle.office.specs.declared.status.Status.TheVariants.{Done, Failed, Unread}
 
 -- ---- charges and buckets
 
 -- the charges of the tables are those of the ledger
-are_charges : (b : Book) (a : List ℕ) (list : List Accepted) (tables : Tables) → AreTables b list tables →
+are_charges : (b : Book) (a : List ℕ) (list : List Accepted) (tables : Tables) →
+    AreTables b list tables →
     AreCharges (tables.charges a) (charge_rows (history b a list).ledger)
 are_charges b a list tables h =
     record { rising = charges_rise (history b a list).ledger; listed = λ n. sym (h.charges a n) }
 
 -- one form of the text or the other
-pub as_csv : (b : Book) (q : MonthQuery) (t : ℕ) (buckets : List Row) (charges : List ChargeColumns) → q.csv ≡ true →
+pub as_csv : (b : Book) (q : MonthQuery) (t : ℕ) (buckets : List Row)
+    (charges : List ChargeColumns) → q.csv ≡ true →
     export_text b q.month charges ≡ rows_text b q t charges buckets
 as_csv b q t buckets charges is =
     sym (ap (λ v. if v then export_text b q.month charges
     else statement_text b q.account q.month t charges buckets) is)
 
-pub as_lines : (b : Book) (q : MonthQuery) (t : ℕ) (shown buckets : List Row) (charges : List ChargeColumns) → q.csv ≡ false → shown ≡ buckets →
+pub as_lines : (b : Book) (q : MonthQuery) (t : ℕ) (shown buckets : List Row)
+    (charges : List ChargeColumns) → q.csv ≡ false → shown ≡ buckets →
     statement_text b q.account q.month t charges shown ≡ rows_text b q t charges buckets
 as_lines b q t shown buckets charges is same =
     ap (statement_text b q.account q.month t charges) same
@@ -50,7 +56,8 @@ as_lines b q t shown buckets charges is same =
 -- another form of the text is written where it is the same
 pub writes_as : {T : Type 0} (charges : ℕ → Option ChargeColumns) (old new : Option (List ℕ))
     (f g : List ChargeColumns → List ℕ) (r : Result T StatementFault) →
-    ((rows : List ChargeColumns) → f rows ≡ g rows) → Writes charges old new f r → Writes charges old new g r
+    ((rows : List ChargeColumns) → f rows ≡ g rows) → Writes charges old new f r →
+    Writes charges old new g r
 writes_as charges old new f g (Ok x) same w = record {
   whole = λ rows are. subst (Appends old new) (same rows) (w.whole rows are);
   beginning = λ rows are. tt;
@@ -73,7 +80,8 @@ tells_whole charges old new text x w rows are =
     record { whole = (refl, w.whole rows are); beginning = tt }
 
 pub tells_begun : {T : Type 0} (charges : ℕ → Option ChargeColumns) (old new : Option (List ℕ))
-    (text : List ChargeColumns → List ℕ) (e : StatementFault) (f : OfficeFault) → Writes {T = T} charges old new text (Err e) →
+    (text : List ChargeColumns → List ℕ) (e : StatementFault) (f : OfficeFault) →
+    Writes {T = T} charges old new text (Err e) →
     (rows : List ChargeColumns) → AreCharges charges rows → Tells Done old new (text rows) (Err f)
 tells_begun charges old new text e f w rows are =
     record { whole = tt; beginning = begun (w.beginning rows are) }
@@ -89,9 +97,11 @@ module _ (b : Book) (q : MonthQuery) (t : ℕ) (old : Tables) (before after : Op
   text_is list s opened is =
       let h : History = history b q.account list in
       (λ i. rows_text b q (is.moment i) (charge_rows h.ledger) (is.buckets i))
-      ∙ sym (ap (λ v. if v then ledger_text b q (moment_of list t) h.ledger else unknown_line) opened)
+      ∙ sym (ap (λ v. if v then ledger_text b q (moment_of list t) h.ledger
+      else unknown_line) opened)
 
-  pub month_told : (found : Option AccountState) (s : AccountState) (mid : Tables) (r : Result Status OfficeFault) →
+  pub month_told : (found : Option AccountState) (s : AccountState) (mid : Tables)
+      (r : Result Status OfficeFault) →
       TellsState b q.account t old found → found ≡ Some s → mid ≡ old →
       ((rows : List ChargeColumns) → AreCharges (mid.charges q.account) rows →
       Tells Done before after (rows_text b q s.moment rows s.buckets.items) r) →
@@ -99,9 +109,11 @@ module _ (b : Book) (q : MonthQuery) (t : ℕ) (old : Tables) (before after : Op
   month_told found s mid r states is same told = λ list time tables.
       let h : History = history b q.account list in
       let state : IsState b (moment_of list t) h (Some s) =
-      subst (λ (o : Option AccountState). IsState b (moment_of list t) h o) is (states list time tables) in
+      subst (λ (o : Option AccountState). IsState b (moment_of list t) h o) is
+      (states list time tables) in
       let ends : Done ≡ month_status h = sym (ap (λ v. if v then Done else Failed) state.0) in
-      let written : Tells Done before after (rows_text b q s.moment (charge_rows h.ledger) s.buckets.items) r =
+      let written : Tells Done before after
+      (rows_text b q s.moment (charge_rows h.ledger) s.buckets.items) r =
       told (charge_rows h.ledger)
       (subst (λ (x : Tables). AreCharges (x.charges q.account) (charge_rows h.ledger)) (sym same)
       (are_charges b q.account list old tables)) in
@@ -115,14 +127,26 @@ module _ (b : Book) (q : MonthQuery) (t : ℕ) (old : Tables) (before after : Op
   unknown_told found r states is told = λ list time tables.
       let h : History = history b q.account list in
       let closed : h.opened ≡ false =
-      subst (λ (o : Option AccountState). IsState b (moment_of list t) h o) is (states list time tables) in
+      subst (λ (o : Option AccountState). IsState b (moment_of list t) h o) is
+      (states list time tables) in
       let ends : Failed ≡ month_status h = sym (ap (λ v. if v then Done else Failed) closed) in
       let text : unknown_line ≡ month_text b q (moment_of list t) h =
-      sym (ap (λ v. if v then ledger_text b q (moment_of list t) h.ledger else unknown_line) closed) in
+      sym (ap (λ v. if v then ledger_text b q (moment_of list t) h.ledger
+      else unknown_line) closed) in
       subst (λ (e : Status). Tells e before after (month_text b q (moment_of list t) h) r) ends
       (subst (λ l. Tells Failed before after l r) text told)
 
 -- nothing is written
-pub nothing_told : (b : Book) (q : MonthQuery) (t : ℕ) (old : Tables) (before : Option (List ℕ)) (f : OfficeFault) →
-    ((text : List ℕ) → WritesBeginning before before text) → IsMonthTold b q t old before before (Err f)
+pub nothing_told : (b : Book) (q : MonthQuery) (t : ℕ) (old : Tables) (before : Option (List ℕ))
+    (f : OfficeFault) →
+    ((text : List ℕ) → WritesBeginning before before text) →
+    IsMonthTold b q t old before before (Err f)
 nothing_told b q t old before f none = λ list time tables. record { whole = tt; beginning = none _ }
+
+-- an account whose month is told isn't refused
+pub ended_so : (r : Result Status OfficeFault) (Refused : Type 0) → IfOk r (IsEnded ⊥) →
+    IfOk r (IsEnded Refused)
+ended_so (Ok Done) Refused ended = tt
+ended_so (Ok Failed) Refused ended = absurd ended
+ended_so (Ok Unread) Refused ended = absurd ended
+ended_so (Err f) Refused ended = tt

@@ -17,4 +17,5 @@ pub record IsCarriedOutOn (b : Book) (c : Command) (t : ℕ) (old new : Tables)
 
 abbrev pub IsCarriedOut : Book → Command → ℕ → Tables → Tables → (Answer → Type 0) → Type 0
 IsCarriedOut b c t old new tells =
-    (list : List Accepted) → IsInTime list → AreTables b list old → IsCarriedOutOn b c t old new tells list
+    (list : List Accepted) → IsInTime list → AreTables b list old →
+    IsCarriedOutOn b c t old new tells list

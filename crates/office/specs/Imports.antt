@@ -31,7 +31,8 @@ counted_after b list d n = counted (accepts b list d.command (moment_of list d.m
 -- with these commands, each as it was decided after those before it
 abbrev pub counts_after : Book → List Accepted → List DatedCommand → Counts → Counts
 counts_after b list [] n = n
-counts_after b list (d ∷ ds) n = counts_after b (after_command b list d) ds (counted_after b list d n)
+counts_after b list (d ∷ ds) n =
+    counts_after b (after_command b list d) ds (counted_after b list d n)
 
 -- all were added: the counts are those of the decisions, and the tables those of the list with what
 -- was accepted; where none is new no table has changed
@@ -59,7 +60,8 @@ Imports b commands old new result =
 -- a beginning was, whatever the list
 abbrev pub BeginsImport : Book → List DatedCommand → Tables → Tables → Type 0
 BeginsImport b commands old new =
-    (list : List Accepted) → IsInTime list → AreTables b list old → IsImportBegun b list commands new
+    (list : List Accepted) → IsInTime list → AreTables b list old →
+    IsImportBegun b list commands new
 
 -- all were, and this is so of the counts
 pub record IsImportTold (b : Book) (list : List Accepted) (commands : List DatedCommand)

@@ -4,3 +4,4 @@ pub mod Carried
 pub mod Months
 pub mod Counts
 pub mod Imports
+pub mod Printed

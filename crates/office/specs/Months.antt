@@ -1,6 +1,7 @@
 -- What is told of an account's month: a statement or an export of it, or that there is no account.
 -- Source: profile.
-use Rattle.std.specs.Prelude.{◌≡◌, ◌+◌, ◌≤◌, ℕ, Bool, List, Option, Result, if◌then◌else◌, IfOk, IsErrOf, OnErr, min}
+use Rattle.std.specs.Prelude.{◌≡◌, ◌+◌, ◌≤◌, ℕ, Bool, List, Option, Result, if◌then◌else◌, IfOk}
+use Rattle.std.specs.Prelude.{IsErrOf, OnErr, min}
 use Rattle.std.specs.Io.KnownBytes.{Appends}
 use Rattle.byte_streams.specs.declared.StreamFault.TheVariants as stream
 use Rattle.buckets.specs.Row.{Row}

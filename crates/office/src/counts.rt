@@ -11,8 +11,11 @@ use std::alloc::{AllocError, Global};
 /// other terms stands under their code (`O5`). Only the first changed anything.
 #[derive(Clone, Copy, Debug, PartialEq, Eq)]
 pub struct Counts {
+    /// Added by this import.
     pub new: u64,
+    /// There already, with the same terms.
     pub present: u64,
+    /// Refused: another of these codes has other terms.
     pub conflicting: u64,
 }
 
@@ -28,7 +31,7 @@ pub(crate) fn no_counts() -> Counts
 }
 
 /// With one voucher more.
-pub(crate) fn counted(counts: Counts, addition: Addition) -> Counts
+pub(crate) fn count_one(counts: Counts, addition: Addition) -> Counts
     requires { total counts < 18_446_744_073_709_551_615 }
     ensures { result ≡ counted_as addition counts }
 {

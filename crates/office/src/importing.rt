@@ -8,11 +8,13 @@ ghost use Rattle.keepers.specs.Keeping.{Keeps};
 ghost use Rattle.keepers.specs.declared.fault.StoreFault.{StoreFault};
 ghost use Rattle.keepers.specs.declared.fault.StoreFault.TheVariants.{Store as StoreFailed};
 ghost use Rattle.office.specs.Counts.{counts_line, total};
-ghost use Rattle.office.specs.Imports.{Adds, BeginsImport, Imports, TellsImport, addition_at, additions};
+ghost use Rattle.office.specs.Imports.{Adds, BeginsImport, Imports, TellsImport, addition_at};
+ghost use Rattle.office.specs.Imports.{additions};
+ghost use Rattle.office.specs.Printed.{PrintsCounts};
 ghost use Rattle.office.specs.Written.{WritesBeginning};
 ghost use Rattle.office.specs.declared.fault.OfficeFault.TheVariants.{Store, Write};
 
-use crate::counts::{Counts, counted, counts_text, no_counts};
+use crate::counts::{Counts, count_one, counts_text, no_counts};
 use crate::fault::OfficeFault;
 use crate::writing::write_line;
 use byte_streams::StreamFault;
@@ -49,7 +51,7 @@ pub fn import<K: Keeper>(
     let mut counts = no_counts();
     for row in rows {
         let addition = add_voucher(alloc, keeper, book, row, moment)?;
-        counts = counted(counts, addition);
+        counts = count_one(counts, addition);
     }
     Ok(counts)
 }
@@ -78,8 +80,8 @@ fn add_voucher<K: Keeper>(
 ///
 /// # Errors
 /// `Store` where the keeper failed: then a beginning of the vouchers was added, and nothing is
-/// written. `Write` where memory ran out for the line or the writer failed: then all were added, and
-/// a beginning of the line is written.
+/// written. `Write` where memory ran out for the line or the writer failed: then all were added,
+/// and a beginning of the line is written.
 #[tactic(auto, using(crate::proofs::ImportLemmas::told_from, crate::proofs::ImportLemmas::untold_from, crate::proofs::ImportLemmas::begun_from))]
 pub fn serve_import<K: Keeper, W: Write>(
     alloc: Global,
@@ -93,6 +95,7 @@ pub fn serve_import<K: Keeper, W: Write>(
         (TellsImport book.now (additions moment rows.items) (K.content keeper.old)
         (K.content keeper.new)
         (λ counts. Appends (W.contents writer.old) (W.contents writer.new) (counts_line counts))) }
+    ensures printed { OnOk result (PrintsCounts (W.contents writer.old) (W.contents writer.new)) }
     ensures untold { (fault : StreamFault) → result ≡ Err (Write fault) → K.clean keeper.new →
         TellsImport book.now (additions moment rows.items) (K.content keeper.old)
         (K.content keeper.new) (λ counts.

@@ -5,6 +5,7 @@ ghost use Rattle.keepers.specs.Faults.{max_failures};
 ghost use Rattle.keepers.specs.declared.fault.StoreFault.{StoreFault};
 ghost use Rattle.keepers.specs.declared.fault.StoreFault.TheVariants.{Store as StoreFailed};
 ghost use Rattle.office.specs.Carried.{IsCarriedOut};
+ghost use Rattle.office.specs.Printed.{PrintsAnswer};
 ghost use Rattle.office.specs.Told.{answer_line, status_of};
 ghost use Rattle.office.specs.Written.{WritesBeginning};
 ghost use Rattle.office.specs.declared.fault.OfficeFault.TheVariants.{Store, Write};
@@ -39,18 +40,23 @@ pub fn serve_office<K: Keeper, W: Write>(
     writer: &mut W,
 ) -> Result<Status, OfficeFault>
     ensures done { K.clean keeper.new → IfOk result (λ status.
-        IsCarriedOut book.now (command_of command) moment (K.content keeper.old) (K.content keeper.new)
-        (λ answer. (status ≡ status_of answer)
+        IsCarriedOut book.now (command_of command) moment (K.content keeper.old)
+        (K.content keeper.new) (λ answer. (status ≡ status_of answer)
         × Appends (W.contents writer.old) (W.contents writer.new) (answer_line answer))) }
+    ensures printed { IfOk result (λ status.
+        PrintsAnswer status (W.contents writer.old) (W.contents writer.new)) }
     ensures untold { (fault : StreamFault) → result ≡ Err (Write fault) → K.clean keeper.new →
-        IsCarriedOut book.now (command_of command) moment (K.content keeper.old) (K.content keeper.new)
-        (λ answer. WritesBeginning (W.contents writer.old) (W.contents writer.new) (answer_line answer)) }
+        IsCarriedOut book.now (command_of command) moment (K.content keeper.old)
+        (K.content keeper.new) (λ answer.
+        WritesBeginning (W.contents writer.old) (W.contents writer.new) (answer_line answer)) }
     ensures unserved { (fault : StoreFault) → result ≡ Err (Store fault) → K.clean keeper.new →
         K.content keeper.new ≡ K.content keeper.old }
-    ensures unwritten { (fault : StoreFault) → result ≡ Err (Store fault) → writer.new ≡ writer.old }
+    ensures unwritten { (fault : StoreFault) → result ≡ Err (Store fault) →
+        writer.new ≡ writer.old }
     ensures cleanness { K.clean keeper.new → K.clean keeper.old }
     ensures failures { K.failed keeper.old ≤ K.failed keeper.new }
-    ensures cause { result ≡ Err (Store StoreFailed) → min (K.failed keeper.old + 1) max_failures ≤ K.failed keeper.new }
+    ensures cause { result ≡ Err (Store StoreFailed) →
+        min (K.failed keeper.old + 1) max_failures ≤ K.failed keeper.new }
 {
     let answer = match step(alloc, keeper, book, command.into_command(), moment) {
         Ok(answer) => answer,

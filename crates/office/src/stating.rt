@@ -1,12 +1,14 @@
 //! An account's month, as a statement or as CSV.
 
-ghost use Rattle.std.specs.Prelude.{◌≡◌, OnOk, OnErr, IsErrOf};
+ghost use Rattle.std.specs.Prelude.{◌≡◌, IfOk, OnOk, OnErr, IsErrOf};
 ghost use Rattle.std.specs.Io.KnownBytes.{Appends};
 ghost use Rattle.charge_sources.specs.Rows.{AreCharges};
 ghost use Rattle.keepers.specs.declared.fault.StoreFault.TheVariants.{Store as StoreFailed};
 ghost use Rattle.reserving.specs.ChargeColumns.{ChargeColumns};
 ghost use Rattle.statements.specs.Charges.{Asks, Writes};
-ghost use Rattle.office.specs.Months.{IsMonthTold, OnlyReads, Tells, month_fault, rows_text, unknown_line};
+ghost use Rattle.office.specs.Months.{IsMonthTold, OnlyReads, Tells, month_fault, rows_text};
+ghost use Rattle.office.specs.Months.{unknown_line};
+ghost use Rattle.office.specs.Printed.{IsEnded};
 ghost use Rattle.office.specs.Written.{WritesBeginning};
 ghost use Rattle.office.specs.declared.fault.OfficeFault.TheVariants.{Store};
 ghost use Rattle.office.specs.declared.status.Status.TheVariants.{Done, Failed};
@@ -43,7 +45,8 @@ pub struct MonthQuery {
 /// nothing. An account that isn't there is refused, and the status is `Failed` then.
 ///
 /// # Errors
-/// `Store` where the keeper failed; `Write` where memory ran out for the text, or the writer failed.
+/// `Store` where the keeper failed; `Write` where memory ran out for the text, or the writer
+/// failed.
 /// Then a beginning of the text is written.
 pub fn serve_statement<K: ChargeSource, W: Write>(
     alloc: Global,
@@ -56,6 +59,8 @@ pub fn serve_statement<K: ChargeSource, W: Write>(
     ensures told { K.clean keeper.new →
         IsMonthTold book.now query.now moment (K.content keeper.old)
         (W.contents writer.old) (W.contents writer.new) result }
+    ensures ended { IfOk result (IsEnded
+        (Appends (W.contents writer.old) (W.contents writer.new) unknown_line)) }
     ensures reads { OnlyReads K.content K.failed K.clean keeper.old keeper.new result }
 {
     let state = match account_state(keeper, book, &query.account, moment) {
@@ -81,6 +86,7 @@ fn tell_month<K: ChargeSource, W: Write>(
         AreCharges ((K.content keeper.old).charges query.now.account) rows →
         Tells Done (W.contents writer.old) (W.contents writer.new)
         (rows_text book.now query.now state.now.moment rows state.now.buckets.items) result }
+    ensures ended { IfOk result (IsEnded ⊥) }
     ensures reads { OnlyReads K.content K.failed K.clean keeper.old keeper.new result }
 {
     match write_month(alloc, keeper, book, query, state, writer) {
@@ -101,7 +107,8 @@ fn write_month<K: ChargeSource, W: Write>(
     ensures writes { K.clean keeper.new →
         Writes ((K.content keeper.old).charges query.now.account)
         (W.contents writer.old) (W.contents writer.new)
-        (λ rows. rows_text book.now query.now state.now.moment rows state.now.buckets.items) result }
+        (λ rows. rows_text book.now query.now state.now.moment rows state.now.buckets.items)
+        result }
     ensures asks { Asks K.content K.failed K.clean keeper.old keeper.new result }
 {
     let MonthQuery {
@@ -138,7 +145,10 @@ fn month_fault(fault: StatementFault) -> OfficeFault
 
 /// Tells that the account isn't there.
 fn tell_unknown<W: Write>(alloc: Global, writer: &mut W) -> Result<Status, OfficeFault>
-    ensures told { Tells Failed (W.contents writer.old) (W.contents writer.new) unknown_line result }
+    ensures told { Tells Failed (W.contents writer.old)
+        (W.contents writer.new) unknown_line result }
+    ensures ended { IfOk result (IsEnded
+        (Appends (W.contents writer.old) (W.contents writer.new) unknown_line)) }
     ensures unstored { IsErrOf result (Store StoreFailed) → ⊥ }
 {
     match write_unknown(alloc, writer) {

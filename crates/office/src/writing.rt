@@ -18,7 +18,8 @@ pub fn write_line<W: Write>(writer: &mut W, text: String) -> Result<(), StreamFa
     ensures written { OnOk result
         (Appends (W.contents writer.old) (W.contents writer.new) (string_bytes text ++ 10 ∷ [])) }
     ensures err { OnErr result
-        (WritesBeginning (W.contents writer.old) (W.contents writer.new) (string_bytes text ++ 10 ∷ [])) }
+        (WritesBeginning (W.contents writer.old) (W.contents writer.new)
+        (string_bytes text ++ 10 ∷ [])) }
 {
     let mut line = text;
     line.push('\n')?;

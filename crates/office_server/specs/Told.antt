@@ -26,7 +26,8 @@ fault_line Write = codes "ocs: net fault\n"
 abbrev pub WritesFaults : List ServeFault → Option (List ℕ) → Option (List ℕ) → Type 0
 WritesFaults [] old new = new ≡ old
 WritesFaults (fault ∷ faults) old new =
-    (between : Option (List ℕ)) × WritesBeginning old between (fault_line fault) × WritesFaults faults between new
+    (between : Option (List ℕ)) × WritesBeginning old between (fault_line fault)
+    × WritesFaults faults between new
 
 -- so many faults are
 pub record TellsFaults (count : ℕ) (old new : Option (List ℕ)) : Type 0 where

@@ -3,7 +3,8 @@
 ghost use Rattle.std.specs.Prelude.{◌≡◌, ◌≤◌, IfErr, IfOk, OnErr, OnOk, string_bytes};
 ghost use Rattle.std.specs.Io.KnownBytes.{Appends};
 ghost use Rattle.office.specs.Written.{WritesBeginning};
-ghost use Rattle.office_server.specs.Told.{IsServeFault, IsTellFault, IsUnlistened, TellsFaults, listening_line};
+ghost use Rattle.office_server.specs.Told.{IsServeFault, IsTellFault, IsUnlistened, TellsFaults};
+ghost use Rattle.office_server.specs.Told.{listening_line};
 
 use crate::clock::OfficeClock;
 use crate::serving::serve_connections;
@@ -32,7 +33,8 @@ pub fn serve_database<O: Write, E: Write>(
     ensures begun { OnErr result (WritesBeginning (O.contents output.old) (O.contents output.new)
         (listening_line words.now.port)) }
     ensures unwritten { IfErr result (λ fault. IsUnlistened fault → output.new ≡ output.old) }
-    ensures told { IfOk result (λ failed. TellsFaults failed (E.contents errors.old) (E.contents errors.new)) }
+    ensures told { IfOk result
+        (λ failed. TellsFaults failed (E.contents errors.old) (E.contents errors.new)) }
     ensures bounded { IfOk result (λ failed. failed ≤ words.now.connections) }
     ensures untold { OnErr result (errors.new ≡ errors.old) }
     ensures fault { IfErr result IsServeFault }

@@ -1,7 +1,7 @@
 //! Connections of a listener, one after another.
 
 ghost use Rattle.std.specs.Prelude.{◌≡◌, ◌≤◌};
-ghost use Rattle.http_api.specs.Replies.{ForEachList, IsContinued};
+ghost use Rattle.http_api.specs.Replies.{Continues};
 ghost use Rattle.office_server.specs.Told.{TellsFaults};
 
 use crate::telling::tell_fault;
@@ -28,7 +28,7 @@ pub fn serve_connections<K: ChargeSource, C: Clock, E: Write>(
     ensures told { TellsFaults result (E.contents errors.old) (E.contents errors.new) }
     ensures bounded { result ≤ connections }
     ensures continued { K.clean keeper.new →
-        ForEachList book.now (K.content keeper.old) (IsContinued book.now (K.content keeper.new)) }
+        Continues book.now (K.content keeper.old) (K.content keeper.new) }
     ensures cleanness { K.clean keeper.new → K.clean keeper.old }
     ensures failures { K.failed keeper.old ≤ K.failed keeper.new }
 {
@@ -51,7 +51,7 @@ fn serve_next<K: ChargeSource, C: Clock, E: Write>(
     ensures told { TellsFaults result (E.contents errors.old) (E.contents errors.new) }
     ensures bounded { result ≤ 1 }
     ensures continued { K.clean keeper.new →
-        ForEachList book.now (K.content keeper.old) (IsContinued book.now (K.content keeper.new)) }
+        Continues book.now (K.content keeper.old) (K.content keeper.new) }
     ensures cleanness { K.clean keeper.new → K.clean keeper.old }
     ensures failures { K.failed keeper.old ≤ K.failed keeper.new }
 {
@@ -73,7 +73,7 @@ fn serve_accepted<K: ChargeSource, C: Clock>(
     clock: &mut C,
 ) -> Result<Served, ServeFault>
     ensures continued { K.clean keeper.new →
-        ForEachList book.now (K.content keeper.old) (IsContinued book.now (K.content keeper.new)) }
+        Continues book.now (K.content keeper.old) (K.content keeper.new) }
     ensures cleanness { K.clean keeper.new → K.clean keeper.old }
     ensures failures { K.failed keeper.old ≤ K.failed keeper.new }
 {

@@ -1,3 +1,4 @@
 mod days;
 mod imports;
+mod lines;
 mod months;

@@ -3,17 +3,23 @@ use Rattle.std.proofs.Common.{◌≡◌, Result, Ok, Err, IfOk, IfErr, refl, sym
 use Rattle.std.specs.Result.{result_ok}
 use Rattle.std.proofs.lemmas.Option.{none-some, same_Some}
 use Rattle.book_fields.specs.declared.fault.BookFault.{BookFault}
-use Rattle.book_fields.specs.declared.fault.BookFault.TheVariants.{NotToml, Missing, WrongKind, OutOfRange, UnknownPeriod, WeekNotCovered, TiersNotRising, TooMany, Memory}
+use Rattle.book_fields.specs.declared.fault.BookFault.TheVariants.{NotToml, Missing, WrongKind}
+use Rattle.book_fields.specs.declared.fault.BookFault.TheVariants.{OutOfRange, UnknownPeriod}
+use Rattle.book_fields.specs.declared.fault.BookFault.TheVariants.{WeekNotCovered, TiersNotRising}
+use Rattle.book_fields.specs.declared.fault.BookFault.TheVariants.{TooMany, Memory}
 use Rattle.book_fields.specs.Faults.{Gives, number_of}
 
-pub is_answered : {A : Type 0} (r : Result A BookFault) (x : A) → Gives (λ y. y) r (Ok x) → IfOk r (λ y. y ≡ x)
+pub is_answered : {A : Type 0} (r : Result A BookFault) (x : A) → Gives (λ y. y) r (Ok x) →
+    IfOk r (λ y. y ≡ x)
 is_answered (Ok y) x h = sym (same_Some _ _ (ap result_ok h))
 is_answered (Err fault) x h = tt
 
-no_fault : {A : Type 0} (fault : BookFault) (x : A) → (number_of fault ≡ 9 → ⊥) → Gives (λ y. y) (Err fault) (Ok x) → ⊥
+no_fault : {A : Type 0} (fault : BookFault) (x : A) → (number_of fault ≡ 9 → ⊥) →
+    Gives (λ y. y) (Err fault) (Ok x) → ⊥
 no_fault fault x other h = none-some _ (sym (ap result_ok (h (λ e. other (ap number_of e)))))
 
-pub is_memory : {A : Type 0} (r : Result A BookFault) (x : A) → Gives (λ y. y) r (Ok x) → IfErr r (λ fault. fault ≡ Memory)
+pub is_memory : {A : Type 0} (r : Result A BookFault) (x : A) → Gives (λ y. y) r (Ok x) →
+    IfErr r (λ fault. fault ≡ Memory)
 is_memory (Ok y) x h = tt
 is_memory (Err Memory) x h = refl
 is_memory (Err NotToml) x h = absurd (no_fault NotToml x (λ e. omega (arith, e)) h)

@@ -1,4 +1,5 @@
--- The tariff book of one price: rating group 10 in seconds, at one price a block in every minute of the week.
+-- The tariff book of one price: rating group 10 in seconds, at one price a block in every minute of
+-- the week.
 -- Source: profile.
 use Rattle.std.specs.Prelude.{ℕ, true, List, [], ◌∷◌, ◌++◌, replicate, codes, None, pos}
 use Rattle.std.specs.Fmt.{decimal}
@@ -19,7 +20,8 @@ whole_week = record { period = record { 0 = 0 }; days = replicate 7 true; from =
 abbrev pub single_tier : ℕ → Tier
 single_tier price = record { upto = None; price = price }
 
--- rating group 10: 600 seconds where no number is named, at most 3,600 at once, and the end of service after the last
+-- rating group 10: 600 seconds where no number is named, at most 3,600 at once, and the end of
+-- service after the last
 abbrev pub once_tariff : ℕ → ℕ → GroupTariff
 once_tariff price block = record {
   group = 10;
@@ -47,7 +49,8 @@ once_book price block = record {
 abbrev pub to_the_block : List ℕ
 to_the_block =
     codes "zone = \"+00:00\"\ncurrency = 978\nvalidity = 3600\nperiods = [\"always\"]\n"
-    ++ codes "\n[[week]]\nperiod = \"always\"\ndays = [1, 2, 3, 4, 5, 6, 7]\nfrom = \"00:00\"\nto = \"24:00\"\n"
+    ++ codes
+    "\n[[week]]\nperiod = \"always\"\ndays = [1, 2, 3, 4, 5, 6, 7]\nfrom = \"00:00\"\nto = \"24:00\"\n"
     ++ codes "\n[[group]]\nid = 10\nunit = \"time\"\nblock = "
 
 -- and on to the price of a block
@@ -59,4 +62,5 @@ to_the_price =
 
 -- the bytes of its document (TOML 1.0)
 abbrev pub once_document : ℕ → ℕ → List ℕ
-once_document price block = to_the_block ++ (decimal block ++ (to_the_price ++ (decimal price ++ codes "\n")))
+once_document price block =
+    to_the_block ++ (decimal block ++ (to_the_price ++ (decimal price ++ codes "\n")))

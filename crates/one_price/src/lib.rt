@@ -1,4 +1,5 @@
-//! The tariff book of one price: rating group 10 in seconds, at one price a block in every minute of the week.
+//! The tariff book of one price: rating group 10 in seconds, at one price a block in every minute
+//! of the week.
 #![tactic(auto)]
 
 ghost use Rattle.std.specs.Prelude.{◌≡◌, ◌≤◌, IfOk, string_bytes};
@@ -7,8 +8,9 @@ ghost use Rattle.one_price.specs.OnceBook.{once_book, once_document};
 use std::alloc::{AllocError, Global};
 use tariffs::{BookFault, TariffBook};
 
-/// The book of one price (profile): rating group 10 in seconds, `price` micro-units a block of `block` seconds in
-/// every minute of the week. Its document is a book's, so its error is want of memory.
+/// The book of one price (profile): rating group 10 in seconds, `price` micro-units a block of
+/// `block` seconds in every minute of the week. Its document is a book's, so its error is want of
+/// memory.
 pub fn once_book(alloc: Global, price: u64, block: u64) -> Result<TariffBook, AllocError>
     requires price { price ≤ 1_000_000_000 }
     requires some_block { 1 ≤ block }

@@ -5,9 +5,11 @@ use Rattle.std.specs.List.{find}
 use Rattle.std.specs.Cmp.Lexicographic.{pointwise}
 use Rattle.clap.specs.Words.{Text}
 use Rattle.operator.specs.declared.command_name.CommandName.{CommandName}
-use Rattle.operator.specs.declared.command_name.CommandName.TheVariants.{Once, Init, Serve, Import, Office, Statement, Replay}
+use Rattle.operator.specs.declared.command_name.CommandName.TheVariants.{Once, Init, Serve, Import}
+use Rattle.operator.specs.declared.command_name.CommandName.TheVariants.{Office, Statement, Replay}
 use Rattle.operator.specs.declared.command_name.OfficeName.{OfficeName}
-use Rattle.operator.specs.declared.command_name.OfficeName.TheVariants.{Open, Bar, Unbar, Sweep, Credit}
+use Rattle.operator.specs.declared.command_name.OfficeName.TheVariants.{Open, Bar, Unbar, Sweep}
+use Rattle.operator.specs.declared.command_name.OfficeName.TheVariants.{Credit}
 
 abbrev pub office_name : OfficeName → Text
 office_name Open = codes "open"

@@ -1,6 +1,7 @@
 -- Lines of dated requests: a moment, one space, and the request's text.
 -- Source: profile.
-use Rattle.std.specs.Prelude.{◌≡◌, ℕ, ◌<◌, ◌==◌, List, length, Option, Some, None, nat_le, nat_lt, if◌then◌else◌, option_and_then}
+use Rattle.std.specs.Prelude.{◌≡◌, ℕ, ◌<◌, ◌==◌, List, length, Option, Some, None, nat_le, nat_lt}
+use Rattle.std.specs.Prelude.{if◌then◌else◌, option_and_then}
 use Rattle.std.specs.List.{before_first, after_first, position_or_len}
 use Rattle.written_numbers.specs.Numbers.{number_of}
 use Rattle.operator.specs.declared.dated.DatedLine.{DatedLine}
@@ -11,9 +12,13 @@ as_command seconds = if nat_lt seconds 4102444800 then Some seconds else None
 
 -- 1 to 10 digits say it
 abbrev pub moment_of : List ℕ → Option ℕ
-moment_of digits = if nat_le (length digits) 10 then option_and_then as_command (number_of digits) else None
+moment_of digits =
+    if nat_le (length digits) 10 then option_and_then as_command (number_of digits) else None
 
 -- the line is read as its moment and what follows the first space; or it isn't a dated line
 abbrev pub IsDated : List ℕ → Option DatedLine → Type 0
-IsDated line (Some d) = (position_or_len (λ b. b == 32) line < length line) × (moment_of (before_first (λ b. b == 32) line) ≡ Some d.moment) × (d.body.now ≡ after_first (λ b. b == 32) line)
-IsDated line None = position_or_len (λ b. b == 32) line < length line → moment_of (before_first (λ b. b == 32) line) ≡ None
+IsDated line (Some d) = (position_or_len (λ b. b == 32) line < length line)
+    × (moment_of (before_first (λ b. b == 32) line) ≡ Some d.moment)
+    × (d.body.now ≡ after_first (λ b. b == 32) line)
+IsDated line None = position_or_len (λ b. b == 32) line < length line →
+    moment_of (before_first (λ b. b == 32) line) ≡ None

@@ -3,7 +3,8 @@
 use Rattle.commands.specs.declared.command.Command.{Command}
 use Rattle.commands.specs.declared.command.Command.TheVariants as command
 use Rattle.operator.specs.declared.parsed.OfficeCommand.{OfficeCommand}
-use Rattle.operator.specs.declared.parsed.OfficeCommand.TheVariants.{Open, Bar, Unbar, Credit, Sweep}
+use Rattle.operator.specs.declared.parsed.OfficeCommand.TheVariants.{Open, Bar, Unbar, Credit}
+use Rattle.operator.specs.declared.parsed.OfficeCommand.TheVariants.{Sweep}
 
 abbrev pub command_of : OfficeCommand → Command
 command_of (Open account) = command.OpenAccount account

@@ -1,7 +1,7 @@
 -- The program as `clap` knows it: its commands, each with its operands and options. What the words
 -- of a command line are to them is clap's own statement (`subcommand_of`, `fault_of`).
 -- Source: profile.
-use Rattle.std.specs.Prelude.{true, Some, codes}
+use Rattle.std.specs.Prelude.{Bool, true, false, Some, codes}
 use Rattle.clap.specs.Words.{App, Rule, Text, new_app, new_rule, with_rule, with_subcommand}
 use Rattle.clap.specs.declared.builder.action.ArgAction.TheVariants.{Set, SetTrue}
 
@@ -9,13 +9,23 @@ use Rattle.clap.specs.declared.builder.action.ArgAction.TheVariants.{Set, SetTru
 abbrev pub operand : Text → Rule
 operand id = record (new_rule id) { required = true; action = Some Set }
 
--- a word after `--id`, or joined to it by `=`
+-- a word after `--id`, or joined to it by `=`, which may have to be there
+abbrev pub valued : Bool → Text → Rule
+valued is_needed id =
+    record (new_rule id) {
+      long = Some id;
+      value_names = 1;
+      required = is_needed;
+      action = Some Set;
+    }
+
+-- an option that may be left out
 abbrev pub option : Text → Rule
-option id = record (new_rule id) { long = Some id; value_names = 1; action = Some Set }
+option id = valued false id
 
 -- an option that must be there
 abbrev pub needed : Text → Rule
-needed id = record (option id) { required = true }
+needed id = valued true id
 
 -- `--id` alone
 abbrev pub flag : Text → Rule

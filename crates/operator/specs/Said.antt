@@ -1,7 +1,8 @@
 -- What the words of a command say, by what `clap` finds for its operands and options. A number is 1
 -- to 16 digits without a sign.
 -- Source: profile.
-use Rattle.std.specs.Prelude.{ℕ, ◌&&◌, nat_le, Bool, List, [], Option, Some, None, Result, Ok, Err, codes, unwrap_or}
+use Rattle.std.specs.Prelude.{ℕ, ◌&&◌, nat_le, Bool, List, [], Option, Some, None, Result, Ok, Err}
+use Rattle.std.specs.Prelude.{codes, unwrap_or}
 use Rattle.commands.specs.declared.command.Credit.{Credit}
 use Rattle.clap.specs.Words.{Row, Text, first_of}
 use Rattle.first_fault.specs.Steps.{◌>>=◌, or_fault, where_holds}

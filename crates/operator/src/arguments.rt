@@ -1,7 +1,7 @@
 ghost use Rattle.std.specs.Prelude.{◌≡◌, IfOk, false};
 ghost use Rattle.clap.specs.Words.{app_of, with_rule};
 ghost use Rattle.clap.specs.declared.builder.command.Command.TheViews.{out-Command as fields_of};
-ghost use Rattle.operator.specs.Program.{flag, needed, operand, option};
+ghost use Rattle.operator.specs.Program.{flag, operand, valued};
 
 use clap::{Arg, ArgAction, Command};
 use std::alloc::{AllocError, Global};
@@ -25,45 +25,25 @@ pub(crate) fn with_operand<'a>(
     command.arg(operand)
 }
 
-/// A command with one more option, which takes a value of this name.
+/// A command with one more option, which takes a value of this name and may have to be there.
 pub(crate) fn with_option<'a>(
     alloc: Global,
     command: Command<'a>,
     id: &'a str,
     value: &'a str,
+    is_needed: bool,
     help: &'a str,
 ) -> Result<Command<'a>, AllocError>
     requires { (fields_of command).has_globals ≡ false }
     ensures app { IfOk result
-        (λ c. app_of c ≡ with_rule (app_of command.entry) (option id.entry.now)) }
+        (λ c. app_of c ≡ with_rule (app_of command.entry) (valued is_needed id.entry.now)) }
     ensures local { IfOk result (λ c. (fields_of c).has_globals ≡ false) }
 {
     let option = Arg::new(alloc, id)
         .long(id)
         .value_name(value)
         .help(help)
-        .action(ArgAction::Set);
-    command.arg(option)
-}
-
-/// A command with one more option that must be there.
-pub(crate) fn with_needed<'a>(
-    alloc: Global,
-    command: Command<'a>,
-    id: &'a str,
-    value: &'a str,
-    help: &'a str,
-) -> Result<Command<'a>, AllocError>
-    requires { (fields_of command).has_globals ≡ false }
-    ensures app { IfOk result
-        (λ c. app_of c ≡ with_rule (app_of command.entry) (needed id.entry.now)) }
-    ensures local { IfOk result (λ c. (fields_of c).has_globals ≡ false) }
-{
-    let option = Arg::new(alloc, id)
-        .long(id)
-        .value_name(value)
-        .help(help)
-        .required(true)
+        .required(is_needed)
         .action(ArgAction::Set);
     command.arg(option)
 }

@@ -1,9 +1,12 @@
 ghost use Rattle.std.specs.Prelude.{◌≡◌, IfOk, false};
 ghost use Rattle.clap.specs.Words.{app_of, with_rule, with_subcommand};
 ghost use Rattle.clap.specs.declared.builder.command.Command.TheViews.{out-Command as fields_of};
-ghost use Rattle.operator.specs.Program.{account_app, accounts_app, at, credit_app, credit_operands_app, files_app, first_app, import_app, init_app, office_app, once_app, program_app, replay_app, serve_app, statement_app, sweep_app, top_app};
+ghost use Rattle.operator.specs.Program.{account_app, accounts_app, at, credit_app};
+ghost use Rattle.operator.specs.Program.{credit_operands_app, files_app, first_app, import_app};
+ghost use Rattle.operator.specs.Program.{init_app, office_app, once_app, program_app, replay_app};
+ghost use Rattle.operator.specs.Program.{serve_app, statement_app, sweep_app, top_app};
 
-use crate::arguments::{with_flag, with_needed, with_operand, with_option};
+use crate::arguments::{with_flag, with_operand, with_option};
 use clap::Command;
 use std::alloc::{AllocError, Global};
 
@@ -18,7 +21,7 @@ fn with_at<'a>(alloc: Global, command: Command<'a>) -> Result<Command<'a>, Alloc
     ensures local { IfOk result (λ c. (fields_of c).has_globals ≡ false) }
 {
     let help = "The moment, in seconds since 1970; without it the machine's clock is asked";
-    with_option(alloc, command, "at", "T", help)
+    with_option(alloc, command, "at", "T", false, help)
 }
 
 fn once_command<'a>(alloc: Global) -> Result<Command<'a>, AllocError>
@@ -29,11 +32,11 @@ fn once_command<'a>(alloc: Global) -> Result<Command<'a>, AllocError>
         "Answers requests from standard input, without a database",
     );
     let credit = "What the account is opened with, 1 to 10^15 micro-units";
-    let command = with_needed(alloc, command, "credit", "A", credit)?;
+    let command = with_option(alloc, command, "credit", "A", true, credit)?;
     let price = "The price of a block, 0 to 10^9 micro-units";
-    let command = with_needed(alloc, command, "price", "P", price)?;
+    let command = with_option(alloc, command, "price", "P", true, price)?;
     let block = "The size of a block, 1 to 10^15 seconds";
-    with_needed(alloc, command, "block", "B", block)
+    with_option(alloc, command, "block", "B", true, block)
 }
 
 fn init_command<'a>(alloc: Global) -> Result<Command<'a>, AllocError>
@@ -51,9 +54,9 @@ fn serve_command<'a>(alloc: Global) -> Result<Command<'a>, AllocError>
 {
     let command = Command::new(alloc, "serve").about("Serves connections of HTTP on 127.0.0.1");
     let command = with_operand(alloc, command, "DB", DATABASE)?;
-    let command = with_needed(alloc, command, "port", "P", "The port, 1 to 65535")?;
+    let command = with_option(alloc, command, "port", "P", true, "The port, 1 to 65535")?;
     let connections = "How many connections are served, 1 to 1000000";
-    let command = with_needed(alloc, command, "connections", "N", connections)?;
+    let command = with_option(alloc, command, "connections", "N", true, connections)?;
     with_at(alloc, command)
 }
 
@@ -110,9 +113,9 @@ fn credit_command<'a>(alloc: Global) -> Result<Command<'a>, AllocError>
 {
     let command = credit_operands(alloc)?;
     let until = "Until when it can be used, in seconds since 1970; without it there is no end";
-    let command = with_option(alloc, command, "until", "T", until)?;
+    let command = with_option(alloc, command, "until", "T", false, until)?;
     let scope = "The rating group that it pays for; without it all";
-    let command = with_option(alloc, command, "scope", "G", scope)?;
+    let command = with_option(alloc, command, "scope", "G", false, scope)?;
     with_at(alloc, command)
 }
 

@@ -1,8 +1,11 @@
 ghost use Rattle.std.specs.Prelude.{◌≡◌, ◌≤◌, IfOk};
 ghost use Rattle.clap.specs.Words.{found_of, rows_of};
 ghost use Rattle.first_fault.specs.Steps.{GivesUnless};
-ghost use Rattle.operator.specs.Read.{IsImportInRange, IsOfficeCommandInRange, IsOfficeInRange, IsOnceInRange, IsServeInRange, IsStatementInRange};
-ghost use Rattle.operator.specs.Said.{credit_said, import_said, init_said, office_command_said, office_said, once_said, replay_said, serve_said, statement_said};
+ghost use Rattle.operator.specs.Read.{IsImportInRange, IsOfficeCommandInRange, IsOfficeInRange};
+ghost use Rattle.operator.specs.Read.{IsOnceInRange, IsServeInRange, IsStatementInRange};
+ghost use Rattle.operator.specs.Said.{credit_said, import_said, init_said, office_command_said};
+ghost use Rattle.operator.specs.Said.{office_said, once_said, replay_said, serve_said};
+ghost use Rattle.operator.specs.Said.{statement_said};
 ghost use Rattle.operator.specs.declared.fault.ValueFault.TheVariants.{Memory};
 
 use crate::command_name::OfficeName;

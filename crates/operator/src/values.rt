@@ -1,7 +1,9 @@
 ghost use Rattle.std.specs.Prelude.{◌≡◌, ◌≤◌, IfOk, IfSome, codes, option_map};
 ghost use Rattle.clap.specs.Words.{found_of, first_of, rows_of};
 ghost use Rattle.first_fault.specs.Steps.{GivesUnless, Says};
-ghost use Rattle.operator.specs.Said.{account_of, at_of, database_of, has_flag, month_at, number_at, number_in, optional_in, path_at, reference_of, scope_of, until_of, word};
+ghost use Rattle.operator.specs.Said.{account_of, at_of, database_of, has_flag, month_at};
+ghost use Rattle.operator.specs.Said.{number_at, number_in, optional_in, path_at, reference_of};
+ghost use Rattle.operator.specs.Said.{scope_of, until_of, word};
 ghost use Rattle.operator.specs.declared.fault.ValueFault.TheVariants.{Memory};
 
 use crate::fault::ValueFault;

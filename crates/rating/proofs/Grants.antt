@@ -1,5 +1,6 @@
 -- Grants: the greatest number of covered blocks, and the units up to the end of a block.
-use Rattle.std.proofs.Common.{◌≡◌, ◌≢◌, ℕ, zero, suc, ◌+◌, ◌*◌, ◌-◌, ◌≤◌, ◌<◌, true, false, ◌==◌, nat_le, List, refl, ap, sym, ◌∙◌, arith, inl, inr}
+use Rattle.std.proofs.Common.{◌≡◌, ◌≢◌, ℕ, zero, suc, ◌+◌, ◌*◌, ◌-◌, ◌≤◌, ◌<◌, true, false, ◌==◌}
+use Rattle.std.proofs.Common.{nat_le, List, refl, ap, sym, ◌∙◌, arith, inl, inr}
 use Rattle.std.proofs.lemmas.Bool.{cases_lt}
 use Rattle.std.proofs.lemmas.Bool.Decides.{nat_tests}
 use Rattle.std.proofs.lemmas.Nat.{div-mul-add, div-add-mod', mod_below}
@@ -7,7 +8,8 @@ use Rattle.std.proofs.Math.Nat.{mul-le-mul_right}
 use Rattle.units.specs.Blocks.{started}
 use Rattle.units.proofs.Started.{multiples_below, started_is}
 use Rattle.tariffs.specs.declared.tiers.Tier.{Tier}
-use Rattle.rating.specs.Granted.{dearer, greatest_covered, IsGreatest, IsGreatestGrant, block_start, granted_units, grant_of_blocks, grant_of}
+use Rattle.rating.specs.Granted.{dearer, greatest_covered, IsGreatest, IsGreatestGrant, block_start}
+use Rattle.rating.specs.Granted.{granted_units, grant_of_blocks, grant_of}
 use Rattle.rating.specs.declared.grant.Grant.{Grant}
 use Rattle.tariffs.specs.GroupPrices.{GroupPrices}
 
@@ -180,7 +182,8 @@ pub cut_grant : (t : GroupPrices) (used place wanted funds n amount : ℕ) →
     (grant_with n (block_start used t.tariff.block + n * t.tariff.block - used) amount)
 cut_grant t used place wanted funds n amount some greatest few is =
     let apart : n ≢ started used wanted t.tariff.block = λ e. absurd (omega (arith, few, e)) in
-    let next : started used (block_start used t.tariff.block + n * t.tariff.block - used + 1) t.tariff.block ≡ n + 1 =
+    let next : started used
+    (block_start used t.tariff.block + n * t.tariff.block - used + 1) t.tariff.block ≡ n + 1 =
     starts_next used n t.tariff.block some in
     record {
       value = grant_is t used place wanted funds n

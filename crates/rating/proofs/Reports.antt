@@ -1,5 +1,6 @@
 -- Reports, part by part.
-use Rattle.std.proofs.Common.{◌≡◌, ℕ, zero, suc, ◌+◌, ◌*◌, ◌/◌, ◌%◌, ◌<◌, List, [], ◌∷◌, ◌++◌, refl, ap, sym, ◌∙◌, arith, add-zero, zero-add, length, drop, get_or}
+use Rattle.std.proofs.Common.{◌≡◌, ℕ, zero, suc, ◌+◌, ◌*◌, ◌/◌, ◌%◌, ◌<◌, List, [], ◌∷◌, ◌++◌, refl}
+use Rattle.std.proofs.Common.{ap, sym, ◌∙◌, arith, add-zero, zero-add, length, drop, get_or}
 use Rattle.std.proofs.Math.Nat.{add-mul-mod_self_left, mod-add-div}
 use Rattle.std.proofs.lemmas.List.{at_drop_more}
 use Rattle.std.proofs.lemmas.List.Sums.{sum_by-cons}
@@ -10,7 +11,8 @@ use Rattle.tariffs.specs.declared.group_prices.Side.TheVariants.{Before}
 use Rattle.tariffs.specs.GroupPrices.{GroupPrices, tiers_on}
 use Rattle.rating.specs.declared.report.Part.{Part}
 use Rattle.rating.specs.declared.report.Rated.{Rated}
-use Rattle.rating.specs.Rated.{rated_amount, report_blocks, report_amount, rated_report, units_of, FollowsAt, part_of, CutsAlike}
+use Rattle.rating.specs.Rated.{rated_amount, report_blocks, report_amount, rated_report, units_of}
+use Rattle.rating.specs.Rated.{FollowsAt, part_of, CutsAlike}
 use Rattle.rating.proofs.Sums.{rated_cut}
 
 -- only the place within its block tells where a number stands
@@ -101,10 +103,12 @@ pub amount_after : (t : GroupPrices) (a place i done sum n price into total : �
     sum + price + report_amount t into (place + (done + n)) (drop (i + 1) parts) ≡ total
 amount_after t a place i done sum n price into total parts within n_is into_is price_is h =
     let next : place + (done + n)
-    ≡ place + done + started a (get_or parts i no_part).units.0 t.tariff.block = omega (arith, n_is) in
+    ≡ place + done + started a (get_or parts i no_part).units.0 t.tariff.block =
+    omega (arith, n_is) in
     let rest : report_amount t into (place + (done + n)) (drop (i + 1) parts)
     ≡ report_amount t ((a + (get_or parts i no_part).units.0) % t.tariff.block)
-    (place + done + started a (get_or parts i no_part).units.0 t.tariff.block) (drop (i + 1) parts) =
+    (place + done + started a (get_or parts i no_part).units.0 t.tariff.block)
+    (drop (i + 1) parts) =
     λ j. report_amount t (into_is j) (next j) (drop (i + 1) parts) in
     let here =
     price_is ∙ ap (rated_amount (tiers_on t (get_or parts i no_part).side) (place + done))
@@ -157,7 +161,8 @@ cut_amount t used place side one two after some =
     ≡ started used one t.tariff.block + started (used + one) two t.tariff.block =
     started-add used one two t.tariff.block some in
     let places : place + (started used one t.tariff.block + started (used + one) two t.tariff.block)
-    ≡ place + started used one t.tariff.block + started (used + one) two t.tariff.block = omega arith in
+    ≡ place + started used one t.tariff.block + started (used + one) two t.tariff.block =
+    omega arith in
     rw (units, cut, places)
     (omega (
       arith,
@@ -190,8 +195,8 @@ cuts_alike t used place before after side one two some =
       arith,
       x.amount,
       y.amount,
-      cut_amount t (used + units_of before) (place + report_blocks t.tariff.block used before) side one
-          two after some,
+      cut_amount t (used + units_of before)
+          (place + report_blocks t.tariff.block used before) side one two after some,
     ))
 
 -- after the last part

@@ -1,5 +1,6 @@
 -- Grants (unit reservation, TS 32.299): the greatest number of new blocks that funds cover.
-use Rattle.std.specs.Prelude.{◌≡◌, ℕ, zero, suc, ◌+◌, ◌-◌, ◌*◌, ◌/◌, ◌≤◌, ◌<◌, ◌==◌, max, nat_le, List, if◌then◌else◌}
+use Rattle.std.specs.Prelude.{◌≡◌, ℕ, zero, suc, ◌+◌, ◌-◌, ◌*◌, ◌/◌, ◌≤◌, ◌<◌, ◌==◌, max, nat_le}
+use Rattle.std.specs.Prelude.{List, if◌then◌else◌}
 use Rattle.units.specs.Blocks.{started}
 use Rattle.tariffs.specs.Prices.{block_price}
 use Rattle.tariffs.specs.declared.tiers.Tier.{Tier}
@@ -62,7 +63,8 @@ pub record IsGreatestGrant (p : GroupPrices) (used place wanted funds : ℕ)
       (started used wanted p.tariff.block) funds grant.blocks.0
   pub starts : started used grant.units.0 p.tariff.block ≡ grant.blocks.0
   pub within : grant.units.0 ≤ wanted
-  pub next : grant.units.0 < wanted → started used (grant.units.0 + 1) p.tariff.block ≡ grant.blocks.0 + 1
+  pub next : grant.units.0 < wanted →
+      started used (grant.units.0 + 1) p.tariff.block ≡ grant.blocks.0 + 1
   pub most : grant.units.0 < wanted
       → funds < dearer p.before p.after place
       (started used (grant.units.0 + 1) p.tariff.block)

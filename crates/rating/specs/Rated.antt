@@ -54,10 +54,12 @@ units_of parts = sum_by (λ part. part.units.0) parts
 -- two reports after each other start and cost what their parts do as one report
 pub record FollowsAt (p : GroupPrices) (used place : ℕ) (parts more : List Part) : Type 0 where
   pub blocks : report_blocks p.tariff.block used (parts ++ more)
-      ≡ report_blocks p.tariff.block used parts + report_blocks p.tariff.block (used + units_of parts) more
+      ≡ report_blocks p.tariff.block used parts
+      + report_blocks p.tariff.block (used + units_of parts) more
   pub amount : report_amount p used place (parts ++ more)
       ≡ report_amount p used place parts
-      + report_amount p (used + units_of parts) (place + report_blocks p.tariff.block used parts) more
+      + report_amount p (used + units_of parts)
+      (place + report_blocks p.tariff.block used parts) more
 
 abbrev pub FollowsOn : Type 0
 FollowsOn = (p : GroupPrices) (used place : ℕ) (parts more : List Part) →

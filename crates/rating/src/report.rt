@@ -7,8 +7,8 @@ use crate::price::rated_amount;
 use tariffs::{Prices, Side};
 use units::{Amount, Steps, Units, blocks_started};
 
-/// A part of a report: units that are priced on one side of a tariff switch (Used-Service-Unit, RFC 8506 section
-/// 8.19). A part of 0 units starts no block and costs nothing.
+/// A part of a report: units that are priced on one side of a tariff switch (Used-Service-Unit, RFC
+/// 8506 section 8.19). A part of 0 units starts no block and costs nothing.
 #[derive(Clone, Copy, Debug, PartialEq, Eq)]
 pub struct Part {
     /// The side that prices the blocks which the part starts.

@@ -3,12 +3,15 @@ use Rattle.std.proofs.Common.{◌≡◌, ℕ, List, [], ◌∷◌, true, false, 
 use Rattle.std.specs.Prelude.{Ok, Err}
 use Rattle.redemptions.specs.declared.terms.VoucherTerms.{VoucherTerms}
 use Rattle.redemptions.specs.declared.adding.Addition.TheVariants.{New, Present, Conflicting}
-use Rattle.redemptions.specs.declared.redeeming.RedeemRefusal.TheVariants.{VoucherUnknown, VoucherSpent, EndOutOfRange}
+use Rattle.redemptions.specs.declared.redeeming.RedeemRefusal.TheVariants.{VoucherUnknown}
+use Rattle.redemptions.specs.declared.redeeming.RedeemRefusal.TheVariants.{VoucherSpent}
+use Rattle.redemptions.specs.declared.redeeming.RedeemRefusal.TheVariants.{EndOutOfRange}
 use Rattle.redemptions.specs.Terms.{are_terms}
 use Rattle.redemptions.specs.Standing.{unspent, spent_by}
 use Rattle.redemptions.specs.Adding.{addition}
 use Rattle.redemptions.specs.Redeeming.{DayEnds, bucket_end, redemption}
-use Rattle.redemptions.specs.Histories.{VoucherCommand, Adds, Redeems, Vouchers, with_commands, redemption_count}
+use Rattle.redemptions.specs.Histories.{VoucherCommand, Adds, Redeems, Vouchers, with_commands}
+use Rattle.redemptions.specs.Histories.{redemption_count}
 
 abbrev thirty_days : VoucherTerms
 thirty_days = record { amount = 5000000; days = Some 30; scope = None }

@@ -1,5 +1,6 @@
 -- What commands about vouchers leave under a code, command by command.
-use Rattle.std.proofs.Common.{◌≡◌, ℕ, ◌+◌, ◌≤◌, List, [], ◌∷◌, Bool, true, false, Option, Some, None, refl, sym, ap, ◌∙◌, arith, true≢false}
+use Rattle.std.proofs.Common.{◌≡◌, ℕ, ◌+◌, ◌≤◌, List, [], ◌∷◌, Bool, true, false, Option, Some}
+use Rattle.std.proofs.Common.{None, refl, sym, ap, ◌∙◌, arith, true≢false}
 use Rattle.std.specs.Prelude.{◌&&◌, if◌then◌else◌, Result, Err, is_ok, is_some, filter}
 use Rattle.std.specs.Option.{option_map}
 use Rattle.std.specs.Cmp.Lexicographic.{bytes_decides}
@@ -12,8 +13,11 @@ use Rattle.redemptions.specs.declared.redeeming.RedeemRefusal.{RedeemRefusal}
 use Rattle.redemptions.specs.declared.redeeming.RedeemRefusal.TheVariants.{VoucherSpent}
 use Rattle.redemptions.specs.Standing.{is_spent, spent_by, terms_under}
 use Rattle.redemptions.specs.Adding.{same_terms, addition, after_addition}
-use Rattle.redemptions.specs.Redeeming.{DayEnds, bucket_end, redemption, redemption_until, after_redemption}
-use Rattle.redemptions.specs.Histories.{VoucherCommand, Adds, Redeems, Vouchers, is_about, after_command, is_redeeming, with_command, with_commands, redemption_count}
+use Rattle.redemptions.specs.Redeeming.{DayEnds, bucket_end, redemption, redemption_until}
+use Rattle.redemptions.specs.Redeeming.{after_redemption}
+use Rattle.redemptions.specs.Histories.{VoucherCommand, Adds, Redeems, Vouchers, is_about}
+use Rattle.redemptions.specs.Histories.{after_command, is_redeeming, with_command, with_commands}
+use Rattle.redemptions.specs.Histories.{redemption_count}
 use Rattle.redemptions.specs.Laws.{IsSpent, IsStanding}
 
 -- ---- choices

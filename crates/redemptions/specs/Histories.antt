@@ -1,6 +1,7 @@
 -- What commands about vouchers leave under the codes.
 -- Source: profile.
-use Rattle.std.specs.Prelude.{ℕ, ◌+◌, ◌&&◌, Bool, false, List, [], ◌∷◌, Option, is_ok, if◌then◌else◌}
+use Rattle.std.specs.Prelude.{ℕ, ◌+◌, ◌&&◌, Bool, false, List, [], ◌∷◌, Option, is_ok}
+use Rattle.std.specs.Prelude.{if◌then◌else◌}
 use Rattle.identifiers.specs.Texts.{same_name}
 use Rattle.redemptions.specs.declared.terms.VoucherTerms.{VoucherTerms}
 use Rattle.redemptions.specs.declared.voucher.Voucher.{Voucher}

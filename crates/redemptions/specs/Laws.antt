@@ -5,7 +5,8 @@ use Rattle.redemptions.specs.declared.terms.VoucherTerms.{VoucherTerms}
 use Rattle.redemptions.specs.declared.redeeming.Redemption.{Redemption}
 use Rattle.redemptions.specs.Standing.{is_spent, spent_by, terms_under}
 use Rattle.redemptions.specs.Redeeming.{DayEnds, redemption}
-use Rattle.redemptions.specs.Histories.{VoucherCommand, Adds, Redeems, Vouchers, is_about, with_command, with_commands, redemption_count}
+use Rattle.redemptions.specs.Histories.{VoucherCommand, Adds, Redeems, Vouchers, is_about}
+use Rattle.redemptions.specs.Histories.{with_command, with_commands, redemption_count}
 
 -- after its redemption a voucher stands there spent by the account, with its terms, and a spent one
 -- stands as it is, whatever comes

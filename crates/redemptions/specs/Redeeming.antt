@@ -1,11 +1,14 @@
 -- What redeeming a voucher comes to, over what stands under its code.
 -- Source: profile.
-use Rattle.std.specs.Prelude.{◌≡◌, ℕ, List, Option, Some, None, Result, Ok, Err, IsSomeAnd, nat_lt, if◌then◌else◌}
+use Rattle.std.specs.Prelude.{◌≡◌, ℕ, List, Option, Some, None, Result, Ok, Err, IsSomeAnd, nat_lt}
+use Rattle.std.specs.Prelude.{if◌then◌else◌}
 use Rattle.redemptions.specs.declared.terms.VoucherTerms.{VoucherTerms}
 use Rattle.redemptions.specs.declared.voucher.Voucher.{Voucher}
 use Rattle.redemptions.specs.declared.redeeming.Redemption.{Redemption}
 use Rattle.redemptions.specs.declared.redeeming.RedeemRefusal.{RedeemRefusal}
-use Rattle.redemptions.specs.declared.redeeming.RedeemRefusal.TheVariants.{VoucherUnknown, VoucherSpent, EndOutOfRange}
+use Rattle.redemptions.specs.declared.redeeming.RedeemRefusal.TheVariants.{VoucherUnknown}
+use Rattle.redemptions.specs.declared.redeeming.RedeemRefusal.TheVariants.{VoucherSpent}
+use Rattle.redemptions.specs.declared.redeeming.RedeemRefusal.TheVariants.{EndOutOfRange}
 use Rattle.redemptions.specs.Standing.{is_spent, spent_by}
 
 -- where the civil day ends that is so many days after that of a moment: first the moment, then the

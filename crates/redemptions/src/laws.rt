@@ -1,6 +1,7 @@
 //! Laws of the definitions by which vouchers are added and redeemed: functions that do nothing.
 
-ghost use Rattle.redemptions.specs.Laws.{CodesAreApart, IsRedeemedOnce, IsSpentForGood, StandsForGood};
+ghost use Rattle.redemptions.specs.Laws.{CodesAreApart, IsRedeemedOnce, IsSpentForGood};
+ghost use Rattle.redemptions.specs.Laws.{StandsForGood};
 
 /// A voucher that was redeemed is spent by that account for good: whatever is added and redeemed
 /// afterwards, the same stands under its code.

@@ -1,6 +1,7 @@
 -- Time goes on: the rows of a ledger become its rows at a later moment.
 use Rattle.std.proofs.lemmas.Bool.{and_right}
-use Rattle.std.proofs.Common.{◌≡◌, ℕ, ◌+◌, ◌*◌, ◌≤◌, Bool, true, false, List, [], ◌∷◌, map, refl, sym, ap, ◌∙◌, arith, Option, Some, None}
+use Rattle.std.proofs.Common.{◌≡◌, ℕ, ◌+◌, ◌*◌, ◌≤◌, Bool, true, false, List, [], ◌∷◌, map, refl}
+use Rattle.std.proofs.Common.{sym, ap, ◌∙◌, arith, Option, Some, None}
 use Rattle.std.specs.Prelude.{if◌then◌else◌, ◌==◌, ◌&&◌, not, nat_lt, option_map}
 use Rattle.buckets.specs.Row.{Row, IsBalanced, with_release, with_end}
 use Rattle.buckets.specs.Spend.{Each, IsSound}
@@ -11,13 +12,17 @@ use Rattle.reserving.specs.declared.session.SessionState.TheVariants.{Ended}
 use Rattle.reserving.specs.declared.session.SessionGroup.{SessionGroup}
 use Rattle.reserving.specs.declared.session.Reservation.{Reservation}
 use Rattle.rating.specs.declared.grant.Periods.{Periods}
-use Rattle.reserving.specs.Ledger.{Ledger, is_same, is_live, held, only, open_grant, has_group, used}
+use Rattle.reserving.specs.Ledger.{Ledger, is_same, is_live, held, only, open_grant, has_group}
+use Rattle.reserving.specs.Ledger.{used}
 use Rattle.reserving.specs.Balance.{credits, bucket_at, buckets_at}
-use Rattle.reserving.specs.Sessions.{is_session, session_in, is_of, group_in, group_at, reservation_at, reservation_of, holds_at, holds_in, held_by, is_open, is_live_in, is_live_row}
+use Rattle.reserving.specs.Sessions.{is_session, session_in, is_of, group_in, group_at}
+use Rattle.reserving.specs.Sessions.{reservation_at, reservation_of, holds_at, holds_in, held_by}
+use Rattle.reserving.specs.Sessions.{is_open, is_live_in, is_live_row}
 use Rattle.reserving.specs.Rows.{AccountRows, EachIn, AreApart, IsAccount, IsRowsOf}
 use Rattle.reserving.specs.Changes.{advanced, lapse, lapse_group, lapsed_in}
 use Rattle.reserving.proofs.Lists.{find-map, no_some, some_of}
-use Rattle.reserving.proofs.Holds.{held_split, split_by, held_same, held_none, same_itself, same_from, number_from, number_itself, both}
+use Rattle.reserving.proofs.Holds.{held_split, split_by, held_same, held_none, same_itself}
+use Rattle.reserving.proofs.Holds.{same_from, number_from, number_itself, both}
 use Rattle.reserving.proofs.ledger.Later.{is_live-later, is_live-before, session_at-later}
 use Rattle.reserving.specs.Laws.{ended_between}
 use Rattle.reserving.proofs.ledger.Positions.{bucket_at-later, holds_at-later}

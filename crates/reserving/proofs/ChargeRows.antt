@@ -1,6 +1,7 @@
 -- The charge rows of a ledger with more facts: a report and a debit add one each, and nothing else
 -- adds any.
-use Rattle.std.proofs.Common.{◌≡◌, ℕ, ◌+◌, ◌-◌, ◌≤◌, Bool, false, List, [], ◌∷◌, ◌++◌, refl, sym, ap, ◌∙◌, arith, Option}
+use Rattle.std.proofs.Common.{◌≡◌, ℕ, ◌+◌, ◌-◌, ◌≤◌, Bool, false, List, [], ◌∷◌, ◌++◌, refl, sym}
+use Rattle.std.proofs.Common.{ap, ◌∙◌, arith, Option}
 use Rattle.std.proofs.lemmas.Bool.Decides.{nat_tests}
 use Rattle.std.proofs.lemmas.List.{append-nil}
 use Rattle.units.specs.declared.blocks.UsedPart.{UsedPart}
@@ -18,7 +19,8 @@ use Rattle.reserving.specs.Requests.{recorded, touched, closed, credited, with_b
 use Rattle.reserving.specs.Pricing.{cycle_at, periods_at}
 use Rattle.reserving.specs.Balance.{buckets_at}
 use Rattle.reserving.specs.Sessions.{holds_at}
-use Rattle.reserving.specs.Settlement.{reported, report_price, charge_facts, settled, settled_by, missing, passes}
+use Rattle.reserving.specs.Settlement.{reported, report_price, charge_facts, settled, settled_by}
+use Rattle.reserving.specs.Settlement.{missing, passes}
 use Rattle.reserving.specs.Reservation.{hold_facts, reserved}
 use Rattle.reserving.specs.Debiting.{event_price, charged_use, debited}
 use Rattle.reserving.specs.Results.{IsSettlementOf, IsDebitOf}

@@ -1,11 +1,13 @@
 -- A bucket is made: what that adds to the rows.
-use Rattle.std.proofs.Common.{◌≡◌, ℕ, ◌+◌, ◌-◌, ◌<◌, ◌≤◌, Bool, true, false, List, [], ◌∷◌, map, refl, sym, ap, ◌∙◌, arith, Option, Some, None}
+use Rattle.std.proofs.Common.{◌≡◌, ℕ, ◌+◌, ◌-◌, ◌<◌, ◌≤◌, Bool, true, false, List, [], ◌∷◌, map}
+use Rattle.std.proofs.Common.{refl, sym, ap, ◌∙◌, arith, Option, Some, None}
 use Rattle.std.specs.Prelude.{if◌then◌else◌, ◌==◌, nat_lt}
 use Rattle.buckets.specs.Row.{Row, new_row}
 use Rattle.buckets.specs.Spend.{IsBelow, inserted}
 use Rattle.buckets.specs.Share.{parts}
 use Rattle.buckets.proofs.Kept.{IsSound-inserted, Each-inserted}
-use Rattle.reserving.specs.Ledger.{Ledger, is_live, charged, held, only, used, counter, has_group, has_counter, open_grant, next_bucket}
+use Rattle.reserving.specs.Ledger.{Ledger, is_live, charged, held, only, used, counter, has_group}
+use Rattle.reserving.specs.Ledger.{has_counter, open_grant, next_bucket}
 use Rattle.reserving.specs.Balance.{credits, bucket_at, balance_of}
 use Rattle.reserving.specs.Sessions.{held_by, holds_at, group_at, reservation_of, counter_at}
 use Rattle.reserving.specs.Pricing.{cycle_at}

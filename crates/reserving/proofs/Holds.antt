@@ -6,7 +6,8 @@ use Rattle.std.proofs.lemmas.Bool.Decides.{nat_tests}
 use Rattle.identifiers.proofs.Equality.{equal_names, names_equal}
 pub use Rattle.reserving.proofs.Keys.{same_number as number_from, number_same as number_itself}
 use Rattle.reserving.specs.Ledger.{Fact, Ledger, is_same, counts_before, hold_of, held, only}
-use Rattle.reserving.specs.Ledger.Fact.{Credit, Grant, Hold as HoldFact, End, Use, Charge, Touch, Close, Recorded, Barred}
+use Rattle.reserving.specs.Ledger.Fact.{Credit, Grant, Hold as HoldFact, End, Use, Charge, Touch}
+use Rattle.reserving.specs.Ledger.Fact.{Close, Recorded, Barred}
 
 abbrev pub one_if : Bool → ℕ
 one_if b = if b then 1 else 0

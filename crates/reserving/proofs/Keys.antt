@@ -1,9 +1,11 @@
 -- Keys of rows: names of sessions with groups, groups with cycles.
-use Rattle.std.proofs.Common.{◌≡◌, ℕ, Bool, true, false, cond, List, [], ◌∷◌, refl, sym, ap, ◌∙◌, Some}
+use Rattle.std.proofs.Common.{◌≡◌, ℕ, Bool, true, false, cond, List, [], ◌∷◌, refl, sym, ap, ◌∙◌}
+use Rattle.std.proofs.Common.{Some}
 use Rattle.std.specs.Prelude.{◌==◌, ◌&&◌}
 use Rattle.std.specs.List.{find}
 use Rattle.std.proofs.lemmas.Bool.{and_parts}
-pub use Rattle.std.proofs.lemmas.Bool.{and_from as both_true, eqb-true as same_number, false_from_ne_true as not_true}
+pub use Rattle.std.proofs.lemmas.Bool.{and_from as both_true, eqb-true as same_number}
+pub use Rattle.std.proofs.lemmas.Bool.{false_from_ne_true as not_true}
 use Rattle.std.proofs.lemmas.Bool.Decides.{nat_tests}
 use Rattle.std.proofs.Common.{arith}
 use Rattle.identifiers.proofs.Equality.{equal_names, names_equal}

@@ -1,5 +1,6 @@
 -- What a row that is found by its key tells, and what is written to it.
-use Rattle.std.proofs.Common.{◌≡◌, ℕ, Bool, true, false, cond, List, [], ◌∷◌, ◌++◌, map, get_or, set, refl, sym, ap, subst, ◌∙◌, arith, Option, Some, None}
+use Rattle.std.proofs.Common.{◌≡◌, ℕ, Bool, true, false, cond, List, [], ◌∷◌, ◌++◌, map, get_or}
+use Rattle.std.proofs.Common.{set, refl, sym, ap, subst, ◌∙◌, arith, Option, Some, None}
 use Rattle.std.specs.Prelude.{if◌then◌else◌, is_some, unwrap_or, option_map, position}
 use Rattle.std.specs.List.{find}
 use Rattle.std.proofs.lemmas.Iterator.Adapters.{position_from-zero}
@@ -9,10 +10,12 @@ use Rattle.reserving.specs.declared.session.Reservation.{Reservation}
 use Rattle.reserving.specs.declared.session.Counter.{Counter}
 use Rattle.reserving.specs.Keyed.{put}
 use Rattle.reserving.specs.Sessions.{is_of, group_in, is_counter, counter_in, holds_in}
-use Rattle.reserving.specs.Changes.{new_group, used_in, reserved_in, periods_in, count_in, ended_group}
+use Rattle.reserving.specs.Changes.{new_group, used_in, reserved_in, periods_in, count_in}
+use Rattle.reserving.specs.Changes.{ended_group}
 use Rattle.reserving.specs.Prepared.{with_group, with_counter}
 use Rattle.reserving.specs.Rows.{EachIn, AreApart}
-use Rattle.reserving.proofs.Lists.{IsPlace, IsPlaceFrom, position_is, position_none, find-passes, some_of, no_some}
+use Rattle.reserving.proofs.Lists.{IsPlace, IsPlaceFrom, position_is, position_none, find-passes}
+use Rattle.reserving.proofs.Lists.{some_of, no_some}
 use Rattle.reserving.proofs.Keys.{is_key, key_session, key_group, cycle_group, cycle_cycle}
 
 -- a row that is put where it was

@@ -1,12 +1,14 @@
 -- Calls on an account leave the rows that were left as they are.
-use Rattle.std.proofs.Common.{◌≡◌, ℕ, ◌+◌, ◌≤◌, Bool, true, false, List, [], ◌∷◌, ◌++◌, map, refl, sym, ap, subst, ◌∙◌, arith, Some, None}
+use Rattle.std.proofs.Common.{◌≡◌, ℕ, ◌+◌, ◌≤◌, Bool, true, false, List, [], ◌∷◌, ◌++◌, map, refl}
+use Rattle.std.proofs.Common.{sym, ap, subst, ◌∙◌, arith, Some, None}
 use Rattle.std.specs.Prelude.{if◌then◌else◌, ◌==◌, ◌&&◌, not, unwrap_or, option_map}
 use Rattle.units.specs.declared.blocks.UsedPart.{UsedPart}
 use Rattle.buckets.specs.declared.holds.Hold.{Hold}
 use Rattle.buckets.specs.Row.{Row, with_release, with_end}
 use Rattle.buckets.specs.Spend.{Each}
 use Rattle.buckets.specs.Holding.{held_in, settled_rows, released_rows}
-use Rattle.buckets.proofs.SharesAlong.{KeepsPlace, with_end_keeps, with_release_number, with_release_until}
+use Rattle.buckets.proofs.SharesAlong.{KeepsPlace, with_end_keeps, with_release_number}
+use Rattle.buckets.proofs.SharesAlong.{with_release_until}
 use Rattle.rating.specs.declared.report.Rated.{Rated}
 use Rattle.tariffs.specs.Books.{Book}
 use Rattle.reserving.specs.declared.session.Session.{Session}
@@ -16,17 +18,23 @@ use Rattle.reserving.specs.declared.session.Counter.{Counter}
 use Rattle.reserving.specs.Ledger.{Ledger, is_same, is_live}
 use Rattle.reserving.specs.Pricing.{cycle_at}
 use Rattle.reserving.specs.Keyed.{put}
-use Rattle.reserving.specs.Sessions.{session_in, is_open, is_of, group_in, is_counter, is_live_in, is_live_row, holds_in, held_by}
+use Rattle.reserving.specs.Sessions.{session_in, is_open, is_of, group_in, is_counter, is_live_in}
+use Rattle.reserving.specs.Sessions.{is_live_row, holds_in, held_by}
 use Rattle.reserving.specs.Settlement.{reported, price_of, settled_by}
-use Rattle.reserving.specs.Changes.{advanced, lapse, lapse_group, lapsed_in, group_or_new, new_group, used_in, reserved_in, count_in, price_in, with_use, with_count, ended_group, ended_rows, settled_account, settled_by_rows}
+use Rattle.reserving.specs.Changes.{advanced, lapse, lapse_group, lapsed_in, group_or_new}
+use Rattle.reserving.specs.Changes.{new_group, used_in, reserved_in, count_in, price_in, with_use}
+use Rattle.reserving.specs.Changes.{with_count, ended_group, ended_rows, settled_account}
+use Rattle.reserving.specs.Changes.{settled_by_rows}
 use Rattle.reserving.specs.Rows.{AccountRows, EachIn, IsRowsOf}
 use Rattle.reserving.proofs.Advancing.{held_by-split, is_live_in-is}
 use Rattle.reserving.proofs.Lists.{not_both}
 use Rattle.reserving.proofs.Holds.{same_from, number_from}
 use Rattle.reserving.proofs.SettledRows.{IsRowsOf-settled_by}
 use Rattle.reserving.specs.Left.{LeftRows, merged, joined, IsDead, IsLeft, AreOfOtherCycles}
-use Rattle.reserving.proofs.LeftMerged.{map_merged, each_map, each_both, each_left, release_none, end_dead, settled_merged, released_merged}
-use Rattle.reserving.proofs.LeftJoined.{find_behind, put_behind, map_behind, each_in_map, held_behind, live_behind}
+use Rattle.reserving.proofs.LeftMerged.{map_merged, each_map, each_both, each_left, release_none}
+use Rattle.reserving.proofs.LeftMerged.{end_dead, settled_merged, released_merged}
+use Rattle.reserving.proofs.LeftJoined.{find_behind, put_behind, map_behind, each_in_map}
+use Rattle.reserving.proofs.LeftJoined.{held_behind, live_behind}
 
 -- a group that holds nothing stays as it is
 pub lapse_free : (keeps : List ℕ → Bool) (r : SessionGroup) → r.reservation ≡ None →

@@ -1,13 +1,17 @@
 -- Buckets that are left, in their places among those that are loaded.
-use Rattle.std.proofs.Common.{◌≡◌, ℕ, ◌+◌, ◌-◌, Bool, true, false, List, [], ◌∷◌, map, refl, sym, ap, ◌∙◌, arith}
+use Rattle.std.proofs.Common.{◌≡◌, ℕ, ◌+◌, ◌-◌, Bool, true, false, List, [], ◌∷◌, map, refl, sym}
+use Rattle.std.proofs.Common.{ap, ◌∙◌, arith}
 use Rattle.std.specs.Prelude.{if◌then◌else◌, nat_lt, sum_by, min}
 use Rattle.std.proofs.lemmas.List.Sums.{sum_by-cons}
 use Rattle.buckets.specs.declared.holds.Hold.{Hold}
-use Rattle.buckets.specs.Row.{Row, precedes, eligible_amount, is_eligible, with_charge, with_charge_of_hold, with_release, with_end}
+use Rattle.buckets.specs.Row.{Row, precedes, eligible_amount, is_eligible, with_charge}
+use Rattle.buckets.specs.Row.{with_charge_of_hold, with_release, with_end}
 use Rattle.buckets.specs.Share.{share, sum_before}
 use Rattle.buckets.specs.Spend.{Each, funds}
-use Rattle.buckets.specs.Holding.{held_in, held_sum, paid_of_hold, paid_of_rest, settled_row, settled_rows, released_rows}
-use Rattle.buckets.proofs.SharesAlong.{KeepsPlace, released_keeps, with_release_number, with_release_until}
+use Rattle.buckets.specs.Holding.{held_in, held_sum, paid_of_hold, paid_of_rest, settled_row}
+use Rattle.buckets.specs.Holding.{settled_rows, released_rows}
+use Rattle.buckets.proofs.SharesAlong.{KeepsPlace, released_keeps, with_release_number}
+use Rattle.buckets.proofs.SharesAlong.{with_release_until}
 use Rattle.reserving.specs.Left.{placed, merged, IsDead}
 
 -- ---- a change that keeps places

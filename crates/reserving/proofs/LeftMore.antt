@@ -1,10 +1,12 @@
 -- Clauses with rows left, buckets that are told by their numbers, and what a commit leaves.
-use Rattle.std.proofs.Common.{◌≡◌, ℕ, ◌<◌, ◌≤◌, Bool, true, false, cond, List, [], ◌∷◌, ◌++◌, refl, sym, ap, subst, ◌∙◌, arith, Option, Some, None}
+use Rattle.std.proofs.Common.{◌≡◌, ℕ, ◌<◌, ◌≤◌, Bool, true, false, cond, List, [], ◌∷◌, ◌++◌, refl}
+use Rattle.std.proofs.Common.{sym, ap, subst, ◌∙◌, arith, Option, Some, None}
 use Rattle.std.specs.Prelude.{if◌then◌else◌, ◌==◌, nat_lt, not}
 use Rattle.std.specs.List.{find, list_any}
 use Rattle.std.proofs.lemmas.Bool.Decides.{nat_tests}
 use Rattle.buckets.specs.Row.{Row, precedes}
-use Rattle.buckets.specs.Spend.{inserted, IsBelow, IsSound, IsInOrder, PrecedesAll, AreDistinct, DiffersFromAll}
+use Rattle.buckets.specs.Spend.{inserted, IsBelow, IsSound, IsInOrder, PrecedesAll, AreDistinct}
+use Rattle.buckets.specs.Spend.{DiffersFromAll}
 use Rattle.reserving.specs.declared.session.Session.{Session}
 use Rattle.reserving.specs.Ledger.{Ledger}
 use Rattle.reserving.specs.Sessions.{is_session, session_in, is_live_in}
@@ -16,7 +18,8 @@ use Rattle.reserving.proofs.Keys.{same_number, number_same}
 use Rattle.reserving.proofs.Advancing.{IsRowsOf-advanced, session_in-advanced}
 use Rattle.reserving.proofs.Advanced.{IsAccount-advanced}
 use Rattle.reserving.proofs.kept.Settled.{IsAccount-ended}
-use Rattle.reserving.specs.Left.{LeftRows, placed, merged, joined, AreOfOtherCycles, IsWith, bucket_in, first_of, only, differing, IsApartSessions}
+use Rattle.reserving.specs.Left.{LeftRows, placed, merged, joined, AreOfOtherCycles, IsWith}
+use Rattle.reserving.specs.Left.{bucket_in, first_of, only, differing, IsApartSessions}
 use Rattle.reserving.proofs.LeftJoined.{each_in_map}
 use Rattle.reserving.proofs.LeftTests.{written, find_filter}
 use Rattle.reserving.proofs.LeftParted.{one_session, find_both}

@@ -1,5 +1,6 @@
 -- What is loaded at a moment and what was left are together the account.
-use Rattle.std.proofs.Common.{◌≡◌, ℕ, ◌+◌, ◌≤◌, Bool, true, false, cond, List, [], ◌∷◌, ◌++◌, refl, sym, ap, subst, ◌∙◌, arith, Option, Some, None}
+use Rattle.std.proofs.Common.{◌≡◌, ℕ, ◌+◌, ◌≤◌, Bool, true, false, cond, List, [], ◌∷◌, ◌++◌, refl}
+use Rattle.std.proofs.Common.{sym, ap, subst, ◌∙◌, arith, Option, Some, None}
 use Rattle.std.specs.Prelude.{if◌then◌else◌, filter, not, ◌==◌}
 use Rattle.std.specs.List.{find}
 use Rattle.std.proofs.lemmas.Bool.{not-true}
@@ -14,17 +15,21 @@ use Rattle.reserving.specs.declared.session.Counter.{Counter}
 use Rattle.reserving.specs.Ledger.{Ledger, is_same, last_recording}
 use Rattle.reserving.specs.Pricing.{cycle_at}
 use Rattle.reserving.specs.Balance.{buckets_at}
-use Rattle.reserving.specs.Sessions.{is_session, session_in, session_at, is_open, is_of, group_in, group_at, is_counter, counter_in, counter_at, holds_in, held_by, reservation_at}
+use Rattle.reserving.specs.Sessions.{is_session, session_in, session_at, is_open, is_of, group_in}
+use Rattle.reserving.specs.Sessions.{group_at, is_counter, counter_in, counter_at, holds_in}
+use Rattle.reserving.specs.Sessions.{held_by, reservation_at}
 use Rattle.reserving.specs.Rows.{AccountRows, EachIn, AreApart, IsAccount, IsRowsOf}
 use Rattle.reserving.proofs.Lists.{no_some, some_of, find-passes as passes}
 use Rattle.reserving.proofs.Holds.{same_from, same_itself}
 use Rattle.reserving.proofs.Keys.{found_own, is_same-sym, first_true, second_true, same_number}
 use Rattle.reserving.proofs.Advancing.{groups_each, found_each}
-use Rattle.reserving.specs.Left.{LeftRows, placed, merged, joined, IsDead, is_dead, is_open_row, only, first_of, left_of, AreOfOtherCycles, IsPartOf, IsLoadedWith}
+use Rattle.reserving.specs.Left.{LeftRows, placed, merged, joined, IsDead, is_dead, is_open_row}
+use Rattle.reserving.specs.Left.{only, first_of, left_of, AreOfOtherCycles, IsPartOf, IsLoadedWith}
 use Rattle.reserving.proofs.left.Ended.{closed_free}
 use Rattle.reserving.proofs.LeftJoined.{each_in_map, held_behind}
 use Rattle.reserving.proofs.InOrder.{order_joined}
-use Rattle.reserving.proofs.LeftTests.{each_filter, each_passes, each_append, each_with, apart_filter, apart_append, none_each, find_filter}
+use Rattle.reserving.proofs.LeftTests.{each_filter, each_passes, each_append, each_with}
+use Rattle.reserving.proofs.LeftTests.{apart_filter, apart_append, none_each, find_filter}
 
 -- ---- buckets
 

@@ -1,5 +1,6 @@
 -- What is read of an account beside the rows that were left: funds, prices, quotas and limits.
-use Rattle.std.proofs.Common.{◌≡◌, ℕ, ◌+◌, ◌-◌, arith, ◌≤◌, true, false, List, [], refl, sym, ap, subst, ◌∙◌, Option, None}
+use Rattle.std.proofs.Common.{◌≡◌, ℕ, ◌+◌, ◌-◌, arith, ◌≤◌, true, false, List, [], refl, sym, ap}
+use Rattle.std.proofs.Common.{subst, ◌∙◌, Option, None}
 use Rattle.std.specs.Prelude.{option_map}
 use Rattle.units.specs.declared.blocks.UsedPart.{UsedPart}
 use Rattle.buckets.specs.declared.holds.Hold.{Hold}

@@ -1,5 +1,6 @@
 -- Rows found among those that pass a test, and rows that differ from those before.
-use Rattle.std.proofs.Common.{◌≡◌, Bool, true, false, cond, List, [], ◌∷◌, ◌++◌, refl, sym, ap, ◌∙◌, Option, Some, None}
+use Rattle.std.proofs.Common.{◌≡◌, Bool, true, false, cond, List, [], ◌∷◌, ◌++◌, refl, sym, ap, ◌∙◌}
+use Rattle.std.proofs.Common.{Option, Some, None}
 use Rattle.std.specs.Prelude.{if◌then◌else◌, filter, not, ◌||◌}
 use Rattle.std.specs.List.{find, list_any}
 use Rattle.reserving.specs.Rows.{EachIn, AreApart}

@@ -1,5 +1,6 @@
 -- Rows that are found by a key, put in the place of another, or changed all alike.
-use Rattle.std.proofs.Common.{◌≡◌, ℕ, ◌+◌, ◌<◌, Bool, true, false, cond, List, [], ◌∷◌, ◌++◌, map, length, get_or, set, refl, sym, ap, ◌∙◌, arith, Some, None}
+use Rattle.std.proofs.Common.{◌≡◌, ℕ, ◌+◌, ◌<◌, Bool, true, false, cond, List, [], ◌∷◌, ◌++◌, map}
+use Rattle.std.proofs.Common.{length, get_or, set, refl, sym, ap, ◌∙◌, arith, Some, None}
 use Prim.Native.Nat.{suc}
 use Rattle.std.specs.Prelude.{if◌then◌else◌, ◌==◌, option_map}
 pub use Rattle.std.proofs.lemmas.Bool.{false≢true as not_both}

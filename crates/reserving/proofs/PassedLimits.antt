@@ -1,15 +1,19 @@
 -- The limits of a report's stored numbers, before and after the settlement of another group of its
 -- session.
-use Rattle.std.proofs.Common.{◌≡◌, ℕ, ◌+◌, Bool, true, false, List, [], ◌∷◌, refl, ap, ◌∙◌, arith, Some, None}
+use Rattle.std.proofs.Common.{◌≡◌, ℕ, ◌+◌, Bool, true, false, List, [], ◌∷◌, refl, ap, ◌∙◌, arith}
+use Rattle.std.proofs.Common.{Some, None}
 use Rattle.std.specs.Prelude.{if◌then◌else◌, ◌==◌, ◌&&◌, nat_lt}
 use Rattle.std.proofs.Math.Bool.{and-false}
 use Rattle.std.proofs.lemmas.Bool.Decides.{nat_tests}
 use Rattle.units.specs.declared.blocks.UsedPart.{UsedPart}
 use Rattle.tariffs.specs.Books.{Book}
 use Rattle.rating.specs.declared.report.Rated.{Rated}
-use Rattle.reserving.specs.Ledger.{Ledger, is_same, used, counter, open_grant, next_charge, uses_in, inner, or_else, newest, grant_in}
+use Rattle.reserving.specs.Ledger.{Ledger, is_same, used, counter, open_grant, next_charge, uses_in}
+use Rattle.reserving.specs.Ledger.{inner, or_else, newest, grant_in}
 use Rattle.reserving.specs.Pricing.{cycle_at}
-use Rattle.reserving.specs.Settlement.{charge_facts, settled, settled_by, reported, price_of, report_price, passes, passes_limit, passes_after, charge_count}
+use Rattle.reserving.specs.Settlement.{charge_facts, settled, settled_by, reported, price_of}
+use Rattle.reserving.specs.Settlement.{report_price, passes, passes_limit, passes_after}
+use Rattle.reserving.specs.Settlement.{charge_count}
 use Rattle.reserving.proofs.Keys.{is_key}
 use Rattle.reserving.proofs.SettledFacts.{total-front, each_charge}
 use Rattle.reserving.proofs.SettledRows.{other_settled, counter-settled, parts_paid, if_none}

@@ -1,5 +1,6 @@
 -- A grant's call, from any ledger whose rows the account is before it.
-use Rattle.std.proofs.Common.{◌≡◌, ℕ, ◌<◌, ◌≤◌, Bool, true, false, List, map, refl, sym, ap, subst, ◌∙◌, arith, Option, Some, None}
+use Rattle.std.proofs.Common.{◌≡◌, ℕ, ◌<◌, ◌≤◌, Bool, true, false, List, map, refl, sym, ap, subst}
+use Rattle.std.proofs.Common.{◌∙◌, arith, Option, Some, None}
 use Rattle.std.specs.Prelude.{if◌then◌else◌, is_some, unwrap_or, option_map, not, nat_lt}
 use Rattle.units.specs.Blocks.{started}
 use Rattle.buckets.specs.declared.holds.Hold.{Hold}
@@ -15,13 +16,15 @@ use Rattle.tariffs.specs.BookPrices.{ArePricesOf}
 use Rattle.rating.specs.declared.grant.Grant.{Grant}
 use Rattle.rating.specs.declared.grant.Periods.{Periods}
 use Rattle.rating.specs.Granted.{IsGreatest, dearer, grant_of}
-use Rattle.reserving.specs.Pricing.{tariff_of, cycle_at, switch_at, validity_at, periods_at, prices_by, wanted_units, wanted_with, grant_with}
+use Rattle.reserving.specs.Pricing.{tariff_of, cycle_at, switch_at, validity_at, periods_at}
+use Rattle.reserving.specs.Pricing.{prices_by, wanted_units, wanted_with, grant_with}
 use Rattle.reserving.specs.Quotas.{IsQuota, IsGreatestFor}
 use Rattle.reserving.specs.Keyed.{put}
 use Rattle.reserving.specs.Balance.{buckets_at}
 use Rattle.reserving.specs.Sessions.{is_of, group_in, is_live_in}
 use Rattle.reserving.specs.Reservation.{reserved, grant_for}
-use Rattle.reserving.specs.Changes.{lapse_group, lapsed_in, advanced, new_group, group_or_new, used_in, count_in, with_reservation, reserved_account}
+use Rattle.reserving.specs.Changes.{lapse_group, lapsed_in, advanced, new_group, group_or_new}
+use Rattle.reserving.specs.Changes.{used_in, count_in, with_reservation, reserved_account}
 use Rattle.reserving.specs.Prepared.{with_group, with_group_row, reservation_in}
 use Rattle.reserving.specs.Rows.{AccountRows, IsAccount, IsRowsOf}
 use Rattle.reserving.specs.Results.{IsGrantOf, IsWithin}
@@ -30,7 +33,8 @@ use Rattle.reserving.proofs.Lists.{find-map, some_of, no_some}
 use Rattle.reserving.proofs.Advancing.{is_live_in-is, IsRowsOf-advanced}
 use Rattle.reserving.proofs.Advanced.{IsAccount-advanced}
 use Rattle.reserving.proofs.SettledRows.{used_in_is, count_in_is}
-use Rattle.reserving.proofs.calls.RowParts.{or_new_later, group_later, put_later, key_kept, held_by-with_group}
+use Rattle.reserving.proofs.calls.RowParts.{or_new_later, group_later, put_later, key_kept}
+use Rattle.reserving.proofs.calls.RowParts.{held_by-with_group}
 use Rattle.reserving.proofs.rows.Reserved.{IsRowsOf-reserved}
 
 pub reserved_parts : (a : AccountRows) (s : List ℕ) (g amount : ℕ) (periods : Periods)

@@ -1,5 +1,7 @@
 -- What the tests of given rows tell, and what passes them.
-use Rattle.std.proofs.Common.{◌≡◌, ◌≤◌, ℕ, ◌+◌, ◌==◌, ◌&&◌, Bool, true, false, not, List, [], ◌∷◌, length, Option, None, refl, sym, ap, ◌∙◌, ap₂, arith, nat_lt, nat_le, ltb-true, lt-ltb, leb-true, eqb-true, eq-eqb}
+use Rattle.std.proofs.Common.{◌≡◌, ◌≤◌, ℕ, ◌+◌, ◌==◌, ◌&&◌, Bool, true, false, not, List, [], ◌∷◌}
+use Rattle.std.proofs.Common.{length, Option, None, refl, sym, ap, ◌∙◌, ap₂, arith, nat_lt, nat_le}
+use Rattle.std.proofs.Common.{ltb-true, lt-ltb, leb-true, eqb-true, eq-eqb}
 use Rattle.std.specs.Prelude.{if◌then◌else◌}
 use Rattle.std.specs.List.{list_all}
 use Rattle.std.proofs.lemmas.Bool.{and_from, and_parts, le-leb}
@@ -15,7 +17,8 @@ use Rattle.reserving.specs.declared.session.Reservation.{Reservation}
 use Rattle.reserving.specs.Sessions.{holds_in, held_by, is_session, is_of, is_counter}
 use Rattle.reserving.specs.Rows.{EachIn, AreApart, IsInOrderOf, AreInOrderOf}
 use Rattle.reserving.specs.Stored.{StoredRows, IsStored}
-use Rattle.reserving.specs.Restored.{are_apart, same_holds, are_along, is_held, are_keys_apart, are_in_range, are_holds_kept, is_tested}
+use Rattle.reserving.specs.Restored.{are_apart, same_holds, are_along, is_held, are_keys_apart}
+use Rattle.reserving.specs.Restored.{are_in_range, are_holds_kept, is_tested}
 
 is_false : (t : Bool) → not t ≡ true → t ≡ false
 is_false true e = absurd (cc)
@@ -41,7 +44,8 @@ apart_told : {A : Type 0} (same : A → A → Bool) (xs : List A) → are_apart 
 apart_told same [] e = tt
 apart_told same (x ∷ xs) e =
     let parts = and_parts (list_all (λ y. not (same x y)) xs) (are_apart same xs) e in (
-      all_told (λ y. not (same x y)) (λ y. same x y ≡ false) (λ y n. is_false (same x y) n) xs parts.0,
+      all_told (λ y. not (same x y)) (λ y. same x y ≡ false)
+          (λ y n. is_false (same x y) n) xs parts.0,
       apart_told same xs parts.1,
     )
 
@@ -109,12 +113,14 @@ none_along (b ∷ bs) = none_along bs
 pub free_along : (buckets : List Row) (o : Option Reservation) → o ≡ None
     → true ≡ same_holds (holds_in o) (parts (held_in (holds_in o)) buckets)
 free_along buckets o e =
-    none_along buckets ∙ ap (λ x. same_holds (holds_in x) (parts (held_in (holds_in x)) buckets)) (sym e)
+    none_along buckets
+    ∙ ap (λ x. same_holds (holds_in x) (parts (held_in (holds_in x)) buckets)) (sym e)
 
 -- once the buckets are at their end, so are the holds
 pub along_end : (holds left : List Hold) (buckets rest : List Row) (last : Bool) → rest ≡ []
     → last ≡ (length left == 0)
-    → same_holds left (parts (held_in holds) rest) ≡ same_holds holds (parts (held_in holds) buckets)
+    → same_holds left (parts (held_in holds) rest)
+    ≡ same_holds holds (parts (held_in holds) buckets)
     → last ≡ same_holds holds (parts (held_in holds) buckets)
 along_end holds left buckets rest last none is same =
     is ∙ at left ∙ ap (λ bs. same_holds left (parts (held_in holds) bs)) (sym none) ∙ same
@@ -145,7 +151,8 @@ held_nothing : (groups : List SessionGroup) (bs : List Row) (next : ℕ) (b : Ro
 held_nothing [] bs next b below above order = refl
 held_nothing (r ∷ rs) bs next b below above order =
     let here : held_in (holds_in r.reservation) b ≡ 0 =
-    ap (λ hs. held_in hs b) order.0 ∙ none_of (held_in (holds_in r.reservation)) b next bs below above in
+    ap (λ hs. held_in hs b) order.0
+    ∙ none_of (held_in (holds_in r.reservation)) b next bs below above in
     let rest : held_by (λ s. true) rs b ≡ 0 = held_nothing rs bs next b below above order.1 in
     omega (arith, here, rest)
 
@@ -171,7 +178,8 @@ tested_told w sound e =
     && nat_le w.next_bucket 4_294_967_296) (nat_le w.next_charge 4_294_967_296) r2.0 in
     let r4 = and_parts (list_all (λ b. nat_lt b.number w.next_bucket) w.buckets)
     (nat_le w.next_bucket 4_294_967_296) r3.0 in
-    let h = and_parts (list_all (is_held w.groups) w.buckets) (list_all (are_along w.buckets) w.groups)
+    let h =
+    and_parts (list_all (is_held w.groups) w.buckets) (list_all (are_along w.buckets) w.groups)
     first.1 in
     let below : IsBelow w.next_bucket w.buckets = below_told w.next_bucket w.buckets r4.0 in
     let order : AreInOrderOf w.buckets w.groups = all_told (are_along w.buckets)
@@ -203,7 +211,8 @@ tested_pass w s =
     (and_from _ _ (and_from _ _ (apart_pass (λ x y. is_session x.id y) w.sessions s.sessions)
     (apart_pass (λ x y. is_of x.session x.group y) w.groups s.groups))
     (apart_pass (λ x y. is_counter x.group x.cycle y) w.counters s.counters))
-    (and_from _ _ (and_from _ _ (and_from _ _ (and_from _ _ (below_pass w.next_bucket w.buckets s.below)
+    (and_from _ _
+    (and_from _ _ (and_from _ _ (and_from _ _ (below_pass w.next_bucket w.buckets s.below)
     (le-leb w.next_bucket 4_294_967_296 s.next_bucket))
     (le-leb w.next_charge 4_294_967_296 s.next_charge))
     (all_pass (λ g. nat_le g.used 1_000_000_000_000_000_000) (λ g. g.used ≤ 1000000000000000000)
@@ -214,7 +223,8 @@ tested_pass w s =
     (and_from _ _ (rows_pass (is_held w.groups) (λ b. held_by (λ s. true) w.groups b ≡ b.reserved)
     (λ b. eq-eqb (held_by (λ s. true) w.groups b) b.reserved) w.buckets s.held)
     (all_pass (are_along w.buckets) (λ r. IsInOrderOf w.buckets (holds_in r.reservation))
-    (λ r e. ap (same_holds (holds_in r.reservation)) (sym e) ∙ holds_itself (holds_in r.reservation)) w.groups s.order))
+    (λ r e. ap (same_holds (holds_in r.reservation)) (sym e)
+    ∙ holds_itself (holds_in r.reservation)) w.groups s.order))
 
 pub not_tested : (w : StoredRows) → is_tested w ≡ false → IsStored w → ⊥
 not_tested w e s = let clash : false ≡ true = sym e ∙ tested_pass w s in absurd (cc)

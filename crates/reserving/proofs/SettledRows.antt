@@ -1,5 +1,6 @@
 -- What a settlement makes of an account's rows: those of the ledger with the settlement.
-use Rattle.std.proofs.Common.{◌≡◌, ℕ, ◌+◌, ◌-◌, ◌<◌, ◌≤◌, Bool, true, false, List, [], ◌∷◌, ◌++◌, map, refl, sym, ap, subst, ◌∙◌, arith, Option, Some, None}
+use Rattle.std.proofs.Common.{◌≡◌, ℕ, ◌+◌, ◌-◌, ◌<◌, ◌≤◌, Bool, true, false, List, [], ◌∷◌, ◌++◌}
+use Rattle.std.proofs.Common.{map, refl, sym, ap, subst, ◌∙◌, arith, Option, Some, None}
 use Rattle.std.specs.Prelude.{if◌then◌else◌, ◌==◌, ◌&&◌, ◌||◌, not, unwrap_or, option_map}
 use Rattle.std.proofs.lemmas.Bool.{or_parts}
 use Rattle.std.proofs.lemmas.Bool.Decides.{nat_tests}
@@ -8,28 +9,43 @@ use Rattle.buckets.specs.declared.holds.Hold.{Hold}
 use Rattle.buckets.specs.Row.{Row, with_charge, with_charge_of_hold, with_release}
 use Rattle.buckets.specs.Share.{parts}
 use Rattle.buckets.specs.Spend.{IsSound, IsBelow, DiffersFromAll}
-use Rattle.buckets.specs.Holding.{held_in, paid, paid_of_hold, paid_of_rest, settled_row, settled_rows, released_rows}
+use Rattle.buckets.specs.Holding.{held_in, paid, paid_of_hold, paid_of_rest, settled_row}
+use Rattle.buckets.specs.Holding.{settled_rows, released_rows}
 use Rattle.buckets.proofs.Parts.{sum_at}
 use Rattle.buckets.proofs.SharesAlong.{with_release_number}
 use Rattle.reserving.specs.declared.session.SessionGroup.{SessionGroup}
 use Rattle.reserving.specs.declared.session.Reservation.{Reservation}
 use Rattle.reserving.specs.declared.session.Counter.{Counter}
 use Rattle.rating.specs.declared.grant.Periods.{Periods}
-use Rattle.reserving.specs.Ledger.{Fact, Dated, Ledger, or_else, open_grant, held, only, used, counter, has_group, has_counter, inner, is_live, is_same, units_in, names_group, grant_in, counts_group, blocks_in, uses_in, credits_in, newest, total, next_bucket, next_charge}
-use Rattle.reserving.specs.Ledger.Fact.{End, Use, Charge, Credit, Grant, Hold as HoldFact, Touch, Close, Recorded, Barred}
+use Rattle.reserving.specs.Ledger.{Fact, Dated, Ledger, or_else, open_grant, held, only, used}
+use Rattle.reserving.specs.Ledger.{counter, has_group, has_counter, inner, is_live, is_same}
+use Rattle.reserving.specs.Ledger.{units_in, names_group, grant_in, counts_group, blocks_in}
+use Rattle.reserving.specs.Ledger.{uses_in, credits_in, newest, total, next_bucket, next_charge}
+use Rattle.reserving.specs.Ledger.Fact.{End, Use, Charge, Credit, Grant, Hold as HoldFact, Touch}
+use Rattle.reserving.specs.Ledger.Fact.{Close, Recorded, Barred}
 use Rattle.reserving.specs.Pricing.{cycle_at}
 use Rattle.reserving.specs.Keyed.{put}
 use Rattle.reserving.specs.Balance.{buckets_at}
-use Rattle.reserving.specs.Sessions.{is_of, group_in, group_at, is_counter, counter_in, counter_at, holds_at, reservation_of, reservation_at}
+use Rattle.reserving.specs.Sessions.{is_of, group_in, group_at, is_counter, counter_in, counter_at}
+use Rattle.reserving.specs.Sessions.{holds_at, reservation_of, reservation_at}
 use Rattle.rating.specs.declared.report.Rated.{Rated}
-use Rattle.reserving.specs.Settlement.{charge_facts, settled, settled_by, reported, price_of, report_price}
-use Rattle.reserving.specs.Changes.{new_group, used_in, reserved_in, periods_in, price_in, count_in, with_use, with_count, ended_group, ended_rows, settled_account, settled_by_rows}
+use Rattle.reserving.specs.Settlement.{charge_facts, settled, settled_by, reported, price_of}
+use Rattle.reserving.specs.Settlement.{report_price}
+use Rattle.reserving.specs.Changes.{new_group, used_in, reserved_in, periods_in, price_in, count_in}
+use Rattle.reserving.specs.Changes.{with_use, with_count, ended_group, ended_rows, settled_account}
+use Rattle.reserving.specs.Changes.{settled_by_rows}
 use Rattle.reserving.specs.Rows.{AccountRows, IsAccount, IsRowsOf, IsUnknown}
 use Rattle.reserving.proofs.Lists.{find-put, find-put_other, find-map}
-use Rattle.reserving.proofs.Keys.{is_key, own_key, key_session, key_group, key_of, other_row, is_cycle, own_cycle, cycle_group, cycle_cycle, other_counter, same_tests, not_true}
+use Rattle.reserving.proofs.Keys.{is_key, own_key, key_session, key_group, key_of, other_row}
+use Rattle.reserving.proofs.Keys.{is_cycle, own_cycle, cycle_group, cycle_cycle, other_counter}
+use Rattle.reserving.proofs.Keys.{same_tests, not_true}
 use Rattle.reserving.proofs.Holds.{one_if, held_split, held_same}
-use Rattle.reserving.proofs.SettledFacts.{is_barred-front, total-front, newest-front, any-front, any_dated-front, each_charge, held-charge_facts, charged-charge_facts, IsMoved, SameSessions, SameGroup, same_session, same_touched, same_group}
-use Rattle.reserving.proofs.ledger.SettledBuckets.{with_end, buckets_at-settled, buckets_at-ended, same_sessions-settled, same_sessions-ended}
+use Rattle.reserving.proofs.SettledFacts.{is_barred-front, total-front, newest-front, any-front}
+use Rattle.reserving.proofs.SettledFacts.{any_dated-front, each_charge, held-charge_facts}
+use Rattle.reserving.proofs.SettledFacts.{charged-charge_facts, IsMoved, SameSessions, SameGroup}
+use Rattle.reserving.proofs.SettledFacts.{same_session, same_touched, same_group}
+use Rattle.reserving.proofs.ledger.SettledBuckets.{with_end, buckets_at-settled, buckets_at-ended}
+use Rattle.reserving.proofs.ledger.SettledBuckets.{same_sessions-settled, same_sessions-ended}
 use Rattle.reserving.proofs.rows.Complete.{row_with, reserved_in_is}
 
 -- ---- what wasn't named is 0

@@ -1,6 +1,7 @@
 -- What each call makes of an account's rows.
 -- Source: profile; they follow the ledger's definitions.
-use Rattle.std.specs.Prelude.{ℕ, ◌+◌, ◌*◌, ◌≤◌, Bool, not, ◌&&◌, nat_lt, if◌then◌else◌, List, [], ◌∷◌, Option, Some, None, map, sum_by, unwrap_or, option_map}
+use Rattle.std.specs.Prelude.{ℕ, ◌+◌, ◌*◌, ◌≤◌, Bool, not, ◌&&◌, nat_lt, if◌then◌else◌, List, []}
+use Rattle.std.specs.Prelude.{◌∷◌, Option, Some, None, map, sum_by, unwrap_or, option_map}
 use Rattle.units.specs.declared.blocks.UsedPart.{UsedPart}
 use Rattle.buckets.specs.declared.holds.Hold.{Hold}
 use Rattle.buckets.specs.Row.{Row, is_eligible, with_end, with_release, new_row}
@@ -17,7 +18,8 @@ use Rattle.rating.specs.declared.grant.Periods.{Periods}
 use Rattle.rating.specs.declared.report.Rated.{Rated}
 use Rattle.reserving.specs.Pricing.{cycle_at, periods_at}
 use Rattle.reserving.specs.Keyed.{put}
-use Rattle.reserving.specs.Sessions.{is_session, is_of, group_in, is_counter, counter_in, is_open, is_live_in, held_by, holds_in}
+use Rattle.reserving.specs.Sessions.{is_session, is_of, group_in, is_counter, counter_in, is_open}
+use Rattle.reserving.specs.Sessions.{is_live_in, held_by, holds_in}
 use Rattle.reserving.specs.Settlement.{reported, price_of}
 use Rattle.reserving.specs.Debiting.{untagged}
 use Rattle.reserving.specs.Rows.{AccountRows}

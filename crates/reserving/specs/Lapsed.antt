@@ -1,5 +1,5 @@
--- What the reservations of sessions that don't keep them hold of the buckets that are eligible for a
--- group at a moment, one reservation after another.
+-- What the reservations of sessions that don't keep them hold of the buckets that are eligible for
+-- a group at a moment, one reservation after another.
 -- Source: profile.
 use Rattle.std.specs.Prelude.{ℕ, ◌+◌, Bool, if◌then◌else◌, List, [], ◌∷◌, sum_by}
 use Rattle.buckets.specs.declared.holds.Hold.{Hold}

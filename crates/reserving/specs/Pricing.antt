@@ -1,7 +1,8 @@
 -- What a tariff book says of a rating group at a moment: its tariff, the cycle of its counter, the
 -- tariff switch within the validity, the periods of a grant, and what a report costs.
 -- Source: RFC 8506 sections 8.19, 8.20, 8.27 and 8.33; TS 32.296, rating function.
-use Rattle.std.specs.Prelude.{ℕ, ◌-◌, ◌==◌, Bool, if◌then◌else◌, List, [], ◌∷◌, Option, Some, None, find, min, sum_by, unwrap_or}
+use Rattle.std.specs.Prelude.{ℕ, ◌-◌, ◌==◌, Bool, if◌then◌else◌, List, [], ◌∷◌, Option, Some, None}
+use Rattle.std.specs.Prelude.{find, min, sum_by, unwrap_or}
 use Rattle.std.specs.Option.{option_eq}
 use Rattle.calendar.specs.Clock.{ZoneRule}
 use Rattle.calendar.specs.Timetable.{Timetable, period_at, switch_within, validity_from, cycle_of}
@@ -11,7 +12,9 @@ use Rattle.tariffs.specs.Tariffs.{GroupTariff}
 use Rattle.tariffs.specs.GroupPrices.{GroupPrices, prices_in}
 use Rattle.tariffs.specs.declared.group_prices.Side.TheVariants.{Before, After}
 use Rattle.units.specs.declared.blocks.TariffChangeUsage.{TariffChangeUsage}
-use Rattle.units.specs.declared.blocks.TariffChangeUsage.TheVariants.{UnitBeforeTariffChange, UnitAfterTariffChange, UnitIndeterminate}
+use Rattle.units.specs.declared.blocks.TariffChangeUsage.TheVariants.{UnitBeforeTariffChange}
+use Rattle.units.specs.declared.blocks.TariffChangeUsage.TheVariants.{UnitAfterTariffChange}
+use Rattle.units.specs.declared.blocks.TariffChangeUsage.TheVariants.{UnitIndeterminate}
 use Rattle.units.specs.contracts.blocks.TariffChangeUsagePartialEq.TheImpl.{ghosts as usage}
 use Rattle.units.specs.declared.blocks.UsedPart.{UsedPart}
 use Rattle.rating.specs.declared.grant.Grant.{Grant}

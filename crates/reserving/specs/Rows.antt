@@ -9,11 +9,13 @@ use Rattle.buckets.specs.Spend.{Each, IsSound, IsBelow}
 use Rattle.reserving.specs.declared.session.Session.{Session}
 use Rattle.reserving.specs.declared.session.SessionGroup.{SessionGroup}
 use Rattle.reserving.specs.declared.session.Counter.{Counter}
-use Rattle.reserving.specs.Ledger.{Ledger, is_barred, charged, held, is_same, is_closed, open_grant, last_touch, last_recording, next_bucket, next_charge}
+use Rattle.reserving.specs.Ledger.{Ledger, is_barred, charged, held, is_same, is_closed, open_grant}
+use Rattle.reserving.specs.Ledger.{last_touch, last_recording, next_bucket, next_charge}
 use Rattle.tariffs.specs.Books.{Book, IsBook}
 use Rattle.reserving.specs.Pricing.{cycle_at}
 use Rattle.reserving.specs.Balance.{buckets_at}
-use Rattle.reserving.specs.Sessions.{is_session, session_in, session_at, is_of, group_in, group_at, is_counter, counter_in, counter_at, holds_in, held_by}
+use Rattle.reserving.specs.Sessions.{is_session, session_in, session_at, is_of, group_in, group_at}
+use Rattle.reserving.specs.Sessions.{is_counter, counter_in, counter_at, holds_in, held_by}
 
 pub record AccountRows : Type 0 where
   pub book : Book

@@ -1,7 +1,8 @@
 -- The rows of sessions, of their groups, and of counters: found in a list, and told by a ledger.
 -- Source: RFC 8506 sections 5.1 and 8.2; TS 32.299, session charging with unit reservation; rows
 -- and counters: profile.
-use Rattle.std.specs.Prelude.{ℕ, ◌+◌, ◌*◌, Bool, true, false, ◌==◌, ◌&&◌, nat_lt, if◌then◌else◌, List, [], ◌∷◌, Option, Some, None, is_some}
+use Rattle.std.specs.Prelude.{ℕ, ◌+◌, ◌*◌, Bool, true, false, ◌==◌, ◌&&◌, nat_lt, if◌then◌else◌}
+use Rattle.std.specs.Prelude.{List, [], ◌∷◌, Option, Some, None, is_some}
 use Rattle.std.specs.List.{find}
 use Rattle.buckets.specs.declared.holds.Hold.{Hold}
 use Rattle.buckets.specs.Row.{Row}
@@ -14,7 +15,8 @@ use Rattle.reserving.specs.declared.session.SessionGroup.{SessionGroup}
 use Rattle.reserving.specs.declared.session.Reservation.{Reservation}
 use Rattle.reserving.specs.declared.session.Counter.{Counter}
 use Rattle.rating.specs.declared.grant.Periods.{Periods}
-use Rattle.reserving.specs.Ledger.{Ledger, Recording, is_same, is_live, last_touch, last_recording, used, counter, held, only, open_grant, has_group, has_counter}
+use Rattle.reserving.specs.Ledger.{Ledger, Recording, is_same, is_live, last_touch, last_recording}
+use Rattle.reserving.specs.Ledger.{used, counter, held, only, open_grant, has_group, has_counter}
 use Rattle.reserving.specs.Balance.{buckets_at}
 
 -- ---- in lists of rows

@@ -1,7 +1,8 @@
 -- Settlement: a report's rated amount is charged to its reservation's holds and then to what is
 -- eligible; then the reservation ends (RFC 8506 section 5.3; TS 32.299, session charging with unit
 -- reservation).
-use Rattle.std.specs.Prelude.{ℕ, ◌+◌, Bool, false, ◌||◌, nat_lt, List, [], ◌∷◌, ◌++◌, Option, sum_by, unwrap_or}
+use Rattle.std.specs.Prelude.{ℕ, ◌+◌, Bool, false, ◌||◌, nat_lt, List, [], ◌∷◌, ◌++◌, Option}
+use Rattle.std.specs.Prelude.{sum_by, unwrap_or}
 use Rattle.units.specs.declared.blocks.UsedPart.{UsedPart}
 use Rattle.calendar.specs.Timetable.{period_at}
 use Rattle.tariffs.specs.Books.{Book}

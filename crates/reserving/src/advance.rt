@@ -1,9 +1,11 @@
-ghost use Rattle.std.specs.Prelude.{◌≡◌, ◌≤◌, ◌+◌, ◌*◌, ◌&&◌, nat_lt, map, not, true, false, None, if◌then◌else◌};
+ghost use Rattle.std.specs.Prelude.{◌≡◌, ◌≤◌, ◌+◌, ◌*◌, ◌&&◌, nat_lt, map, not, true, false, None};
+ghost use Rattle.std.specs.Prelude.{if◌then◌else◌};
 ghost use Rattle.reserving.specs.Ledger.{Ledger};
 ghost use Rattle.reserving.specs.Sessions.{is_session, is_live_in, holds_in, held_by, is_open};
 ghost use Rattle.reserving.specs.Rows.{AreApart, IsRowsOf};
 ghost use Rattle.reserving.specs.Left.{LeftRows, IsWith};
-ghost use Rattle.reserving.specs.Changes.{advanced, lapse, lapse_group, lapse_from, lapsed_rows, AreLapsable};
+ghost use Rattle.reserving.specs.Changes.{advanced, lapse, lapse_group, lapse_from, lapsed_rows};
+ghost use Rattle.reserving.specs.Changes.{AreLapsable};
 ghost use Rattle.reserving.specs.Stored.{advanced_stored};
 ghost use Rattle.tariffs.specs.Books.{IsBook};
 ghost use Rattle.buckets.specs.Spend.{Each};

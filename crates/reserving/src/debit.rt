@@ -1,4 +1,5 @@
-ghost use Rattle.std.specs.Prelude.{◌≡◌, ◌+◌, ◌≤◌, ◌<◌, ℕ, true, None, List, [], is_some, OnErr, IfOk, IfSome, Err};
+ghost use Rattle.std.specs.Prelude.{◌≡◌, ◌+◌, ◌≤◌, ◌<◌, ℕ, true, None, List, [], is_some, OnErr};
+ghost use Rattle.std.specs.Prelude.{IfOk, IfSome, Err};
 ghost use Rattle.buckets.specs.Holding.{uncollected};
 ghost use Rattle.reserving.specs.Ledger.{Ledger};
 ghost use Rattle.reserving.specs.Pricing.{cycle_at};
@@ -7,7 +8,8 @@ ghost use Rattle.reserving.specs.Debiting.{event_price, is_covered, debit_passes
 ghost use Rattle.reserving.specs.Rows.{IsRowsOf};
 ghost use Rattle.reserving.specs.Left.{LeftRows, joined, IsBeside, IsWith};
 ghost use Rattle.reserving.specs.Results.{IsDebit};
-ghost use Rattle.reserving.specs.Changes.{advanced, used_in, count_in, event_price_in, debited_account};
+ghost use Rattle.reserving.specs.Changes.{advanced, used_in, count_in, event_price_in};
+ghost use Rattle.reserving.specs.Changes.{debited_account};
 
 use crate::account::Account;
 use crate::fault::AccountFault;

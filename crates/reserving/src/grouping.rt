@@ -1,9 +1,11 @@
 //! The rows of sessions' groups and of counters: found by their keys, made, and written.
 
-ghost use Rattle.std.specs.Prelude.{◌≡◌, ℕ, ◌+◌, ◌≤◌, ◌^◌, ◌<◌, true, is_some, OnOk, OnErr, position, map, option_map, length, vec_len, vec_capacity};
+ghost use Rattle.std.specs.Prelude.{◌≡◌, ℕ, ◌+◌, ◌≤◌, ◌^◌, ◌<◌, true, is_some, OnOk, OnErr};
+ghost use Rattle.std.specs.Prelude.{position, map, option_map, length, vec_len, vec_capacity};
 ghost use Rattle.reserving.specs.Sessions.{is_of, group_in, is_counter, counter_in, holds_in};
 ghost use Rattle.reserving.specs.Rows.{AreApart};
-ghost use Rattle.reserving.specs.Changes.{used_in, reserved_in, periods_in, count_in, with_use, with_event, with_count, with_reservation, ended_group};
+ghost use Rattle.reserving.specs.Changes.{used_in, reserved_in, periods_in, count_in, with_use};
+ghost use Rattle.reserving.specs.Changes.{with_event, with_count, with_reservation, ended_group};
 ghost use Rattle.reserving.specs.Prepared.{with_group, with_counter};
 
 use crate::session::{Counter, Reservation, SessionGroup};

@@ -1,10 +1,14 @@
 //! What the tariff book says of a grant's validity and of a report's parts.
 
-ghost use Rattle.std.specs.Prelude.{◌≡◌, ◌+◌, ◌≤◌, ◌<◌, ◌^◌, Some, None, IfSome, IfNone, option_map, if◌then◌else◌};
-ghost use Rattle.units.specs.declared.blocks.TariffChangeUsage.TheVariants.{UnitBeforeTariffChange, UnitAfterTariffChange, UnitIndeterminate};
+ghost use Rattle.std.specs.Prelude.{◌≡◌, ◌+◌, ◌≤◌, ◌<◌, ◌^◌, Some, None, IfSome, IfNone};
+ghost use Rattle.std.specs.Prelude.{option_map, if◌then◌else◌};
+ghost use Rattle.units.specs.declared.blocks.TariffChangeUsage.TheVariants.{UnitBeforeTariffChange};
+ghost use Rattle.units.specs.declared.blocks.TariffChangeUsage.TheVariants.{UnitAfterTariffChange};
+ghost use Rattle.units.specs.declared.blocks.TariffChangeUsage.TheVariants.{UnitIndeterminate};
 ghost use Rattle.calendar.specs.Timetable.{period_at};
 ghost use Rattle.rating.specs.Rated.{part_of, rated_report};
-ghost use Rattle.reserving.specs.Pricing.{reach, switch_at, validity_at, periods_at, is_change, units_of, four_parts, wanted_units};
+ghost use Rattle.reserving.specs.Pricing.{reach, switch_at, validity_at, periods_at, is_change};
+ghost use Rattle.reserving.specs.Pricing.{units_of, four_parts, wanted_units};
 ghost use Rattle.reserving.specs.Placed.{AreOfBook};
 ghost use Rattle.reserving.specs.Settlement.{reported};
 ghost use Rattle.reserving.specs.Windows.{AreWindowsOfBooks};

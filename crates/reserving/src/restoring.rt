@@ -5,7 +5,8 @@ ghost use Rattle.std.specs.List.{list_all};
 ghost use Rattle.buckets.specs.Holding.{held_in};
 ghost use Rattle.buckets.specs.Spend.{IsSound};
 ghost use Rattle.buckets.specs.Share.{parts};
-ghost use Rattle.reserving.specs.Restored.{are_along, are_apart, are_holds_kept, are_in_range, are_keys_apart, given, is_held, is_tested, same_holds};
+ghost use Rattle.reserving.specs.Restored.{are_along, are_apart, are_holds_kept, are_in_range};
+ghost use Rattle.reserving.specs.Restored.{are_keys_apart, given, is_held, is_tested, same_holds};
 ghost use Rattle.reserving.specs.Sessions.{holds_in, is_counter, is_of, is_session};
 ghost use Rattle.reserving.specs.Stored.{IsStored};
 

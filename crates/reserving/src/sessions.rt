@@ -4,7 +4,9 @@ ghost use Rattle.reserving.specs.Ledger.{Ledger};
 ghost use Rattle.reserving.specs.Sessions.{session_in, is_live_in};
 ghost use Rattle.reserving.specs.Rows.{IsRowsOf};
 ghost use Rattle.reserving.specs.Left.{LeftRows, NotLeft, IsWith};
-ghost use Rattle.reserving.specs.Changes.{advanced, with_session, touched_account, touched_session, is_other, closed_account, closed_session, lapse_group, lapsed_rows, AreLapsable};
+ghost use Rattle.reserving.specs.Changes.{advanced, with_session, touched_account, touched_session};
+ghost use Rattle.reserving.specs.Changes.{is_other, closed_account, closed_session, lapse_group};
+ghost use Rattle.reserving.specs.Changes.{lapsed_rows, AreLapsable};
 ghost use Rattle.reserving.specs.Requests.{recorded, touched, closed};
 
 use crate::account::Account;

@@ -42,21 +42,31 @@ pub(crate) struct RatedUse {
 }
 
 impl<'b> Account<'b> {
-    ghost use Rattle.std.specs.Prelude.{◌≡◌, ℕ, [], ◌+◌, ◌≤◌, ◌<◌, ◌^◌, true, false, None, is_some, OnOk, OnErr, IsOk, IfOk, IfSome, List, Some, unwrap_or};
+    ghost use Rattle.std.specs.Prelude.{◌≡◌, ℕ, [], ◌+◌, ◌≤◌, ◌<◌, ◌^◌, true, false, None, is_some};
+    ghost use Rattle.std.specs.Prelude.{OnOk, OnErr, IsOk, IfOk, IfSome, List, Some, unwrap_or};
     ghost use Rattle.reserving.specs.Ledger.{Ledger};
     ghost use Rattle.reserving.specs.Sessions.{is_live_in};
-    ghost use Rattle.reserving.specs.Settlement.{reported, price_of, passes, passes_limit, passes_after, settled_by};
+    ghost use Rattle.reserving.specs.Settlement.{reported, price_of, passes, passes_limit};
+    ghost use Rattle.reserving.specs.Settlement.{passes_after, settled_by};
     ghost use Rattle.reserving.specs.Rows.{IsAccount, IsRowsOf};
     ghost use Rattle.reserving.specs.Placed.{AreOfBook};
     ghost use Rattle.reserving.specs.Left.{LeftRows, IsWith};
     ghost use Rattle.reserving.specs.Results.{IsSettlementOf};
     ghost use Rattle.buckets.specs.Holding.{uncollected};
     ghost use Rattle.units.specs.declared.blocks.UsedPart.{UsedPart};
-    ghost use Rattle.units.specs.declared.blocks.TariffChangeUsage.TheVariants.{UnitBeforeTariffChange, UnitAfterTariffChange, UnitIndeterminate};
+    ghost use Rattle.units.specs.declared.blocks.TariffChangeUsage.TheVariants.{
+      UnitBeforeTariffChange,
+    };
+    ghost use Rattle.units.specs.declared.blocks.TariffChangeUsage.TheVariants.{
+      UnitAfterTariffChange,
+    };
+    ghost use Rattle.units.specs.declared.blocks.TariffChangeUsage.TheVariants.{UnitIndeterminate};
     ghost use Rattle.calendar.specs.Timetable.{period_at};
     ghost use Rattle.reserving.specs.Pricing.{cycle_at, units_of, one_period};
     ghost use Rattle.reserving.specs.Sessions.{group_in, counter_in};
-    ghost use Rattle.reserving.specs.Changes.{advanced, used_in, reserved_in, periods_in, count_in, price_in, settled_account, settled_by_rows, ended_rows};
+    ghost use Rattle.reserving.specs.Changes.{advanced, used_in, reserved_in, periods_in, count_in};
+    ghost use Rattle.reserving.specs.Changes.{price_in, settled_account, settled_by_rows};
+    ghost use Rattle.reserving.specs.Changes.{ended_rows};
     ghost use Rattle.reserving.specs.Prepared.{with_rows, reservation_in};
 
     /// Settles a report of a live session's use of a rating group, and ends its reservation (RFC

@@ -18,16 +18,22 @@ use Rattle.sql_keeper.proofs.Redeemed.{told_over}
 
 -- ---- a voucher that is added
 
-addition_read : (names : List (List ℕ)) (text code : List ℕ) (terms : VoucherTerms) (t : ℕ) (c : Content)
-    → tables_of names (with_addition text code terms t c) ≡ with_added code terms t (tables_of names c)
-addition_read names text code terms t c = λ i. record (with_added code terms t (tables_of names c)) {
-  vouchers = λ k. told_over voucher_in (same_name code k) (row_of (unspent terms)) (c.vouchers k) i;
-}
+addition_read : (names : List (List ℕ)) (text code : List ℕ) (terms : VoucherTerms)
+    (t : ℕ) (c : Content)
+    → tables_of names (with_addition text code terms t c)
+    ≡ with_added code terms t (tables_of names c)
+addition_read names text code terms t c =
+    λ i. record (with_added code terms t (tables_of names c)) {
+      vouchers = λ k.
+          told_over voucher_in (same_name code k) (row_of (unspent terms)) (c.vouchers k) i;
+    }
 
-pub become_added : (text code : List ℕ) (terms : VoucherTerms) (t : ℕ) → t ≤ 4_102_488_000 → (old new : Trees)
-    → Turns (with_addition text code terms t) old new → BecomesAdded text code terms t old new
+pub become_added : (text code : List ℕ) (terms : VoucherTerms) (t : ℕ) → t ≤ 4_102_488_000
+    → (old new : Trees) → Turns (with_addition text code terms t) old new
+    → BecomesAdded text code terms t old new
 become_added text code terms t last old new turns = record {
-  tables = λ names. ap (tables_of names) turns.content ∙ addition_read names text code terms t (content_of old);
+  tables = λ names. ap (tables_of names) turns.content
+      ∙ addition_read names text code terms t (content_of old);
   meta = ap (λ (c : Content). c.meta) turns.content;
   last = last;
   catalog = turns.catalog;
@@ -44,7 +50,8 @@ module _ (change : Content → Content) (Become : Trees → Trees → Type 0) (o
       survives_weaker old new (λ db. IsTrue old.is_open × Turns change old.now.trees db)
       (λ db. IsTrue old.is_open → Become old.now.trees db) (λ clean db t on. become db t.1) s
 
-  pub put_at_once : {A B E F : Type 0} (u : A) (v : B) → Transacts {A = A} {E = E} change old new (Ok u)
+  pub put_at_once : {A B E F : Type 0} (u : A) (v : B)
+      → Transacts {A = A} {E = E} change old new (Ok u)
       → CommitsWhole {A = B} {E = F} Become old new (Ok v)
   put_at_once u v t = record {
     done = λ clean. let d = t.done clean in (d.0, d.1, become new.now.trees d.2.turns);
@@ -53,7 +60,8 @@ module _ (change : Content → Content) (Become : Trees → Trees → Type 0) (o
     survives = survives_at_once t.survives;
   }
 
-  pub not_put_at_once : {A B E F : Type 0} (e : E) (f : F) → Transacts {A = A} {E = E} change old new (Err e)
+  pub not_put_at_once : {A B E F : Type 0} (e : E) (f : F)
+      → Transacts {A = A} {E = E} change old new (Err e)
       → CommitsWhole {A = B} {E = F} Become old new (Err f)
   not_put_at_once e f t = record {
     done = λ clean. tt;

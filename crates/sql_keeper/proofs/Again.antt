@@ -18,7 +18,8 @@ use Rattle.sql_keeper.specs.Creates.{first_meta}
 use Rattle.sql_keeper.specs.Opened.{IsLeft, IsRuled}
 use Rattle.sql_keeper.specs.Writes.{meta_at, meta_with}
 
-left_by : (text : List ℕ) (old new : Trees) (row : Meta) → IsLeft text old → new catalog_tree ≡ old catalog_tree
+left_by : (text : List ℕ) (old new : Trees) (row : Meta) → IsLeft text old
+    → new catalog_tree ≡ old catalog_tree
     → AreStored new → (content_of new).meta ≡ Some row → row.version ≡ 1 → row.book ≡ text
     → row.last ≤ 4_102_488_000 → IsLeft text new
 left_by text old new row left catalog stored is version book last = record {
@@ -34,7 +35,13 @@ left_again = record {
   made = λ text new utf8 book b. record {
     lists = b.lists;
     stored = b.stored;
-    kept = record { row = first_meta text; is = b.meta; version = refl; book = refl; last = omega arith };
+    kept = record {
+      row = first_meta text;
+      is = b.meta;
+      version = refl;
+      book = refl;
+      last = omega arith;
+    };
     utf8 = utf8;
     book = book;
   };

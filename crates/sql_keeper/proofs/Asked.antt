@@ -1,5 +1,6 @@
 -- A keeper after a call that only reads, and what it hands on.
-use Rattle.std.proofs.Common.{◌≡◌, ◌≤◌, ◌+◌, ◌⊎◌, inl, inr, ℕ, Result, Ok, Err, IfOk, IsTrue, min, sym, subst, arith}
+use Rattle.std.proofs.Common.{◌≡◌, ◌≤◌, ◌+◌, ◌⊎◌, inl, inr, ℕ, Result, Ok, Err, IfOk, IsTrue, min}
+use Rattle.std.proofs.Common.{sym, subst, arith}
 use Rattle.std.proofs.lemmas.Bool.Decides.{nat_tests}
 use Rattle.sqlite_disk.specs.Disk.{MoreFaults}
 use Rattle.sqlite_trees.specs.Tree.{Trees}
@@ -15,7 +16,8 @@ use Rattle.keepers.specs.Keeping.{Reads}
 use Rattle.sql_keeper.specs.Asks.{IsHanded}
 use Rattle.sql_keeper.specs.Content.{tables_of}
 use Rattle.sql_keeper.specs.LiveGroups.{Gathers}
-use Rattle.sql_keeper.specs.Inside.{KeeperState, IsClean, StaysOpen, IsKeeper, tables_in, failed_in, clean_in}
+use Rattle.sql_keeper.specs.Inside.{KeeperState, IsClean, StaysOpen, IsKeeper, tables_in, failed_in}
+use Rattle.sql_keeper.specs.Inside.{clean_in}
 
 pub none_more : (old new : ℕ) → old ≡ 0 → new ≡ 0 → MoreFaults old new → ⊥
 none_more old new e f m =
@@ -60,7 +62,8 @@ cause_at_most old new r h = record {
 
 -- ---- what is handed on
 
-pub handed : {T : Type 0} (P Q : T → Type 0) (read : Result T ReadFault) (result : Result T StoreFault)
+pub handed : {T : Type 0} (P Q : T → Type 0) (read : Result T ReadFault)
+    (result : Result T StoreFault)
     → IsHanded read result → ((x : T) → P x → Q x) → IfOk read P → IfOk result Q
 handed P Q (Ok x) (Ok y) e to p = subst Q (sym e) (to x p)
 handed P Q (Ok x) (Err f) e to p = absurd e
@@ -79,15 +82,17 @@ keeper_after g old new keeper only bounded = record {
 }
 
 -- what several reads tell is handed on as the law of keepers asks it
-pub asked_in_turn : {S T : Type 0} (g : Ghosts S) (old new : KeeperState S) (told : Trees → T → Type 0)
-    (Found : T → Type 0) (read : Result T ReadFault) (result : Result T StoreFault)
+pub asked_in_turn : {S T : Type 0} (g : Ghosts S) (old new : KeeperState S)
+    (told : Trees → T → Type 0) (Found : T → Type 0) (read : Result T ReadFault)
+    (result : Result T StoreFault)
     → IsKeeper g old → Gathers told (state g old.connection) (state g new.connection) read
     → new.names ≡ old.names → IsHanded read result → HasCause old.failures new.failures result
     → ((x : T) → told (state g old.connection).now.trees x → Found x)
     → Reads (tables_in g) failed_in (clean_in g) old new Found result
 asked_in_turn g old new told Found read result keeper reads names e cause to = record {
   found = λ clean.
-      handed (told before.now.trees) Found read result e to (reads.found clean.disk (open_of after stays clean));
+      handed (told before.now.trees) Found read result e to
+      (reads.found clean.disk (open_of after stays clean));
   same = λ clean. same (open_of after stays clean) clean.disk;
   cleanness = was_clean before after stays reads.only;
   cause = cause_at_most old.failures new.failures result cause;

@@ -17,7 +17,8 @@ memory_fault text f is = record {
 module _ (text bytes : List ℕ) (is : bytes ≡ text) where
   pub fault_told : (r : Result Book BookFault)
       → ((t : Members) → IsDocument bytes t → Gives (λ (b : Book). b) r (book_of t))
-      → (((t : Members) → IsDocument bytes t → ⊥) → Gives {Y = Book} (λ (b : Book). b) r (Err NotToml))
+      → (((t : Members) → IsDocument bytes t → ⊥) →
+      Gives {Y = Book} (λ (b : Book). b) r (Err NotToml))
       → IfErr r (IsBookFault text)
   fault_told (Ok b) document other = tt
   fault_told (Err e) document other = record {
@@ -28,7 +29,8 @@ module _ (text bytes : List ℕ) (is : bytes ≡ text) where
   }
 
   pub book_told : (r : Result Book BookFault)
-      → IfOk r (λ b. (t : Members) × IsDocument bytes t × (book_of t ≡ Ok b)) → IfOk r (IsBookOf text)
+      → IfOk r (λ b. (t : Members) × IsDocument bytes t × (book_of t ≡ Ok b))
+      → IfOk r (IsBookOf text)
   book_told (Ok b) read = (read.0, subst (λ x. IsDocument x read.0) is read.1, read.2)
   book_told (Err e) read = tt
 
@@ -36,7 +38,8 @@ module _ (text bytes : List ℕ) (is : bytes ≡ text) where
       → ((t : Members) → IsDocument bytes t → Gives (λ (b : Book). b) r (book_of t))
       → (b : Book) → IsBookOf text b → IfOk r (λ x. x ≡ b)
   same_told (Ok x) document b read =
-      let first : book_of read.0 ≡ Ok x = document read.0 (subst (λ y. IsDocument y read.0) (sym is) read.1) in
+      let first : book_of read.0 ≡ Ok x =
+      document read.0 (subst (λ y. IsDocument y read.0) (sym is) read.1) in
       let second : book_of read.0 ≡ Ok b = read.2 in
       let both = sym first ∙ second in
       let it : x ≡ b = cc in it

@@ -1,6 +1,8 @@
 -- What a change writes reads as the change.
-use Rattle.std.proofs.Common.{◌≡◌, ℕ, Bool, true, false, cond, List, [], ◌∷◌, refl, sym, ap, ◌∙◌, subst, Option, Some, None}
-use Rattle.std.specs.Prelude.{if◌then◌else◌, ◌&&◌, ◌+◌, nat_eq, option_map, option_and_then, unwrap_or, is_some}
+use Rattle.std.proofs.Common.{◌≡◌, ℕ, Bool, true, false, cond, List, [], ◌∷◌, refl, sym, ap, ◌∙◌}
+use Rattle.std.proofs.Common.{subst, Option, Some, None}
+use Rattle.std.specs.Prelude.{if◌then◌else◌, ◌&&◌, ◌+◌, nat_eq, option_map, option_and_then}
+use Rattle.std.specs.Prelude.{unwrap_or, is_some}
 use Rattle.std.proofs.lemmas.Bool.{and_parts}
 use Rattle.identifiers.specs.Texts.{same_name}
 use Rattle.calendar.specs.declared.week.Period.{Period}
@@ -21,14 +23,20 @@ use Rattle.keepers.specs.Tables.{GroupRow, group_row, charge_in}
 use Rattle.keepers.specs.Tables as tables
 use Rattle.keepers.specs.Change.{IsMadeFrom, over, held_over, kept_after, redeemed_over, changed}
 use Rattle.sql_rows.specs.Values.{Meta, Group, Kept, request_kind, reference_kind}
-use Rattle.sql_rows.specs.Content.{Rows as Stored, Content, with_rows, with_meta, with_account, with_head, with_answer}
+use Rattle.sql_rows.specs.Content.{Rows as Stored, Content, with_rows, with_meta, with_account}
+use Rattle.sql_rows.specs.Content.{with_head, with_answer}
 use Rattle.sql_rows.specs.Each.{with_buckets, with_counters, with_sessions}
-use Rattle.sql_keeper.specs.Content.{periods_in, group_in as stored_group, is_reserved, held_in, rows_of, is_numbered, charge_of, kept_in, answer_in, voucher_in, tables_of}
+use Rattle.sql_keeper.specs.Content.{periods_in, group_in as stored_group, is_reserved, held_in}
+use Rattle.sql_keeper.specs.Content.{rows_of, is_numbered, charge_of, kept_in, answer_in}
+use Rattle.sql_keeper.specs.Content.{voucher_in, tables_of}
 use Rattle.sql_keeper.specs.Content as content
-use Rattle.sql_keeper.specs.Writes.{name_at, names_at, columns_of, head_of, with_stored, with_texts, with_kept, with_redeemed, AreTexts, with_change}
+use Rattle.sql_keeper.specs.Writes.{name_at, names_at, columns_of, head_of, with_stored, with_texts}
+use Rattle.sql_keeper.specs.Writes.{with_kept, with_redeemed, AreTexts, with_change}
 use Rattle.sql_keeper.specs.Tests.{IsNamed, MayStand, AreWritable, AreNumbered, first_number}
 use Rattle.sql_keeper.specs.Laws.{AreChangesRead}
-use Rattle.sql_keeper.proofs.Overlays.{name_from, not_both, with_opened, opened, over_buckets, over_counters, over_sessions, over_charges, buckets_over, counters_over, sessions_over, charges_over}
+use Rattle.sql_keeper.proofs.Overlays.{name_from, not_both, with_opened, opened, over_buckets}
+use Rattle.sql_keeper.proofs.Overlays.{over_counters, over_sessions, over_charges, buckets_over}
+use Rattle.sql_keeper.proofs.Overlays.{counters_over, sessions_over, charges_over}
 use Rattle.sql_keeper.proofs.Groups.{amount_at, amount_in, over_groups, groups_over, held_is}
 use Rattle.sql_keeper.proofs.Numbers.{numbered_apart, seen_after, begins}
 use Rattle.sql_keeper.proofs.Redeemed.{redeemed_read}
@@ -36,9 +44,11 @@ use Rattle.sql_keeper.proofs.Redeemed.{redeemed_read}
 -- ---- the rows of an account
 
 abbrev pub over_stored : List (List ℕ) → StoredRows → Stored → Stored
-over_stored names w r = over_groups names w.groups (over_sessions w.sessions (over_counters w.counters (over_buckets w.buckets (with_head (head_of w) r))))
+over_stored names w r = over_groups names w.groups (over_sessions w.sessions
+    (over_counters w.counters (over_buckets w.buckets (with_head (head_of w) r))))
 
-pub stored_over : (a : List ℕ) (names : List (List ℕ)) (w : StoredRows) (c : Content) → IsStored w → AreWritable names w.sessions w.groups
+pub stored_over : (a : List ℕ) (names : List (List ℕ)) (w : StoredRows) (c : Content) → IsStored w
+    → AreWritable names w.sessions w.groups
     → with_stored a names w c ≡ opened a (over_stored names w) c
 stored_over a names w c h may =
     let head = with_head (head_of w) in
@@ -52,18 +62,22 @@ stored_over a names w c h may =
     groups_over a names w.sessions w.groups sessions h.groups may
     ∙ ap (with_rows a (over_groups names w.groups)) (sessions_over a w.sessions counters h.sessions
     ∙ ap (with_rows a (over_sessions w.sessions)) (counters_over a w.counters buckets h.counters
-    ∙ ap (with_rows a (over_counters w.counters)) (buckets_over a w.buckets opening h.sound.distinct ∙ with_opened a (over_buckets w.buckets) head c)
+    ∙ ap (with_rows a (over_counters w.counters)) (buckets_over a w.buckets opening h.sound.distinct
+    ∙ with_opened a (over_buckets w.buckets) head c)
     ∙ with_opened a (over_counters w.counters) first c)
     ∙ with_opened a (over_sessions w.sessions) second c)
     ∙ with_opened a (over_groups names w.groups) third c
 
 -- ---- periods
 
-period_back : (names : List (List ℕ)) (p : Period) → IsNamed names p → content.period_in names (name_at names p) ≡ p
+period_back : (names : List (List ℕ)) (p : Period) → IsNamed names p →
+    content.period_in names (name_at names p) ≡ p
 period_back names p e = ap (λ o. unwrap_or o (record { 0 = 0 })) e
 
-periods_back : (names : List (List ℕ)) (p : Periods) → IsNamed names p.before → IsNamed names p.after → periods_in names (names_at names p) ≡ p
-periods_back names p e f = λ i. record { before = period_back names p.before e i; after = period_back names p.after f i }
+periods_back : (names : List (List ℕ)) (p : Periods) → IsNamed names p.before →
+    IsNamed names p.after → periods_in names (names_at names p) ≡ p
+periods_back names p e f =
+    λ i. record { before = period_back names p.before e i; after = period_back names p.after f i }
 
 -- ---- groups
 
@@ -79,44 +93,62 @@ none_reserved names true = refl
 none_reserved names false = refl
 
 -- the session of a group that isn't written stays as it is
-module _ (names : List (List ℕ)) (w : StoredRows) (r : Stored) (free : (s : List ℕ) (g : ℕ) (x : GroupRow) → (rows_of names r).groups s g ≡ Some x → group_in s g w.groups ≡ None → (x.periods ≡ None) × (session_in s w.sessions ≡ None))
-    (may : (s : List ℕ) (g : ℕ) (x : SessionGroup) → group_in s g w.groups ≡ Some x → MayStand names w.sessions s x.reservation) where
+module _ (names : List (List ℕ)) (w : StoredRows) (r : Stored)
+    (free : (s : List ℕ) (g : ℕ) (x : GroupRow) → (rows_of names r).groups s g ≡ Some x →
+    group_in s g w.groups ≡ None → (x.periods ≡ None) × (session_in s w.sessions ≡ None))
+    (may : (s : List ℕ) (g : ℕ) (x : SessionGroup) → group_in s g w.groups ≡ Some x →
+    MayStand names w.sessions s x.reservation) where
   pub open_after : List ℕ → Bool
   open_after s = is_open_row (first_of (session_in s w.sessions) (r.sessions s))
 
-  same_open : (s : List ℕ) (g : ℕ) (y : Group) → r.groups s g ≡ Some y → group_in s g w.groups ≡ None → open_after s ≡ is_open_row (r.sessions s)
+  same_open : (s : List ℕ) (g : ℕ) (y : Group) → r.groups s g ≡ Some y →
+      group_in s g w.groups ≡ None → open_after s ≡ is_open_row (r.sessions s)
   unfolding open_after
   same_open s g y there none =
-      ap (λ o. is_open_row (first_of o (r.sessions s))) (free s g (stored_group names (is_open_row (r.sessions s)) y) (ap (option_map (stored_group names (is_open_row (r.sessions s)))) there) none).1
+      ap (λ o. is_open_row (first_of o (r.sessions s)))
+      (free s g (stored_group names (is_open_row (r.sessions s)) y)
+      (ap (option_map (stored_group names (is_open_row (r.sessions s)))) there) none).1
 
   still_open : (s : List ℕ) → is_open_row (session_in s w.sessions) ≡ true → open_after s ≡ true
   unfolding open_after
   still_open s = at (session_in s w.sessions)
     where
-      at : (o : Option Session) → is_open_row o ≡ true → is_open_row (first_of o (r.sessions s)) ≡ true
+      at : (o : Option Session) → is_open_row o ≡ true →
+          is_open_row (first_of o (r.sessions s)) ≡ true
       at None e = not_both (sym e)
       at (Some x) e = e
 
   pub groups_read : (s : List ℕ) (g : ℕ)
-      → option_map (stored_group names (open_after s)) (first_of (option_map (columns_of names) (group_in s g w.groups)) (r.groups s g))
-      ≡ first_of (option_map group_row (group_in s g w.groups)) (option_map (stored_group names (is_open_row (r.sessions s))) (r.groups s g))
+      → option_map (stored_group names (open_after s))
+      (first_of (option_map (columns_of names) (group_in s g w.groups)) (r.groups s g))
+      ≡ first_of (option_map group_row (group_in s g w.groups))
+      (option_map (stored_group names (is_open_row (r.sessions s))) (r.groups s g))
   groups_read s g = at (group_in s g w.groups) (r.groups s g) refl refl
     where
       back : (o : Option Reservation) (used : ℕ) → MayStand names w.sessions s o
-          → stored_group names (open_after s) (record { used = used; periods = option_map (λ (x : Reservation). names_at names x.periods) o }) ≡ record { used = used; periods = option_map (λ (x : Reservation). x.periods) o }
+          → stored_group names (open_after s) (record {
+            used = used;
+            periods = option_map (λ (x : Reservation). names_at names x.periods) o;
+          }) ≡ record { used = used; periods = option_map (λ (x : Reservation). x.periods) o }
       back None used m = λ i. record { used = used; periods = none_reserved names (open_after s) i }
-      back (Some x) used m = rw (still_open s m.live) (λ i. record { used = used; periods = Some (periods_back names x.periods m.before m.after i) })
+      back (Some x) used m = rw (still_open s m.live) (λ i.
+          record { used = used; periods = Some (periods_back names x.periods m.before m.after i) })
 
-      at : (o : Option SessionGroup) (p : Option Group) → group_in s g w.groups ≡ o → r.groups s g ≡ p
-          → option_map (stored_group names (open_after s)) (first_of (option_map (columns_of names) o) p)
-          ≡ first_of (option_map group_row o) (option_map (stored_group names (is_open_row (r.sessions s))) p)
+      at : (o : Option SessionGroup) (p : Option Group) → group_in s g w.groups ≡ o
+          → r.groups s g ≡ p → option_map (stored_group names (open_after s))
+          (first_of (option_map (columns_of names) o) p)
+          ≡ first_of (option_map group_row o)
+          (option_map (stored_group names (is_open_row (r.sessions s))) p)
       at (Some x) p e f = ap Some (back x.reservation x.used (may s g x e))
       at None None e f = refl
       at None (Some y) e f = λ i. Some (stored_group names (same_open s g y f e i) y)
 
   pub holds_read : (s : List ℕ) (g n : ℕ)
-      → held_in (open_after s && is_reserved (first_of (option_map (columns_of names) (group_in s g w.groups)) (r.groups s g))) (amount_in n (group_in s g w.groups) (r.holds s g n))
-      ≡ held_over n (group_in s g w.groups) (held_in (is_open_row (r.sessions s) && is_reserved (r.groups s g)) (r.holds s g n))
+      → held_in (open_after s && is_reserved
+      (first_of (option_map (columns_of names) (group_in s g w.groups)) (r.groups s g)))
+      (amount_in n (group_in s g w.groups) (r.holds s g n))
+      ≡ held_over n (group_in s g w.groups)
+      (held_in (is_open_row (r.sessions s) && is_reserved (r.groups s g)) (r.holds s g n))
   holds_read s g n = at (group_in s g w.groups) (r.groups s g) refl refl
     where
       not_held : (b : Bool) (before : Option ℕ) → held_in (b && false) before ≡ 0
@@ -124,33 +156,46 @@ module _ (names : List (List ℕ)) (w : StoredRows) (r : Stored) (free : (s : Li
       not_held false before = refl
 
       back : (o : Option Reservation) → MayStand names w.sessions s o
-          → held_in (open_after s && is_some (option_map (λ (x : Reservation). names_at names x.periods) o)) (amount_at n (holds_in o)) ≡ tables.held_at n (holds_in o)
+          → held_in (open_after s
+          && is_some (option_map (λ (x : Reservation). names_at names x.periods) o))
+          (amount_at n (holds_in o)) ≡ tables.held_at n (holds_in o)
       back None m = not_held (open_after s) None
       back (Some x) m = rw (still_open s m.live) (sym (held_is n x.holds m.holds))
 
-      at : (o : Option SessionGroup) (p : Option Group) → group_in s g w.groups ≡ o → r.groups s g ≡ p
-          → held_in (open_after s && is_reserved (first_of (option_map (columns_of names) o) p)) (amount_in n o (r.holds s g n))
+      at : (o : Option SessionGroup) (p : Option Group) → group_in s g w.groups ≡ o
+          → r.groups s g ≡ p
+          → held_in (open_after s && is_reserved (first_of (option_map (columns_of names) o) p))
+          (amount_in n o (r.holds s g n))
           ≡ held_over n o (held_in (is_open_row (r.sessions s) && is_reserved p) (r.holds s g n))
       at (Some x) p e f = back x.reservation (may s g x e)
-      at None None e f = not_held (open_after s) (r.holds s g n) ∙ sym (not_held (is_open_row (r.sessions s)) (r.holds s g n))
-      at None (Some y) e f = λ i. held_in (same_open s g y f e i && is_some y.periods) (r.holds s g n)
+      at None None e f = not_held (open_after s) (r.holds s g n)
+          ∙ sym (not_held (is_open_row (r.sessions s)) (r.holds s g n))
+      at None (Some y) e f =
+          λ i. held_in (same_open s g y f e i && is_some y.periods) (r.holds s g n)
 
   pub rows_read : rows_of names (over_stored names w r) ≡ over w (rows_of names r)
   unfolding open_after
-  rows_read = λ i. record (over w (rows_of names r)) { groups = λ s g. groups_read s g i; holds = λ s g n. holds_read s g n i }
+  rows_read = λ i. record (over w (rows_of names r)) {
+    groups = λ s g. groups_read s g i;
+    holds = λ s g n. holds_read s g n i;
+  }
 
 -- the test of a group that is found
-pub may_at : (names : List (List ℕ)) (sessions : List Session) (gs : List SessionGroup) → AreWritable names sessions gs → (s : List ℕ) (g : ℕ) (x : SessionGroup)
+pub may_at : (names : List (List ℕ)) (sessions : List Session) (gs : List SessionGroup)
+    → AreWritable names sessions gs → (s : List ℕ) (g : ℕ) (x : SessionGroup)
     → group_in s g gs ≡ Some x → MayStand names sessions s x.reservation
 may_at names sessions [] h s g x e = absurd (cc)
-may_at names sessions (y ∷ ys) h s g x e = at (is_of s g y) refl e (may_at names sessions ys h.1 s g x)
+may_at names sessions (y ∷ ys) h s g x e =
+    at (is_of s g y) refl e (may_at names sessions ys h.1 s g x)
   where
     at : (t : Bool) → is_of s g y ≡ t → cond t (Some y) (group_in s g ys) ≡ Some x
-        → (group_in s g ys ≡ Some x → MayStand names sessions s x.reservation) → MayStand names sessions s x.reservation
+        → (group_in s g ys ≡ Some x → MayStand names sessions s x.reservation)
+        → MayStand names sessions s x.reservation
     at true k f rest =
         let is : y ≡ x = same_some f in
         subst (λ z. MayStand names sessions s z.reservation) is
-        (subst (λ n. MayStand names sessions n y.reservation) (name_from y.session s (and_parts (same_name y.session s) (nat_eq y.group g) k).0) h.0)
+        (subst (λ n. MayStand names sessions n y.reservation)
+        (name_from y.session s (and_parts (same_name y.session s) (nat_eq y.group g) k).0) h.0)
     at false k f rest = rest f
 
 -- ---- what is kept of a command
@@ -164,61 +209,74 @@ put_kept None t r = r
 put_kept (Some k) None r = r
 put_kept (Some k) (Some t) r = put_texts (key_of k.content) t r
 
-texts_over : (a : List ℕ) (key : Key) (t : Kept) (g : Stored → Stored) (c : Content) → with_texts a key t (opened a g c) ≡ opened a (λ r. put_texts key t (g r)) c
+texts_over : (a : List ℕ) (key : Key) (t : Kept) (g : Stored → Stored) (c : Content) →
+    with_texts a key t (opened a g c) ≡ opened a (λ r. put_texts key t (g r)) c
 unfolding put_texts
 texts_over a (Request s n) t g c = with_opened a (with_answer request_kind s n t) g c
 texts_over a (Reference x) t g c = with_opened a (with_answer reference_kind x 0 t) g c
 
-kept_over : (a : List ℕ) (kept : Option KeptAnswer) (t : Option Kept) (g : Stored → Stored) (c : Content) → with_kept a kept t (opened a g c) ≡ opened a (λ r. put_kept kept t (g r)) c
+kept_over : (a : List ℕ) (kept : Option KeptAnswer) (t : Option Kept) (g : Stored → Stored)
+    (c : Content) → with_kept a kept t (opened a g c) ≡ opened a (λ r. put_kept kept t (g r)) c
 unfolding put_kept
 kept_over a None t g c = refl
 kept_over a (Some k) None g c = refl
 kept_over a (Some k) (Some t) g c = texts_over a (key_of k.content) t g c
 
-texts_rows : (names : List (List ℕ)) (key : Key) (t : Kept) (r : Stored) → rows_of names (put_texts key t r) ≡ rows_of names r
+texts_rows : (names : List (List ℕ)) (key : Key) (t : Kept) (r : Stored) →
+    rows_of names (put_texts key t r) ≡ rows_of names r
 unfolding put_texts
 texts_rows names (Request s n) t r = refl
 texts_rows names (Reference x) t r = refl
 
-kept_rows : (names : List (List ℕ)) (kept : Option KeptAnswer) (t : Option Kept) (r : Stored) → rows_of names (put_kept kept t r) ≡ rows_of names r
+kept_rows : (names : List (List ℕ)) (kept : Option KeptAnswer) (t : Option Kept) (r : Stored) →
+    rows_of names (put_kept kept t r) ≡ rows_of names r
 unfolding put_kept
 kept_rows names None t r = refl
 kept_rows names (Some k) None r = refl
 kept_rows names (Some k) (Some t) r = texts_rows names (key_of k.content) t r
 
-texts_charges : (n : ℕ) (key : Key) (t : Kept) (r : Stored) → charge_of n (put_texts key t r) ≡ charge_of n r
+texts_charges : (n : ℕ) (key : Key) (t : Kept) (r : Stored) →
+    charge_of n (put_texts key t r) ≡ charge_of n r
 unfolding put_texts
 texts_charges n (Request s m) t r = refl
 texts_charges n (Reference x) t r = refl
 
-kept_charges : (n : ℕ) (kept : Option KeptAnswer) (t : Option Kept) (r : Stored) → charge_of n (put_kept kept t r) ≡ charge_of n r
+kept_charges : (n : ℕ) (kept : Option KeptAnswer) (t : Option Kept) (r : Stored) →
+    charge_of n (put_kept kept t r) ≡ charge_of n r
 unfolding put_kept
 kept_charges n None t r = refl
 kept_charges n (Some k) None r = refl
 kept_charges n (Some k) (Some t) r = texts_charges n (key_of k.content) t r
 
-told_if : {A B : Type 0} (f : A → Option B) (b : Bool) (x : A) (y : B) (o : Option A) → f x ≡ Some y → option_and_then f (if b then Some x else o) ≡ (if b then Some y else option_and_then f o)
+told_if : {A B : Type 0} (f : A → Option B) (b : Bool) (x : A) (y : B) (o : Option A) →
+    f x ≡ Some y →
+    option_and_then f (if b then Some x else o) ≡ (if b then Some y else option_and_then f o)
 told_if f true x y o e = e
 told_if f false x y o e = refl
 
-texts_answer : (a : List ℕ) (key k : Key) (t : Kept) (kept : KeptAnswer) (r : Stored) → kept_in a t ≡ Some kept
+texts_answer : (a : List ℕ) (key k : Key) (t : Kept) (kept : KeptAnswer) (r : Stored)
+    → kept_in a t ≡ Some kept
     → answer_in a k (put_texts key t r) ≡ (if same_key key k then Some kept else answer_in a k r)
 unfolding put_texts
-texts_answer a (Request s n) (Request p m) t kept r e = told_if (kept_in a) (same_name s p && nat_eq n m) t kept (r.answers request_kind p m) e
+texts_answer a (Request s n) (Request p m) t kept r e =
+    told_if (kept_in a) (same_name s p && nat_eq n m) t kept (r.answers request_kind p m) e
 texts_answer a (Request s n) (Reference q) t kept r e = refl
 texts_answer a (Reference x) (Request p m) t kept r e = refl
 texts_answer a (Reference x) (Reference q) t kept r e =
-    ap (λ b. option_and_then (kept_in a) (if b then Some t else r.answers reference_kind q 0)) (and_true (same_name x q))
+    ap (λ b. option_and_then (kept_in a) (if b then Some t else r.answers reference_kind q 0))
+    (and_true (same_name x q))
     ∙ told_if (kept_in a) (same_name x q) t kept (r.answers reference_kind q 0) e
 
-kept_answer : (a : List ℕ) (k : Key) (kept : Option KeptAnswer) (t : Option Kept) (r : Stored) → AreTexts a kept t
-    → answer_in a k (put_kept kept t r) ≡ kept_after kept k (answer_in a k r)
+kept_answer : (a : List ℕ) (k : Key) (kept : Option KeptAnswer) (t : Option Kept) (r : Stored)
+    → AreTexts a kept t → answer_in a k (put_kept kept t r) ≡ kept_after kept k (answer_in a k r)
 unfolding put_kept
 kept_answer a k None t r h = refl
 kept_answer a k (Some x) None r h = absurd h
 kept_answer a k (Some x) (Some t) r h = texts_answer a (key_of x.content) k t x r h
 
-pub same_texts : (a : List ℕ) (k : Key) (names : List (List ℕ)) (w : StoredRows) (cs : List ChargeRow) (r : Stored) → answer_in a k (over_charges cs (over_stored names w r)) ≡ answer_in a k r
+pub same_texts : (a : List ℕ) (k : Key)
+    (names : List (List ℕ)) (w : StoredRows) (cs : List ChargeRow) (r : Stored) →
+    answer_in a k (over_charges cs (over_stored names w r)) ≡ answer_in a k r
 same_texts a (Request s n) names w cs r = refl
 same_texts a (Reference x) names w cs r = refl
 
@@ -229,48 +287,74 @@ is_some_map f (Some x) = refl
 -- ---- all of it
 
 module _ (names : List (List ℕ)) (m : Meta) (change : Change) (texts : Option Kept) (c : Content)
-    (kept : IsStored change.after) (may : AreWritable names change.after.sessions change.after.groups)
-    (numbers : AreNumbered (first_number (c.rows change.number).head) change.after.next_charge change.charges.items) (told : AreTexts change.number change.kept texts) where
+    (kept : IsStored change.after)
+    (may : AreWritable names change.after.sessions change.after.groups)
+    (numbers : AreNumbered (first_number (c.rows change.number).head) change.after.next_charge
+    change.charges.items) (told : AreTexts change.number change.kept texts) where
   row_after : Stored → Stored
-  row_after r = put_kept change.kept texts (over_charges change.charges.items (over_stored names change.after r))
+  row_after r = put_kept change.kept texts
+      (over_charges change.charges.items (over_stored names change.after r))
 
-  content_after : with_change names m change texts c ≡ with_redeemed change.redeemed (opened change.number row_after (with_meta m c))
+  content_after : with_change names m change texts c
+      ≡ with_redeemed change.redeemed (opened change.number row_after (with_meta m c))
   unfolding row_after
   content_after =
-      ap (with_redeemed change.redeemed) (ap (with_kept change.number change.kept texts) (charges_over change.number change.charges.items (with_stored change.number names change.after (with_meta m c)) (numbered_apart (first_number (c.rows change.number).head) change.after.next_charge change.charges.items numbers)
-      ∙ ap (with_rows change.number (over_charges change.charges.items)) (stored_over change.number names change.after (with_meta m c) kept may)
-      ∙ with_opened change.number (over_charges change.charges.items) (over_stored names change.after) (with_meta m c))
-      ∙ kept_over change.number change.kept texts (λ r. over_charges change.charges.items (over_stored names change.after r)) (with_meta m c))
+      ap (with_redeemed change.redeemed) (ap (with_kept change.number change.kept texts)
+      (charges_over change.number change.charges.items (with_stored change.number names change.after
+      (with_meta m c)) (numbered_apart (first_number (c.rows change.number).head)
+      change.after.next_charge change.charges.items numbers)
+      ∙ ap (with_rows change.number (over_charges change.charges.items))
+      (stored_over change.number names change.after (with_meta m c) kept may)
+      ∙ with_opened change.number (over_charges change.charges.items)
+      (over_stored names change.after) (with_meta m c))
+      ∙ kept_over change.number change.kept texts
+      (λ r. over_charges change.charges.items (over_stored names change.after r)) (with_meta m c))
 
-  module _ (last : m.last ≡ change.moment) (made : IsMadeFrom change.before change.after (rows_of names (c.rows change.number))) where
+  module _ (last : m.last ≡ change.moment)
+      (made : IsMadeFrom change.before change.after (rows_of names (c.rows change.number))) where
     rows_at : (x : List ℕ) (t : Bool) → same_name change.number x ≡ t
-        → rows_of names (if t then row_after (c.rows x) else c.rows x) ≡ (if t then over change.after (rows_of names (c.rows x)) else rows_of names (c.rows x))
+        → rows_of names (if t then row_after (c.rows x) else c.rows x)
+        ≡ (if t then over change.after (rows_of names (c.rows x)) else rows_of names (c.rows x))
     unfolding row_after
     rows_at x true e =
-        let made_here = subst (λ a. IsMadeFrom change.before change.after (rows_of names (c.rows a))) (name_from change.number x e) made in
-        kept_rows names change.kept texts (over_charges change.charges.items (over_stored names change.after (c.rows x))) ∙ rows_read names change.after (c.rows x) made_here.free (may_at names change.after.sessions change.after.groups may)
+        let made_here =
+        subst (λ a. IsMadeFrom change.before change.after (rows_of names (c.rows a)))
+        (name_from change.number x e) made in
+        kept_rows names change.kept texts
+        (over_charges change.charges.items (over_stored names change.after (c.rows x)))
+        ∙ rows_read names change.after (c.rows x) made_here.free
+        (may_at names change.after.sessions change.after.groups may)
     rows_at x false e = refl
 
     answers_at : (x : List ℕ) (k : Key) (t : Bool) → same_name change.number x ≡ t
-        → answer_in x k (if t then row_after (c.rows x) else c.rows x) ≡ (if t then kept_after change.kept k (answer_in x k (c.rows x)) else answer_in x k (c.rows x))
+        → answer_in x k (if t then row_after (c.rows x) else c.rows x) ≡ (if t
+        then kept_after change.kept k (answer_in x k (c.rows x)) else answer_in x k (c.rows x))
     unfolding row_after
     answers_at x k true e =
-        kept_answer x k change.kept texts (over_charges change.charges.items (over_stored names change.after (c.rows x))) (subst (λ a. AreTexts a change.kept texts) (name_from change.number x e) told)
-        ∙ ap (kept_after change.kept k) (same_texts x k names change.after change.charges.items (c.rows x))
+        kept_answer x k change.kept texts
+        (over_charges change.charges.items (over_stored names change.after (c.rows x)))
+        (subst (λ a. AreTexts a change.kept texts) (name_from change.number x e) told)
+        ∙ ap (kept_after change.kept k)
+        (same_texts x k names change.after change.charges.items (c.rows x))
     answers_at x k false e = refl
 
     charges_at : (x : List ℕ) (n : ℕ) (t : Bool) → same_name change.number x ≡ t
-        → charge_of n (if t then row_after (c.rows x) else c.rows x) ≡ (if t then first_of (charge_of n (c.rows x)) (charge_in n change.charges.items) else charge_of n (c.rows x))
+        → charge_of n (if t then row_after (c.rows x) else c.rows x)
+        ≡ (if t then first_of (charge_of n (c.rows x)) (charge_in n change.charges.items)
+        else charge_of n (c.rows x))
     unfolding row_after
     charges_at x n true e =
-        kept_charges n change.kept texts (over_charges change.charges.items (over_stored names change.after (c.rows x)))
-        ∙ seen_after n (first_number (c.rows x).head) change.after.next_charge change.charges.items (is_numbered n (c.rows x).head)
-        (subst (λ a. AreNumbered (first_number (c.rows a).head) change.after.next_charge change.charges.items) (name_from change.number x e) numbers)
+        kept_charges n change.kept texts
+        (over_charges change.charges.items (over_stored names change.after (c.rows x)))
+        ∙ seen_after n (first_number (c.rows x).head) change.after.next_charge change.charges.items
+        (is_numbered n (c.rows x).head) (subst (λ a. AreNumbered (first_number (c.rows a).head)
+        change.after.next_charge change.charges.items) (name_from change.number x e) numbers)
         (begins n (c.rows x).head) ((c.rows x).charges n)
     charges_at x n false e = refl
 
     -- the tables with what is written are those with the change
-    pub change_read : tables_of names (with_change names m change texts c) ≡ changed change (tables_of names c)
+    pub change_read : tables_of names (with_change names m change texts c)
+        ≡ changed change (tables_of names c)
     change_read =
         ap (tables_of names) content_after
         ∙ redeemed_read names change.redeemed (opened change.number row_after (with_meta m c))
@@ -279,9 +363,12 @@ module _ (names : List (List ℕ)) (m : Meta) (change : Change) (texts : Option 
           rows = λ x. rows_at x (same_name change.number x) refl i;
           answers = λ x k. answers_at x k (same_name change.number x) refl i;
           charges = λ x n. charges_at x n (same_name change.number x) refl i;
-          vouchers = λ code. redeemed_over change.redeemed code (option_map voucher_in (c.vouchers code));
-          count = if sym (is_some_map content.head_in (c.rows change.number).head) i then c.count else c.count + 1;
+          vouchers = λ code.
+              redeemed_over change.redeemed code (option_map voucher_in (c.vouchers code));
+          count = if sym (is_some_map content.head_in (c.rows change.number).head) i then c.count
+              else c.count + 1;
         })
 
 pub changes_read : AreChangesRead
-changes_read names m change texts c kept may numbers told last made = change_read names m change texts c kept may numbers told last made
+changes_read names m change texts c kept may numbers told last made =
+    change_read names m change texts c kept may numbers told last made

@@ -1,5 +1,6 @@
 -- The charges that are read for a page are the account's.
-use Rattle.std.proofs.Common.{◌≡◌, ℕ, ◌+◌, ◌-◌, ◌<◌, ◌≤◌, Bool, true, false, cond, List, [], ◌∷◌, Some, None, Option, refl, sym, ap, ◌∙◌, subst, arith, nat_lt}
+use Rattle.std.proofs.Common.{◌≡◌, ℕ, ◌+◌, ◌-◌, ◌<◌, ◌≤◌, Bool, true, false, cond, List, [], ◌∷◌}
+use Rattle.std.proofs.Common.{Some, None, Option, refl, sym, ap, ◌∙◌, subst, arith, nat_lt}
 use Rattle.std.specs.Prelude.{◌==◌, ◌&&◌, if◌then◌else◌, min, nat_le}
 use Rattle.std.specs.List.{filter}
 use Rattle.std.proofs.lemmas.Bool.{and_parts, and_from, true≢false}
@@ -27,9 +28,11 @@ numbered_is n None = at (nat_lt 0 n) (nat_le n 0) refl refl
     at true true e f = absurd (grind (arith, nat_tests, e, f))
     at true false e f = refl
     at false u e f = refl
-numbered_is n (Some h) = at (nat_lt 0 n) (nat_lt n h.next_charge) (nat_le n (h.next_charge - 1)) refl refl refl
+numbered_is n (Some h) =
+    at (nat_lt 0 n) (nat_lt n h.next_charge) (nat_le n (h.next_charge - 1)) refl refl refl
   where
-    at : (t u v : Bool) → nat_lt 0 n ≡ t → nat_lt n h.next_charge ≡ u → nat_le n (h.next_charge - 1) ≡ v →
+    at : (t u v : Bool) → nat_lt 0 n ≡ t → nat_lt n h.next_charge ≡ u →
+        nat_le n (h.next_charge - 1) ≡ v →
         (t && u) ≡ (t && v)
     at true true true e f g = refl
     at true false false e f g = refl
@@ -38,7 +41,8 @@ numbered_is n (Some h) = at (nat_lt 0 n) (nat_lt n h.next_charge) (nat_le n (h.n
     at false u v e f g = refl
 
 -- a charge that is found has its number
-found_number : (n : ℕ) (rows : List ChargeRow) (x : ChargeRow) → charge_in n rows ≡ Some x → x.number ≡ n
+found_number : (n : ℕ) (rows : List ChargeRow) (x : ChargeRow) →
+    charge_in n rows ≡ Some x → x.number ≡ n
 found_number n [] x e = absurd (cc)
 found_number n (c ∷ rest) x e = at (c.number == n) refl e (found_number n rest x)
   where
@@ -53,13 +57,15 @@ abbrev BeginFrom : ℕ → List ChargeRow → Type 0
 BeginFrom least [] = Unit {0}
 BeginFrom least (c ∷ rest) = least ≤ c.number
 
-rises_from : (least : ℕ) (xs : List ChargeRow) → NumbersRise xs → BeginFrom least xs → are_rising least xs ≡ true
+rises_from : (least : ℕ) (xs : List ChargeRow) → NumbersRise xs → BeginFrom least xs →
+    are_rising least xs ≡ true
 rises_from least [] rise low = refl
 rises_from least (c ∷ []) rise low =
     and_from (nat_le least c.number) true (grind (arith, nat_tests, low)) refl
 rises_from least (c ∷ d ∷ zs) rise low =
     let less = rise.0 in
-    and_from (nat_le least c.number) (are_rising (c.number + 1) (d ∷ zs)) (grind (arith, nat_tests, low))
+    and_from (nat_le least c.number) (are_rising (c.number + 1) (d ∷ zs))
+    (grind (arith, nat_tests, low))
     (rises_from (c.number + 1) (d ∷ zs) rise.1 (omega (arith, less)))
 
 begin_anywhere : (xs : List ChargeRow) → BeginFrom 0 xs
@@ -87,19 +93,22 @@ module _ (r : Stored) (after last : ℕ) (items all : List ChargeRow)
     (read : AreCharges (is_within after (min last (last_number r.head))) r items) where
   numbered_below : (n : ℕ) → is_numbered n r.head ≡ true → n ≤ last_number r.head
   numbered_below n e =
-      let both = and_parts (nat_lt 0 n) (nat_le n (last_number r.head)) (sym (numbered_is n r.head) ∙ e) in
+      let both =
+      and_parts (nat_lt 0 n) (nat_le n (last_number r.head)) (sym (numbered_is n r.head) ∙ e) in
       let low = both.1 in grind (arith, nat_tests, low)
 
   below_numbered : (n : ℕ) → 0 < n → n ≤ last_number r.head → is_numbered n r.head ≡ true
   below_numbered n some low =
       numbered_is n r.head
-      ∙ and_from (nat_lt 0 n) (nat_le n (last_number r.head)) (grind (arith, nat_tests, some)) (grind (arith, nat_tests, low))
+      ∙ and_from (nat_lt 0 n) (nat_le n (last_number r.head)) (grind (arith, nat_tests, some))
+      (grind (arith, nat_tests, low))
 
   same_test : (n : ℕ) (x : ChargeRow) → x.number ≡ n → is_numbered n r.head ≡ true →
       is_within after (min last (last_number r.head)) x ≡ lies_within after last x
   same_test n x is e =
       ap (λ t. nat_lt after x.number && t)
-      (narrowed x.number (last_number r.head) last (subst (λ k. k ≤ last_number r.head) (sym is) (numbered_below n e)))
+      (narrowed x.number (last_number r.head) last
+      (subst (λ k. k ≤ last_number r.head) (sym is) (numbered_below n e)))
 
   none_other : (n : ℕ) (x : ChargeRow) → is_numbered n r.head ≡ false →
       charge_in n items ≡ those (is_within after (min last (last_number r.head))) (Some x) →
@@ -111,7 +120,8 @@ module _ (r : Stored) (after last : ℕ) (items all : List ChargeRow)
       at false f g = g
       at true f g =
           let is = found_number n items x g in
-          let both = and_parts (nat_lt after x.number) (nat_le x.number (min last (last_number r.head))) f in
+          let both =
+          and_parts (nat_lt after x.number) (nat_le x.number (min last (last_number r.head))) f in
           let beyond = both.0 in
           let up = both.1 in
           let least = min-le_right last (last_number r.head) in
@@ -134,10 +144,12 @@ module _ (r : Stored) (after last : ℕ) (items all : List ChargeRow)
       at false e (Some x) f g = none_other n x e f ∙ sym (ap (only (lies_within after last)) g)
 
   pub rows_are : NumbersRise items → items ≡ filter (lies_within after last) all
-  rows_are rise = page_is after last items are (rises_from 0 items rise (begin_anywhere items)) tells
+  rows_are rise =
+      page_is after last items are (rises_from 0 items rise (begin_anywhere items)) tells
 
 -- what is read is a page
-pub page_made : (r : Stored) (after : ℕ) (page : ChargePage) → after ≤ 4294967295 → IsPageRead r after page →
+pub page_made : (r : Stored) (after : ℕ) (page : ChargePage) → after ≤ 4294967295 →
+    IsPageRead r after page →
     IsPage (λ n. charge_of n r) after page
 page_made r after page small read = record {
   rows = λ all are. rows_are r after page.last page.rows.items all are read.rows read.order;
@@ -158,7 +170,8 @@ page_made r after page small read = record {
         subst (λ l. after < l) (sym is)
         (at (nat_le (after + 256) 4294967295) refl (subst (λ l. l < 4294967295) is below))
       where
-        at : (t : Bool) → nat_le (after + 256) 4294967295 ≡ t → min (after + 256) 4294967295 < 4294967295 →
+        at : (t : Bool) → nat_le (after + 256) 4294967295 ≡ t →
+            min (after + 256) 4294967295 < 4294967295 →
             after < min (after + 256) 4294967295
         at true e low =
             let le : after + 256 ≤ 4294967295 = grind (arith, nat_tests, e) in
@@ -173,7 +186,8 @@ page_made r after page small read = record {
         go : (t : Bool) → is_numbered n r.head ≡ t → t ≡ false
         go false e = refl
         go true e =
-            let both = and_parts (nat_lt 0 n) (nat_le n (last_number r.head)) (sym (numbered_is n r.head) ∙ e) in
+            let both = and_parts (nat_lt 0 n) (nat_le n (last_number r.head))
+            (sym (numbered_is n r.head) ∙ e) in
             let low = both.1 in
             let most = sym read.is_last ∙ last in
             absurd (grind (arith, nat_tests, low, most, less))

@@ -1,5 +1,6 @@
 -- What is committed of a change.
-use Rattle.std.proofs.Common.{◌≡◌, ◌≤◌, ◌∙◌, ap, refl, subst, ℕ, List, [], ◌∷◌, Option, Some, None, IsTrue}
+use Rattle.std.proofs.Common.{◌≡◌, ◌≤◌, ◌∙◌, ap, refl, subst, ℕ, List, [], ◌∷◌, Option, Some, None}
+use Rattle.std.proofs.Common.{IsTrue}
 use Rattle.keepers.specs.declared.key.Key.{Key}
 use Rattle.keepers.specs.declared.key.Key.TheVariants.{Request, Reference}
 use Rattle.keepers.specs.declared.key.KeptAnswer.{KeptAnswer}
@@ -16,20 +17,23 @@ use Rattle.sqlite_trees.specs.Tree.{Trees}
 use Rattle.sql_tables.specs.Statements.{OnlyReads}
 use Rattle.sql_rows.specs.Values.{Meta, Kept}
 use Rattle.sql_rows.specs.declared.head.Head.{Head as HeadColumns}
-use Rattle.sql_rows.specs.Content.{Content, content_of, rows_in, with_rows, with_meta, with_account, with_bucket}
-use Rattle.sql_rows.specs.Content.{with_counter, with_session, with_group, with_hold, without_holds, with_charge}
+use Rattle.sql_rows.specs.Content.{Content, content_of, rows_in, with_rows, with_meta, with_account}
+use Rattle.sql_rows.specs.Content.{with_bucket, with_counter, with_session, with_group, with_hold}
+use Rattle.sql_rows.specs.Content.{without_holds, with_charge}
 use Rattle.sql_rows.specs.Each.{with_each, with_buckets, with_counters, with_sessions, with_charges}
 use Rattle.sql_rows.specs.Makes.{Turns}
 use Rattle.sql_keeper.specs.Content.{tables_of}
 use Rattle.sql_keeper.specs.Commits.{Becomes}
 use Rattle.sql_keeper.specs.Tests.{AreNumbered, AreWritable, first_number}
-use Rattle.sql_keeper.specs.Writes.{AreTexts, columns_of, head_of, meta_with, with_change, with_held_group}
-use Rattle.sql_keeper.specs.Writes.{with_kept, with_redeemed, with_stored, with_texts}
+use Rattle.sql_keeper.specs.Writes.{AreTexts, columns_of, head_of, meta_with, with_change}
+use Rattle.sql_keeper.specs.Writes.{with_held_group, with_kept, with_redeemed, with_stored}
+use Rattle.sql_keeper.specs.Writes.{with_texts}
 use Rattle.sql_keeper.proofs.Changed.{changes_read}
 
 -- ---- what is kept once
 
-each_meta : {X : Type 0} (change : X → Content → Content) → ((x : X) (c : Content) → (change x c).meta ≡ c.meta)
+each_meta : {X : Type 0} (change : X → Content → Content)
+    → ((x : X) (c : Content) → (change x c).meta ≡ c.meta)
     → (xs : List X) (c : Content) → (with_each change xs c).meta ≡ c.meta
 each_meta change same [] c = refl
 each_meta change same (x ∷ xs) c = each_meta change same xs (change x c) ∙ same x c
@@ -44,14 +48,16 @@ kept_meta a None t c = refl
 kept_meta a (Some k) None c = refl
 kept_meta a (Some k) (Some t) c = texts_meta a (key_of k.content) t c
 
-redeemed_meta : (redeemed : Option Redeemed) (c : Content) → (with_redeemed redeemed c).meta ≡ c.meta
+redeemed_meta : (redeemed : Option Redeemed) (c : Content) →
+    (with_redeemed redeemed c).meta ≡ c.meta
 redeemed_meta None c = refl
 redeemed_meta (Some r) c = refl
 
 held_meta : (a : List ℕ) (names : List (List ℕ)) (r : SessionGroup) (c : Content)
     → (with_held_group a names r c).meta ≡ c.meta
 held_meta a names r c =
-    each_meta (λ (x : Hold). with_rows a (with_hold r.session r.group x.bucket x.amount)) (λ x c. refl)
+    each_meta (λ (x : Hold).
+    with_rows a (with_hold r.session r.group x.bucket x.amount)) (λ x c. refl)
     (holds_in r.reservation) (with_rows a (without_holds r.session r.group)
     (with_rows a (with_group r.session r.group (columns_of names r)) c))
 
@@ -61,35 +67,40 @@ stored_meta a names w c =
     let opening = with_account a (head_of w) c in
     let money = with_buckets a w.buckets opening in
     let counted = with_counters a w.counters money in
-    each_meta (with_held_group a names) (held_meta a names) w.groups (with_sessions a w.sessions counted)
+    each_meta (with_held_group a names) (held_meta a names) w.groups
+    (with_sessions a w.sessions counted)
     ∙ each_meta (λ x. with_rows a (with_session x)) (λ x c. refl) w.sessions counted
     ∙ each_meta (λ x. with_rows a (with_counter x)) (λ x c. refl) w.counters money
     ∙ each_meta (λ x. with_rows a (with_bucket x)) (λ x c. refl) w.buckets opening
 
-change_meta : (names : List (List ℕ)) (m : Meta) (change : Change) (texts : Option Kept) (c : Content)
+change_meta : (names : List (List ℕ)) (m : Meta) (change : Change)
+    (texts : Option Kept) (c : Content)
     → (with_change names m change texts c).meta ≡ Some m
 change_meta names m change texts c =
     let stored = with_stored change.number names change.after (with_meta m c) in
     let charged = with_charges change.number change.charges.items stored in
     redeemed_meta change.redeemed (with_kept change.number change.kept texts charged)
     ∙ kept_meta change.number change.kept texts charged
-    ∙ each_meta (λ x. with_rows change.number (with_charge x)) (λ x c. refl) change.charges.items stored
+    ∙ each_meta (λ x. with_rows change.number (with_charge x))
+    (λ x c. refl) change.charges.items stored
     ∙ stored_meta change.number names change.after (with_meta m c)
 
 -- ---- a change that passed the tests
 
-module _ (names : List (List ℕ)) (text : List ℕ) (change : Change) (texts : Option Kept) (head : Option HeadColumns)
-    (stored : IsStored change.after) (may : AreWritable names change.after.sessions change.after.groups)
+module _ (names : List (List ℕ)) (text : List ℕ) (change : Change) (texts : Option Kept)
+    (head : Option HeadColumns) (stored : IsStored change.after)
+    (may : AreWritable names change.after.sessions change.after.groups)
     (numbers : AreNumbered (first_number head) change.after.next_charge change.charges.items)
     (told : AreTexts change.number change.kept texts) (last : change.moment ≤ 4_102_488_000) where
   become : (old new : Trees) → head ≡ (rows_in old change.number).head
-      → Turns (with_change names (meta_with text change) change texts) old new → Becomes names text change old new
+      → Turns (with_change names (meta_with text change) change texts) old new
+      → Becomes names text change old new
   become old new is turns = record {
     tables = λ made.
         ap (tables_of names) turns.content
         ∙ changes_read names (meta_with text change) change texts (content_of old) stored may
-        (subst (λ h. AreNumbered (first_number h) change.after.next_charge change.charges.items) is numbers) told refl
-        made;
+        (subst (λ h. AreNumbered (first_number h) change.after.next_charge change.charges.items) is
+        numbers) told refl made;
     meta = ap (λ (c : Content). c.meta) turns.content
         ∙ change_meta names (meta_with text change) change texts (content_of old);
     last = last;
@@ -98,9 +109,11 @@ module _ (names : List (List ℕ)) (text : List ℕ) (change : Change) (texts : 
   }
 
   pub become_at : (old mid : State) → OnlyReads old mid
-      → (HasCleanDisk mid → head ≡ (rows_in old.now.trees change.number).head) → HasCleanDisk mid → IsTrue mid.is_open
-      → (db : Trees) → Turns (with_change names (meta_with text change) change texts) mid.now.trees db
+      → (HasCleanDisk mid → head ≡ (rows_in old.now.trees change.number).head) → HasCleanDisk mid
+      → IsTrue mid.is_open → (db : Trees)
+      → Turns (with_change names (meta_with text change) change texts) mid.now.trees db
       → Becomes names text change old.now.trees db
   become_at old mid only is clean on db turns =
       become old.now.trees db (is clean) (subst (λ (d : Database).
-      Turns (with_change names (meta_with text change) change texts) d.trees db) (only.still clean on).now_is turns)
+      Turns (with_change names (meta_with text change) change texts) d.trees db)
+      (only.still clean on).now_is turns)

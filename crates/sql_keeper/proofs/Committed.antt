@@ -18,13 +18,15 @@ use Rattle.tariffs.specs.Books.{Book}
 use Rattle.sql_keeper.specs.Additions.{BecomesAdded}
 use Rattle.sql_keeper.specs.Commits.{CommitsChange, CommitsWhole}
 use Rattle.sql_keeper.specs.Content.{tables_of}
-use Rattle.sql_keeper.specs.Inside.{KeeperState, IsClean, StaysOpen, IsKeeper, tables_in, failed_in, clean_in}
+use Rattle.sql_keeper.specs.Inside.{KeeperState, IsClean, StaysOpen, IsKeeper, tables_in, failed_in}
+use Rattle.sql_keeper.specs.Inside.{clean_in}
 use Rattle.sql_keeper.specs.Stops.{IsWhole, MayLeave, trees_in}
 use Rattle.sql_keeper.specs.Sweeps.{BecomesSwept}
 use Rattle.sql_keeper.proofs.Asked.{cause_at_most, none_more, open_of}
 
 -- only a failure of the disk shuts the connection
-pub stays_survived : (old new : State) (P : Trees → Type 0) → StaysOpen old → Survives old new P → StaysOpen new
+pub stays_survived : (old new : State) (P : Trees → Type 0) → StaysOpen old →
+    Survives old new P → StaysOpen new
 stays_survived old new P stays survives clean none =
     let before : old.faults ≡ 0 = omega (arith, survives.counts, none) in
     go before (survives.closes clean (stays (omega (arith, survives.clean, clean)) before))
@@ -34,44 +36,49 @@ stays_survived old new P stays survives clean none =
     go before (inr more) = absurd (none_more old.faults new.faults before none more)
 
 -- the law of a commit
-pub committed : {S A : Type 0} (g : Ghosts S) (old : KeeperState S) (conn : Held S) (text : List ℕ) (change : Change)
+pub committed : {S A : Type 0} (g : Ghosts S) (old : KeeperState S) (conn : Held S) (text : List ℕ)
+    (change : Change)
     → IsKeeper g old → (r : Result A StoreFault)
-    → CommitsChange old.names text change (state g old.connection) (state g conn) r → IsClean (state g conn)
+    → CommitsChange old.names text change (state g old.connection) (state g conn) r
+    → IsClean (state g conn)
     → OnOk r (IsMadeFrom change.before change.after ((tables_in g old).rows change.number)
     → tables_of old.names (content_of (state g conn).now.trees) ≡ changed change (tables_in g old))
 committed g old conn text change keeper (Ok x) commits clean = (commits.done clean.disk).2.tables
 committed g old conn text change keeper (Err e) commits clean = tt
 
 -- the law of adding a voucher
-pub added_law : {S A : Type 0} (g : Ghosts S) (old : KeeperState S) (conn : Held S) (text code : List ℕ)
-    (terms : VoucherTerms) (t : ℕ) → IsKeeper g old → (r : Result A StoreFault)
-    → CommitsWhole (BecomesAdded text code terms t) (state g old.connection) (state g conn) r → IsClean (state g conn)
-    → OnOk r (tables_of old.names (content_of (state g conn).now.trees) ≡ with_added code terms t (tables_in g old))
-added_law g old conn text code terms t keeper (Ok x) commits clean = (commits.done clean.disk).2.tables old.names
+pub added_law : {S A : Type 0} (g : Ghosts S) (old : KeeperState S) (conn : Held S)
+    (text code : List ℕ) (terms : VoucherTerms) (t : ℕ) → IsKeeper g old → (r : Result A StoreFault)
+    → CommitsWhole (BecomesAdded text code terms t) (state g old.connection) (state g conn) r
+    → IsClean (state g conn) → OnOk r (tables_of old.names (content_of (state g conn).now.trees)
+    ≡ with_added code terms t (tables_in g old))
+added_law g old conn text code terms t keeper (Ok x) commits clean =
+    (commits.done clean.disk).2.tables old.names
 added_law g old conn text code terms t keeper (Err e) commits clean = tt
 
 -- the law of a sweep
-pub swept_law : {S A : Type 0} (g : Ghosts S) (old : KeeperState S) (conn : Held S) (text : List ℕ) (book : Book)
-    (t : ℕ) → IsKeeper g old → (r : Result A StoreFault)
+pub swept_law : {S A : Type 0} (g : Ghosts S) (old : KeeperState S) (conn : Held S)
+    (text : List ℕ) (book : Book) (t : ℕ) → IsKeeper g old → (r : Result A StoreFault)
     → CommitsWhole (BecomesSwept old.names text book t) (state g old.connection) (state g conn) r
     → IsClean (state g conn)
-    → OnOk r (IsSwept book t (tables_in g old) (tables_of old.names (content_of (state g conn).now.trees)))
+    → OnOk r
+    (IsSwept book t (tables_in g old) (tables_of old.names (content_of (state g conn).now.trees)))
 swept_law g old conn text book t keeper (Ok x) commits clean = (commits.done clean.disk).2.tables
 swept_law g old conn text book t keeper (Err e) commits clean = tt
 
-module _ {S A : Type 0} (g : Ghosts S) (old new : KeeperState S) (Become : List ℕ → Trees → Trees → Type 0)
-    (text : List ℕ) (keeper : IsKeeper g old) where
+module _ {S A : Type 0} (g : Ghosts S) (old new : KeeperState S)
+    (Become : List ℕ → Trees → Trees → Type 0) (text : List ℕ) (keeper : IsKeeper g old) where
   abbrev CommitsIn : Result A StoreFault → Type 0
   CommitsIn r = CommitsWhole (Become text) (state g old.connection) (state g new.connection) r
 
   stays_in : (r : Result A StoreFault) → CommitsIn r → StaysOpen (state g new.connection)
   stays_in r commits = stays_survived (state g old.connection) (state g new.connection)
-      (λ db. IsTrue (state g old.connection).is_open → Become text (state g old.connection).now.trees db)
-      keeper.stays commits.survives
+      (λ db. IsTrue (state g old.connection).is_open →
+      Become text (state g old.connection).now.trees db) keeper.stays commits.survives
 
   -- a keeper is one still
-  pub committed_keeper : (r : Result A StoreFault) → CommitsIn r → new.connection.in_transaction ≡ false
-      → new.failures ≤ max_failures → IsKeeper g new
+  pub committed_keeper : (r : Result A StoreFault) → CommitsIn r
+      → new.connection.in_transaction ≡ false → new.failures ≤ max_failures → IsKeeper g new
   committed_keeper r commits plain bounded =
       record { bounded = bounded; plain = plain; idle = commits.idle; stays = stays_in r commits }
 
@@ -88,7 +95,8 @@ module _ {S A : Type 0} (g : Ghosts S) (old new : KeeperState S) (Become : List 
         (open_of (state g new.connection) (stays_in r commits) clean));
   }
 
-  same_tables : (r : Result A StoreFault) → CommitsIn r → new.names ≡ old.names → IsClean (state g new.connection)
+  same_tables : (r : Result A StoreFault) → CommitsIn r → new.names ≡ old.names
+      → IsClean (state g new.connection)
       → IsTrue (state g new.connection).is_open → OnErr r (tables_in g new ≡ tables_in g old)
   same_tables (Ok x) commits names clean on = tt
   same_tables (Err e) commits names clean on =
@@ -106,14 +114,17 @@ module _ {S A : Type 0} (g : Ghosts S) (old new : KeeperState S) (Become : List 
 
   -- what a stop leaves
   pub whole : (r : Result A StoreFault) → CommitsIn r → text ≡ old.text
-      → (HasCleanDisk (state g new.connection) → IsTrue (state g old.connection).is_open → (db : Trees)
+      → (HasCleanDisk (state g new.connection) →
+      IsTrue (state g old.connection).is_open → (db : Trees)
       → MayLeave g new db → (db ≡ trees_in g old) ⊎ Become text (trees_in g old) db)
-      → (HasCleanDisk (state g new.connection) → IsTrue (state g new.connection).is_open → (db : Trees)
+      → (HasCleanDisk (state g new.connection) →
+      IsTrue (state g new.connection).is_open → (db : Trees)
       → MayLeave g new db → db ≡ trees_in g new)
       → IsWhole g old new (Become old.text (trees_in g old))
   whole r commits is stop settled =
       subst (λ t. IsWhole g old new (Become t (trees_in g old))) is (record {
-        stop = λ clean was db may. stop clean (open_of (state g old.connection) keeper.stays was) db may;
+        stop = λ clean was db may.
+            stop clean (open_of (state g old.connection) keeper.stays was) db may;
         settled = λ clean db may. settled clean.disk
             (open_of (state g new.connection) (stays_in r commits) clean) db may;
       })

@@ -1,5 +1,7 @@
 -- The dead buckets of an account, as rows that rise tell them.
-use Rattle.std.proofs.Common.{◌≡◌, ◌<◌, ℕ, ◌==◌, List, [], ◌∷◌, Bool, true, false, not, ◌||◌, ◌&&◌, Option, Some, None, Result, Ok, Err, IfOk, refl, sym, ap, ◌∙◌, subst, arith, nat_eq, nat_lt, ltb-true, ltb-false, eqb-true}
+use Rattle.std.proofs.Common.{◌≡◌, ◌<◌, ℕ, ◌==◌, List, [], ◌∷◌, Bool, true, false, not, ◌||◌, ◌&&◌}
+use Rattle.std.proofs.Common.{Option, Some, None, Result, Ok, Err, IfOk, refl, sym, ap, ◌∙◌, subst}
+use Rattle.std.proofs.Common.{arith, nat_eq, nat_lt, ltb-true, ltb-false, eqb-true}
 use Rattle.std.proofs.lemmas.Bool.{eqb-false}
 use Rattle.std.specs.List.{find}
 use Rattle.std.specs.Prelude.{if◌then◌else◌}
@@ -38,7 +40,8 @@ pub those_are : {A : Type 0} (p q : A → Bool) → ((x : A) → p x ≡ q x) �
 those_are p q same None = refl
 those_are p q same (Some x) = ap (λ (t : Bool). if t then Some x else None) (same x)
 
-rises_over : (l m : Row) (bs : List Row) → l.number < m.number → BucketsRise (m ∷ bs) → BucketsRise (l ∷ bs)
+rises_over : (l m : Row) (bs : List Row) → l.number < m.number → BucketsRise (m ∷ bs) →
+    BucketsRise (l ∷ bs)
 rises_over l m [] less rise = tt
 rises_over l m (b ∷ bs) less rise = (omega (arith, less, rise.0), rise.1)
 

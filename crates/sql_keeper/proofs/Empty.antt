@@ -23,7 +23,8 @@ use Rattle.sql_keeper.specs.Content.{answer_in, tables_of}
 use Rattle.sql_keeper.specs.Creates.{first_meta, BuildsBook, IsNewBook}
 use Rattle.sql_keeper.specs.Laws.{AreNewTablesEmpty}
 
-none_stored : (t : Table) (trees : Trees) → trees t.tree ≡ [] → (key : Row) → look t trees key ≡ None
+none_stored : (t : Table) (trees : Trees) → trees t.tree ≡ [] → (key : Row) →
+    look t trees key ≡ None
 none_stored t trees e key = ap (λ rows. get (table_of t.primary rows) key) e ∙ get-empty row_cmp key
 
 abbrev nothing : Stored
@@ -56,7 +57,8 @@ empty_content trees e =
     λ i. record {
       meta = option_map values.meta_in (none_stored table.meta trees at_meta values.meta_key i);
       rows = λ a. record {
-        head = option_map values.head_in (none_stored table.accounts trees at_accounts (values.head_key a) i);
+        head = option_map values.head_in
+            (none_stored table.accounts trees at_accounts (values.head_key a) i);
         buckets = λ n. option_map values.bucket_in
             (none_stored table.buckets trees at_buckets (values.bucket_key a n) i);
         counters = λ g c. option_map values.counter_in
@@ -89,26 +91,31 @@ new_empty names =
 
 -- the row of meta in tables without rows
 new_book : (text : List ℕ) (old new : Trees) → AreEmpty book_schema.tables old
-    → Lists (old catalog_tree) book_schema → Turns (with_meta (first_meta text)) old new → IsNewBook text new
+    → Lists (old catalog_tree) book_schema → Turns (with_meta (first_meta text)) old new
+    → IsNewBook text new
 new_book text old new e lists turns = record {
   lists = subst (λ rows. Lists rows book_schema) (sym turns.catalog) lists;
   stored = turns.stored;
   meta = ap (λ (c : Content). c.meta) turns.content;
   tables = λ names.
       ap (tables_of names) (turns.content ∙ ap (with_meta (first_meta text)) (empty_content old e))
-      ∙ (λ i. record (tables_of names (with_meta (first_meta text) no_content)) { answers = λ a k. none_kept a k i });
+      ∙ (λ i. record (tables_of names (with_meta (first_meta text) no_content)) {
+        answers = λ a k. none_kept a k i;
+      });
 }
 
-pub builds_book : {A B D E : Type 0} (text : List ℕ) (first : ℕ) → first ≡ 0 → (a b c : State) (u : A) (v : B)
-    (w : D)
+pub builds_book : {A B D E : Type 0} (text : List ℕ) (first : ℕ) → first ≡ 0 →
+    (a b c : State) (u : A) (v : B) (w : D)
     → Attempts {A = A} {E = E} BuildsAll a b (Ok u)
-    → Attempts {A = B} {E = E} (Makes (with_meta (record { version = 1; book = text; last = first }))) b c (Ok v)
+    → Attempts {A = B} {E = E}
+    (Makes (with_meta (record { version = 1; book = text; last = first }))) b c (Ok v)
     → Attempts {A = D} {E = E} (BuildsBook text) a c (Ok w)
 builds_book text first is a b c u v w one two = record {
   done = λ clean.
       let built : BuildsAll a b = one.done (omega (arith, two.survives.clean, clean)) in
       let put : Makes (with_meta (first_meta text)) b c =
-      subst (λ n. Makes (with_meta (record { version = 1; book = text; last = n })) b c) is (two.done clean) in
+      subst (λ n. Makes (with_meta (record { version = 1; book = text; last = n })) b c) is
+      (two.done clean) in
       record {
         made = new_book text b.now.trees c.now.trees built.empty built.lists put.turns;
         book = put.book;
@@ -121,6 +128,6 @@ builds_book text first is a b c u v w one two = record {
         };
       };
   kept = λ clean. tt;
-  survives = survives_then a b c (λ _. ⊥) (λ _. ⊥) (λ _. ⊥) (λ clean db no. no) (λ clean db no. no) one.survives
-      two.survives;
+  survives = survives_then a b c (λ _. ⊥) (λ _. ⊥) (λ _. ⊥) (λ clean db no. no)
+      (λ clean db no. no) one.survives two.survives;
 }

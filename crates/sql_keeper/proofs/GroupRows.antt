@@ -1,5 +1,7 @@
 -- What a session has of rating groups, as the rows that were read tell it.
-use Rattle.std.proofs.Common.{◌≡◌, ◌<◌, ℕ, Bool, true, false, cond, List, [], ◌∷◌, ◌++◌, Option, Some, None, length, map, take, get_or, refl, sym, ap, ap₂, subst, ◌∙◌, true≢false}
+use Rattle.std.proofs.Common.{◌≡◌, ◌<◌, ℕ, Bool, true, false, cond, List, [], ◌∷◌, ◌++◌, Option}
+use Rattle.std.proofs.Common.{Some, None, length, map, take, get_or, refl, sym, ap, ap₂, subst, ◌∙◌}
+use Rattle.std.proofs.Common.{true≢false}
 use Rattle.std.specs.Prelude.{if◌then◌else◌, ◌&&◌, ◌+◌, nat_eq, option_map, unwrap_or, is_some}
 use Rattle.std.specs.List.{find, AllZip}
 use Rattle.std.proofs.lemmas.List.{map_more}
@@ -19,7 +21,8 @@ use Rattle.sql_rows.specs.Lists.{GroupAt, AreGroups, AreHolds}
 use Rattle.sql_rows.specs.Texts.{group_at, hold_at}
 use Rattle.sql_rows.specs.Values.{PeriodNames}
 use Rattle.sql_keeper.specs.Content.{group_in as group_told, is_reserved, held_in, periods_in}
-use Rattle.sql_keeper.specs.GroupRows.{amount_of, ArePeriodsOf, IsReservationOf, IsGroupOf, AreGroupsOf, AreSessionGroups}
+use Rattle.sql_keeper.specs.GroupRows.{amount_of, ArePeriodsOf, IsReservationOf, IsGroupOf}
+use Rattle.sql_keeper.specs.GroupRows.{AreGroupsOf, AreSessionGroups}
 use Rattle.sql_keeper.proofs.HeldAlong.{held_along, amounts_are}
 use Rattle.sql_keeper.proofs.Overlays.{name_from, number_from}
 
@@ -71,7 +74,8 @@ module _ (names : List (List ℕ)) (buckets : List Row) (held : List HeldColumns
   found s t g [] [] e h = tt
   found s t g [] (x ∷ xs) e h = absurd h
   found s t g (c ∷ cs) [] e h = absurd h
-  found s t g (c ∷ cs) (x ∷ xs) e h = go (found s t g cs xs e h.1) (nat_eq c.group g) (is_of t g x) refl same
+  found s t g (c ∷ cs) (x ∷ xs) e h =
+      go (found s t g cs xs e h.1) (nat_eq c.group g) (is_of t g x) refl same
     where
       same : is_of t g x ≡ nat_eq c.group g
       same = ap₂ (λ n m. same_name n t && nat_eq m g) h.0.session h.0.group
@@ -79,23 +83,26 @@ module _ (names : List (List ℕ)) (buckets : List Row) (held : List HeldColumns
 
       go : IsFound s g (find (λ c. nat_eq c.group g) cs) (group_in t g xs) → (q k : Bool)
           → nat_eq c.group g ≡ q → k ≡ q
-          → IsFound s g (cond q (Some c) (find (λ c. nat_eq c.group g) cs)) (cond k (Some x) (group_in t g xs))
+          → IsFound s g (cond q (Some c) (find (λ c. nat_eq c.group g) cs))
+          (cond k (Some x) (group_in t g xs))
       go later true true a b = (number_from c.group g a, h.0)
       go later true false a b = absurd (true≢false (sym b))
       go later false true a b = absurd (true≢false b)
       go later false false a b = later
 
-  not_found : (s t : List ℕ) (g : ℕ) (cs : List GroupAt) (xs : List SessionGroup) → same_name s t ≡ false
-      → AreGroupsOf names buckets held s cs xs → group_in t g xs ≡ None
+  not_found : (s t : List ℕ) (g : ℕ) (cs : List GroupAt) (xs : List SessionGroup)
+      → same_name s t ≡ false → AreGroupsOf names buckets held s cs xs → group_in t g xs ≡ None
   not_found s t g [] [] e h = refl
   not_found s t g [] (x ∷ xs) e h = absurd h
   not_found s t g (c ∷ cs) [] e h = absurd h
   not_found s t g (c ∷ cs) (x ∷ xs) e h = go (not_found s t g cs xs e h.1) (is_of t g x) other
     where
       other : is_of t g x ≡ false
-      other = ap (λ n. same_name n t && nat_eq x.group g) h.0.session ∙ ap (λ b. b && nat_eq x.group g) e
+      other = ap (λ n. same_name n t && nat_eq x.group g) h.0.session
+          ∙ ap (λ b. b && nat_eq x.group g) e
 
-      go : group_in t g xs ≡ None → (k : Bool) → k ≡ false → cond k (Some x) (group_in t g xs) ≡ None
+      go : group_in t g xs ≡ None → (k : Bool) → k ≡ false →
+          cond k (Some x) (group_in t g xs) ≡ None
       go later true b = absurd (true≢false b)
       go later false b = later
 
@@ -107,7 +114,8 @@ module _ (names : List (List ℕ)) (buckets : List Row) (held : List HeldColumns
   row_told s g (Some c) None h = absurd h
   row_told s g (Some c) (Some x) h = ap Some (row_is s c x h.1)
 
-  held_told : AreDistinct buckets → (s : List ℕ) (g n : ℕ) (c : Option GroupAt) (x : Option SessionGroup)
+  held_told : AreDistinct buckets
+      → (s : List ℕ) (g n : ℕ) (c : Option GroupAt) (x : Option SessionGroup)
       → IsFound s g c x
       → held_of n x
       ≡ (if is_reserved (option_map (λ (y : GroupAt). y.row) c) then amount_of g held n else 0)
@@ -121,8 +129,8 @@ module _ (names : List (List ℕ)) (buckets : List Row) (held : List HeldColumns
 -- all that a session has
 pub session_groups : (names : List (List ℕ)) (rows : Stored) (s : List ℕ) (buckets : List Row)
     (held : List HeldColumns) (cs : List GroupAt) (xs : List SessionGroup) → AreDistinct buckets
-    → AreGroups rows s cs → AreHolds rows s (map hold_at held) → AreGroupsOf names buckets held s cs xs
-    → AreSessionGroups names rows s xs
+    → AreGroups rows s cs → AreHolds rows s (map hold_at held)
+    → AreGroupsOf names buckets held s cs xs → AreSessionGroups names rows s xs
 session_groups names rows s buckets held cs xs distinct groups holds all = record {
   groups = λ t g. row_under t g (same_name s t) refl;
   holds = λ t g n. held_under t g n (same_name s t) refl;
@@ -136,7 +144,8 @@ session_groups names rows s buckets held cs xs distinct groups holds all = recor
         (found names buckets held s t g cs xs e all)
         ∙ ap (option_map (group_told names true)) (groups g)
         ∙ ap (λ n. option_map (group_told names true) (rows.groups n g)) (name_from s t e)
-    row_under t g false e = ap (option_map group_row) (not_found names buckets held s t g cs xs e all)
+    row_under t g false e =
+        ap (option_map group_row) (not_found names buckets held s t g cs xs e all)
 
     amount_is : (g n : ℕ) → amount_of g held n ≡ unwrap_or (rows.holds s g n) 0
     amount_is g n = ap (λ o. unwrap_or o 0) (sym (amounts_are g n held) ∙ holds g n)
@@ -145,19 +154,21 @@ session_groups names rows s buckets held cs xs distinct groups holds all = recor
         → held_of n (group_in t g xs)
         ≡ (if b then held_in (is_reserved (rows.groups t g)) (rows.holds t g n) else 0)
     held_under t g n true e =
-        held_told names buckets held distinct s g n (find (λ c. nat_eq c.group g) cs) (group_in t g xs)
-        (found names buckets held s t g cs xs e all)
+        held_told names buckets held distinct s g n (find (λ c. nat_eq c.group g) cs)
+        (group_in t g xs) (found names buckets held s t g cs xs e all)
         ∙ ap₂ (λ o a. if is_reserved o then a else 0) (groups g) (amount_is g n)
         ∙ ap (λ m. held_in (is_reserved (rows.groups m g)) (rows.holds m g n)) (name_from s t e)
     held_under t g n false e = ap (held_of n) (not_found names buckets held s t g cs xs e all)
 
 -- a row more is made
-pub row_made : (R : GroupAt → SessionGroup → Type 0) (rows : List GroupColumns) (i : ℕ) (row : GroupColumns)
-    (xs ys : List SessionGroup) (x : SessionGroup) → i < length rows → row ≡ get_or rows i row
+pub row_made : (R : GroupAt → SessionGroup → Type 0) (rows : List GroupColumns) (i : ℕ)
+    (row : GroupColumns) (xs ys : List SessionGroup) (x : SessionGroup) → i < length rows
+    → row ≡ get_or rows i row
     → ys ≡ xs ++ x ∷ [] → AllZip R (map group_at (take i rows)) xs → R (group_at row) x
     → AllZip R (map group_at (take (i + 1) rows)) ys
 row_made R rows i row xs ys x less is more before here =
     subst (λ l. AllZip R (map group_at (take (i + 1) rows)) l) (sym more)
     (subst (λ l. AllZip R l (xs ++ x ∷ []))
-    (ap (λ r. map group_at (take i rows) ++ group_at r ∷ []) is ∙ sym (map_more group_at rows i row less))
+    (ap (λ r. map group_at (take i rows) ++ group_at r ∷ []) is
+    ∙ sym (map_more group_at rows i row less))
     (all_zipped_more R (map group_at (take i rows)) xs (group_at row) x before here))

@@ -1,6 +1,8 @@
 -- What is held for a rating group, taken along the buckets.
-use Rattle.std.proofs.Common.{◌≡◌, ℕ, Bool, true, false, cond, List, [], ◌∷◌, Some, None, map, refl, sym, ap, subst, ◌∙◌, arith, true≢false}
-use Rattle.std.specs.Prelude.{if◌then◌else◌, ◌==◌, ◌&&◌, ◌||◌, nat_eq, nat_lt, not, option_map, unwrap_or}
+use Rattle.std.proofs.Common.{◌≡◌, ℕ, Bool, true, false, cond, List, [], ◌∷◌, Some, None, map, refl}
+use Rattle.std.proofs.Common.{sym, ap, subst, ◌∙◌, arith, true≢false}
+use Rattle.std.specs.Prelude.{if◌then◌else◌, ◌==◌, ◌&&◌, ◌||◌, nat_eq, nat_lt, not, option_map}
+use Rattle.std.specs.Prelude.{unwrap_or}
 use Rattle.std.specs.List.{find, list_any}
 use Rattle.std.proofs.lemmas.Bool.{and_parts}
 use Rattle.buckets.specs.declared.holds.Hold.{Hold}
@@ -29,12 +31,14 @@ present amount n hs (b ∷ bs) each e = go (present amount n hs bs each.1) (b.nu
     go : (list_any (λ (x : Row). x.number == n) bs ≡ true → sum_at n hs ≡ amount n) → (t : Bool)
         → (b.number == n) ≡ t → sum_at n hs ≡ amount n
     go later true k = subst (λ m. sum_at m hs ≡ amount m) (number_from b.number n k) each.0
-    go later false k = later (subst (λ t. (t || list_any (λ (x : Row). x.number == n) bs) ≡ true) k e)
+    go later false k =
+        later (subst (λ t. (t || list_any (λ (x : Row). x.number == n) bs) ≡ true) k e)
 
-of_another : (n : ℕ) (p : Bool) (h : Hold) (hs : List Hold) → (h.bucket == n) ≡ false → sum_at n hs ≡ 0
-    → sum_at n (cond p (h ∷ hs) hs) ≡ 0
+of_another : (n : ℕ) (p : Bool) (h : Hold) (hs : List Hold) → (h.bucket == n) ≡ false
+    → sum_at n hs ≡ 0 → sum_at n (cond p (h ∷ hs) hs) ≡ 0
 of_another n true h hs k rest =
-    let here : (if h.bucket == n then h.amount else 0) ≡ 0 = ap (λ t. if t then h.amount else 0) k in
+    let here : (if h.bucket == n then h.amount else 0) ≡ 0 =
+    ap (λ t. if t then h.amount else 0) k in
     omega (arith, here, rest)
 of_another n false h hs k rest = rest
 
@@ -46,7 +50,8 @@ absent f n (b ∷ bs) e = go (absent f n bs) (b.number == n) refl
     go : (list_any (λ (x : Row). x.number == n) bs ≡ false → sum_at n (parts f bs) ≡ 0) → (t : Bool)
         → (b.number == n) ≡ t → sum_at n (parts f (b ∷ bs)) ≡ 0
     go later true k =
-        absurd (true≢false (subst (λ t. (t || list_any (λ (x : Row). x.number == n) bs) ≡ false) k e))
+        absurd
+        (true≢false (subst (λ t. (t || list_any (λ (x : Row). x.number == n) bs) ≡ false) k e))
     go later false k =
         of_another n (nat_lt 0 (f b)) (record { bucket = b.number; amount = f b }) (parts f bs) k
         (later (subst (λ t. (t || list_any (λ (x : Row). x.number == n) bs) ≡ false) k e))
@@ -64,7 +69,8 @@ none_held buckets g n [] missing all = refl
 none_held buckets g n (x ∷ xs) missing all =
     go (none_held buckets g n xs missing) (x.group == g && x.bucket == n) refl
   where
-    split : ((not (x.group == g) || is_held_of buckets x) ≡ true) × (are_held_of buckets g xs ≡ true)
+    split : ((not (x.group == g) || is_held_of buckets x) ≡ true)
+        × (are_held_of buckets g xs ≡ true)
     split = and_parts (not (x.group == g) || is_held_of buckets x) (are_held_of buckets g xs) all
 
     go : (are_held_of buckets g xs ≡ true → amount_of g xs n ≡ 0) → (t : Bool)
@@ -74,17 +80,19 @@ none_held buckets g n (x ∷ xs) missing all =
     go later true e =
         let key = and_parts (x.group == g) (x.bucket == n) e in
         let there : list_any (λ (b : Row). b.number == x.bucket) buckets ≡ true =
-        is_there (x.group == g) (nat_lt 0 x.amount) (list_any (λ (b : Row). b.number == x.bucket) buckets)
-        key.0 split.0 in
+        is_there (x.group == g) (nat_lt 0 x.amount)
+        (list_any (λ (b : Row). b.number == x.bucket) buckets) key.0 split.0 in
         absurd (true≢false (sym (subst (λ m. list_any (λ (b : Row). b.number == m) buckets ≡ true)
         (number_from x.bucket n key.1) there) ∙ missing))
     go later false e = later split.1
 
 -- of each bucket what is held of it
 pub held_along : (buckets : List Row) (g n : ℕ) (held : List HeldColumns) → AreDistinct buckets
-    → are_held_of buckets g held ≡ true → held_at n (holds_along buckets g held) ≡ amount_of g held n
+    → are_held_of buckets g held ≡ true
+    → held_at n (holds_along buckets g held) ≡ amount_of g held n
 held_along buckets g n held distinct all =
-    held_as_sum n (holds_along buckets g held) ∙ go (list_any (λ (b : Row). b.number == n) buckets) refl
+    held_as_sum n (holds_along buckets g held)
+    ∙ go (list_any (λ (b : Row). b.number == n) buckets) refl
   where
     go : (t : Bool) → list_any (λ (b : Row). b.number == n) buckets ≡ t
         → sum_at n (holds_along buckets g held) ≡ amount_of g held n
@@ -108,7 +116,8 @@ amounts_are g n (x ∷ xs) = go (amounts_are g n xs) (x.group == g && x.bucket =
         ≡ option_map (λ (y : HeldColumns). y.amount) (find (λ y. y.group == g && y.bucket == n) xs)
         → (t : Bool)
         → option_map (λ (y : HoldAt). y.amount)
-        (cond t (Some (hold_at x)) (find (λ y. nat_eq y.group g && nat_eq y.bucket n) (map hold_at xs)))
+        (cond t (Some (hold_at x))
+        (find (λ y. nat_eq y.group g && nat_eq y.bucket n) (map hold_at xs)))
         ≡ option_map (λ (y : HeldColumns). y.amount)
         (cond t (Some x) (find (λ y. y.group == g && y.bucket == n) xs))
     go later true = refl

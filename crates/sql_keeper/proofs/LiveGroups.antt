@@ -1,6 +1,8 @@
 -- What a list of sessions has of rating groups, one session after another; and several reads in
 -- turn.
-use Rattle.std.proofs.Common.{◌≡◌, ◌≤◌, ◌<◌, ◌+◌, take, get_or, ℕ, Bool, true, false, List, [], ◌∷◌, ◌++◌, Option, Some, None, Result, Ok, Err, IfOk, IsTrue, length, map, refl, sym, ap, subst, ◌∙◌, true≢false}
+use Rattle.std.proofs.Common.{◌≡◌, ◌≤◌, ◌<◌, ◌+◌, take, get_or, ℕ, Bool, true, false, List, [], ◌∷◌}
+use Rattle.std.proofs.Common.{◌++◌, Option, Some, None, Result, Ok, Err, IfOk, IsTrue, length, map}
+use Rattle.std.proofs.Common.{refl, sym, ap, subst, ◌∙◌, true≢false}
 use Rattle.std.specs.Prelude.{if◌then◌else◌, ◌&&◌, ◌||◌, option_map, is_some}
 use Rattle.std.specs.Option.{option_or}
 use Rattle.std.proofs.lemmas.List.{take_more, take_all}
@@ -29,7 +31,8 @@ use Rattle.sql_keeper.specs.Content.{group_in as group_told, is_reserved, held_i
 use Rattle.sql_keeper.specs.GroupRows.{AreGroupsOf, AreSessionGroups}
 use Rattle.sql_keeper.specs.LiveGroups.{Gathers, is_among, AreLiveGroups, AreOpenGroupsLoaded}
 use Rattle.sql_keeper.proofs.GroupRows.{session_groups}
-use Rattle.sql_keeper.proofs.InTurn.{HaveRead, none_read, have_gathered, have_read_then, gathers_from}
+use Rattle.sql_keeper.proofs.InTurn.{HaveRead, none_read, have_gathered, have_read_then}
+use Rattle.sql_keeper.proofs.InTurn.{gathers_from}
 
 -- ---- one session more
 
@@ -51,7 +54,8 @@ not_there : {A : Type 0} (x : A) → Some x ≡ None → ⊥
 not_there x e = true≢false (ap is_some e)
 
 joined_rows : (p q : Bool) (a b : Option SessionGroup) (e : Option GroupRow)
-    → option_map group_row a ≡ (if p then e else None) → option_map group_row b ≡ (if q then e else None)
+    → option_map group_row a ≡ (if p then e else None)
+    → option_map group_row b ≡ (if q then e else None)
     → option_map group_row (option_or a b) ≡ (if p || q then e else None)
 joined_rows true q (Some x) b e h k = h
 joined_rows false q (Some x) b e h k = absurd (not_there (group_row x) h)
@@ -70,8 +74,8 @@ joined_holds n true false None b e amount r h k = k ∙ h
 joined_holds n false q None b e amount r h k = k
 
 more_told : (names : List (List ℕ)) (rows : Stored) (ss : List Session) (x : Session)
-    (xs ys : List SessionGroup) → AreLiveGroups names rows ss xs → AreSessionGroups names rows x.id ys
-    → AreLiveGroups names rows (ss ++ x ∷ []) (xs ++ ys)
+    (xs ys : List SessionGroup) → AreLiveGroups names rows ss xs
+    → AreSessionGroups names rows x.id ys → AreLiveGroups names rows (ss ++ x ∷ []) (xs ++ ys)
 more_told names rows ss x xs ys before here = record {
   groups = λ s g.
       ap (option_map group_row) (find-append (is_of s g) xs ys)
@@ -83,8 +87,8 @@ more_told names rows ss x xs ys before here = record {
       ap (held_of n) (find-append (is_of s g) xs ys)
       ∙ joined_holds n (is_among s ss) (same_name x.id s) (group_in s g xs) (group_in s g ys)
       (option_map (group_told names true) (rows.groups s g))
-      (held_in (is_reserved (rows.groups s g)) (rows.holds s g n)) (before.groups s g) (before.holds s g n)
-      (here.holds s g n)
+      (held_in (is_reserved (rows.groups s g)) (rows.holds s g n)) (before.groups s g)
+      (before.holds s g n) (here.holds s g n)
       ∙ ap (λ t. if t then held_in (is_reserved (rows.groups s g)) (rows.holds s g n) else 0)
       (sym (among_more s ss x));
 }
@@ -111,7 +115,8 @@ loaded_rows : (names : List (List ℕ)) (open_is : Bool) (o : Option Group)
     then option_map (group_told names open_is) o else None)
 loaded_rows names true o = refl
 loaded_rows names false o =
-    ap (λ t. if t then option_map (group_told names false) o else None) (sym (none_reserved names o))
+    ap (λ t. if t then option_map (group_told names false) o else None)
+    (sym (none_reserved names o))
 
 loaded_holds : (names : List (List ℕ)) (open_is : Bool) (o : Option Group) (amount : Option ℕ)
     → (if open_is then held_in (is_reserved o) amount else 0)
@@ -137,7 +142,8 @@ open_loaded names rows sessions xs open_ones told = record {
 
 -- ---- reads in turn
 
-if_ok : {A E : Type 0} (P Q : A → Type 0) (r : Result A E) → ((x : A) → P x → Q x) → IfOk r P → IfOk r Q
+if_ok : {A E : Type 0} (P Q : A → Type 0) (r : Result A E) → ((x : A) → P x → Q x) →
+    IfOk r P → IfOk r Q
 if_ok P Q (Ok x) to h = to x h
 if_ok P Q (Err e) to h = tt
 
@@ -162,15 +168,16 @@ gathered items names a s buckets cs held old mid new r distinct first second gro
     (have_read_then old mid new first second)
     (λ clean on. if_ok (λ v. AreGroupsOf names buckets held s (map group_at cs) (items v))
     (λ v. AreSessionGroups names (rows_in old.now.trees a) s (items v)) r
-    (λ v all. session_groups names (rows_in old.now.trees a) s buckets held (map group_at cs) (items v) distinct
-    (groups (second.only.cleanness clean))
-    (told_before (λ trees. AreHolds (rows_in trees a) s (map hold_at held)) old mid new first.only second.only clean
-    on (holds clean)) all) made)
+    (λ v all. session_groups names (rows_in old.now.trees a) s buckets held (map group_at cs)
+    (items v) distinct (groups (second.only.cleanness clean))
+    (told_before (λ trees. AreHolds (rows_in trees a) s (map hold_at held)) old mid new first.only
+    second.only clean on (holds clean)) all) made)
 
 -- what the sessions so far have
-pub record HasGathered (names : List (List ℕ)) (a : List ℕ) (ss : List Session) (xs : List SessionGroup)
-    (old new : State) : Type 0 where
-  pub found : HasCleanDisk new → IsTrue new.is_open → AreLiveGroups names (rows_in old.now.trees a) ss xs
+pub record HasGathered (names : List (List ℕ)) (a : List ℕ) (ss : List Session)
+    (xs : List SessionGroup) (old new : State) : Type 0 where
+  pub found : HasCleanDisk new → IsTrue new.is_open →
+      AreLiveGroups names (rows_in old.now.trees a) ss xs
   pub reads : HaveRead old new
 
 pub none_yet : (names : List (List ℕ)) (a : List ℕ) (xs : List SessionGroup) (s : State) → xs ≡ []
@@ -185,7 +192,8 @@ none_yet names a xs s none idle = record {
 pub one_more : {V E : Type 0} (items : V → List SessionGroup) (names : List (List ℕ)) (a : List ℕ)
     (ss : List Session) (x : Session) (xs : List SessionGroup) (old mid new : State) (v : V)
     → HasGathered names a ss xs old mid
-    → Gathers {A = V} {E = E} (λ trees v. AreSessionGroups names (rows_in trees a) x.id (items v)) mid new (Ok v)
+    → Gathers {A = V} {E = E}
+    (λ trees v. AreSessionGroups names (rows_in trees a) x.id (items v)) mid new (Ok v)
     → HasGathered names a (ss ++ x ∷ []) (xs ++ items v) old new
 one_more {V} {E} items names a ss x xs old mid new v before here = record {
   found = λ clean on.
@@ -199,10 +207,12 @@ one_more {V} {E} items names a ss x xs old mid new v before here = record {
 }
 
 -- the next of the sessions
-pub next_gathered : {V E : Type 0} (items : V → List SessionGroup) (names : List (List ℕ)) (a : List ℕ)
-    (ss : List Session) (i : ℕ) (x : Session) (xs ys : List SessionGroup) (old mid new : State) (v : V)
-    → i < length ss → x ≡ get_or ss i x → ys ≡ xs ++ items v → HasGathered names a (take i ss) xs old mid
-    → Gathers {A = V} {E = E} (λ trees v. AreSessionGroups names (rows_in trees a) x.id (items v)) mid new (Ok v)
+pub next_gathered : {V E : Type 0} (items : V → List SessionGroup)
+    (names : List (List ℕ)) (a : List ℕ) (ss : List Session) (i : ℕ) (x : Session)
+    (xs ys : List SessionGroup) (old mid new : State) (v : V)
+    → i < length ss → x ≡ get_or ss i x → ys ≡ xs ++ items v
+    → HasGathered names a (take i ss) xs old mid → Gathers {A = V} {E = E}
+    (λ trees v. AreSessionGroups names (rows_in trees a) x.id (items v)) mid new (Ok v)
     → HasGathered names a (take (i + 1) ss) ys old new
 next_gathered {V} {E} items names a ss i x xs ys old mid new v less is more before here =
     subst (λ l. HasGathered names a (take (i + 1) ss) l old new) (sym more)
@@ -210,12 +220,16 @@ next_gathered {V} {E} items names a ss i x xs ys old mid new v less is more befo
     (ap (λ y. take i ss ++ y ∷ []) is ∙ sym (take_more ss i x less))
     (one_more {V = V} {E = E} items names a (take i ss) x xs old mid new v before here))
 
-pub all_gathered : {V E : Type 0} (items : V → List SessionGroup) (names : List (List ℕ)) (a : List ℕ)
+pub all_gathered : {V E : Type 0} (items : V → List SessionGroup)
+    (names : List (List ℕ)) (a : List ℕ)
     (ss : List Session) (i : ℕ) (v : V) (old new : State) → length ss ≤ i
     → HasGathered names a (take i ss) (items v) old new
-    → Gathers {A = V} {E = E} (λ trees v. AreLiveGroups names (rows_in trees a) ss (items v)) old new (Ok v)
+    → Gathers {A = V} {E = E}
+    (λ trees v. AreLiveGroups names (rows_in trees a) ss (items v)) old new (Ok v)
 all_gathered {V} {E} items names a ss i v old new end h =
-    gathers_from {A = V} {E = E} (λ trees v. AreLiveGroups names (rows_in trees a) ss (items v)) old new (Ok v)
+    gathers_from {A = V} {E = E}
+    (λ trees v. AreLiveGroups names (rows_in trees a) ss (items v)) old new (Ok v)
     h.reads
-    (λ clean on. subst (λ l. AreLiveGroups names (rows_in old.now.trees a) l (items v)) (take_all i ss end)
+    (λ clean on.
+    subst (λ l. AreLiveGroups names (rows_in old.now.trees a) l (items v)) (take_all i ss end)
     (h.found clean on))

@@ -1,5 +1,7 @@
 -- What may still change of an account is what a load asks.
-use Rattle.std.proofs.Common.{◌≡◌, ℕ, Bool, true, false, not, List, [], ◌∷◌, Option, Some, None, Result, Ok, Err, IfOk, IsErrOf, cond, refl, sym, ap, ◌∙◌, subst, true≢false}
+use Rattle.std.proofs.Common.{◌≡◌, ℕ, Bool, true, false, not, List, [], ◌∷◌, Option, Some, None}
+use Rattle.std.proofs.Common.{Result, Ok, Err, IfOk, IsErrOf, cond, refl, sym, ap, ◌∙◌, subst}
+use Rattle.std.proofs.Common.{true≢false}
 use Rattle.std.specs.Prelude.{if◌then◌else◌, filter, option_map}
 use Rattle.std.specs.List.{find}
 use Rattle.buckets.specs.Row.{Row}
@@ -18,7 +20,8 @@ use Rattle.keepers.specs.Tables.{Rows, Tables}
 use Rattle.keepers.specs.Change.{IsLoadedFrom, IsLoad, IsView}
 use Rattle.keepers.specs.Keeping.{Reads}
 use Rattle.sql_keeper.specs.Content.{head_in, rows_of}
-use Rattle.sql_keeper.specs.LiveRows.{AreLiveBuckets, AreLiveRowsLoaded, IsAccountOf, IsLiveAccount, IsLoadOf}
+use Rattle.sql_keeper.specs.LiveRows.{AreLiveBuckets, AreLiveRowsLoaded, IsAccountOf, IsLiveAccount}
+use Rattle.sql_keeper.specs.LiveRows.{IsLoadOf}
 use Rattle.sql_keeper.proofs.DeadRows.{those_are, spent_is_dead}
 use Rattle.sql_keeper.proofs.LiveGroups.{open_loaded}
 
@@ -31,12 +34,15 @@ twice false = refl
 live_is : (b : Row) → is_live b ≡ not (is_dead b)
 live_is b = sym (twice (is_live b)) ∙ ap not (spent_is_dead b)
 
-pub live_buckets : (rows : Stored) (bs : List Row) → AreBuckets is_live rows bs → AreLiveBuckets rows bs
-live_buckets rows bs found n = found n ∙ those_are is_live (λ b. not (is_dead b)) live_is (rows.buckets n)
+pub live_buckets : (rows : Stored) (bs : List Row) → AreBuckets is_live rows bs →
+    AreLiveBuckets rows bs
+live_buckets rows bs found n = found n
+    ∙ those_are is_live (λ b. not (is_dead b)) live_is (rows.buckets n)
 
 pub live_made : {E : Type 0} (rows : Stored) (bs : List Row) (r : Result (List Row) E)
     → AreBuckets is_live rows bs → IfOk r (λ p. p ≡ bs) → IfOk r (AreLiveBuckets rows)
-live_made rows bs (Ok p) found is = subst (AreLiveBuckets rows) (sym is) (live_buckets rows bs found)
+live_made rows bs (Ok p) found is =
+    subst (AreLiveBuckets rows) (sym is) (live_buckets rows bs found)
 live_made rows bs (Err e) found is = tt
 
 -- ---- counters
@@ -46,14 +52,15 @@ none true o e = refl
 none false o e = e
 
 -- a test that tells all rows of a key alike keeps what is found, or none of it
-pub find_kept : {A : Type 0} (q p : A → Bool) (b : Bool) → ((x : A) → q x ≡ true → p x ≡ b) → (xs : List A)
-    → find q (filter p xs) ≡ (if b then find q xs else None)
+pub find_kept : {A : Type 0} (q p : A → Bool) (b : Bool) → ((x : A) → q x ≡ true → p x ≡ b)
+    → (xs : List A) → find q (filter p xs) ≡ (if b then find q xs else None)
 find_kept q p b same [] = none b (find q []) refl
 find_kept q p b same (x ∷ xs) = at b (p x) (q x) refl refl (same x) (find_kept q p b same xs)
   where
     at : (b u t : Bool) → p x ≡ u → q x ≡ t → (q x ≡ true → p x ≡ b)
         → find q (filter p xs) ≡ (if b then find q xs else None)
-        → find q (cond u (x ∷ filter p xs) (filter p xs)) ≡ (if b then cond t (Some x) (find q xs) else None)
+        → find q (cond u (x ∷ filter p xs) (filter p xs))
+        ≡ (if b then cond t (Some x) (find q xs) else None)
     at true true true e k is rest = rw k refl
     at true false true e k is rest = absurd (true≢false (sym (is k) ∙ e))
     at false true true e k is rest = absurd (true≢false (sym e ∙ is k))
@@ -71,21 +78,24 @@ live_loaded names book t rows w (head, live, counters) =
       head = ap (option_map head_in) head;
       buckets = live.buckets;
       sessions = λ s. live.sessions s
-          ∙ those_are (λ (x : Session). is_open x.state) (λ x. is_open x.state) (λ x. refl) (rows.sessions s);
+          ∙ those_are (λ (x : Session). is_open x.state) (λ x. is_open x.state) (λ x. refl)
+          (rows.sessions s);
       groups = groups.groups;
       holds = groups.holds;
       counters = counters;
     }
 
-pub load_made : {E : Type 0} (names : List (List ℕ)) (book : Book) (t : ℕ) (a : List ℕ) (rows : Stored)
-    (o : Option StoredRows) (r : Result (Option Loaded) E) → IfOk r (IsLoadOf book a o)
-    → IsLiveAccount names book t rows o → IfOk r (IsLoad book t a (rows_of names rows))
+pub load_made : {E : Type 0} (names : List (List ℕ)) (book : Book) (t : ℕ) (a : List ℕ)
+    (rows : Stored) (o : Option StoredRows) (r : Result (Option Loaded) E)
+    → IfOk r (IsLoadOf book a o) → IsLiveAccount names book t rows o
+    → IfOk r (IsLoad book t a (rows_of names rows))
 load_made names book t a rows None (Ok None) made live = ap (option_map head_in) live
 load_made names book t a rows None (Ok (Some l)) made live = absurd made
 load_made names book t a rows (Some w) (Ok None) made live = absurd made
 load_made names book t a rows (Some w) (Ok (Some l)) (number, account, before) live = (
   number,
-  subst (IsLoadedFrom book t (rows_of names rows)) (sym account) (live_loaded names book t rows w live),
+  subst (IsLoadedFrom book t (rows_of names rows)) (sym account)
+      (live_loaded names book t rows w live),
   before ∙ ap stored (sym account),
 )
 load_made names book t a rows o (Err e) made live = tt
@@ -116,7 +126,8 @@ viewed content failed clean old new book t a rows r q is h = record {
     found (Ok None) (Ok None) is load = load
     found (Ok None) (Ok (Some x)) is load = absurd is
     found (Ok (Some l)) (Ok None) is load = absurd is
-    found (Ok (Some l)) (Ok (Some x)) is (number, load, before) = subst (IsLoadedFrom book t rows) (sym is) load
+    found (Ok (Some l)) (Ok (Some x)) is (number, load, before) =
+        subst (IsLoadedFrom book t rows) (sym is) load
     found r (Err f) is load = tt
     found (Err e) (Ok o) is load = absurd is
 

@@ -1,5 +1,6 @@
 -- Charges that are numbered on: each is new, and they are seen from the next number on.
-use Rattle.std.proofs.Common.{◌≡◌, ◌≤◌, ◌<◌, ℕ, Bool, true, false, cond, List, [], ◌∷◌, refl, sym, ap, ◌∙◌, arith, Option, Some, None, ltb-true, ltb-false, lt-ltb}
+use Rattle.std.proofs.Common.{◌≡◌, ◌≤◌, ◌<◌, ℕ, Bool, true, false, cond, List, [], ◌∷◌, refl, sym}
+use Rattle.std.proofs.Common.{ap, ◌∙◌, arith, Option, Some, None, ltb-true, ltb-false, lt-ltb}
 use Rattle.std.specs.Prelude.{if◌then◌else◌, ◌&&◌, ◌+◌, nat_eq, nat_lt}
 use Rattle.reserving.specs.declared.charge.ChargeRow.{ChargeRow}
 use Rattle.reserving.specs.Rows.{EachIn, AreApart}
@@ -42,25 +43,33 @@ positive k e = at (nat_lt 0 k) refl
     at true l = let s = ltb-true 0 k l in omega (arith, s)
     at false l = let s = ltb-false 0 k l in not_both (sym (same_is k 0 (omega (arith, s))) ∙ e)
 
-none_below : (n from next : ℕ) (cs : List ChargeRow) → AreNumbered from next cs → n < from → charge_in n cs ≡ None
+none_below : (n from next : ℕ) (cs : List ChargeRow) → AreNumbered from next cs → n < from →
+    charge_in n cs ≡ None
 none_below n from next [] h low = refl
 none_below n from next (c ∷ cs) h low =
     let is = h.0 in
-    ap (λ t. cond t (Some c) (charge_in n cs)) (other c.number n (λ e. omega (arith, is, e, low))) ∙ none_below n (from + 1) next cs h.1 (omega (arith, low))
+    ap (λ t. cond t (Some c) (charge_in n cs)) (other c.number n (λ e. omega (arith, is, e, low)))
+    ∙ none_below n (from + 1) next cs h.1 (omega (arith, low))
 
-none_above : (n from next : ℕ) (cs : List ChargeRow) → AreNumbered from next cs → next ≤ n → charge_in n cs ≡ None
+none_above : (n from next : ℕ) (cs : List ChargeRow) → AreNumbered from next cs → next ≤ n →
+    charge_in n cs ≡ None
 none_above n from next [] h high = refl
 none_above n from next (c ∷ cs) h high =
     let is = h.0 in let r = rises (from + 1) next cs h.1 in
-    ap (λ t. cond t (Some c) (charge_in n cs)) (other c.number n (λ e. omega (arith, is, e, high, r))) ∙ none_above n (from + 1) next cs h.1 high
+    ap (λ t. cond t (Some c) (charge_in n cs))
+    (other c.number n (λ e. omega (arith, is, e, high, r)))
+    ∙ none_above n (from + 1) next cs h.1 high
 
 pub record IsThere (n : ℕ) (cs : List ChargeRow) : Type 0 where
   pub row : ChargeRow
   pub is : charge_in n cs ≡ Some row
 
-some_between : (n from next : ℕ) (cs : List ChargeRow) → AreNumbered from next cs → from ≤ n → n < next → IsThere n cs
-some_between n from next [] h low high = absurd (let e : from ≡ next = h in omega (arith, e, low, high))
-some_between n from next (c ∷ cs) h low high = at (nat_eq c.number n) refl (λ above. some_between n (from + 1) next cs h.1 above high)
+some_between : (n from next : ℕ) (cs : List ChargeRow) → AreNumbered from next cs → from ≤ n →
+    n < next → IsThere n cs
+some_between n from next [] h low high =
+    absurd (let e : from ≡ next = h in omega (arith, e, low, high))
+some_between n from next (c ∷ cs) h low high =
+    at (nat_eq c.number n) refl (λ above. some_between n (from + 1) next cs h.1 above high)
   where
     at : (t : Bool) → nat_eq c.number n ≡ t → (from + 1 ≤ n → IsThere n cs) → IsThere n (c ∷ cs)
     at true e rest = record { row = c; is = ap (λ t. cond t (Some c) (charge_in n cs)) e }
@@ -70,17 +79,26 @@ some_between n from next (c ∷ cs) h low high = at (nat_eq c.number n) refl (λ
       where
         above : (u : Bool) → nat_lt from n ≡ u → from + 1 ≤ n
         above true k = let l = ltb-true from n k in omega (arith, l)
-        above false k = let l = ltb-false from n k in let is = h.0 in not_both (sym (same_is c.number n (omega (arith, l, is, low))) ∙ e)
+        above false k = let l = ltb-false from n k in let is = h.0 in
+            not_both (sym (same_is c.number n (omega (arith, l, is, low))) ∙ e)
 
 -- no two of them have one number
-apart_from : (n from next : ℕ) (cs : List ChargeRow) → AreNumbered from next cs → n < from → EachIn (λ y. nat_eq y.number n ≡ false) cs
+apart_from : (n from next : ℕ) (cs : List ChargeRow) → AreNumbered from next cs → n < from →
+    EachIn (λ y. nat_eq y.number n ≡ false) cs
 apart_from n from next [] h low = tt
 apart_from n from next (c ∷ cs) h low =
-    let is = h.0 in (other c.number n (λ e. omega (arith, is, e, low)), apart_from n (from + 1) next cs h.1 (omega (arith, low)))
+    let is = h.0 in (
+      other c.number n (λ e. omega (arith, is, e, low)),
+      apart_from n (from + 1) next cs h.1 (omega (arith, low)),
+    )
 
-pub numbered_apart : (from next : ℕ) (cs : List ChargeRow) → AreNumbered from next cs → AreApart same_charge cs
+pub numbered_apart : (from next : ℕ) (cs : List ChargeRow) → AreNumbered from next cs →
+    AreApart same_charge cs
 numbered_apart from next [] h = tt
-numbered_apart from next (c ∷ cs) h = let is = h.0 in (apart_from c.number (from + 1) next cs h.1 (omega (arith, is)), numbered_apart (from + 1) next cs h.1)
+numbered_apart from next (c ∷ cs) h = let is = h.0 in (
+  apart_from c.number (from + 1) next cs h.1 (omega (arith, is)),
+  numbered_apart (from + 1) next cs h.1,
+)
 
 -- ---- what is seen of the charges
 
@@ -95,7 +113,8 @@ pub record Begins (seen : Bool) (n from : ℕ) : Type 0 where
   pub above : from ≤ n → seen ≡ false
   pub none : n ≡ 0 → seen ≡ false
 
-module _ (n from next : ℕ) (cs : List ChargeRow) (seen : Bool) (h : AreNumbered from next cs) (b : Begins seen n from) (before : Option ChargeRow) where
+module _ (n from next : ℕ) (cs : List ChargeRow) (seen : Bool) (h : AreNumbered from next cs)
+    (b : Begins seen n from) (before : Option ChargeRow) where
   after : Bool → Option ChargeRow
   after t = if t then first_of (charge_in n cs) before else None
 
@@ -120,30 +139,42 @@ module _ (n from next : ℕ) (cs : List ChargeRow) (seen : Bool) (h : AreNumbere
 
   zero_is : n ≡ 0 → after false ≡ first_of old (charge_in n cs)
   unfolding after old
-  zero_is e = let first = b.first in rw (none_below n from next cs h (omega (arith, e, first)), b.none e) refl
+  zero_is e = let first = b.first in
+      rw (none_below n from next cs h (omega (arith, e, first)), b.none e) refl
 
-  inside : (t : Bool) → nat_lt n from ≡ t → 0 < n → n < next → after true ≡ first_of old (charge_in n cs)
+  inside : (t : Bool) → nat_lt n from ≡ t → 0 < n → n < next →
+      after true ≡ first_of old (charge_in n cs)
   inside true k some high = under (ltb-true n from k) some
   inside false k some high = between (ltb-false n from k) high
 
-  at : (t u : Bool) → nat_lt 0 n ≡ t → nat_lt n next ≡ u → after (t && u) ≡ first_of old (charge_in n cs)
+  at : (t u : Bool) → nat_lt 0 n ≡ t → nat_lt n next ≡ u →
+      after (t && u) ≡ first_of old (charge_in n cs)
   at true true j k = inside (nat_lt n from) refl (ltb-true 0 n j) (ltb-true n next k)
   at true false j k = over (ltb-false n next k)
   at false u j k = zero_is (let l = ltb-false 0 n j in omega (arith, l))
 
-  pub seen_after : (if nat_lt 0 n && nat_lt n next then first_of (charge_in n cs) before else None) ≡ first_of (if seen then before else None) (charge_in n cs)
+  pub seen_after : (if nat_lt 0 n && nat_lt n next then first_of (charge_in n cs) before else None)
+      ≡ first_of (if seen then before else None) (charge_in n cs)
   unfolding after old
   seen_after = at (nat_lt 0 n) (nat_lt n next) refl refl
 
 pub begins : (n : ℕ) (o : Option Head) → Begins (is_numbered n o) n (first_number o)
-begins n None = record { first = omega arith; below = λ some low. absurd (omega (arith, some, low)); above = λ high. refl; none = λ e. refl }
+begins n None = record {
+  first = omega arith;
+  below = λ some low. absurd (omega (arith, some, low));
+  above = λ high. refl;
+  none = λ e. refl;
+}
 begins n (Some h) = at h.next_charge (nat_eq h.next_charge 0) refl
   where
-    at : (k : ℕ) (t : Bool) → nat_eq k 0 ≡ t → Begins (nat_lt 0 n && nat_lt n k) n (if t then 1 else k)
+    at : (k : ℕ) (t : Bool) → nat_eq k 0 ≡ t →
+        Begins (nat_lt 0 n && nat_lt n k) n (if t then 1 else k)
     at k true e = record {
       first = omega arith;
       below = λ some low. absurd (omega (arith, some, low));
-      above = λ high. ap (λ u. nat_lt 0 n && u) (not_less n k (let z = number_from k 0 e in omega (arith, z))) ∙ and_false (nat_lt 0 n);
+      above = λ high.
+          ap (λ u. nat_lt 0 n && u) (not_less n k (let z = number_from k 0 e in omega (arith, z)))
+          ∙ and_false (nat_lt 0 n);
       none = λ z. ap (λ u. u && nat_lt n k) (not_less 0 n (omega (arith, z)));
     }
     at k false e = record {

@@ -1,5 +1,6 @@
 -- Rows that are put one after another, as one change over what was there.
-use Rattle.std.proofs.Common.{◌≡◌, ℕ, Bool, true, false, cond, List, [], ◌∷◌, refl, sym, ap, ap₂, ◌∙◌, true≢false, Option, Some, None}
+use Rattle.std.proofs.Common.{◌≡◌, ℕ, Bool, true, false, cond, List, [], ◌∷◌, refl, sym, ap, ap₂}
+use Rattle.std.proofs.Common.{◌∙◌, true≢false, Option, Some, None}
 use Rattle.std.specs.Prelude.{if◌then◌else◌, ◌&&◌, ◌+◌, nat_eq, is_some}
 use Rattle.std.specs.List.{find}
 use Rattle.std.specs.Cmp.{unsigned_Decides}
@@ -17,7 +18,8 @@ use Rattle.reserving.specs.Rows.{EachIn, AreApart}
 use Rattle.reserving.specs.Left.{bucket_in, first_of}
 use Rattle.keepers.specs.Tables.{charge_in}
 use Rattle.keepers.specs.Keyed.{same_bucket, same_session, same_counter}
-use Rattle.sql_rows.specs.Content.{Rows, Content, with_rows, with_bucket, with_counter, with_session, with_charge}
+use Rattle.sql_rows.specs.Content.{Rows, Content, with_rows, with_bucket, with_counter}
+use Rattle.sql_rows.specs.Content.{with_session, with_charge}
 use Rattle.sql_rows.specs.Each.{with_buckets, with_counters, with_sessions, with_charges}
 
 -- ---- a name and a number that two rows share
@@ -41,23 +43,30 @@ both false b p q = absurd (true≢false (sym p))
 pub not_both : {X : Type 0} → true ≡ false → X
 not_both e = absurd (true≢false e)
 
-pub one_session : (s : List ℕ) (x y : Session) → is_session s x ≡ true → is_session s y ≡ true → is_session x.id y ≡ true
+pub one_session : (s : List ℕ) (x y : Session) → is_session s x ≡ true → is_session s y ≡ true →
+    is_session x.id y ≡ true
 one_session s x y p q = ap (same_name y.id) (name_from x.id s p) ∙ q
 
-pub one_group : (s : List ℕ) (g : ℕ) (x y : SessionGroup) → is_of s g x ≡ true → is_of s g y ≡ true → is_of x.session x.group y ≡ true
+pub one_group : (s : List ℕ) (g : ℕ) (x y : SessionGroup) → is_of s g x ≡ true →
+    is_of s g y ≡ true → is_of x.session x.group y ≡ true
 one_group s g x y p q =
     let a = and_parts (same_name x.session s) (nat_eq x.group g) p in
-    ap₂ (λ n m. same_name y.session n && nat_eq y.group m) (name_from x.session s a.0) (number_from x.group g a.1) ∙ q
+    ap₂ (λ n m. same_name y.session n && nat_eq y.group m) (name_from x.session s a.0)
+    (number_from x.group g a.1) ∙ q
 
-one_counter : (g c : ℕ) (x y : Counter) → is_counter g c x ≡ true → is_counter g c y ≡ true → is_counter x.group x.cycle y ≡ true
+one_counter : (g c : ℕ) (x y : Counter) → is_counter g c x ≡ true → is_counter g c y ≡ true →
+    is_counter x.group x.cycle y ≡ true
 one_counter g c x y p q =
     let a = and_parts (nat_eq x.group g) (nat_eq x.cycle c) p in
-    ap₂ (λ n m. nat_eq y.group n && nat_eq y.cycle m) (number_from x.group g a.0) (number_from x.cycle c a.1) ∙ q
+    ap₂ (λ n m. nat_eq y.group n && nat_eq y.cycle m) (number_from x.group g a.0)
+    (number_from x.cycle c a.1) ∙ q
 
-one_bucket : (n : ℕ) (x y : Bucket) → nat_eq x.number n ≡ true → nat_eq y.number n ≡ true → same_bucket x y ≡ true
+one_bucket : (n : ℕ) (x y : Bucket) → nat_eq x.number n ≡ true → nat_eq y.number n ≡ true →
+    same_bucket x y ≡ true
 one_bucket n x y p q = ap (nat_eq y.number) (number_from x.number n p) ∙ q
 
-distinct_from : (n : ℕ) (xs : List Bucket) → DiffersFromAll n xs → EachIn (λ y. nat_eq y.number n ≡ false) xs
+distinct_from : (n : ℕ) (xs : List Bucket) → DiffersFromAll n xs →
+    EachIn (λ y. nat_eq y.number n ≡ false) xs
 distinct_from n [] h = tt
 distinct_from n (x ∷ xs) h = (go (nat_eq x.number n) refl, distinct_from n xs h.1)
   where
@@ -71,8 +80,10 @@ distinct_apart (x ∷ xs) h = (distinct_from x.number xs h.0, distinct_apart xs 
 
 -- ---- one row over those after it
 
-module _ {X : Type 0} (same : X → X → Bool) (is : X → Bool) (one : (x y : X) → is x ≡ true → is y ≡ true → same x y ≡ true) where
-  pub none_more : (x : X) (xs : List X) → is x ≡ true → EachIn (λ y. same x y ≡ false) xs → find is xs ≡ None
+module _ {X : Type 0} (same : X → X → Bool) (is : X → Bool)
+    (one : (x y : X) → is x ≡ true → is y ≡ true → same x y ≡ true) where
+  pub none_more : (x : X) (xs : List X) → is x ≡ true → EachIn (λ y. same x y ≡ false) xs →
+      find is xs ≡ None
   none_more x [] e h = refl
   none_more x (y ∷ ys) e h = at (is y) refl (none_more x ys e h.1)
     where
@@ -80,16 +91,19 @@ module _ {X : Type 0} (same : X → X → Bool) (is : X → Bool) (one : (x y : 
       at true k rest = not_both (sym (one x y e k) ∙ h.0)
       at false k rest = rest
 
-  pub one_over : (x : X) (xs : List X) (r : Option X) → EachIn (λ y. same x y ≡ false) xs → first_of (find is xs) (if is x then Some x else r) ≡ first_of (find is (x ∷ xs)) r
+  pub one_over : (x : X) (xs : List X) (r : Option X) → EachIn (λ y. same x y ≡ false) xs →
+      first_of (find is xs) (if is x then Some x else r) ≡ first_of (find is (x ∷ xs)) r
   one_over x xs r h = at (is x) refl
     where
-      at : (t : Bool) → is x ≡ t → first_of (find is xs) (if t then Some x else r) ≡ first_of (cond t (Some x) (find is xs)) r
+      at : (t : Bool) → is x ≡ t → first_of (find is xs) (if t then Some x else r)
+          ≡ first_of (cond t (Some x) (find is xs)) r
       at true e = ap (λ o. first_of o (Some x)) (none_more x xs e h)
       at false e = refl
 
 -- ---- an account's rows change, and no other's
 
-chosen_twice : (p : Bool) (r : Rows) (f g : Rows → Rows) → (if p then f (if p then g r else r) else (if p then g r else r)) ≡ (if p then f (g r) else r)
+chosen_twice : (p : Bool) (r : Rows) (f g : Rows → Rows) →
+    (if p then f (if p then g r else r) else (if p then g r else r)) ≡ (if p then f (g r) else r)
 chosen_twice true r f g = refl
 chosen_twice false r f g = refl
 
@@ -98,7 +112,8 @@ chosen_none true r = refl
 chosen_none false r = refl
 
 -- two changes of one account are one
-pub with_twice : (a : List ℕ) (f g : Rows → Rows) (c : Content) → with_rows a f (with_rows a g c) ≡ with_rows a (λ r. f (g r)) c
+pub with_twice : (a : List ℕ) (f g : Rows → Rows) (c : Content) →
+    with_rows a f (with_rows a g c) ≡ with_rows a (λ r. f (g r)) c
 with_twice a f g c = λ i. record c { rows = λ x. chosen_twice (same_name a x) (c.rows x) f g i }
 
 pub with_none : (a : List ℕ) (c : Content) → c ≡ with_rows a (λ r. r) c
@@ -111,8 +126,10 @@ opened a f c = record c {
   count = if is_some (c.rows a).head then c.count else c.count + 1;
 }
 
-pub with_opened : (a : List ℕ) (f g : Rows → Rows) (c : Content) → with_rows a f (opened a g c) ≡ opened a (λ r. f (g r)) c
-with_opened a f g c = λ i. record (opened a g c) { rows = λ x. chosen_twice (same_name a x) (c.rows x) f g i }
+pub with_opened : (a : List ℕ) (f g : Rows → Rows) (c : Content) →
+    with_rows a f (opened a g c) ≡ opened a (λ r. f (g r)) c
+with_opened a f g c =
+    λ i. record (opened a g c) { rows = λ x. chosen_twice (same_name a x) (c.rows x) f g i }
 
 -- ---- a list of rows
 
@@ -120,13 +137,18 @@ unfoldable pub each : {X : Type 0} → List ℕ → (X → Rows → Rows) → Li
 each a f [] c = c
 each a f (x ∷ xs) c = each a f xs (with_rows a (f x) c)
 
-module _ {X : Type 0} (a : List ℕ) (same : X → X → Bool) (f : X → Rows → Rows) (over : List X → Rows → Rows) (none : (r : Rows) → over [] r ≡ r)
-    (step : (x : X) (xs : List X) (r : Rows) → EachIn (λ y. same x y ≡ false) xs → over xs (f x r) ≡ over (x ∷ xs) r) where
-  pub each_over : (xs : List X) (c : Content) → AreApart same xs → each a f xs c ≡ with_rows a (over xs) c
+module _ {X : Type 0} (a : List ℕ) (same : X → X → Bool) (f : X → Rows → Rows)
+    (over : List X → Rows → Rows) (none : (r : Rows) → over [] r ≡ r)
+    (step : (x : X) (xs : List X) (r : Rows) → EachIn (λ y. same x y ≡ false) xs →
+    over xs (f x r) ≡ over (x ∷ xs) r) where
+  pub each_over : (xs : List X) (c : Content) → AreApart same xs →
+      each a f xs c ≡ with_rows a (over xs) c
   unfolding each
   each_over [] c h = with_none a c ∙ (λ i. with_rows a (λ r. sym (none r) i) c)
   each_over (x ∷ xs) c h =
-      each_over xs (with_rows a (f x) c) h.1 ∙ with_twice a (over xs) (f x) c ∙ (λ i. with_rows a (λ r. step x xs r h.0 i) c)
+      each_over xs (with_rows a (f x) c) h.1
+      ∙ with_twice a (over xs) (f x) c
+      ∙ (λ i. with_rows a (λ r. step x xs r h.0 i) c)
 
 abbrev pub over_buckets : List Bucket → Rows → Rows
 over_buckets xs r = record r { buckets = λ n. first_of (bucket_in n xs) (r.buckets n) }
@@ -140,53 +162,74 @@ over_sessions xs r = record r { sessions = λ s. first_of (session_in s xs) (r.s
 abbrev pub over_charges : List ChargeRow → Rows → Rows
 over_charges xs r = record r { charges = λ n. first_of (charge_in n xs) (r.charges n) }
 
-buckets_each : (a : List ℕ) (xs : List Bucket) (c : Content) → with_buckets a xs c ≡ each a with_bucket xs c
+buckets_each : (a : List ℕ) (xs : List Bucket) (c : Content) →
+    with_buckets a xs c ≡ each a with_bucket xs c
 unfolding each
 buckets_each a [] c = refl
 buckets_each a (x ∷ xs) c = buckets_each a xs (with_rows a (with_bucket x) c)
 
-counters_each : (a : List ℕ) (xs : List Counter) (c : Content) → with_counters a xs c ≡ each a with_counter xs c
+counters_each : (a : List ℕ) (xs : List Counter) (c : Content) →
+    with_counters a xs c ≡ each a with_counter xs c
 unfolding each
 counters_each a [] c = refl
 counters_each a (x ∷ xs) c = counters_each a xs (with_rows a (with_counter x) c)
 
-sessions_each : (a : List ℕ) (xs : List Session) (c : Content) → with_sessions a xs c ≡ each a with_session xs c
+sessions_each : (a : List ℕ) (xs : List Session) (c : Content) →
+    with_sessions a xs c ≡ each a with_session xs c
 unfolding each
 sessions_each a [] c = refl
 sessions_each a (x ∷ xs) c = sessions_each a xs (with_rows a (with_session x) c)
 
-charges_each : (a : List ℕ) (xs : List ChargeRow) (c : Content) → with_charges a xs c ≡ each a with_charge xs c
+charges_each : (a : List ℕ) (xs : List ChargeRow) (c : Content) →
+    with_charges a xs c ≡ each a with_charge xs c
 unfolding each
 charges_each a [] c = refl
 charges_each a (x ∷ xs) c = charges_each a xs (with_rows a (with_charge x) c)
 
-pub buckets_over : (a : List ℕ) (xs : List Bucket) (c : Content) → AreDistinct xs → with_buckets a xs c ≡ with_rows a (over_buckets xs) c
+pub buckets_over : (a : List ℕ) (xs : List Bucket) (c : Content) → AreDistinct xs →
+    with_buckets a xs c ≡ with_rows a (over_buckets xs) c
 buckets_over a xs c h =
     buckets_each a xs c
     ∙ each_over a same_bucket with_bucket over_buckets (λ r. refl)
-    (λ x xs r apart i. record r { buckets = λ n. one_over same_bucket (λ b. nat_eq b.number n) (one_bucket n) x xs (r.buckets n) apart i }) xs c (distinct_apart xs h)
+    (λ x xs r apart i. record r {
+      buckets = λ n.
+          one_over same_bucket (λ b. nat_eq b.number n) (one_bucket n) x xs (r.buckets n) apart i;
+    }) xs c (distinct_apart xs h)
 
-pub counters_over : (a : List ℕ) (xs : List Counter) (c : Content) → AreApart same_counter xs → with_counters a xs c ≡ with_rows a (over_counters xs) c
+pub counters_over : (a : List ℕ) (xs : List Counter) (c : Content) → AreApart same_counter xs →
+    with_counters a xs c ≡ with_rows a (over_counters xs) c
 counters_over a xs c h =
     counters_each a xs c
     ∙ each_over a same_counter with_counter over_counters (λ r. refl)
-    (λ x xs r apart i. record r { counters = λ g k. one_over same_counter (is_counter g k) (one_counter g k) x xs (r.counters g k) apart i }) xs c h
+    (λ x xs r apart i. record r {
+      counters = λ g k.
+          one_over same_counter (is_counter g k) (one_counter g k) x xs (r.counters g k) apart i;
+    }) xs c h
 
-pub sessions_over : (a : List ℕ) (xs : List Session) (c : Content) → AreApart same_session xs → with_sessions a xs c ≡ with_rows a (over_sessions xs) c
+pub sessions_over : (a : List ℕ) (xs : List Session) (c : Content) → AreApart same_session xs →
+    with_sessions a xs c ≡ with_rows a (over_sessions xs) c
 sessions_over a xs c h =
     sessions_each a xs c
     ∙ each_over a same_session with_session over_sessions (λ r. refl)
-    (λ x xs r apart i. record r { sessions = λ s. one_over same_session (is_session s) (one_session s) x xs (r.sessions s) apart i }) xs c h
+    (λ x xs r apart i. record r {
+      sessions = λ s.
+          one_over same_session (is_session s) (one_session s) x xs (r.sessions s) apart i;
+    }) xs c h
 
 -- no two charges have one number
 abbrev pub same_charge : ChargeRow → ChargeRow → Bool
 same_charge x y = nat_eq y.number x.number
 
-one_charge : (n : ℕ) (x y : ChargeRow) → nat_eq x.number n ≡ true → nat_eq y.number n ≡ true → nat_eq y.number x.number ≡ true
+one_charge : (n : ℕ) (x y : ChargeRow) → nat_eq x.number n ≡ true → nat_eq y.number n ≡ true →
+    nat_eq y.number x.number ≡ true
 one_charge n x y p q = ap (nat_eq y.number) (number_from x.number n p) ∙ q
 
-pub charges_over : (a : List ℕ) (xs : List ChargeRow) (c : Content) → AreApart same_charge xs → with_charges a xs c ≡ with_rows a (over_charges xs) c
+pub charges_over : (a : List ℕ) (xs : List ChargeRow) (c : Content) → AreApart same_charge xs →
+    with_charges a xs c ≡ with_rows a (over_charges xs) c
 charges_over a xs c h =
     charges_each a xs c
     ∙ each_over a same_charge with_charge over_charges (λ r. refl)
-    (λ x xs r apart i. record r { charges = λ n. one_over same_charge (λ b. nat_eq b.number n) (one_charge n) x xs (r.charges n) apart i }) xs c h
+    (λ x xs r apart i. record r {
+      charges = λ n.
+          one_over same_charge (λ b. nat_eq b.number n) (one_charge n) x xs (r.charges n) apart i;
+    }) xs c h

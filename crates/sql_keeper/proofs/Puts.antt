@@ -1,5 +1,6 @@
 -- Puts one after another.
-use Rattle.std.proofs.Common.{◌≡◌, ◌∙◌, ap, refl, subst, ℕ, List, arith, Ok, Err, Result, OnOk, OnErr}
+use Rattle.std.proofs.Common.{◌≡◌, ◌∙◌, ap, refl, subst, ℕ, List, arith, Ok, Err, Result, OnOk}
+use Rattle.std.proofs.Common.{OnErr}
 use Rattle.sqlite.specs.State.{State, KeepsCommit}
 use Rattle.sqlite.proofs.StateLemmas.{survives_then}
 use Rattle.sql_tables.specs.Statements.{Attempts}
@@ -8,7 +9,8 @@ use Rattle.sql_rows.specs.Content.{Content}
 use Rattle.sql_rows.specs.Each.{with_charges}
 use Rattle.sql_rows.specs.Makes.{Makes, MakesIfOpen}
 
-made_then : (f g : Content → Content) (a b c : State) → Makes f a b → Makes g b c → Makes (λ x. g (f x)) a c
+made_then : (f g : Content → Content) (a b c : State) → Makes f a b → Makes g b c →
+    Makes (λ x. g (f x)) a c
 made_then f g a b c one two = record {
   turns = record {
     content = two.turns.content ∙ ap g one.turns.content;
@@ -26,7 +28,8 @@ made_then f g a b c one two = record {
 }
 
 -- an error after what was made keeps what was committed
-kept_then : (f : Content → Content) (a b c : State) → Makes f a b → KeepsCommit b c → KeepsCommit a c
+kept_then : (f : Content → Content) (a b c : State) → Makes f a b → KeepsCommit b c →
+    KeepsCommit a c
 kept_then f a b c one two = record {
   was_open = λ on. one.shows.was_open;
   committed = λ on. two.committed on ∙ one.shows.committed_is;
@@ -43,31 +46,37 @@ on_ok_then P Q (Err e) f h = tt
 
 module _ {A B E : Type 0} (f g : Content → Content) (a b c : State) (u : A) (r : Result B E) where
   -- one statement, then another
-  pub makes_then : Attempts {A = A} {E = E} (Makes f) a b (Ok u) → Attempts {A = B} {E = E} (Makes g) b c r
+  pub makes_then : Attempts {A = A} {E = E} (Makes f) a b (Ok u)
+      → Attempts {A = B} {E = E} (Makes g) b c r
       → Attempts {A = B} {E = E} (Makes (λ x. g (f x))) a c r
   makes_then one two = record {
     done = λ clean. on_ok_then (Makes g b c) (Makes (λ x. g (f x)) a c) r
-        (made_then f g a b c (one.done (omega (arith, two.survives.clean, clean)))) (two.done clean);
-    kept = λ clean. on_err_then f a b c r (one.done (omega (arith, two.survives.clean, clean))) (two.kept clean);
-    survives = survives_then a b c (λ _. ⊥) (λ _. ⊥) (λ _. ⊥) (λ clean db no. no) (λ clean db no. no) one.survives
-        two.survives;
+        (made_then f g a b c (one.done (omega (arith, two.survives.clean, clean))))
+        (two.done clean);
+    kept = λ clean. on_err_then f a b c r (one.done (omega (arith, two.survives.clean, clean)))
+        (two.kept clean);
+    survives = survives_then a b c (λ _. ⊥) (λ _. ⊥) (λ _. ⊥) (λ clean db no. no)
+        (λ clean db no. no) one.survives two.survives;
   }
 
   -- one statement, then those of a list
   pub makes_all_then : Attempts {A = A} {E = E} (Makes f) a b (Ok u)
-      → Attempts {A = B} {E = E} (MakesIfOpen g) b c r → Attempts {A = B} {E = E} (Makes (λ x. g (f x))) a c r
+      → Attempts {A = B} {E = E} (MakesIfOpen g) b c r
+      → Attempts {A = B} {E = E} (Makes (λ x. g (f x))) a c r
   makes_all_then one two = record {
     done = λ clean.
         let m = one.done (omega (arith, two.survives.clean, clean)) in
         on_ok_then (MakesIfOpen g b c) (Makes (λ x. g (f x)) a c) r
         (λ h. made_then f g a b c m (h.made m.shows.is_open)) (two.done clean);
-    kept = λ clean. on_err_then f a b c r (one.done (omega (arith, two.survives.clean, clean))) (two.kept clean);
-    survives = survives_then a b c (λ _. ⊥) (λ _. ⊥) (λ _. ⊥) (λ clean db no. no) (λ clean db no. no) one.survives
-        two.survives;
+    kept = λ clean. on_err_then f a b c r (one.done (omega (arith, two.survives.clean, clean)))
+        (two.kept clean);
+    survives = survives_then a b c (λ _. ⊥) (λ _. ⊥) (λ _. ⊥) (λ clean db no. no)
+        (λ clean db no. no) one.survives two.survives;
   }
 
 -- the charges of the same list
-pub puts_charges : {A E : Type 0} (a : List ℕ) (xs ys : List ChargeRow) → ys ≡ xs → (old new : State) (r : Result A E)
+pub puts_charges : {A E : Type 0} (a : List ℕ) (xs ys : List ChargeRow) → ys ≡ xs
+    → (old new : State) (r : Result A E)
     → Attempts {A = A} {E = E} (MakesIfOpen (with_charges a ys)) old new r
     → Attempts {A = A} {E = E} (MakesIfOpen (with_charges a xs)) old new r
 puts_charges {A} {E} a xs ys is old new r =

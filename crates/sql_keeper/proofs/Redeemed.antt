@@ -16,8 +16,11 @@ told_over f false x o = refl
 
 pub redeemed_read : (names : List (List ℕ)) (redeemed : Option Redeemed) (c : Content)
     → tables_of names (with_redeemed redeemed c)
-    ≡ record (tables_of names c) { vouchers = λ code. redeemed_over redeemed code (option_map voucher_in (c.vouchers code)) }
+    ≡ record (tables_of names c) {
+      vouchers = λ code. redeemed_over redeemed code (option_map voucher_in (c.vouchers code));
+    }
 redeemed_read names None c = refl
 redeemed_read names (Some r) c = λ i. record (tables_of names c) {
-  vouchers = λ code. told_over voucher_in (same_name r.code code) (row_of r.voucher) (c.vouchers code) i;
+  vouchers = λ code.
+      told_over voucher_in (same_name r.code code) (row_of r.voucher) (c.vouchers code) i;
 }

@@ -21,13 +21,15 @@ use Rattle.sql_keeper.specs.Repeating.{AreEachRepeating, AreRepeating, repeats_i
 use Rattle.sql_keeper.proofs.LiveRows.{find_kept}
 
 -- those of the groups whose counters begin again so often, among all of the cycle
-pub repeating_among : (b : Book) (repeats : Cycle) (t cycle : ℕ) (rows : Stored) (all cs : List Counter)
+pub repeating_among : (b : Book) (repeats : Cycle) (t cycle : ℕ) (rows : Stored)
+    (all cs : List Counter)
     → cycle ≡ cycle_of b.calendar.zone repeats t → AreCountersIn cycle rows all
-    → cs ≡ filter (λ r. cycles.eq (repeats_in b r.group) repeats) all → AreRepeating b repeats t rows cs
+    → cs ≡ filter (λ r. cycles.eq (repeats_in b r.group) repeats) all
+    → AreRepeating b repeats t rows cs
 repeating_among b repeats t cycle rows all cs cycle_is found is g c =
     ap (counter_in g c) is
-    ∙ find_kept (is_counter g c) (λ r. cycles.eq (repeats_in b r.group) repeats) (cycles.eq (repeats_in b g) repeats)
-    (λ x e. ap (λ n. cycles.eq (repeats_in b n) repeats)
+    ∙ find_kept (is_counter g c) (λ r. cycles.eq (repeats_in b r.group) repeats)
+    (cycles.eq (repeats_in b g) repeats) (λ x e. ap (λ n. cycles.eq (repeats_in b n) repeats)
     (same_number x.group g (first_true (x.group == g) (x.cycle == c) e))) all
     ∙ ap (λ o. if cycles.eq (repeats_in b g) repeats then o else None)
     (found g c ∙ ap (λ n. if c == n then rows.counters g c else None) cycle_is)
@@ -45,11 +47,15 @@ or_none (Some x) = refl
 -- one of the three has it
 module _ (zone : ZoneRule) (t c : ℕ) (o never daily monthly : Option Counter) where
   abbrev part : Cycle → Cycle → Option Counter
-  part repeats k = if cycles.eq k repeats then (if c == cycle_of zone repeats t then o else None) else None
+  part repeats k =
+      if cycles.eq k repeats then (if c == cycle_of zone repeats t then o else None) else None
 
-  one_of_three : (k : Cycle) → never ≡ part often.None k → daily ≡ part often.Day k → monthly ≡ part often.Month k
+  one_of_three : (k : Cycle) → never ≡ part often.None k → daily ≡ part often.Day k
+      → monthly ≡ part often.Month k
       → option_or (option_or never daily) monthly ≡ (if c == cycle_of zone k t then o else None)
-  one_of_three often.None e f h = (λ i. option_or (option_or (e i) (f i)) (h i)) ∙ or_none _ ∙ or_none _
+  one_of_three often.None e f h = (λ i. option_or (option_or (e i) (f i)) (h i))
+      ∙ or_none _
+      ∙ or_none _
   one_of_three often.Day e f h = (λ i. option_or (option_or (e i) (f i)) (h i)) ∙ or_none _
   one_of_three often.Month e f h = λ i. option_or (option_or (e i) (f i)) (h i)
 
@@ -60,6 +66,8 @@ counters_joined b t rows never daily monthly all each is g c =
     ap (counter_in g c) is
     ∙ find-append (is_counter g c) (never ++ daily) monthly
     ∙ ap (λ o. option_or o (counter_in g c monthly)) (find-append (is_counter g c) never daily)
-    ∙ one_of_three b.calendar.zone t c (rows.counters g c) (counter_in g c never) (counter_in g c daily)
-    (counter_in g c monthly) (repeats_in b g) (each.never_are g c) (each.daily_are g c) (each.monthly_are g c)
-    ∙ ap (λ n. if c == n then rows.counters g c else None) (cycle_repeats b.calendar.zone (tariff_of b g) t)
+    ∙ one_of_three b.calendar.zone t c (rows.counters g c) (counter_in g c never)
+    (counter_in g c daily) (counter_in g c monthly) (repeats_in b g) (each.never_are g c)
+    (each.daily_are g c) (each.monthly_are g c)
+    ∙ ap (λ n. if c == n then rows.counters g c else None)
+    (cycle_repeats b.calendar.zone (tariff_of b g) t)

@@ -1,5 +1,6 @@
 -- What a sweep writes reads as the sweep.
-use Rattle.std.proofs.Common.{◌≡◌, ℕ, Bool, true, false, cond, List, [], ◌∷◌, map, refl, sym, ap, ◌∙◌, subst, Option, Some, None, true≢false, arith}
+use Rattle.std.proofs.Common.{◌≡◌, ℕ, Bool, true, false, cond, List, [], ◌∷◌, map, refl, sym, ap}
+use Rattle.std.proofs.Common.{◌∙◌, subst, Option, Some, None, true≢false, arith}
 use Rattle.std.specs.Prelude.{if◌then◌else◌, ◌≤◌, ◌+◌, ◌&&◌, nat_le, nat_lt, option_map, is_some}
 use Rattle.std.specs.List.{find}
 use Rattle.std.proofs.lemmas.Bool.Decides.{nat_tests}
@@ -20,10 +21,12 @@ use Rattle.keepers.proofs.Leaving.{left_behind}
 use Rattle.keepers.proofs.Taking.{taken}
 use Rattle.sql_rows.specs.declared.head.Head.{Head as HeadColumns}
 use Rattle.sql_rows.specs.Content.{Rows as Stored, Content, with_meta}
-use Rattle.sql_keeper.specs.Content.{head_in, rows_of, is_numbered, charge_of, answer_in, last_in, voucher_in, tables_of}
+use Rattle.sql_keeper.specs.Content.{head_in, rows_of, is_numbered, charge_of, answer_in, last_in}
+use Rattle.sql_keeper.specs.Content.{voucher_in, tables_of}
 use Rattle.sql_keeper.specs.Laws.{AreSweepsRead}
 use Rattle.sql_keeper.specs.LiveRows.{IsLiveAccount}
-use Rattle.sql_keeper.specs.Sweeps.{rows_at, AreSweptRows, IsSweptOf, AreAllSwept, with_accounts, with_sweep}
+use Rattle.sql_keeper.specs.Sweeps.{rows_at, AreSweptRows, IsSweptOf, AreAllSwept, with_accounts}
+use Rattle.sql_keeper.specs.Sweeps.{with_sweep}
 use Rattle.sql_keeper.specs.Tests.{AreWritable}
 use Rattle.sql_keeper.specs.Writes.{head_of, meta_at, with_stored}
 use Rattle.sql_keeper.specs.declared.swept_rows.SweptAccount.{SweptAccount}
@@ -34,8 +37,9 @@ use Rattle.sql_keeper.proofs.Overlays.{name_from, none_more, opened}
 -- ---- one account
 
 module _ (names : List (List ℕ)) (book : Book) (t : ℕ) (rows : Stored) (ranges : IsBook book) where
-  module _ (before : StoredRows) (live : IsLiveAccount names book t rows (Some before)) (kept : IsStored before)
-      (ledger : Ledger) (u : ℕ) (early : u ≤ t) (h : AreRowsAt book ledger u (rows_of names rows)) where
+  module _ (before : StoredRows) (live : IsLiveAccount names book t rows (Some before))
+      (kept : IsStored before) (ledger : Ledger) (u : ℕ) (early : u ≤ t)
+      (h : AreRowsAt book ledger u (rows_of names rows)) where
     own : IsAccount (priced book before)
     own = IsAccount-priced book before ranges kept
 
@@ -48,7 +52,8 @@ module _ (names : List (List ℕ)) (book : Book) (t : ℕ) (rows : Stored) (rang
         some_of (kept_head before) (kept_head h.listed) (sym loads.head ∙ h.are.head) in
         subst (λ n. n ≤ t) (sym (ap (λ (x : Head). x.as_of) same ∙ h.moment)) early
 
-    -- what was loaded and brought on is over what was there as the ledger's rows of the later moment
+    -- what was loaded and brought on is over what was there as the ledger's rows of the later
+    -- moment
     pub brought_on : IsMadeFrom before (advanced_stored book t before) (rows_of names rows)
         × AreRowsAt book ledger t (over (advanced_stored book t before) (rows_of names rows))
     brought_on =
@@ -77,7 +82,8 @@ module _ (names : List (List ℕ)) (book : Book) (t : ℕ) (rows : Stored) (rang
       sym (s.is ∙ swept_is s.before s.live s.kept ledger u early h) in
       let made : IsMadeFrom s.before w (rows_of names rows) =
       subst (λ x. IsMadeFrom s.before x (rows_of names rows)) is both.0 in
-      subst (AreRowsAt book ledger t) (sym (rows_read names w rows made.free (may_at names w.sessions w.groups s.may)))
+      subst (AreRowsAt book ledger t)
+      (sym (rows_read names w rows made.free (may_at names w.sessions w.groups s.may)))
       (subst (λ x. AreRowsAt book ledger t (over x (rows_of names rows))) is both.1)
 
 next_is : (book : Book) (t : ℕ) (w : StoredRows) → (rows_at book t w).next_charge ≡ w.next_charge
@@ -88,8 +94,8 @@ next_is book t w = at (nat_le w.as_of t)
     at false = refl
 
 -- the same charges are numbered
-numbered_still : (n : ℕ) (h k : HeadColumns) (rows : Stored) → k.next_charge ≡ h.next_charge → rows.head ≡ Some h
-    → charge_of n (record rows { head = Some k }) ≡ charge_of n rows
+numbered_still : (n : ℕ) (h k : HeadColumns) (rows : Stored) → k.next_charge ≡ h.next_charge
+    → rows.head ≡ Some h → charge_of n (record rows { head = Some k }) ≡ charge_of n rows
 numbered_still n h k rows same there =
     let tests : is_numbered n (Some k) ≡ is_numbered n rows.head =
     ap (λ m. nat_lt 0 n && nat_lt n m) same ∙ sym (ap (is_numbered n) there) in
@@ -119,19 +125,23 @@ module _ (names : List (List ℕ)) where
   abbrev one_after : SweptAccount → Content → Content
   one_after x c = opened x.number (over_stored names x.rows) c
 
-  step : (x : SweptAccount) (c : Content) → MayBePut names x → with_stored x.number names x.rows c ≡ one_after x c
+  step : (x : SweptAccount) (c : Content) → MayBePut names x →
+      with_stored x.number names x.rows c ≡ one_after x c
   step x c may = stored_over x.number names x.rows c may.0 may.1
 
-  meta_after : (xs : List SweptAccount) (c : Content) → EachIn (MayBePut names) xs → (with_accounts names xs c).meta ≡ c.meta
+  meta_after : (xs : List SweptAccount) (c : Content) → EachIn (MayBePut names) xs →
+      (with_accounts names xs c).meta ≡ c.meta
   meta_after [] c may = refl
   meta_after (x ∷ xs) c may =
-      ap (λ d. (with_accounts names xs d).meta) (step x c may.0) ∙ meta_after xs (one_after x c) may.1
+      ap (λ d. (with_accounts names xs d).meta) (step x c may.0)
+      ∙ meta_after xs (one_after x c) may.1
 
   vouchers_after : (xs : List SweptAccount) (c : Content) → EachIn (MayBePut names) xs
       → (with_accounts names xs c).vouchers ≡ c.vouchers
   vouchers_after [] c may = refl
   vouchers_after (x ∷ xs) c may =
-      ap (λ d. (with_accounts names xs d).vouchers) (step x c may.0) ∙ vouchers_after xs (one_after x c) may.1
+      ap (λ d. (with_accounts names xs d).vouchers) (step x c may.0)
+      ∙ vouchers_after xs (one_after x c) may.1
 
   there_still : (x : SweptAccount) (c : Content) (ys : List SweptAccount) → EachIn (IsThere c) ys
       → EachIn (IsThere (one_after x c)) ys
@@ -139,12 +149,13 @@ module _ (names : List (List ℕ)) where
   there_still x c (y ∷ ys) h = (at (same_name x.number y.number) h.0, there_still x c ys h.1)
     where
       at : (b : Bool) → is_some (c.rows y.number).head ≡ true
-          → is_some (if b then over_stored names x.rows (c.rows y.number) else c.rows y.number).head ≡ true
+          → is_some (if b then over_stored names x.rows (c.rows y.number) else c.rows y.number).head
+          ≡ true
       at true e = refl
       at false e = e
 
-  count_after : (xs : List SweptAccount) (c : Content) → EachIn (MayBePut names) xs → EachIn (IsThere c) xs
-      → (with_accounts names xs c).count ≡ c.count
+  count_after : (xs : List SweptAccount) (c : Content) → EachIn (MayBePut names) xs
+      → EachIn (IsThere c) xs → (with_accounts names xs c).count ≡ c.count
   count_after [] c may there = refl
   count_after (x ∷ xs) c may there =
       ap (λ d. (with_accounts names xs d).count) (step x c may.0)
@@ -152,18 +163,21 @@ module _ (names : List (List ℕ)) where
       ∙ ap (λ b. if b then c.count else c.count + 1) there.0
 
   rows_after : (a : List ℕ) (xs : List SweptAccount) (c : Content) → EachIn (MayBePut names) xs
-      → AreApart same_account xs → (with_accounts names xs c).rows a ≡ row_after names (swept_at a xs) (c.rows a)
+      → AreApart same_account xs
+      → (with_accounts names xs c).rows a ≡ row_after names (swept_at a xs) (c.rows a)
   rows_after a [] c may apart = refl
   rows_after a (x ∷ xs) c may apart =
       ap (λ d. (with_accounts names xs d).rows a) (step x c may.0)
       ∙ rows_after a xs (one_after x c) may.1 apart.1
       ∙ at (same_name x.number a) refl
     where
-      one : (x y : SweptAccount) → same_name x.number a ≡ true → same_name y.number a ≡ true → same_account x y ≡ true
+      one : (x y : SweptAccount) → same_name x.number a ≡ true → same_name y.number a ≡ true →
+          same_account x y ≡ true
       one x y p q = ap (same_name y.number) (name_from x.number a p) ∙ q
 
       at : (b : Bool) → same_name x.number a ≡ b
-          → row_after names (swept_at a xs) (if b then over_stored names x.rows (c.rows a) else c.rows a)
+          → row_after names (swept_at a xs)
+          (if b then over_stored names x.rows (c.rows a) else c.rows a)
           ≡ row_after names (cond b (Some x) (swept_at a xs)) (c.rows a)
       at true e = ap (λ o. row_after names o (over_stored names x.rows (c.rows a)))
           (none_more same_account (λ y. same_name y.number a) one x xs e apart.0)
@@ -171,34 +185,40 @@ module _ (names : List (List ℕ)) where
 
 -- ---- all of it
 
-each_to : {A : Type 0} (P Q : A → Type 0) (xs : List A) → ((x : A) → P x → Q x) → EachIn P xs → EachIn Q xs
+each_to : {A : Type 0} (P Q : A → Type 0) (xs : List A) → ((x : A) → P x → Q x) →
+    EachIn P xs → EachIn Q xs
 each_to P Q [] to h = tt
 each_to P Q (x ∷ xs) to h = (to x h.0, each_to P Q xs to h.1)
 
-apart_of : (xs : List SweptAccount) → AreApart (λ x y. same_name y x) (map (λ (x : SweptAccount). x.number) xs)
+apart_of : (xs : List SweptAccount)
+    → AreApart (λ x y. same_name y x) (map (λ (x : SweptAccount). x.number) xs)
     → AreApart same_account xs
 apart_of [] h = tt
 apart_of (x ∷ xs) h = (each xs h.0, apart_of xs h.1)
   where
-    each : (ys : List SweptAccount) → EachIn (λ y. same_name y x.number ≡ false) (map (λ (z : SweptAccount). z.number) ys)
+    each : (ys : List SweptAccount)
+        → EachIn (λ y. same_name y x.number ≡ false) (map (λ (z : SweptAccount). z.number) ys)
         → EachIn (λ y. same_name y.number x.number ≡ false) ys
     each [] h = tt
     each (y ∷ ys) h = (h.0, each ys h.1)
 
 found_number : (a : List ℕ) (xs : List SweptAccount)
-    → is_some (find (λ n. same_name n a) (map (λ (x : SweptAccount). x.number) xs)) ≡ is_some (swept_at a xs)
+    → is_some (find (λ n. same_name n a) (map (λ (x : SweptAccount). x.number) xs))
+    ≡ is_some (swept_at a xs)
 found_number a [] = refl
 found_number a (x ∷ xs) = at (same_name x.number a) (found_number a xs)
   where
-    at : (b : Bool) → is_some (find (λ n. same_name n a) (map (λ (x : SweptAccount). x.number) xs)) ≡ is_some (swept_at a xs)
-        → is_some (cond b (Some x.number) (find (λ n. same_name n a) (map (λ (x : SweptAccount). x.number) xs)))
+    at : (b : Bool) → is_some (find (λ n. same_name n a) (map (λ (x : SweptAccount). x.number) xs))
+        ≡ is_some (swept_at a xs)
+        → is_some (cond b (Some x.number)
+        (find (λ n. same_name n a) (map (λ (x : SweptAccount). x.number) xs)))
         ≡ is_some (cond b (Some x) (swept_at a xs))
     at true e = refl
     at false e = e
 
 -- the one that is found
-found_one : (P : SweptAccount → Type 0) (a : List ℕ) (xs : List SweptAccount) (x : SweptAccount) → EachIn P xs
-    → swept_at a xs ≡ Some x → P x × (x.number ≡ a)
+found_one : (P : SweptAccount → Type 0) (a : List ℕ) (xs : List SweptAccount) (x : SweptAccount)
+    → EachIn P xs → swept_at a xs ≡ Some x → P x × (x.number ≡ a)
 found_one P a [] x h e = absurd (no_some x e)
 found_one P a (y ∷ ys) x h e = at (same_name y.number a) refl e (found_one P a ys x h.1)
   where
@@ -209,15 +229,16 @@ found_one P a (y ∷ ys) x h e = at (same_name y.number a) refl e (found_one P a
         subst (λ z. P z × (z.number ≡ a)) is (h.0, name_from y.number a k)
     at false k f rest = rest f
 
-module _ (names : List (List ℕ)) (text : List ℕ) (book : Book) (t : ℕ) (c : Content) (xs : List SweptAccount)
-    (ranges : IsBook book) (all : AreAllSwept names book t c xs) where
+module _ (names : List (List ℕ)) (text : List ℕ) (book : Book) (t : ℕ) (c : Content)
+    (xs : List SweptAccount) (ranges : IsBook book) (all : AreAllSwept names book t c xs) where
   may : EachIn (MayBePut names) xs
   may = each_to (IsSweptOf names book t c) (MayBePut names) xs (λ x h. (h.stored, h.may)) all.each
 
   there : EachIn (IsThere c) xs
   there = each_to (IsSweptOf names book t c) (IsThere c) xs (λ x h. ap is_some h.live.0) all.each
 
-  rows_are : (a : List ℕ) → (with_sweep names text t xs c).rows a ≡ row_after names (swept_at a xs) (c.rows a)
+  rows_are : (a : List ℕ) →
+      (with_sweep names text t xs c).rows a ≡ row_after names (swept_at a xs) (c.rows a)
   rows_are a = rows_after names a xs (with_meta (meta_at text t) c) may (apart_of xs all.all.apart)
 
   -- what is seen of an account's rows, before and after
@@ -245,12 +266,14 @@ module _ (names : List (List ℕ)) (text : List ℕ) (book : Book) (t : ℕ) (c 
   seen_none a none = record {
     none = λ e. refl;
     rows = λ ledger u early h. absurd (headless (c.rows a).head
-        (sym (all.all.found a) ∙ found_number a xs ∙ ap is_some none) (λ e. no_some _ (sym e ∙ h.are.head)));
+        (sym (all.all.found a) ∙ found_number a xs ∙ ap is_some none)
+        (λ e. no_some _ (sym e ∙ h.are.head)));
     answers = λ k. refl;
     charges = λ n. refl;
   }
     where
-      headless : (o : Option HeadColumns) → is_some o ≡ false → (option_map head_in o ≡ None → ⊥) → ⊥
+      headless : (o : Option HeadColumns) → is_some o ≡ false →
+          (option_map head_in o ≡ None → ⊥) → ⊥
       headless None e without = without refl
       headless (Some h) e without = true≢false e
 
@@ -260,7 +283,8 @@ module _ (names : List (List ℕ)) (text : List ℕ) (book : Book) (t : ℕ) (c 
       at : (o : Option SweptAccount) → swept_at a xs ≡ o → AreSeen a (row_after names o (c.rows a))
       at None e = seen_none a e
       at (Some x) e =
-          let one = found_one (IsSweptOf names book t c) a xs x all.each e in seen_of a x one.0 one.1
+          let one = found_one (IsSweptOf names book t c) a xs x all.each e in
+          seen_of a x one.0 one.1
 
   pub swept : IsSwept book t (tables_of names c) (tables_of names (with_sweep names text t xs c))
   swept = record {
@@ -269,7 +293,8 @@ module _ (names : List (List ℕ)) (text : List ℕ) (book : Book) (t : ℕ) (c 
     rows = λ a. (seen a).rows;
     answers = λ a. (seen a).answers;
     charges = λ a. (seen a).charges;
-    vouchers = λ code. ap (λ f. option_map voucher_in (f code)) (vouchers_after names xs (with_meta (meta_at text t) c) may);
+    vouchers = λ code. ap (λ f. option_map voucher_in (f code))
+        (vouchers_after names xs (with_meta (meta_at text t) c) may);
     count = count_after names xs (with_meta (meta_at text t) c) may there;
   }
 

@@ -1,6 +1,8 @@
 -- The accounts of a sweep, read one after another and brought to a moment, and what is written of
 -- them.
-use Rattle.std.proofs.Common.{◌≡◌, ◌<◌, ◌≤◌, ◌+◌, ◌∙◌, ap, refl, sym, subst, ℕ, suc, List, [], ◌∷◌, ◌++◌, length, map, take, get_or, Option, Some, None, Result, Ok, Err, IfOk, IsTrue, arith}
+use Rattle.std.proofs.Common.{◌≡◌, ◌<◌, ◌≤◌, ◌+◌, ◌∙◌, ap, refl, sym, subst, ℕ, suc, List, [], ◌∷◌}
+use Rattle.std.proofs.Common.{◌++◌, length, map, take, get_or, Option, Some, None, Result, Ok, Err}
+use Rattle.std.proofs.Common.{IfOk, IsTrue, arith}
 use Rattle.std.proofs.lemmas.List.{take_more, take_all}
 use Rattle.sqlite_trees.specs.Tree.{Trees}
 use Rattle.sqlite.specs.Effect.{Database}
@@ -19,16 +21,19 @@ use Rattle.sql_keeper.specs.Commits.{Transacts}
 use Rattle.sql_keeper.specs.Content.{tables_of}
 use Rattle.sql_keeper.specs.LiveGroups.{Gathers}
 use Rattle.sql_keeper.specs.LiveRows.{IsLiveAccount}
-use Rattle.sql_keeper.specs.Sweeps.{AreSweptRows, IsSweptOf, IsSweptAs, IsSweptFrom, AreSweptOf, AreAllSwept, with_sweep, BecomesSwept}
+use Rattle.sql_keeper.specs.Sweeps.{AreSweptRows, IsSweptOf, IsSweptAs, IsSweptFrom, AreSweptOf}
+use Rattle.sql_keeper.specs.Sweeps.{AreAllSwept, with_sweep, BecomesSwept}
 use Rattle.sql_keeper.specs.declared.swept_rows.SweptAccount.{SweptAccount}
-use Rattle.sql_keeper.proofs.InTurn.{HaveRead, none_read, have_gathered, have_read_then, gathers_from}
+use Rattle.sql_keeper.proofs.InTurn.{HaveRead, none_read, have_gathered, have_read_then}
+use Rattle.sql_keeper.proofs.InTurn.{gathers_from}
 use Rattle.sql_keeper.proofs.LiveGroups.{told_before}
 use Rattle.sql_keeper.proofs.Swept.{sweeps_read, swept_meta}
 
 -- ---- one account
 
-pub swept_made : {E : Type 0} (names : List (List ℕ)) (book : Book) (t : ℕ) (c : Content) (a : List ℕ)
-    (o : Option StoredRows) (r : Result SweptAccount E) → IfOk r (IsSweptFrom names book t a o)
+pub swept_made : {E : Type 0} (names : List (List ℕ)) (book : Book) (t : ℕ)
+    (c : Content) (a : List ℕ) (o : Option StoredRows) (r : Result SweptAccount E)
+    → IfOk r (IsSweptFrom names book t a o)
     → IsLiveAccount names book t (c.rows a) o → IfOk r (IsSweptAs names book t c a)
 swept_made names book t c a None (Ok x) made live = absurd made
 swept_made names book t c a (Some w) (Ok x) made live = record {
@@ -46,21 +51,25 @@ swept_made names book t c a o (Err e) made live = tt
 
 -- ---- one after another
 
-each_more : {A : Type 0} (P : A → Type 0) (xs : List A) (x : A) → EachIn P xs → P x → EachIn P (xs ++ x ∷ [])
+each_more : {A : Type 0} (P : A → Type 0) (xs : List A) (x : A) → EachIn P xs → P x →
+    EachIn P (xs ++ x ∷ [])
 each_more P [] x h one = (one, tt)
 each_more P (y ∷ ys) x h one = (h.0, each_more P ys x h.1 one)
 
 numbers_more : (xs : List SweptAccount) (x : SweptAccount)
-    → map (λ (y : SweptAccount). y.number) (xs ++ x ∷ []) ≡ map (λ (y : SweptAccount). y.number) xs ++ x.number ∷ []
+    → map (λ (y : SweptAccount). y.number) (xs ++ x ∷ [])
+    ≡ map (λ (y : SweptAccount). y.number) xs ++ x.number ∷ []
 numbers_more [] x = refl
 numbers_more (y ∷ ys) x = ap (λ l. y.number ∷ l) (numbers_more ys x)
 
-numbers_length : (xs : List SweptAccount) → length (map (λ (y : SweptAccount). y.number) xs) ≡ length xs
+numbers_length : (xs : List SweptAccount) →
+    length (map (λ (y : SweptAccount). y.number) xs) ≡ length xs
 numbers_length [] = refl
 numbers_length (y ∷ ys) = ap suc (numbers_length ys)
 
 module _ (names : List (List ℕ)) (book : Book) (t : ℕ) where
-  more_swept : (c : Content) (numbers : List (List ℕ)) (a : List ℕ) (xs : List SweptAccount) (x : SweptAccount)
+  more_swept : (c : Content) (numbers : List (List ℕ)) (a : List ℕ) (xs : List SweptAccount)
+      (x : SweptAccount)
       → AreSweptOf names book t c numbers xs → IsSweptAs names book t c a x
       → AreSweptOf names book t c (numbers ++ a ∷ []) (xs ++ x ∷ [])
   more_swept c numbers a xs x h one = record {
@@ -69,11 +78,14 @@ module _ (names : List (List ℕ)) (book : Book) (t : ℕ) where
   }
 
   -- the accounts so far
-  pub record HasSwept (numbers : List (List ℕ)) (xs : List SweptAccount) (old new : State) : Type 0 where
-    pub found : HasCleanDisk new → IsTrue new.is_open → AreSweptOf names book t (content_of old.now.trees) numbers xs
+  pub record HasSwept (numbers : List (List ℕ)) (xs : List SweptAccount)
+      (old new : State) : Type 0 where
+    pub found : HasCleanDisk new → IsTrue new.is_open →
+        AreSweptOf names book t (content_of old.now.trees) numbers xs
     pub reads : HaveRead old new
 
-  pub none_swept : (xs : List SweptAccount) (s : State) → xs ≡ [] → HasIdleBook s → HasSwept [] xs s s
+  pub none_swept : (xs : List SweptAccount) (s : State) → xs ≡ [] → HasIdleBook s →
+      HasSwept [] xs s s
   none_swept xs s none idle = record {
     found = λ clean on. subst (AreSweptOf names book t (content_of s.now.trees) []) (sym none)
         (record { numbers_are = refl; each = tt });
@@ -81,10 +93,11 @@ module _ (names : List (List ℕ)) (book : Book) (t : ℕ) where
   }
 
   -- the next of the accounts
-  pub next_swept : {E : Type 0} (numbers : List (List ℕ)) (i : ℕ) (a : List ℕ) (xs ys : List SweptAccount)
-      (old mid new : State) (x : SweptAccount) → i < length numbers → a ≡ get_or numbers i a → ys ≡ xs ++ x ∷ []
-      → HasSwept (take i numbers) xs old mid
-      → Gathers {A = SweptAccount} {E = E} (λ trees x. IsSweptAs names book t (content_of trees) a x) mid new (Ok x)
+  pub next_swept : {E : Type 0} (numbers : List (List ℕ)) (i : ℕ) (a : List ℕ)
+      (xs ys : List SweptAccount) (old mid new : State) (x : SweptAccount) → i < length numbers
+      → a ≡ get_or numbers i a → ys ≡ xs ++ x ∷ [] → HasSwept (take i numbers) xs old mid
+      → Gathers {A = SweptAccount} {E = E}
+      (λ trees x. IsSweptAs names book t (content_of trees) a x) mid new (Ok x)
       → HasSwept (take (i + 1) numbers) ys old new
   next_swept {E} numbers i a xs ys old mid new x less is more before here = record {
     found = λ clean on.
@@ -94,28 +107,32 @@ module _ (names : List (List ℕ)) (book : Book) (t : ℕ) where
         (ap (λ b. take i numbers ++ b ∷ []) is ∙ sym (take_more numbers i a less))
         (more_swept (content_of old.now.trees) (take i numbers) a xs x
         (before.found (here.only.cleanness clean) after.was_open)
-        (told_before (λ trees. IsSweptAs names book t (content_of trees) a x) old mid new before.reads.only
-        here.only clean on (here.found clean on))));
+        (told_before (λ trees. IsSweptAs names book t (content_of trees) a x) old mid new
+        before.reads.only here.only clean on (here.found clean on))));
     reads = have_read_then old mid new before.reads (have_gathered {A = SweptAccount} {E = E}
         (λ trees x. IsSweptAs names book t (content_of trees) a x) mid new x here);
   }
 
-  pub all_swept : {V E : Type 0} (items : V → List SweptAccount) (numbers : List (List ℕ)) (i : ℕ) (v : V)
-      (old new : State) → length numbers ≤ i → HasSwept (take i numbers) (items v) old new
-      → Gathers {A = V} {E = E} (λ trees v. AreSweptOf names book t (content_of trees) numbers (items v)) old new (Ok v)
+  pub all_swept : {V E : Type 0} (items : V → List SweptAccount) (numbers : List (List ℕ))
+      (i : ℕ) (v : V) (old new : State) → length numbers ≤ i
+      → HasSwept (take i numbers) (items v) old new → Gathers {A = V} {E = E}
+      (λ trees v. AreSweptOf names book t (content_of trees) numbers (items v)) old new (Ok v)
   all_swept {V} {E} items numbers i v old new end h =
-      gathers_from {A = V} {E = E} (λ trees v. AreSweptOf names book t (content_of trees) numbers (items v)) old new
+      gathers_from {A = V} {E = E}
+      (λ trees v. AreSweptOf names book t (content_of trees) numbers (items v)) old new
       (Ok v) h.reads
       (λ clean on. subst (λ ns. AreSweptOf names book t (content_of old.now.trees) ns (items v))
       (take_all i numbers end) (h.found clean on))
 
-  if_ok : {A E : Type 0} (P Q : A → Type 0) (r : Result A E) → ((x : A) → P x → Q x) → IfOk r P → IfOk r Q
+  if_ok : {A E : Type 0} (P Q : A → Type 0) (r : Result A E) → ((x : A) → P x → Q x) →
+      IfOk r P → IfOk r Q
   if_ok P Q (Ok x) to h = to x h
   if_ok P Q (Err e) to h = tt
 
   -- the numbers of all accounts, and then the accounts of these numbers
-  pub all_read : {V E : Type 0} (items : V → List SweptAccount) (numbers : List (List ℕ)) (old mid new : State)
-      (r : Result V E) → HaveRead old mid → (HasCleanDisk mid → AreAccounts (content_of old.now.trees) numbers)
+  pub all_read : {V E : Type 0} (items : V → List SweptAccount) (numbers : List (List ℕ))
+      (old mid new : State) (r : Result V E) → HaveRead old mid
+      → (HasCleanDisk mid → AreAccounts (content_of old.now.trees) numbers)
       → Gathers (λ trees v. AreSweptOf names book t (content_of trees) numbers (items v)) mid new r
       → Gathers (λ trees v. AreAllSwept names book t (content_of trees) (items v)) old new r
   all_read items numbers old mid new r first accounts second = record {
@@ -124,8 +141,8 @@ module _ (names : List (List ℕ)) (book : Book) (t : ℕ) where
         (λ v. AreAllSwept names book t (content_of old.now.trees) (items v)) r
         (λ v there.
         let here : AreSweptOf names book t (content_of old.now.trees) numbers (items v) =
-        told_before (λ trees. AreSweptOf names book t (content_of trees) numbers (items v)) old mid new first.only
-        second.only clean on there in
+        told_before (λ trees. AreSweptOf names book t (content_of trees) numbers (items v)) old mid
+        new first.only second.only clean on there in
         record {
           all = subst (AreAccounts (content_of old.now.trees)) (sym here.numbers_are)
               (accounts (second.only.cleanness clean));
@@ -138,11 +155,13 @@ module _ (names : List (List ℕ)) (book : Book) (t : ℕ) where
 
 -- ---- what is written
 
-become : (names : List (List ℕ)) (text : List ℕ) (book : Book) (t : ℕ) (xs : List SweptAccount) → IsBook book
-    → t ≤ 4_102_488_000 → (old new : Trees) → AreAllSwept names book t (content_of old) xs → Turns (with_sweep names text t xs) old new
+become : (names : List (List ℕ)) (text : List ℕ) (book : Book) (t : ℕ) (xs : List SweptAccount)
+    → IsBook book → t ≤ 4_102_488_000 → (old new : Trees)
+    → AreAllSwept names book t (content_of old) xs → Turns (with_sweep names text t xs) old new
     → BecomesSwept names text book t old new
 become names text book t xs ranges last old new all turns = record {
-  tables = subst (λ (c : Content). IsSwept book t (tables_of names (content_of old)) (tables_of names c))
+  tables =
+      subst (λ (c : Content). IsSwept book t (tables_of names (content_of old)) (tables_of names c))
       (sym turns.content) (sweeps_read names text book t (content_of old) xs ranges all);
   meta = ap (λ (c : Content). c.meta) turns.content
       ∙ swept_meta names text book t (content_of old) xs ranges all;
@@ -151,16 +170,22 @@ become names text book t xs ranges last old new all turns = record {
   stored = turns.stored;
 }
 
-module _ {V E : Type 0} (items : V → List SweptAccount) (names : List (List ℕ)) (text : List ℕ) (book : Book) (t : ℕ)
-    (v : V) (xs : List SweptAccount) (is : xs ≡ items v) (ranges : IsBook book) (last : t ≤ 4_102_488_000) (old mid : State)
-    (reads : Gathers {A = V} {E = E} (λ trees v. AreAllSwept names book t (content_of trees) (items v)) old mid (Ok v)) where
-  all_of : HasCleanDisk mid → IsTrue mid.is_open → AreAllSwept names book t (content_of old.now.trees) xs
-  all_of clean on = subst (AreAllSwept names book t (content_of old.now.trees)) (sym is) (reads.found clean on)
+module _ {V E : Type 0} (items : V → List SweptAccount) (names : List (List ℕ)) (text : List ℕ)
+    (book : Book) (t : ℕ) (v : V) (xs : List SweptAccount) (is : xs ≡ items v)
+    (ranges : IsBook book) (last : t ≤ 4_102_488_000) (old mid : State)
+    (reads : Gathers {A = V} {E = E}
+    (λ trees v. AreAllSwept names book t (content_of trees) (items v)) old mid (Ok v)) where
+  all_of : HasCleanDisk mid → IsTrue mid.is_open →
+      AreAllSwept names book t (content_of old.now.trees) xs
+  all_of clean on =
+      subst (AreAllSwept names book t (content_of old.now.trees)) (sym is) (reads.found clean on)
 
   pub become_swept : HasCleanDisk mid → IsTrue mid.is_open → (db : Trees)
-      → Turns (with_sweep names text t xs) mid.now.trees db → BecomesSwept names text book t old.now.trees db
+      → Turns (with_sweep names text t xs) mid.now.trees db
+      → BecomesSwept names text book t old.now.trees db
   become_swept clean on db turns =
-      become names text book t xs ranges last old.now.trees db (all_of clean on) (subst (λ (d : Database).
+      become names text book t xs ranges last old.now.trees db (all_of clean on)
+      (subst (λ (d : Database).
       Turns (with_sweep names text t xs) d.trees db) (reads.only.still clean on).now_is turns)
 
   -- how many there are

@@ -1,6 +1,6 @@
 -- What is committed whole.
-use Rattle.std.proofs.Common.{◌≡◌, ◌⊎◌, inl, inr, ◌∙◌, ap, sym, IsTrue, Bool, true, false, true≢false}
-use Rattle.std.proofs.Common.{Ok, Err, Result, arith}
+use Rattle.std.proofs.Common.{◌≡◌, ◌⊎◌, inl, inr, ◌∙◌, ap, sym, IsTrue, Bool, true, false}
+use Rattle.std.proofs.Common.{true≢false, Ok, Err, Result, refl, arith}
 use Rattle.sqlite.specs.Effect.{Database}
 use Rattle.sqlite.specs.State.{State, HasCleanDisk, Survives}
 use Rattle.sqlite.proofs.StateLemmas.{survives_then, survives_weaker}
@@ -15,10 +15,21 @@ pub not_shut : (b : Bool) → IsTrue b → b ≡ false → ⊥
 not_shut true on e = true≢false e
 not_shut false on e = absurd (let no : false ≡ true = on in cc)
 
+-- nothing is done, so a stop leaves what it would have left
+pub survives_self : (s : State) (P : Trees → Type 0) → Survives s s P
+survives_self s P = record {
+  clean = omega arith;
+  shield = λ h. h;
+  counts = omega arith;
+  limit = refl;
+  closes = λ clean on. inl on;
+  crash = λ clean db may. inl may;
+}
+
 -- ---- after what was only read, what is written
 
-module _ (change : Content → Content) (Become : Trees → Trees → Type 0) (old mid new : State) (only : OnlyReads old mid)
-    (stops : Survives old mid (λ _. old.is_open ≡ false))
+module _ (change : Content → Content) (Become : Trees → Trees → Type 0) (old mid new : State)
+    (only : OnlyReads old mid) (stops : Survives old mid (λ _. old.is_open ≡ false))
     (become : HasCleanDisk mid → IsTrue mid.is_open → (db : Trees) → Turns change mid.now.trees db
     → Become old.now.trees db) where
   survives_both : Survives mid new (λ db. IsTrue mid.is_open × Turns change mid.now.trees db)
@@ -42,7 +53,8 @@ module _ (change : Content → Content) (Become : Trees → Trees → Type 0) (o
     survives = survives_both t.survives;
   }
 
-  pub not_written : {A B E F : Type 0} (e : E) (f : F) → Transacts {A = A} {E = E} change mid new (Err e)
+  pub not_written : {A B E F : Type 0} (e : E) (f : F)
+      → Transacts {A = A} {E = E} change mid new (Err e)
       → CommitsWhole {A = B} {E = F} Become old new (Err f)
   not_written e f t = record {
     done = λ clean. tt;
@@ -59,8 +71,9 @@ module _ (change : Content → Content) (Become : Trees → Trees → Type 0) (o
   }
 
 -- what isn't written
-pub refused : {A E : Type 0} (Become : Trees → Trees → Type 0) (old new : State) (e : E) → OnlyReads old new
-    → Survives old new (λ _. old.is_open ≡ false) → CommitsWhole {A = A} {E = E} Become old new (Err e)
+pub refused : {A E : Type 0} (Become : Trees → Trees → Type 0) (old new : State) (e : E)
+    → OnlyReads old new → Survives old new (λ _. old.is_open ≡ false)
+    → CommitsWhole {A = A} {E = E} Become old new (Err e)
 refused Become old new e only stops = record {
   done = λ clean. tt;
   err = only.still;
@@ -76,23 +89,27 @@ refused Become old new e only stops = record {
 abbrev pub IsSettled : State → Type 0
 IsSettled s = (db : Trees) → IsTrue s.is_open → s.may_leave db → db ≡ s.committed.trees
 
-pub settled_now : (s : State) → IsSettled s → HasIdleBook s → HasCleanDisk s → IsTrue s.is_open → (db : Trees)
-    → s.may_leave db → db ≡ s.now.trees
-settled_now s law idle clean on db may = law db on may ∙ ap (λ (d : Database). d.trees) (sym (idle clean on).settled)
+pub settled_now : (s : State) → IsSettled s → HasIdleBook s → HasCleanDisk s → IsTrue s.is_open
+    → (db : Trees) → s.may_leave db → db ≡ s.now.trees
+settled_now s law idle clean on db may = law db on may
+    ∙ ap (λ (d : Database). d.trees) (sym (idle clean on).settled)
 
-pub stopped : {A E : Type 0} (Become : Trees → Trees → Type 0) (old new : State) (r : Result A E) → IsSettled old
-    → HasIdleBook old → CommitsWhole Become old new r → HasCleanDisk new → IsTrue old.is_open → (db : Trees)
+pub stopped : {A E : Type 0} (Become : Trees → Trees → Type 0) (old new : State) (r : Result A E)
+    → IsSettled old → HasIdleBook old → CommitsWhole Become old new r → HasCleanDisk new
+    → IsTrue old.is_open → (db : Trees)
     → new.may_leave db → (db ≡ old.now.trees) ⊎ Become old.now.trees db
 stopped Become old new r law idle commits clean on db may =
     elim (commits.survives.crash clean db may) [
-      | inl before ↦ inl (settled_now old law idle (omega (arith, commits.survives.clean, clean)) on db before)
+      | inl before ↦
+          inl (settled_now old law idle (omega (arith, commits.survives.clean, clean)) on db before)
       | inr after ↦ inr (after on)
     ]
 
 -- ---- what is handed on
 
-pub handed_on : {A E F : Type 0} (Become : Trees → Trees → Type 0) (old new : State) (r : Result A E)
-    (q : Result A F) → IsHanded r q → CommitsWhole Become old new r → CommitsWhole Become old new q
+pub handed_on : {A E F : Type 0} (Become : Trees → Trees → Type 0) (old new : State)
+    (r : Result A E) (q : Result A F) → IsHanded r q → CommitsWhole Become old new r →
+    CommitsWhole Become old new q
 handed_on Become old new (Ok x) (Ok y) h c =
     record { done = c.done; err = c.err; idle = c.idle; survives = c.survives }
 handed_on Become old new (Ok x) (Err f) h c = absurd h

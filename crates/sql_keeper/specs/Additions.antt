@@ -13,14 +13,18 @@ use Rattle.sql_keeper.specs.Writes.{meta_at, row_of}
 
 -- what is written: the moment, and a voucher that no account has redeemed
 abbrev pub with_addition : List ℕ → List ℕ → VoucherTerms → ℕ → Content → Content
-with_addition text code terms t c = with_voucher code (row_of (unspent terms)) (with_meta (meta_at text t) c)
+with_addition text code terms t c =
+    with_voucher code (row_of (unspent terms)) (with_meta (meta_at text t) c)
 
 -- the tables hold the voucher; they would be found again: the catalog is the same, and so are the
--- version and the text of the book, no rowid stands twice, and the moment is in the range of moments
-pub record BecomesAdded (text code : List ℕ) (terms : VoucherTerms) (t : ℕ) (old new : Trees) : Type 0
+-- version and the text of the book, no rowid stands twice, and the moment is in the range of
+-- moments
+pub record BecomesAdded (text code : List ℕ) (terms : VoucherTerms) (t : ℕ)
+    (old new : Trees) : Type 0
   where
     pub tables : (names : List (List ℕ))
-        → tables_of names (content_of new) ≡ with_added code terms t (tables_of names (content_of old))
+        → tables_of names (content_of new)
+        ≡ with_added code terms t (tables_of names (content_of old))
     pub meta : (content_of new).meta ≡ Some (meta_at text t)
     pub last : t ≤ 4_102_488_000
     pub catalog : new catalog_tree ≡ old catalog_tree

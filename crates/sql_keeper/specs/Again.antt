@@ -19,10 +19,11 @@ use Rattle.sql_keeper.specs.Creates.{IsNewBook}
 use Rattle.sql_keeper.specs.Opened.{IsLeft, IsNotOpened}
 use Rattle.sql_keeper.specs.Sweeps.{BecomesSwept}
 
--- a new book is left, and what a commit, an addition or a sweep makes of tables that are left is left
--- again
+-- a new book is left, and what a commit, an addition or a sweep makes of tables that are left is
+-- left again
 pub record AreLeftAgain : Type 0 where
-  pub made : (text : List ℕ) (new : Trees) → IsUtf8 text → IsBookText text → IsNewBook text new → IsLeft text new
+  pub made : (text : List ℕ) (new : Trees) → IsUtf8 text → IsBookText text → IsNewBook text new →
+      IsLeft text new
   pub committed : (names : List (List ℕ)) (text : List ℕ) (change : Change) (old new : Trees)
       → IsLeft text old → Becomes names text change old new → IsLeft text new
   pub added : (text code : List ℕ) (terms : VoucherTerms) (t : ℕ) (old new : Trees)
@@ -32,5 +33,6 @@ pub record AreLeftAgain : Type 0 where
 
 -- the connection that was opened shows what was left, so none of these faults is told of it
 abbrev pub IsFoundAgain : {S : Type 0} → Ghosts S → Held S → Held S → List ℕ → OpenFault → Type 0
-IsFoundAgain g old new text fault = IsLeft text (state g old).now.trees → IsDatabase (state g old).now
-    → HasCleanDisk (state g new) → IsNotOpened g old new fault → (¬ (fault ≡ Foreign)) × (¬ (fault ≡ Version)) × (¬ (fault ≡ Rules))
+IsFoundAgain g old new text fault = IsLeft text (state g old).now.trees
+    → IsDatabase (state g old).now → HasCleanDisk (state g new) → IsNotOpened g old new fault
+    → (¬ (fault ≡ Foreign)) × (¬ (fault ≡ Version)) × (¬ (fault ≡ Rules))

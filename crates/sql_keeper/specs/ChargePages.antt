@@ -1,6 +1,7 @@
 -- The charges of an account that a page has, by what the tables hold.
 -- Source: profile.
-use Rattle.std.specs.Prelude.{◌≡◌, refl, if◌then◌else◌, ℕ, ◌+◌, ◌-◌, ◌≤◌, min, Option, Some, None, nat_le}
+use Rattle.std.specs.Prelude.{◌≡◌, refl, if◌then◌else◌, ℕ, ◌+◌, ◌-◌, ◌≤◌, min, Option, Some, None}
+use Rattle.std.specs.Prelude.{nat_le}
 use Rattle.sql_rows.specs.declared.head.Head.{Head}
 use Rattle.sql_rows.specs.Content.{Rows as Stored}
 use Rattle.sql_rows.specs.Lists.{AreCharges, NumbersRise, is_within}

@@ -20,21 +20,25 @@ IsInside s = HasCleanDisk s → IsTrue s.is_open → IsTrue s.in_transaction
 
 -- an account, its buckets and its counters as they become
 abbrev pub with_money : List ℕ → StoredRows → Content → Content
-with_money a w c = with_counters a w.counters (with_buckets a w.buckets (with_account a (head_of w) c))
+with_money a w c =
+    with_counters a w.counters (with_buckets a w.buckets (with_account a (head_of w) c))
 
 -- outside a transaction: the change is committed, or nothing is changed, and a stop leaves what was
 -- left before or the change
-pub record Transacts {A E : Type 0} (change : Content → Content) (old new : State) (result : Result A E) : Type 0
+pub record Transacts {A E : Type 0} (change : Content → Content) (old new : State)
+    (result : Result A E) : Type 0
   where
-    pub done : HasCleanDisk new → OnOk result (IsTrue old.is_open × IsTrue new.is_open × Commits change old new)
+    pub done : HasCleanDisk new →
+        OnOk result (IsTrue old.is_open × IsTrue new.is_open × Commits change old new)
     pub kept : HasCleanDisk new → IsTrue new.is_open → OnErr result (IsStill old new)
     pub idle : HasIdleBook new
     pub survives : Survives old new (λ db. IsTrue old.is_open × Turns change old.now.trees db)
 
 -- the tables hold the change, if it is one of the rows that were there; they would be found again:
--- the catalog is the same, and so are the version and the text of the book, no rowid stands twice, and
--- the moment is in the range of moments
-pub record Becomes (names : List (List ℕ)) (text : List ℕ) (change : Change) (old new : Trees) : Type 0
+-- the catalog is the same, and so are the version and the text of the book, no rowid stands twice,
+-- and the moment is in the range of moments
+pub record Becomes (names : List (List ℕ)) (text : List ℕ) (change : Change)
+    (old new : Trees) : Type 0
   where
     pub tables : IsMadeFrom change.before change.after
         ((tables_of names (content_of old)).rows change.number)
@@ -55,5 +59,6 @@ pub record CommitsWhole {A E : Type 0} (Become : Trees → Trees → Type 0) (ol
   pub survives : Survives old new (λ db. IsTrue old.is_open → Become old.now.trees db)
 
 -- so a change is
-abbrev pub CommitsChange : {A E : Type 0} → List (List ℕ) → List ℕ → Change → State → State → Result A E → Type 0
+abbrev pub CommitsChange : {A E : Type 0} → List (List ℕ) → List ℕ → Change → State → State →
+    Result A E → Type 0
 CommitsChange names text change = CommitsWhole (Becomes names text change)

@@ -29,10 +29,12 @@ pub record BuildsBook (text : List ℕ) (old new : State) : Type 0 where
   pub book : IsBook new
   pub shows : Shows old new new.now old.committed true
 
--- outside a transaction: the tables are made, or nothing is changed, and a stop leaves what was left
--- before or the tables
-pub record CreatesBook {A E : Type 0} (text : List ℕ) (old new : State) (result : Result A E) : Type 0
+-- outside a transaction: the tables are made, or nothing is changed, and a stop leaves what was
+-- left before or the tables
+pub record CreatesBook {A E : Type 0} (text : List ℕ) (old new : State)
+    (result : Result A E) : Type 0
   where
-    pub done : HasCleanDisk new → OnOk result (IsTrue new.is_open × HasIdleBook new × IsNewBook text new.now.trees)
+    pub done : HasCleanDisk new →
+        OnOk result (IsTrue new.is_open × HasIdleBook new × IsNewBook text new.now.trees)
     pub kept : HasCleanDisk new → IsTrue new.is_open → OnErr result (IsStill old new)
     pub survives : Survives old new (IsNewBook text)

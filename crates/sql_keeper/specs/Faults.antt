@@ -6,7 +6,8 @@ use Rattle.sqlite_schema.specs.declared.schema.Schema.{Schema}
 use Rattle.sql_tables.specs.Ours.{has_ours}
 use Rattle.sql_keeper.specs.Books.{IsBookFault, IsBookText}
 use Rattle.sql_keeper.specs.declared.create_fault.CreateFault.{CreateFault}
-use Rattle.sql_keeper.specs.declared.create_fault.CreateFault.TheVariants.{Book, Present, Store, Memory}
+use Rattle.sql_keeper.specs.declared.create_fault.CreateFault.TheVariants.{Book, Present, Store}
+use Rattle.sql_keeper.specs.declared.create_fault.CreateFault.TheVariants.{Memory}
 
 -- the number under which a fault is told: that of the book's fault, or that of an opening
 abbrev pub fault_number : CreateFault → ℕ

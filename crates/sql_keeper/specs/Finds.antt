@@ -25,7 +25,8 @@ IsUnruledAt s fault = fault ≡ Rules → ¬ IsRuled s.now.trees
 
 -- the tables are ours, and this is kept once; nothing was written
 pub record FindsMeta (old new : State) (result : Result MetaRow OpenFault) : Type 0 where
-  pub found : HasCleanDisk new → IfOk result (λ m. ((content_of new.now.trees).meta ≡ Some (meta_of m))
+  pub found : HasCleanDisk new →
+      IfOk result (λ m. ((content_of new.now.trees).meta ≡ Some (meta_of m))
       × IsStill old new × IsTrue new.is_open)
   pub idle : OnOk result (HasIdleBook new)
   pub told : IfErr result IsNoVersion
@@ -41,6 +42,7 @@ pub record FindsBook (old new : State) (result : Result ReadBook OpenFault) : Ty
   pub same : IfOk result (λ r. r.own ≡ r.given)
   pub idle : OnOk result (HasIdleBook new)
   pub foreign : HasCleanDisk new → IfErr result (IsForeignAt old)
-  pub version : HasCleanDisk new → IfErr result (λ fault. fault ≡ Version → IsOtherVersion old.now.trees)
+  pub version : HasCleanDisk new →
+      IfErr result (λ fault. fault ≡ Version → IsOtherVersion old.now.trees)
   pub rules : HasCleanDisk new → IfErr result (IsUnruledAt old)
   pub survives : Survives old new (λ _. ⊥)

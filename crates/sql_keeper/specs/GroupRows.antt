@@ -1,6 +1,7 @@
 -- What a session has of a rating group, made of its row and of what is held for the session.
 -- Source: profile.
-use Rattle.std.specs.Prelude.{◌≡◌, ℕ, ◌==◌, ◌&&◌, ◌||◌, Bool, true, not, List, Option, Some, None, option_map, unwrap_or, nat_lt, if◌then◌else◌}
+use Rattle.std.specs.Prelude.{◌≡◌, ℕ, ◌==◌, ◌&&◌, ◌||◌, Bool, true, not, List, Option, Some, None}
+use Rattle.std.specs.Prelude.{option_map, unwrap_or, nat_lt, if◌then◌else◌}
 use Rattle.std.specs.List.{find, list_all, list_any, AllZip}
 use Rattle.buckets.specs.declared.holds.Hold.{Hold}
 use Rattle.buckets.specs.Row.{Row}
@@ -46,7 +47,8 @@ pub record ArePeriodsOf (names : List (List ℕ)) (p : PeriodNames) (periods : P
   pub after : period_named names p.after ≡ Some periods.after
 
 -- the holds of a rating group stand in the order of the buckets, and there is no other hold of it
-pub record AreHoldsOf (buckets : List Row) (held : List HeldColumns) (g : ℕ) (holds : List Hold) : Type 0
+pub record AreHoldsOf (buckets : List Row) (held : List HeldColumns) (g : ℕ)
+    (holds : List Hold) : Type 0
   where
     pub order : holds ≡ holds_along buckets g held
     pub all : are_held_of buckets g held ≡ true
@@ -61,8 +63,8 @@ IsReservationOf names buckets held g (Some p) (Some r) =
     ArePeriodsOf names p r.periods × AreHoldsOf buckets held g r.holds
 
 -- what a session has of a rating group is that of the row
-pub record IsGroupOf (names : List (List ℕ)) (buckets : List Row) (held : List HeldColumns) (s : List ℕ)
-    (c : GroupAt) (x : SessionGroup) : Type 0 where
+pub record IsGroupOf (names : List (List ℕ)) (buckets : List Row)
+    (held : List HeldColumns) (s : List ℕ) (c : GroupAt) (x : SessionGroup) : Type 0 where
   pub session : x.session ≡ s
   pub group : x.group ≡ c.group
   pub used : x.used ≡ c.row.used
@@ -74,7 +76,8 @@ abbrev pub AreGroupsOf : List (List ℕ) → List Row → List HeldColumns → L
 AreGroupsOf names buckets held s cs xs = AllZip (IsGroupOf names buckets held s) cs xs
 
 -- all that one session has, as of an open one, and nothing of another
-pub record AreSessionGroups (names : List (List ℕ)) (rows : Stored) (s : List ℕ) (xs : List SessionGroup)
+pub record AreSessionGroups (names : List (List ℕ)) (rows : Stored) (s : List ℕ)
+    (xs : List SessionGroup)
     : Type 0 where
   pub groups : (t : List ℕ) (g : ℕ) → option_map group_row (group_in t g xs) ≡
       (if same_name s t then option_map (group_told names true) (rows.groups t g) else None)

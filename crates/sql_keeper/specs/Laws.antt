@@ -31,7 +31,8 @@ AreChangesRead =
 -- there
 abbrev pub AreSweepsRead : Type 0
 AreSweepsRead =
-    (names : List (List ℕ)) (text : List ℕ) (book : Book) (t : ℕ) (c : Content) (xs : List SweptAccount)
+    (names : List (List ℕ)) (text : List ℕ) (book : Book) (t : ℕ) (c : Content)
+    (xs : List SweptAccount)
     → IsBook book → AreAllSwept names book t c xs
     → IsSwept book t (tables_of names c) (tables_of names (with_sweep names text t xs c))
 

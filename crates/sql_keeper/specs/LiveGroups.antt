@@ -1,6 +1,7 @@
 -- What sessions have of rating groups, with what is held there, read from the tables.
 -- Source: profile.
-use Rattle.std.specs.Prelude.{◌≡◌, ℕ, Bool, true, false, List, None, Result, IfOk, OnOk, IsTrue, option_map, is_some, if◌then◌else◌}
+use Rattle.std.specs.Prelude.{◌≡◌, ℕ, Bool, true, false, List, None, Result, IfOk, OnOk, IsTrue}
+use Rattle.std.specs.Prelude.{option_map, is_some, if◌then◌else◌}
 use Rattle.sqlite_trees.specs.Tree.{Trees}
 use Rattle.sqlite.specs.State.{State, HasCleanDisk, Survives}
 use Rattle.reserving.specs.declared.session.Session.{Session}
@@ -15,7 +16,8 @@ use Rattle.sql_keeper.specs.Content.{group_in as group_told, is_reserved, held_i
 
 -- outside a transaction, several reads in turn, or none: while the connection stays open, what they
 -- answer is told by the tables; whether they answer or not, they change nothing
-pub record Gathers {A E : Type 0} (told : Trees → A → Type 0) (old new : State) (result : Result A E) : Type 0
+pub record Gathers {A E : Type 0} (told : Trees → A → Type 0) (old new : State)
+    (result : Result A E) : Type 0
   where
     pub found : HasCleanDisk new → IsTrue new.is_open → IfOk result (told old.now.trees)
     pub only : OnlyReads old new
@@ -35,7 +37,8 @@ pub record AreLiveGroups (names : List (List ℕ)) (rows : Stored) (sessions : L
   pub groups : (s : List ℕ) (g : ℕ) → option_map group_row (group_in s g xs) ≡
       (if is_among s sessions then option_map (group_told names true) (rows.groups s g) else None)
   pub holds : (s : List ℕ) (g n : ℕ) → held_of n (group_in s g xs) ≡
-      (if is_among s sessions then held_in (is_reserved (rows.groups s g)) (rows.holds s g n) else 0)
+      (if is_among s sessions
+      then held_in (is_reserved (rows.groups s g)) (rows.holds s g n) else 0)
 
 -- of an account's rows, what is loaded of groups and holds
 pub record AreLoadedGroups (r : Rows) (xs : List SessionGroup) : Type 0 where

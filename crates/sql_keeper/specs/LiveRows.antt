@@ -1,6 +1,7 @@
 -- What may still change of an account, read from the rows of its tables.
 -- Source: profile.
-use Rattle.std.specs.Prelude.{◌≡◌, ℕ, ◌==◌, not, List, Option, Some, None, Result, Ok, Err, if◌then◌else◌}
+use Rattle.std.specs.Prelude.{◌≡◌, ℕ, ◌==◌, not, List, Option, Some, None, Result, Ok, Err}
+use Rattle.std.specs.Prelude.{if◌then◌else◌}
 use Rattle.buckets.specs.Row.{Row}
 use Rattle.tariffs.specs.Books.{Book}
 use Rattle.reserving.specs.declared.session.Session.{Session}
@@ -76,7 +77,8 @@ IsLoadOf book a (Some w) None = ⊥
 IsLoadOf book a (Some w) (Some l) = (l.number ≡ a) × (l.account ≡ priced book w) × (l.before ≡ w)
 
 -- the account alone, or the same fault
-abbrev pub IsAccountOf : {E : Type 0} → Result (Option Loaded) E → Result (Option AccountRows) E → Type 0
+abbrev pub IsAccountOf : {E : Type 0} → Result (Option Loaded) E →
+    Result (Option AccountRows) E → Type 0
 IsAccountOf (Ok None) (Ok None) = Unit {0}
 IsAccountOf (Ok None) (Ok (Some a)) = ⊥
 IsAccountOf (Ok (Some l)) (Ok None) = ⊥

@@ -41,8 +41,8 @@ pub record IsKept (trees : Trees) (text : List ℕ) : Type 0 where
   pub book : row.book ≡ text
   pub last : row.last ≤ 4_102_488_000
 
--- the tables of a book as they are found again: the database lists ours, no rowid stands twice there,
--- and it keeps their first version with the text, which is one of characters and a book's
+-- the tables of a book as they are found again: the database lists ours, no rowid stands twice
+-- there, and it keeps their first version with the text, which is one of characters and a book's
 pub record IsLeft (text : List ℕ) (trees : Trees) : Type 0 where
   pub lists : Lists (trees catalog_tree) book_schema
   pub stored : AreStored trees
@@ -71,7 +71,8 @@ pub record IsNotCreated {S : Type 0} (g : Ghosts S) (text : List ℕ) (old new :
     (fault : CreateFault) : Type 0 where
   pub told : IsCreateFault text old.schema fault
   pub mode : new.in_transaction ≡ old.in_transaction
-  pub still : HasCleanDisk (state g new) → IsTrue (state g new).is_open → IsStill (state g old) (state g new)
+  pub still : HasCleanDisk (state g new) → IsTrue (state g new).is_open →
+      IsStill (state g old) (state g new)
   pub survives : Survives (state g old) (state g new) (IsNewBook text)
 
 -- ---- opened
@@ -82,8 +83,8 @@ pub record IsOtherVersion (trees : Trees) : Type 0 where
   pub is : (content_of trees).meta ≡ Some row
   pub other : ¬ (row.version ≡ 1)
 
--- in the rules of who opens it: no rowid stands twice, and what is kept once is there and in its rules,
--- with the text of a book where it is of the first version
+-- in the rules of who opens it: no rowid stands twice, and what is kept once is there and in its
+-- rules, with the text of a book where it is of the first version
 pub record IsRuled (trees : Trees) : Type 0 where
   pub stored : AreStored trees
   pub row : Meta
@@ -92,7 +93,8 @@ pub record IsRuled (trees : Trees) : Type 0 where
   pub book : row.version ≡ 1 → IsBookText row.book
 
 -- the keeper holds what was there, and nothing was written
-pub record IsOpened {S : Type 0} (g : Ghosts S) (old : Held S) (k : KeeperState S) (book : Book) : Type 0
+pub record IsOpened {S : Type 0} (g : Ghosts S) (old : Held S) (k : KeeperState S)
+    (book : Book) : Type 0
   where
     pub fresh : IsFresh k book
     pub left : HasCleanDisk (state g k.connection) → IsLeft k.text (trees_in g k)
@@ -101,8 +103,11 @@ pub record IsOpened {S : Type 0} (g : Ghosts S) (old : Held S) (k : KeeperState 
     pub survives : Survives (state g old) (state g k.connection) (λ _. ⊥)
 
 -- nothing was written
-pub record IsNotOpened {S : Type 0} (g : Ghosts S) (old new : Held S) (fault : OpenFault) : Type 0 where
+pub record IsNotOpened {S : Type 0} (g : Ghosts S) (old new : Held S)
+    (fault : OpenFault) : Type 0 where
   pub survives : Survives (state g old) (state g new) (λ _. ⊥)
-  pub foreign : HasCleanDisk (state g new) → fault ≡ Foreign → ¬ ((state g old).now.schema ≡ book_schema)
-  pub version : HasCleanDisk (state g new) → fault ≡ Version → IsOtherVersion (state g old).now.trees
+  pub foreign : HasCleanDisk (state g new) → fault ≡ Foreign →
+      ¬ ((state g old).now.schema ≡ book_schema)
+  pub version : HasCleanDisk (state g new) → fault ≡ Version →
+      IsOtherVersion (state g old).now.trees
   pub rules : HasCleanDisk (state g new) → fault ≡ Rules → ¬ IsRuled (state g old).now.trees

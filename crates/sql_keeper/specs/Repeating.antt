@@ -16,7 +16,8 @@ abbrev pub repeats_with : Option GroupTariff → Cycle
 repeats_with None = often.None
 repeats_with (Some x) = x.cycle
 
--- how often the counter of a rating group begins again: never for a group that the book doesn't have
+-- how often the counter of a rating group begins again: never for a group that the book doesn't
+-- have
 abbrev pub repeats_in : Book → ℕ → Cycle
 repeats_in b g = repeats_with (tariff_of b g)
 
@@ -26,7 +27,8 @@ AreRepeating b repeats t rows cs = (g c : ℕ) → counter_in g c cs
     ≡ (if cycles.eq (repeats_in b g) repeats
     then (if c == cycle_of b.calendar.zone repeats t then rows.counters g c else None) else None)
 
-pub record AreEachRepeating (b : Book) (t : ℕ) (rows : Stored) (never daily monthly : List Counter) : Type 0 where
+pub record AreEachRepeating (b : Book) (t : ℕ) (rows : Stored)
+    (never daily monthly : List Counter) : Type 0 where
   pub never_are : AreRepeating b often.None t rows never
   pub daily_are : AreRepeating b often.Day t rows daily
   pub monthly_are : AreRepeating b often.Month t rows monthly

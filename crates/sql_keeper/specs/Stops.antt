@@ -17,8 +17,10 @@ MayLeave g k = (state g k.connection).may_leave
 
 -- a stop at the exit of a call that writes leaves the rows before it, or with all that it writes;
 -- where the store is clean, the rows as they stand
-pub record IsWhole {S : Type 0} (g : Ghosts S) (old new : KeeperState S) (Written : Trees → Type 0) : Type 0
+pub record IsWhole {S : Type 0} (g : Ghosts S) (old new : KeeperState S)
+    (Written : Trees → Type 0) : Type 0
   where
     pub stop : HasCleanDisk (state g new.connection) → IsClean (state g old.connection)
         → (db : Trees) → MayLeave g new db → (db ≡ trees_in g old) ⊎ Written db
-    pub settled : IsClean (state g new.connection) → (db : Trees) → MayLeave g new db → db ≡ trees_in g new
+    pub settled : IsClean (state g new.connection) → (db : Trees) → MayLeave g new db →
+        db ≡ trees_in g new

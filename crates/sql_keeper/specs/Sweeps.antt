@@ -24,7 +24,8 @@ abbrev pub rows_at : Book → ℕ → StoredRows → StoredRows
 rows_at book t w = if nat_le w.as_of t then advanced_stored book t w else w
 
 -- these are what may still change of an account, at the moment, and they may be written
-pub record AreSweptRows (names : List (List ℕ)) (book : Book) (t : ℕ) (rows : Stored) (w : StoredRows)
+pub record AreSweptRows (names : List (List ℕ)) (book : Book) (t : ℕ) (rows : Stored)
+    (w : StoredRows)
     : Type 0 where
   pub before : StoredRows
   pub live : IsLiveAccount names book t rows (Some before)
@@ -43,26 +44,28 @@ pub record IsSweptAs (names : List (List ℕ)) (book : Book) (t : ℕ) (c : Cont
   pub swept : IsSweptOf names book t c x
 
 -- what was read of it, where anything was
-pub record IsSweptOfRows (names : List (List ℕ)) (book : Book) (t : ℕ) (number : List ℕ) (before : StoredRows)
-    (x : SweptAccount) : Type 0 where
+pub record IsSweptOfRows (names : List (List ℕ)) (book : Book) (t : ℕ) (number : List ℕ)
+    (before : StoredRows) (x : SweptAccount) : Type 0 where
   pub number_is : x.number ≡ number
   pub kept : IsStored before
   pub is : x.rows ≡ rows_at book t before
   pub stored : IsStored x.rows
   pub may : AreWritable names x.rows.sessions x.rows.groups
 
-abbrev pub IsSweptFrom : List (List ℕ) → Book → ℕ → List ℕ → Option StoredRows → SweptAccount → Type 0
+abbrev pub IsSweptFrom : List (List ℕ) → Book → ℕ → List ℕ → Option StoredRows →
+    SweptAccount → Type 0
 IsSweptFrom names book t number None x = ⊥
 IsSweptFrom names book t number (Some before) x = IsSweptOfRows names book t number before x
 
 -- the accounts of these numbers, in turn
-pub record AreSweptOf (names : List (List ℕ)) (book : Book) (t : ℕ) (c : Content) (numbers : List (List ℕ))
-    (xs : List SweptAccount) : Type 0 where
+pub record AreSweptOf (names : List (List ℕ)) (book : Book) (t : ℕ) (c : Content)
+    (numbers : List (List ℕ)) (xs : List SweptAccount) : Type 0 where
   pub numbers_are : map (λ (x : SweptAccount). x.number) xs ≡ numbers
   pub each : EachIn (IsSweptOf names book t c) xs
 
 -- all accounts, each once
-pub record AreAllSwept (names : List (List ℕ)) (book : Book) (t : ℕ) (c : Content) (xs : List SweptAccount)
+pub record AreAllSwept (names : List (List ℕ)) (book : Book) (t : ℕ) (c : Content)
+    (xs : List SweptAccount)
     : Type 0 where
   pub all : AreAccounts c (map (λ (x : SweptAccount). x.number) xs)
   pub each : EachIn (IsSweptOf names book t c) xs
@@ -80,9 +83,10 @@ with_sweep names text t xs c = with_accounts names xs (with_meta (meta_at text t
 -- ---- what becomes of the tables
 
 -- each account is brought to the moment; the tables would be found again: the catalog is the same,
--- and so are the version and the text of the book, no rowid stands twice, and the moment is in the range
--- of moments
-pub record BecomesSwept (names : List (List ℕ)) (text : List ℕ) (book : Book) (t : ℕ) (old new : Trees)
+-- and so are the version and the text of the book, no rowid stands twice, and the moment is in the
+-- range of moments
+pub record BecomesSwept (names : List (List ℕ)) (text : List ℕ) (book : Book) (t : ℕ)
+    (old new : Trees)
     : Type 0 where
   pub tables : IsSwept book t (tables_of names (content_of old)) (tables_of names (content_of new))
   pub meta : (content_of new).meta ≡ Some (meta_at text t)

@@ -1,6 +1,7 @@
 -- What is tested of a change before it is written, so that what is written reads as the change.
 -- Source: profile.
-use Rattle.std.specs.Prelude.{◌≡◌, ℕ, ◌+◌, ◌==◌, true, List, [], ◌∷◌, Option, Some, None, if◌then◌else◌}
+use Rattle.std.specs.Prelude.{◌≡◌, ℕ, ◌+◌, ◌==◌, true, List, [], ◌∷◌, Option, Some, None}
+use Rattle.std.specs.Prelude.{if◌then◌else◌}
 use Rattle.calendar.specs.declared.week.Period.{Period}
 use Rattle.tariffs.specs.Names.{period_named}
 use Rattle.buckets.specs.Holding.{AreHolds}

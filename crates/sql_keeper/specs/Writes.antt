@@ -1,6 +1,7 @@
 -- What a change writes, one row after another.
 -- Source: profile.
-use Rattle.std.specs.Prelude.{◌≡◌, ℕ, List, [], Option, Some, None, unwrap_or, option_map, slice_get}
+use Rattle.std.specs.Prelude.{◌≡◌, ℕ, List, [], Option, Some, None, unwrap_or, option_map}
+use Rattle.std.specs.Prelude.{slice_get}
 use Rattle.calendar.specs.declared.week.Period.{Period}
 use Rattle.rating.specs.declared.grant.Periods.{Periods}
 use Rattle.reserving.specs.declared.session.SessionGroup.{SessionGroup}
@@ -15,9 +16,12 @@ use Rattle.keepers.specs.Keys.{key_of}
 use Rattle.keepers.specs.declared.key.Key.TheVariants.{Request, Reference}
 use Rattle.redemptions.specs.declared.voucher.Voucher.{Voucher}
 use Rattle.sql_rows.specs.declared.head.Head.{Head as HeadColumns}
-use Rattle.sql_rows.specs.Values.{Meta, Group, PeriodNames, Kept, Voucher as VoucherRow, request_kind, reference_kind}
-use Rattle.sql_rows.specs.Content.{Content, with_rows, with_meta, with_account, with_group, without_holds, with_answer, with_voucher}
-use Rattle.sql_rows.specs.Each.{with_each, with_buckets, with_counters, with_sessions, with_holds, with_charges}
+use Rattle.sql_rows.specs.Values.{Meta, Group, PeriodNames, Kept, Voucher as VoucherRow}
+use Rattle.sql_rows.specs.Values.{request_kind, reference_kind}
+use Rattle.sql_rows.specs.Content.{Content, with_rows, with_meta, with_account, with_group}
+use Rattle.sql_rows.specs.Content.{without_holds, with_answer, with_voucher}
+use Rattle.sql_rows.specs.Each.{with_each, with_buckets, with_counters, with_sessions, with_holds}
+use Rattle.sql_rows.specs.Each.{with_charges}
 use Rattle.sql_keeper.specs.Content.{kept_in}
 
 -- ---- periods by their names

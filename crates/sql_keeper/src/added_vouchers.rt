@@ -103,8 +103,10 @@ fn commit_addition<S: Alter>(
         (db : Trees) → (state S.Store conn.new).may_leave db →
         (db ≡ (state S.Store conn.old).now.trees) ⊎
         BecomesAdded text.now code.now terms moment (state S.Store conn.old).now.trees db }
-    ensures settled { HasCleanDisk (state S.Store conn.new) → IsTrue (state S.Store conn.new).is_open →
-        (db : Trees) → (state S.Store conn.new).may_leave db → db ≡ (state S.Store conn.new).now.trees }
+    ensures settled { HasCleanDisk (state S.Store conn.new) →
+        IsTrue (state S.Store conn.new).is_open →
+        (db : Trees) → (state S.Store conn.new).may_leave db →
+        db ≡ (state S.Store conn.new).now.trees }
     ensures cause { HasCause failures.old failures.new result }
 {
     let made = make_addition(conn, text, code, terms, moment);
@@ -112,9 +114,9 @@ fn commit_addition<S: Alter>(
 }
 
 impl<S: Alter> SqlKeeper<S> {
-    /// Adds a voucher of these terms under its code (profile), in one transaction with the moment of
-    /// the command: it stands there unspent, in the place of what stood there. At a fault nothing
-    /// has changed, and whatever a stop leaves is the tables before or with the voucher.
+    /// Adds a voucher of these terms under its code (profile), in one transaction with the moment
+    /// of the command: it stands there unspent, in the place of what stood there. At a fault
+    /// nothing has changed, and whatever a stop leaves is the tables before or with the voucher.
     ///
     /// # Errors
     /// Want of memory; a fault of the store, which is counted.

@@ -47,7 +47,8 @@ fn is_known<S: Alter>(
     session: &SessionId,
 ) -> Result<bool, ReadFault>
     requires idle { HasIdleBook (state S.Store conn.old) }
-    ensures { Reads (λ trees known. known ≡ is_some ((rows_in trees account.now).sessions session.now))
+    ensures { Reads (λ trees known.
+        known ≡ is_some ((rows_in trees account.now).sessions session.now))
         (state S.Store conn.old) (state S.Store conn.new) result }
 {
     let row = read_session(conn, alloc, account, session)?;

@@ -81,7 +81,8 @@ fn page_of<S: Alter>(
     after: u32,
 ) -> Result<ChargePage, ReadFault>
     requires idle { HasIdleBook (state S.Store conn.old) }
-    ensures { Gathers (λ trees page. IsPage (λ n. charge_of n (rows_in trees account.now)) after page)
+    ensures { Gathers (λ trees page.
+        IsPage (λ n. charge_of n (rows_in trees account.now)) after page)
         (state S.Store conn.old) (state S.Store conn.new) result }
 {
     let page = read_page(conn, alloc, account, after)?;

@@ -72,8 +72,8 @@ fn make_change<S: Alter>(
     Ok(())
 }
 
-/// Commits a change, in one transaction: the tables become those with the change, or at a fault they
-/// are as before. Whatever a stop leaves is one of the two.
+/// Commits a change, in one transaction: the tables become those with the change, or at a fault
+/// they are as before. Whatever a stop leaves is one of the two.
 ///
 /// # Errors
 /// Out of memory. The store failed, or the change isn't one that may be written: these are counted.
@@ -96,8 +96,10 @@ pub(crate) fn commit_change<S: Alter>(
         (db : Trees) → (state S.Store conn.new).may_leave db →
         (db ≡ (state S.Store conn.old).now.trees) ⊎
         Becomes book.now.periods text.now change.now (state S.Store conn.old).now.trees db }
-    ensures settled { HasCleanDisk (state S.Store conn.new) → IsTrue (state S.Store conn.new).is_open →
-        (db : Trees) → (state S.Store conn.new).may_leave db → db ≡ (state S.Store conn.new).now.trees }
+    ensures settled { HasCleanDisk (state S.Store conn.new) →
+        IsTrue (state S.Store conn.new).is_open →
+        (db : Trees) → (state S.Store conn.new).may_leave db →
+        db ≡ (state S.Store conn.new).now.trees }
     ensures cause { HasCause failures.old failures.new result }
 {
     let made = make_change(conn, alloc, book, text, change);
@@ -106,8 +108,8 @@ pub(crate) fn commit_change<S: Alter>(
 
 impl<S: Alter> SqlKeeper<S> {
     /// Makes the change, in one transaction: the account's rows, the charges, the kept answer, the
-    /// voucher that is redeemed and the moment together. At a fault nothing has changed, and whatever a stop leaves is the rows before
-    /// the change or with it.
+    /// voucher that is redeemed and the moment together. At a fault nothing has changed, and
+    /// whatever a stop leaves is the rows before the change or with it.
     ///
     /// # Errors
     /// Want of memory; a fault of the store, which is counted, as is a change that may not be

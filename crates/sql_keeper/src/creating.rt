@@ -27,10 +27,12 @@ fn put_book<S: Alter>(tx: &mut Transaction<'_, S>, text: &str) -> Result<(), Err
 /// Makes the tables of a book in a database that has none, in one transaction.
 pub(crate) fn create_book<S: Alter>(conn: &mut Connection<S>, text: &str) -> Result<(), Error>
     requires plain { conn.old.in_transaction ≡ false }
-    requires blank { HasCleanDisk (state S.Store conn.old) → IsTrue (state S.Store conn.old).is_open →
+    requires blank { HasCleanDisk (state S.Store conn.old) →
+        IsTrue (state S.Store conn.old).is_open →
         IsBlank (state S.Store conn.old) }
     ensures plain { conn.new.in_transaction ≡ false }
-    ensures creates { CreatesBook text.now (state S.Store conn.old) (state S.Store conn.new) result }
+    ensures creates { CreatesBook text.now (state S.Store conn.old)
+        (state S.Store conn.new) result }
 {
     let mut tx = conn.transaction();
     put_book(&mut tx, text)?;

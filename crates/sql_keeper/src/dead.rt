@@ -41,7 +41,8 @@ impl<S: Alter> SqlKeeper<S> {
     /// A fault of the store, which is counted, as is a row out of its rules; want of memory.
     pub fn dead_buckets(&mut self, account: &AccountNumber) -> Result<Vec<Bucket>, StoreFault>
         ensures { Finds (tables_in S.Store) failed_in (clean_in S.Store) self.old self.new
-            (λ found. AreDeadOf ((tables_in S.Store self.old).rows account.now) found.items) result }
+            (λ found. AreDeadOf ((tables_in S.Store self.old).rows account.now) found.items)
+            result }
     {
         let read = dead_of(&mut self.connection, self.alloc, account);
         counted(&mut self.failures, read)

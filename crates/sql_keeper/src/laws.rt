@@ -45,5 +45,6 @@ pub fn tables_are_left_again()
 
 /// Where the connection shows what was left, neither fault 1 nor fault 2 is told.
 pub fn left_tables_are_found<S: Alter>()
-    ensures { (old new : Held S) (text : List ℕ) (fault : OpenFault) → IsFoundAgain S.Store old new text fault }
+    ensures { (old new : Held S) (text : List ℕ) (fault : OpenFault) →
+        IsFoundAgain S.Store old new text fault }
 {}

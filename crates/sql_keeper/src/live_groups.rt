@@ -27,7 +27,8 @@ fn read_session_groups<S: Alter>(
 ) -> Result<Vec<SessionGroup>, ReadFault>
     requires idle { HasIdleBook (state S.Store conn.old) }
     ensures { Gathers
-        (λ trees xs. AreSessionGroups book.now.periods (rows_in trees account.now) session.now xs.items)
+        (λ trees xs.
+        AreSessionGroups book.now.periods (rows_in trees account.now) session.now xs.items)
         (state S.Store conn.old) (state S.Store conn.new) result }
 {
     let rows = read_groups(conn, alloc, account, session)?;
@@ -39,8 +40,8 @@ fn read_session_groups<S: Alter>(
 /// purse.
 ///
 /// # Errors
-/// `Rules` where a reservation's period isn't one of the book's, or it holds nothing of a bucket, or
-/// holds of one that isn't in the purse; else a fault of the store, or want of memory.
+/// `Rules` where a reservation's period isn't one of the book's, or it holds nothing of a bucket,
+/// or holds of one that isn't in the purse; else a fault of the store, or want of memory.
 pub(crate) fn read_live_groups<S: Alter>(
     conn: &mut Connection<S>,
     alloc: Global,
@@ -51,7 +52,8 @@ pub(crate) fn read_live_groups<S: Alter>(
 ) -> Result<Vec<SessionGroup>, ReadFault>
     requires idle { HasIdleBook (state S.Store conn.old) }
     ensures { Gathers
-        (λ trees xs. AreLiveGroups book.now.periods (rows_in trees account.now) sessions.now xs.items)
+        (λ trees xs.
+        AreLiveGroups book.now.periods (rows_in trees account.now) sessions.now xs.items)
         (state S.Store conn.old) (state S.Store conn.new) result }
 {
     let mut groups = Vec::new(alloc);

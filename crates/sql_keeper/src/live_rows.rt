@@ -4,7 +4,8 @@ ghost use Rattle.std.specs.Prelude.{◌≡◌, ◌++◌, map, filter, IfOk};
 ghost use Rattle.calendar.specs.contracts.cycle.CyclePartialEq.TheImpl.{ghosts as cycles};
 ghost use Rattle.sql_keeper.specs.LiveGroups.{Gathers};
 ghost use Rattle.sql_keeper.specs.Repeating.{AreEachRepeating, AreRepeating, repeats_in};
-ghost use Rattle.sql_keeper.specs.LiveRows.{account_with, AreCountersAt, AreLiveBuckets, AreLiveRows, IsLiveAccount};
+ghost use Rattle.sql_keeper.specs.LiveRows.{account_with, AreCountersAt, AreLiveBuckets};
+ghost use Rattle.sql_keeper.specs.LiveRows.{AreLiveRows, IsLiveAccount};
 ghost use Rattle.sql_rows.specs.Content.{rows_in};
 ghost use Rattle.sql_rows.specs.Texts.{bucket_row};
 ghost use Rattle.sql_tables.specs.Statements.{HasIdleBook, Reads};
@@ -93,7 +94,8 @@ fn read_repeating<S: Alter>(
     moment: Moment,
 ) -> Result<Vec<Counter>, ReadFault>
     requires idle { HasIdleBook (state S.Store conn.old) }
-    ensures { Reads (λ trees xs. AreRepeating book.now repeats moment (rows_in trees account.now) xs.items)
+    ensures { Reads (λ trees xs.
+        AreRepeating book.now repeats moment (rows_in trees account.now) xs.items)
         (state S.Store conn.old) (state S.Store conn.new) result }
 {
     let cycle = book.cycle_of(repeats, moment);
@@ -159,7 +161,8 @@ fn read_counters_at<S: Alter>(
     moment: Moment,
 ) -> Result<Vec<Counter>, ReadFault>
     requires idle { HasIdleBook (state S.Store conn.old) }
-    ensures { Gathers (λ trees xs. AreCountersAt book.now moment (rows_in trees account.now) xs.items)
+    ensures { Gathers (λ trees xs.
+        AreCountersAt book.now moment (rows_in trees account.now) xs.items)
         (state S.Store conn.old) (state S.Store conn.new) result }
 {
     let counters = read_each_repeating(conn, alloc, account, book, moment)?;

@@ -70,7 +70,8 @@ fn make_tables<S: Alter>(conn: &mut Connection<S>, text: &str) -> Result<(), Cre
     ensures mode { conn.new.in_transaction ≡ conn.old.in_transaction }
     ensures plain { OnOk result (conn.old.in_transaction ≡ false) }
     ensures blank { OnOk result (conn.old.schema ≡ stage 0) }
-    ensures creates { CreatesBook text.now (state S.Store conn.old) (state S.Store conn.new) result }
+    ensures creates { CreatesBook text.now (state S.Store conn.old)
+        (state S.Store conn.new) result }
     ensures told { IsBookText text.now → IfErr result (IsCreateFault text.now conn.old.schema) }
 {
     if has_ours(conn.schema()) {
@@ -92,7 +93,8 @@ fn find_meta<S: Alter>(conn: &mut Connection<S>) -> Result<Meta, OpenFault>
         (state S.Store conn.old) (state S.Store conn.new) result }
     ensures told { IfErr result IsNoVersion }
     ensures ours { IfErr result (λ fault. ¬ (fault ≡ Foreign)) }
-    ensures rules { HasCleanDisk (state S.Store conn.new) → IfErr result (IsUnruledAt (state S.Store conn.old)) }
+    ensures rules { HasCleanDisk (state S.Store conn.new) →
+        IfErr result (IsUnruledAt (state S.Store conn.old)) }
 {
     match read_meta(conn) {
         Ok(Some(meta)) => Ok(meta),
@@ -170,7 +172,8 @@ impl<S: Alter> SqlKeeper<S> {
         mut connection: Connection<S>,
         text: &str,
     ) -> Result<(SqlKeeper<S>, TariffBook), (CreateFault, Connection<S>)>
-        ensures created { IfOk result (λ made. IsCreated S.Store text.now connection made.0 made.1) }
+        ensures created { IfOk result
+            (λ made. IsCreated S.Store text.now connection made.0 made.1) }
         ensures refused { IfErr result
             (λ left. IsNotCreated S.Store text.now connection left.1 left.0) }
     {
@@ -188,9 +191,9 @@ impl<S: Alter> SqlKeeper<S> {
     ///
     /// # Errors
     /// The connection is given back. `Foreign`, the tables aren't exactly those of this system, and
-    /// only then; `Version`, the version of its tables isn't 1, and only then; `Rules`, a rowid stands
-    /// twice, or what is kept once isn't there, is out of its rules or has no text of a book, and only
-    /// then; `Store`, also where a transaction is open; `Memory`.
+    /// only then; `Version`, the version of its tables isn't 1, and only then; `Rules`, a rowid
+    /// stands twice, or what is kept once isn't there, is out of its rules or has no text of a
+    /// book, and only then; `Store`, also where a transaction is open; `Memory`.
     pub fn open(
         alloc: Global,
         mut connection: Connection<S>,

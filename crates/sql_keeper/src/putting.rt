@@ -7,7 +7,8 @@ ghost use Rattle.sql_rows.specs.Content.{with_account};
 ghost use Rattle.sql_rows.specs.Makes.{Makes, MakesIfOpen};
 ghost use Rattle.sql_rows.specs.Texts.{kept_of};
 ghost use Rattle.sql_keeper.specs.Commits.{IsInside, with_money};
-ghost use Rattle.sql_keeper.specs.Writes.{head_of, meta_with, with_change, with_kept, with_stored, with_texts};
+ghost use Rattle.sql_keeper.specs.Writes.{head_of, meta_with, with_change, with_kept, with_stored};
+ghost use Rattle.sql_keeper.specs.Writes.{with_texts};
 ghost use Rattle.sqlite.specs.Held.{state};
 
 use crate::held_groups::put_groups;
@@ -78,7 +79,8 @@ fn put_texts<S: Alter>(
 ) -> Result<usize, Error>
     requires book { HasBook (state S.Store tx.old.conn.now) }
     ensures same_reference { tx.new.conn.ghost_name ≡ tx.old.conn.ghost_name }
-    ensures makes { Attempts (Makes (with_texts account.now (key_of content.now) (kept_of texts.now)))
+    ensures makes { Attempts
+        (Makes (with_texts account.now (key_of content.now) (kept_of texts.now)))
         (state S.Store tx.old.conn.now) (state S.Store tx.new.conn.now) result }
 {
     let of_content = texts.content.as_str();

@@ -2,7 +2,9 @@
 
 ghost use Rattle.std.specs.Prelude.{◌≡◌, ◌==◌, ◌&&◌, Some, IfOk, map, option_map};
 ghost use Rattle.std.specs.List.{list_any};
-ghost use Rattle.sql_keeper.specs.GroupRows.{AreGroupsOf, AreHoldsOf, ArePeriodsOf, IsGroupOf, IsReservationOf, amount_of, are_held_of, holds_along, is_held_of};
+ghost use Rattle.sql_keeper.specs.GroupRows.{AreGroupsOf, AreHoldsOf, ArePeriodsOf, IsGroupOf};
+ghost use Rattle.sql_keeper.specs.GroupRows.{IsReservationOf, amount_of, are_held_of, holds_along};
+ghost use Rattle.sql_keeper.specs.GroupRows.{is_held_of};
 ghost use Rattle.sql_rows.specs.Texts.{group_at, names_of};
 ghost use Rattle.tariffs.specs.Names.{period_named};
 

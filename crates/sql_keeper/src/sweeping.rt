@@ -105,8 +105,8 @@ fn make_sweep<S: Alter>(
     Ok(accounts.len() as u64)
 }
 
-/// Brings each account to a moment, in one transaction: the tables become those of the sweep, or at a
-/// fault they are as before. Whatever a stop leaves is one of the two.
+/// Brings each account to a moment, in one transaction: the tables become those of the sweep, or at
+/// a fault they are as before. Whatever a stop leaves is one of the two.
 ///
 /// # Errors
 /// Out of memory. The store failed, or an account's rows are out of the rules: these are counted.
@@ -133,8 +133,10 @@ pub(crate) fn sweep_accounts<S: Alter>(
         (db ≡ (state S.Store conn.old).now.trees) ⊎
         BecomesSwept names.now.periods text.now book.now moment
         (state S.Store conn.old).now.trees db }
-    ensures settled { HasCleanDisk (state S.Store conn.new) → IsTrue (state S.Store conn.new).is_open →
-        (db : Trees) → (state S.Store conn.new).may_leave db → db ≡ (state S.Store conn.new).now.trees }
+    ensures settled { HasCleanDisk (state S.Store conn.new) →
+        IsTrue (state S.Store conn.new).is_open →
+        (db : Trees) → (state S.Store conn.new).may_leave db →
+        db ≡ (state S.Store conn.new).now.trees }
     ensures cause { HasCause failures.old failures.new result }
 {
     let made = make_sweep(conn, alloc, names, text, book, moment);
@@ -142,8 +144,8 @@ pub(crate) fn sweep_accounts<S: Alter>(
 }
 
 impl<S: Alter> SqlKeeper<S> {
-    /// Brings each account to the moment, in one transaction, and answers how many there are: of each
-    /// what may still change is read, sessions whose supervision time is over end, what their
+    /// Brings each account to the moment, in one transaction, and answers how many there are: of
+    /// each what may still change is read, sessions whose supervision time is over end, what their
     /// reservations held is given up, and what is left of buckets that ended is expired. An account
     /// of a later moment stays. At a fault nothing has changed, and whatever a stop leaves is the
     /// rows before the sweep or with all of it.
@@ -161,7 +163,8 @@ impl<S: Alter> SqlKeeper<S> {
         ensures kept { Keeps (tables_in S.Store) failed_in (clean_in S.Store) self.old self.new
             result }
         ensures whole { IsWhole S.Store self.old self.new
-            (BecomesSwept self.old.names self.old.text book.now moment (trees_in S.Store self.old)) }
+            (BecomesSwept self.old.names self.old.text book.now moment
+            (trees_in S.Store self.old)) }
     {
         sweep_accounts(
             &mut self.connection,

@@ -38,8 +38,8 @@ fn advanced_to(rows: StoredAccount, book: &TariffBook, moment: Moment) -> Stored
     rows
 }
 
-/// The account of these rows at a moment. It is out of the rules where there are none, or where they
-/// may not be written.
+/// The account of these rows at a moment. It is out of the rules where there are none, or where
+/// they may not be written.
 fn swept_of(
     account: &AccountNumber,
     rows: Option<StoredAccount>,

@@ -2,5 +2,6 @@
 
 mod changes;
 mod loads;
+mod making;
 mod redeeming;
 mod sweeps;

@@ -1,5 +1,7 @@
 -- Lists in which no number with a fraction stands.
-use Rattle.std.proofs.Common.{◌≡◌, refl, ap, sym, ◌∙◌, ℕ, zero, suc, ◌+◌, ◌<◌, Bool, true, false, IsTrue, ◌&&◌, List, [], ◌∷◌, map, take, length, slice_index_or, ◌≤◌, subst, arith}
+use Rattle.std.proofs.Common.{◌≡◌, refl, ap, sym, ◌∙◌, ℕ, zero, suc, ◌+◌, ◌<◌, Bool, true, false}
+use Rattle.std.proofs.Common.{IsTrue, ◌&&◌, List, [], ◌∷◌, map, take, length, slice_index_or, ◌≤◌}
+use Rattle.std.proofs.Common.{subst, arith}
 use Rattle.std.specs.List.{list_all}
 use Rattle.std.proofs.lemmas.Bool.{and_parts, both_ways}
 use Rattle.sqlite_schema.specs.declared.schema.Schema.{Schema}
@@ -12,12 +14,14 @@ pub all_plain : {X : Type 0} (xs : List X) → IsTrue (list_all (λ _. true) xs)
 all_plain [] = refl
 all_plain (x ∷ xs) = all_plain xs
 
-pub all_lists_plain : {X : Type 0} (xs : List (List X)) → IsTrue (list_all (list_all (λ _. true)) xs)
+pub all_lists_plain : {X : Type 0} (xs : List (List X)) →
+    IsTrue (list_all (list_all (λ _. true)) xs)
 all_lists_plain [] = refl
-all_lists_plain (x ∷ xs) = ap (λ b. b && list_all (list_all (λ _. true)) xs) (all_plain x) ∙ all_lists_plain xs
+all_lists_plain (x ∷ xs) = ap (λ b. b && list_all (list_all (λ _. true)) xs) (all_plain x)
+    ∙ all_lists_plain xs
 
-pub same_at : {X : Type 0} (f g : ℕ → X) (xs ys : List ℕ) (at : ℕ) → at < length xs → map f xs ≡ map g ys
-    → f (slice_index_or xs at 0) ≡ g (slice_index_or ys at 0)
+pub same_at : {X : Type 0} (f g : ℕ → X) (xs ys : List ℕ) (at : ℕ) → at < length xs
+    → map f xs ≡ map g ys → f (slice_index_or xs at 0) ≡ g (slice_index_or ys at 0)
 same_at f g [] ys at h e = absurd (omega (arith, h))
 same_at f g (x ∷ xs) [] at h e = absurd (cc e)
 same_at f g (x ∷ xs) (y ∷ ys) zero h e = cc e
@@ -27,11 +31,13 @@ pub plain_at : {X : Type 0} (p : X → Bool) (f : ℕ → X) (xs : List ℕ) (at
     → IsTrue (list_all p (map f xs)) → IsTrue (p (f (slice_index_or xs at 0)))
 plain_at p f [] at h all = absurd (omega (arith, h))
 plain_at p f (x ∷ xs) zero h all = (and_parts (p (f x)) _ all).0
-plain_at p f (x ∷ xs) (suc n) h all = plain_at p f xs n (omega (arith, h)) (and_parts (p (f x)) _ all).1
+plain_at p f (x ∷ xs) (suc n) h all =
+    plain_at p f xs n (omega (arith, h)) (and_parts (p (f x)) _ all).1
 
 -- one more of two lists is the same
-grown_by_one : {X : Type 0} (f g : ℕ → X) (xs ys : List ℕ) (at : ℕ) → at < length xs → at < length ys
-    → take at (map f xs) ≡ take at (map g ys) → f (slice_index_or xs at 0) ≡ g (slice_index_or ys at 0)
+grown_by_one : {X : Type 0} (f g : ℕ → X) (xs ys : List ℕ) (at : ℕ) → at < length xs
+    → at < length ys → take at (map f xs) ≡ take at (map g ys)
+    → f (slice_index_or xs at 0) ≡ g (slice_index_or ys at 0)
     → take (suc at) (map f xs) ≡ take (suc at) (map g ys)
 grown_by_one f g [] ys at h k e same = absurd (omega (arith, h))
 grown_by_one f g (x ∷ xs) [] at h k e same = absurd (omega (arith, k))
@@ -43,14 +49,15 @@ grown_by_one f g (x ∷ xs) (y ∷ ys) (suc n) h k e same =
     ap (λ z. z ∷ take (suc n) (map f xs)) here ∙ ap (λ l. g y ∷ l) more
 
 pub grown : {X : Type 0} (f g : ℕ → X) (xs ys : List ℕ) (at : ℕ) → at < length xs → at < length ys
-    → take at (map f xs) ≡ take at (map g ys) → f (slice_index_or xs at 0) ≡ g (slice_index_or ys at 0)
+    → take at (map f xs) ≡ take at (map g ys)
+    → f (slice_index_or xs at 0) ≡ g (slice_index_or ys at 0)
     → take (at + 1) (map f xs) ≡ take (at + 1) (map g ys)
 grown f g xs ys at h k e same =
     let next : suc at ≡ at + 1 = omega arith in
     subst (λ n. take n (map f xs) ≡ take n (map g ys)) next (grown_by_one f g xs ys at h k e same)
 
-pub all_same : {X : Type 0} (f g : ℕ → X) (xs ys : List ℕ) (at : ℕ) → length xs ≡ length ys → length xs ≤ at
-    → take at (map f xs) ≡ take at (map g ys) → map f xs ≡ map g ys
+pub all_same : {X : Type 0} (f g : ℕ → X) (xs ys : List ℕ) (at : ℕ) → length xs ≡ length ys
+    → length xs ≤ at → take at (map f xs) ≡ take at (map g ys) → map f xs ≡ map g ys
 all_same f g [] [] at long h e = refl
 all_same f g [] (y ∷ ys) at long h e = absurd (omega (arith, long))
 all_same f g (x ∷ xs) [] at long h e = absurd (omega (arith, long))
@@ -74,6 +81,8 @@ pub book_is_plain : IsTrue (is_plain book_schema)
 book_is_plain = refl
 
 pub not_ours : (first second : Schema) (same : Bool) → first ≡ book_schema
-    → (IsTrue (is_plain first) → first ≡ second → IsTrue same) → same ≡ false → ¬ (second ≡ book_schema)
+    → (IsTrue (is_plain first) → first ≡ second → IsTrue same) → same ≡ false
+    → ¬ (second ≡ book_schema)
 not_ours first second same is told none ours =
-    both_ways same none (told (subst (λ s. IsTrue (is_plain s)) (sym is) book_is_plain) (is ∙ sym ours))
+    both_ways same none
+    (told (subst (λ s. IsTrue (is_plain s)) (sym is) book_is_plain) (is ∙ sym ours))

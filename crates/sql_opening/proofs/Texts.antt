@@ -2,14 +2,16 @@
 use Rattle.std.proofs.Common.{refl, codes, [], ◌∷◌}
 use Rattle.sqlite_tied.specs.Compute.{everything}
 use Rattle.sqlite.specs.Listing.{understood}
-use Rattle.sql_tables.specs.Schema.{meta, accounts, buckets, counters, sessions, session_groups, holds, answers, vouchers, charges}
+use Rattle.sql_tables.specs.Schema.{meta, accounts, buckets, counters, sessions, session_groups}
+use Rattle.sql_tables.specs.Schema.{holds, answers, vouchers, charges}
 use Rattle.sql_opening.specs.Opens.{IsNext}
 
 pub meta_next : IsNext (codes "SELECT rowid FROM meta ORDER BY rowid") 0
 unfolding understood everything
 meta_next = record {
   table = meta;
-  rest = accounts ∷ buckets ∷ counters ∷ sessions ∷ session_groups ∷ holds ∷ answers ∷ vouchers ∷ charges ∷ [];
+  rest = accounts ∷ buckets ∷ counters ∷ sessions ∷ session_groups ∷ holds ∷ answers ∷ vouchers
+      ∷ charges ∷ [];
   all = refl;
   next = refl;
   rowids = record { command = refl; listing = refl; plain = (refl, refl) };

@@ -2,7 +2,8 @@
 -- Source: profile.
 use Rattle.std.specs.Prelude.{ℕ}
 use Rattle.sql_opening.specs.declared.fault.OpenFault.{OpenFault}
-use Rattle.sql_opening.specs.declared.fault.OpenFault.TheVariants.{Foreign, Version, Rules, Store, Memory}
+use Rattle.sql_opening.specs.declared.fault.OpenFault.TheVariants.{Foreign, Version, Rules, Store}
+use Rattle.sql_opening.specs.declared.fault.OpenFault.TheVariants.{Memory}
 
 -- the number under which a fault is told
 abbrev pub number_of : OpenFault → ℕ

@@ -1,6 +1,7 @@
 -- What is tested of a database that was made elsewhere.
 -- Source: profile.
-use Rattle.std.specs.Prelude.{◌≡◌, ℕ, ◌+◌, List, take, codes, None, [], ◌∷◌, pos, negsuc, false, Result, IfErr, OnOk, ◌++◌, ⊤}
+use Rattle.std.specs.Prelude.{◌≡◌, ℕ, ◌+◌, List, take, codes, None, [], ◌∷◌, pos, negsuc, false}
+use Rattle.std.specs.Prelude.{Result, IfErr, OnOk, ◌++◌, ⊤}
 use Rattle.std.specs.List.{AllByRecursion}
 use Rattle.sqlite_value.specs.declared.value.Value.TheVariants.{Int}
 use Rattle.sqlite_value.specs.declared.keys.Collation.TheVariants.{Binary}
@@ -17,12 +18,14 @@ use Rattle.sql_tables.specs.Keyed.{IsStored}
 use Rattle.sql_tables.specs.Schema.{book_schema}
 use Rattle.sql_tables.specs.Statements.{AreStored, IsIdle}
 use Rattle.sql_opening.specs.declared.fault.OpenFault.{OpenFault}
-use Rattle.sql_opening.specs.declared.fault.OpenFault.TheVariants.{Foreign, Version, Rules, Store, Memory}
+use Rattle.sql_opening.specs.declared.fault.OpenFault.TheVariants.{Foreign, Version, Rules, Store}
+use Rattle.sql_opening.specs.declared.fault.OpenFault.TheVariants.{Memory}
 
 -- the schema is ours, and the first tables have no rowid twice
 pub record IsStoredTo (k : ℕ) (s : State) : Type 0 where
   pub schema : s.now.schema ≡ book_schema
-  pub stored : AllByRecursion (λ (t : Table). IsStored (s.now.trees t.tree)) (take k book_schema.tables)
+  pub stored : AllByRecursion (λ (t : Table). IsStored (s.now.trees t.tree))
+      (take k book_schema.tables)
 
 abbrev pub HasStoredTo : ℕ → State → Type 0
 HasStoredTo k s = HasCleanDisk s → IsStoredTo k s

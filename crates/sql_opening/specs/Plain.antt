@@ -29,7 +29,8 @@ is_plain_stamps s = list_all is_plain_term s.terms
 
 abbrev pub is_plain_table : Table → Bool
 is_plain_table t =
-    list_all is_plain_column t.columns && list_all is_plain_term t.checks && is_plain_stamps t.stamps
+    list_all is_plain_column t.columns && list_all is_plain_term t.checks
+    && is_plain_stamps t.stamps
 
 abbrev pub is_plain : Schema → Bool
 is_plain s = list_all is_plain_table s.tables

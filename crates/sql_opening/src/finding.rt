@@ -148,14 +148,16 @@ fn other_tables_differ<S: Alter>(conn: &mut Connection<S>) -> Result<(), OpenFau
 /// that no rowid of theirs stands twice: then each statement of this system does what it says. Each
 /// row is looked at once.
 ///
-/// Errors: `Foreign`, the tables aren't exactly ours; `Rules`, a rowid of ours stands twice or is no
-/// integer; `Store`, also where a transaction is open; `Memory`. Nothing is changed, whatever is
+/// Errors: `Foreign`, the tables aren't exactly ours; `Rules`, a rowid of ours stands twice or is
+/// no integer; `Store`, also where a transaction is open; `Memory`. Nothing is changed, whatever is
 /// answered.
 pub fn find_tables<S: Alter>(conn: &mut Connection<S>, alloc: Global) -> Result<(), OpenFault>
-    ensures found { HasCleanDisk (state S.Store conn.new) → OnOk result (IsFound (state S.Store conn.old) (state S.Store conn.new)) }
+    ensures found { HasCleanDisk (state S.Store conn.new) →
+        OnOk result (IsFound (state S.Store conn.old) (state S.Store conn.new)) }
     ensures idle { OnOk result (conn.new.in_transaction ≡ false) }
     ensures told { IfErr result IsNoVersion }
-    ensures means { HasCleanDisk (state S.Store conn.new) → IfErr result (IsTold (state S.Store conn.old).now) }
+    ensures means { HasCleanDisk (state S.Store conn.new) →
+        IfErr result (IsTold (state S.Store conn.old).now) }
     ensures survives { Survives (state S.Store conn.old) (state S.Store conn.new) (λ _. ⊥) }
 {
     if !conn.is_autocommit() {

@@ -1,6 +1,7 @@
 //! Whether a rowid of a table stands twice: rowids that rise don't.
 
-ghost use Rattle.std.specs.Prelude.{◌≡◌, ◌+◌, ℕ, ℤ, [], ◌∷◌, ◌++◌, List, None, IsTrue, IfOk, IfSome, OnOk};
+ghost use Rattle.std.specs.Prelude.{◌≡◌, ◌+◌, ℕ, ℤ, [], ◌∷◌, ◌++◌, List, None, IsTrue, IfOk};
+ghost use Rattle.std.specs.Prelude.{IfSome, OnOk};
 ghost use Rattle.sqlite_value.specs.Order.{Row as Values};
 ghost use Rattle.sqlite.specs.Effect.{Database};
 ghost use Rattle.sqlite.specs.Given.{IsPlain};
@@ -68,11 +69,15 @@ impl Climb {
 /// Whether the first value of each row of a selection is an integer above that of the row before.
 /// Each row is read, also after one that isn't above.
 fn are_rising<S: Alter>(conn: &mut Connection<S>, sql: &str) -> Result<bool, Error>
-    requires { HasCleanDisk (state S.Store conn.old) → IsPlain (understood conn.old.schema sql.now) }
-    ensures rise { HasCleanDisk (state S.Store conn.new) → IfOk result (λ rises. (was : Held S) × (rows : List Values)
-        × IsUnchanged (state S.Store conn.old) (state S.Store was) × Shown sql.now [] (state S.Store was) (state S.Store conn.new) rows
+    requires { HasCleanDisk (state S.Store conn.old) →
+        IsPlain (understood conn.old.schema sql.now) }
+    ensures rise { HasCleanDisk (state S.Store conn.new) →
+        IfOk result (λ rises. (was : Held S) × (rows : List Values)
+        × IsUnchanged (state S.Store conn.old) (state S.Store was)
+        × Shown sql.now [] (state S.Store was) (state S.Store conn.new) rows
         × (IsTrue rises → AreRising rows) × (AreRising rows → IsTrue rises)) }
-    ensures same { HasCleanDisk (state S.Store conn.new) → OnOk result (IsUnchanged (state S.Store conn.old) (state S.Store conn.new)) }
+    ensures same { HasCleanDisk (state S.Store conn.new) →
+        OnOk result (IsUnchanged (state S.Store conn.old) (state S.Store conn.new)) }
     ensures crash { Survives (state S.Store conn.old) (state S.Store conn.new) (λ _. ⊥) }
 {
     let mut climb = Climb {

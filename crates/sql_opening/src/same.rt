@@ -5,7 +5,8 @@ ghost use Rattle.std.specs.List.{list_all};
 ghost use Rattle.sqlite_value.specs.declared.value.Value.TheVariants.{Null};
 ghost use Rattle.sqlite_sql.specs.Term.{lit};
 ghost use Rattle.sqlite_schema.specs.Code.{op_term, term_to, terms_in};
-ghost use Rattle.sql_opening.specs.Plain.{is_plain, is_plain_column, is_plain_stamps, is_plain_table, is_plain_term, is_plain_value};
+ghost use Rattle.sql_opening.specs.Plain.{is_plain, is_plain_column, is_plain_stamps};
+ghost use Rattle.sql_opening.specs.Plain.{is_plain_table, is_plain_term, is_plain_value};
 
 use sqlite_items::Items;
 use sqlite_schema::code::{Op, Terms};
@@ -13,7 +14,8 @@ use sqlite_schema::schema::{Action, Column, Index, Kind, Reference, Schema, Stam
 use sqlite_value::keys::{Collation, Order};
 use sqlite_value::value::{Bytes, Value};
 
-/// A test that two values are equal. It misses none that are where no number with a fraction stands.
+/// A test that two values are equal. It misses none that are where no number with a fraction
+/// stands.
 trait Same {
     ghost plain: { Self → Bool };
 
@@ -86,7 +88,8 @@ impl Same for Value {
 /// The node at a place that is read to a depth, and the depth of what it names. None is NULL.
 fn node_at(ops: &[Op], depth: usize, at: usize) -> Option<(&Op, usize)>
     ensures { MatchOption result (term_to ops.now depth at ≡ lit Null)
-        (λ found. (term_to ops.now depth at ≡ op_term (term_to ops.now found.1) found.0.now) × (found.1 < depth)) }
+        (λ found. (term_to ops.now depth at ≡ op_term (term_to ops.now found.1) found.0.now)
+        × (found.1 < depth)) }
 {
     if depth == 0 || at >= ops.len() {
         return None;
@@ -207,7 +210,8 @@ impl Same for Column {
 
 fn same_actions(first: &Reference, second: &Reference) -> bool
     ensures { IsTrue result ↔ ((first.now.on_delete ≡ second.now.on_delete)
-        × (first.now.on_update ≡ second.now.on_update) × (first.now.is_deferred ≡ second.now.is_deferred)) }
+        × (first.now.on_update ≡ second.now.on_update)
+        × (first.now.is_deferred ≡ second.now.is_deferred)) }
 {
     first.on_delete == second.on_delete
         && first.on_update == second.on_update
@@ -251,9 +255,11 @@ fn same_key(first: Option<usize>, second: Option<usize>) -> bool
 }
 
 fn same_columns(first: &Table, second: &Table) -> bool
-    ensures equal { IsTrue result → (first.now.name ≡ second.now.name) × (first.now.tree ≡ second.now.tree)
+    ensures equal { IsTrue result →
+        (first.now.name ≡ second.now.name) × (first.now.tree ≡ second.now.tree)
         × (first.now.columns ≡ second.now.columns) × (first.now.key ≡ second.now.key) }
-    ensures all { IsTrue (list_all is_plain_column first.now.columns) → first.now ≡ second.now → IsTrue result }
+    ensures all { IsTrue (list_all is_plain_column first.now.columns) → first.now ≡ second.now →
+        IsTrue result }
 {
     first.name.same(&second.name)
         && first.tree == second.tree
@@ -279,7 +285,8 @@ fn same_keys(first: &Table, second: &Table) -> bool
 fn same_rules(first: &Table, second: &Table) -> bool
     ensures equal { IsTrue result → (first.now.checks ≡ second.now.checks)
         × (first.now.references ≡ second.now.references) }
-    ensures all { IsTrue (list_all is_plain_term first.now.checks) → first.now ≡ second.now → IsTrue result }
+    ensures all { IsTrue (list_all is_plain_term first.now.checks) → first.now ≡ second.now →
+        IsTrue result }
 {
     first.checks.same(&second.checks) && first.references.same(&second.references)
 }
@@ -288,7 +295,8 @@ fn same_rules(first: &Table, second: &Table) -> bool
 fn same_defaults(first: &Table, second: &Table) -> bool
     ensures equal { IsTrue result → (first.now.computed ≡ second.now.computed)
         × (first.now.stamps ≡ second.now.stamps) × (first.now.is_counted ≡ second.now.is_counted) }
-    ensures all { IsTrue (is_plain_stamps first.now.stamps) → first.now ≡ second.now → IsTrue result }
+    ensures all { IsTrue (is_plain_stamps first.now.stamps) → first.now ≡ second.now →
+        IsTrue result }
 {
     first.computed.same(&second.computed)
         && first.stamps.same(&second.stamps)

@@ -1,6 +1,7 @@
 -- Those of buckets whose numbers rise that pass a test.
-use Rattle.std.proofs.Common.{◌≡◌, ℕ, ◌<◌, ◌≤◌, List, [], ◌∷◌, Bool, true, false, Some, None, Option, refl, sym}
-use Rattle.std.proofs.Common.{ap, ◌∙◌, arith, nat_eq, eqb-true, map, subst, Ok, Err, Result, OnOk}
+use Rattle.std.proofs.Common.{◌≡◌, ℕ, ◌<◌, ◌≤◌, List, [], ◌∷◌, Bool, true, false, Some, None}
+use Rattle.std.proofs.Common.{Option, refl, sym, ap, ◌∙◌, arith, nat_eq, eqb-true, map, subst, Ok}
+use Rattle.std.proofs.Common.{Err, Result, OnOk}
 use Rattle.std.specs.Prelude.{filter, IfOk}
 use Rattle.std.specs.List.{find}
 use Rattle.buckets.specs.Row.{Row as Bucket}
@@ -16,7 +17,8 @@ rise_tail : (b : Bucket) (bs : List Bucket) → BucketsRise (b ∷ bs) → Bucke
 rise_tail b [] rise = tt
 rise_tail b (x ∷ xs) rise = rise.1
 
-rise_over : (l m : Bucket) (bs : List Bucket) → l.number < m.number → BucketsRise (m ∷ bs) → BucketsRise (l ∷ bs)
+rise_over : (l m : Bucket) (bs : List Bucket) → l.number < m.number → BucketsRise (m ∷ bs) →
+    BucketsRise (l ∷ bs)
 rise_over l m [] less rise = tt
 rise_over l m (b ∷ bs) less rise = (omega (arith, less, rise.0), rise.1)
 
@@ -26,11 +28,13 @@ module _ (test : Bucket → Bool) where
       → find (has n) (filter test bs) ≡ None
   none_later n m [] less rise = refl
   none_later n m (b ∷ bs) less rise =
-      go (test b) refl (nat_eq b.number n) refl (none_later n b bs (omega (arith, less, rise.0)) rise.1)
+      go (test b) refl (nat_eq b.number n) refl
+      (none_later n b bs (omega (arith, less, rise.0)) rise.1)
     where
-      go : (p : Bool) → test b ≡ p → (q : Bool) → nat_eq b.number n ≡ q → find (has n) (filter test bs) ≡ None
-          → find (has n) (filter test (b ∷ bs)) ≡ None
-      go p e true k none = absurd (let same : b.number ≡ n = eqb-true b.number n k in omega (arith, same, less, rise.0))
+      go : (p : Bool) → test b ≡ p → (q : Bool) → nat_eq b.number n ≡ q
+          → find (has n) (filter test bs) ≡ None → find (has n) (filter test (b ∷ bs)) ≡ None
+      go p e true k none = absurd (let same : b.number ≡ n = eqb-true b.number n k in
+          omega (arith, same, less, rise.0))
       go true e false k none = rw (e, k) none
       go false e false k none = rw e none
 
@@ -52,19 +56,21 @@ module _ (test : Bucket → Bool) where
           rw (e, k, e) later
       go false e false k same = rw (e, k) same
 
-  rise_after : (m : Bucket) (bs : List Bucket) → BucketsRise (m ∷ bs) → BucketsRise (m ∷ filter test bs)
+  rise_after : (m : Bucket) (bs : List Bucket) → BucketsRise (m ∷ bs) →
+      BucketsRise (m ∷ filter test bs)
   rise_after m [] rise = tt
   rise_after m (b ∷ bs) rise =
       go (test b) refl (rise_after b bs rise.1) (rise_after m bs (rise_over m b bs rise.0 rise.1))
     where
-      go : (p : Bool) → test b ≡ p → BucketsRise (b ∷ filter test bs) → BucketsRise (m ∷ filter test bs)
-          → BucketsRise (m ∷ filter test (b ∷ bs))
+      go : (p : Bool) → test b ≡ p → BucketsRise (b ∷ filter test bs)
+          → BucketsRise (m ∷ filter test bs) → BucketsRise (m ∷ filter test (b ∷ bs))
       go true e taken left = rw e (rise.0, taken)
       go false e taken left = rw e left
 
   pub rise_among : (bs : List Bucket) → BucketsRise bs → BucketsRise (filter test bs)
   rise_among [] rise = tt
-  rise_among (b ∷ bs) rise = go (test b) refl (rise_after b bs rise) (rise_among bs (rise_tail b bs rise))
+  rise_among (b ∷ bs) rise =
+      go (test b) refl (rise_after b bs rise) (rise_among bs (rise_tail b bs rise))
     where
       go : (p : Bool) → test b ≡ p → BucketsRise (b ∷ filter test bs) → BucketsRise (filter test bs)
           → BucketsRise (filter test (b ∷ bs))
@@ -76,19 +82,21 @@ pub filter_rows : {X : Type 0} (f : X → Bucket) (xs : List X)
 filter_rows f [] = refl
 filter_rows f (x ∷ xs) = go (is_dead (f x)) refl (filter_rows f xs)
   where
-    go : (p : Bool) → is_dead (f x) ≡ p → map f (filter (λ x. is_dead (f x)) xs) ≡ filter is_dead (map f xs)
+    go : (p : Bool) → is_dead (f x) ≡ p
+        → map f (filter (λ x. is_dead (f x)) xs) ≡ filter is_dead (map f xs)
         → map f (filter (λ x. is_dead (f x)) (x ∷ xs)) ≡ filter is_dead (map f (x ∷ xs))
     go true e same = rw e (ap (λ bs. f x ∷ bs) same)
     go false e same = rw e same
 
 module _ {V E : Type 0} (row : V → List Bucket) (all : List Bucket) where
   pub dead_told : (rows : Rows) (r : Result V E) → IfOk r (λ v. row v ≡ filter is_dead all)
-      → OnOk r (BucketsRise all) → AreBuckets (λ b. true) rows all → IfOk r (λ v. AreBuckets is_dead rows (row v))
+      → OnOk r (BucketsRise all) → AreBuckets (λ b. true) rows all
+      → IfOk r (λ v. AreBuckets is_dead rows (row v))
   dead_told rows (Ok v) is rise found = λ n. ap (find (has n)) is ∙ found_among is_dead n all rise
       ∙ ap (only is_dead) (found n ∙ only_all _)
   dead_told rows (Err e) is rise found = tt
 
-  pub dead_rise : (r : Result V E) → IfOk r (λ v. row v ≡ filter is_dead all) → OnOk r (BucketsRise all)
-      → IfOk r (λ v. BucketsRise (row v))
+  pub dead_rise : (r : Result V E) → IfOk r (λ v. row v ≡ filter is_dead all)
+      → OnOk r (BucketsRise all) → IfOk r (λ v. BucketsRise (row v))
   dead_rise (Ok v) is rise = subst BucketsRise (sym is) (rise_among is_dead all rise)
   dead_rise (Err e) is rise = tt

@@ -1,6 +1,6 @@
 -- A loop that puts each row of a list.
-use Rattle.std.proofs.Common.{◌≡◌, ◌∙◌, ap, subst, sym, refl, arith, List, ◌∷◌, IsTrue, true, ℕ, ◌+◌, ◌<◌, Ok, Result}
-use Rattle.std.proofs.Common.{OnOk, OnErr, drop, length, get_or}
+use Rattle.std.proofs.Common.{◌≡◌, ◌∙◌, ap, subst, sym, refl, arith, List, ◌∷◌, IsTrue, true, ℕ}
+use Rattle.std.proofs.Common.{◌+◌, ◌<◌, Ok, Result, OnOk, OnErr, drop, length, get_or}
 use Rattle.std.proofs.lemmas.List.{drop_more}
 use Rattle.sqlite.specs.State.{State, HasCleanDisk, Survives, Shows, KeepsCommit}
 use Rattle.sqlite.proofs.StateLemmas.{survives_then}
@@ -15,7 +15,8 @@ module _ {X : Type 0} (change : X → Content → Content) (all : List X) where
     pub book : IsBook now
     pub shows : Shows old now now.now old.committed true
     pub catalog : now.now.trees catalog_tree ≡ old.now.trees catalog_tree
-    pub content : with_each change rest (content_of now.now.trees) ≡ with_each change all (content_of old.now.trees)
+    pub content : with_each change rest (content_of now.now.trees)
+        ≡ with_each change all (content_of old.now.trees)
 
   -- what is done once all but the rest are put
   pub record HasPut (rest : List X) (old now : State) : Type 0 where
@@ -25,11 +26,13 @@ module _ {X : Type 0} (change : X → Content → Content) (all : List X) where
 
   -- one more
   put_more : {A E : Type 0} (x : X) (rest : List X) (old mid now : State) (count : A)
-      → HasPut (x ∷ rest) old mid → Attempts {A = A} {E = E} (Makes (change x)) mid now (Ok count) → HasPut rest old now
+      → HasPut (x ∷ rest) old mid → Attempts {A = A} {E = E} (Makes (change x)) mid now (Ok count)
+      → HasPut rest old now
   put_more x rest old mid now count h a = record {
-    survives = survives_then old mid now (λ _. ⊥) (λ _. ⊥) (λ _. ⊥) (λ clean db no. no) (λ clean db no. no) h.survives
-        a.survives;
-    opened = λ clean on. h.opened (omega (arith, a.survives.clean, clean)) (a.done clean).shows.was_open;
+    survives = survives_then old mid now (λ _. ⊥) (λ _. ⊥) (λ _. ⊥) (λ clean db no. no)
+        (λ clean db no. no) h.survives a.survives;
+    opened = λ clean on.
+        h.opened (omega (arith, a.survives.clean, clean)) (a.done clean).shows.was_open;
     sofar = λ clean on.
         let m = a.done clean in
         let s = h.sofar (omega (arith, a.survives.clean, clean)) on in
@@ -50,14 +53,16 @@ module _ {X : Type 0} (change : X → Content → Content) (all : List X) where
   -- the row of a loop's turn
   pub put_next : {A E : Type 0} (i : ℕ) (x : X) (old mid now : State) (count : A) → i < length all
       → x ≡ get_or all i x → HasPut (drop i all) old mid
-      → Attempts {A = A} {E = E} (Makes (change x)) mid now (Ok count) → HasPut (drop (i + 1) all) old now
+      → Attempts {A = A} {E = E} (Makes (change x)) mid now (Ok count)
+      → HasPut (drop (i + 1) all) old now
   put_next i x old mid now count less is h a =
       put_more x (drop (i + 1) all) old mid now count (subst (λ xs. HasPut xs old mid)
       (drop_more all i x less ∙ ap (λ y. y ∷ drop (i + 1) all) (sym is)) h) a
 
   -- the same of a row that is copied
   pub put_at : {A E : Type 0} (i : ℕ) (x : X) (old mid now : State) (count : A) → i < length all
-      → HasPut (drop i all) old mid → Attempts {A = A} {E = E} (Makes (change (get_or all i x))) mid now (Ok count)
+      → HasPut (drop i all) old mid
+      → Attempts {A = A} {E = E} (Makes (change (get_or all i x))) mid now (Ok count)
       → HasPut (drop (i + 1) all) old now
   put_at i x old mid now count less h a =
       put_more (get_or all i x) (drop (i + 1) all) old mid now count

@@ -1,6 +1,7 @@
 -- What is kept once, as it is read: where it is in its rules, no fault of the rules is told of it.
-use Rattle.std.proofs.Common.{◌≡◌, inl, inr, ℕ, ℤ, pos, negsuc, List, [], ◌∷◌, map, drop, Bool, true, false, not, ◌&&◌}
-use Rattle.std.proofs.Common.{Some, None, Option, refl, sym, ap, ap₂, subst, ◌∙◌}
+use Rattle.std.proofs.Common.{◌≡◌, inl, inr, ℕ, ℤ, pos, negsuc, List, [], ◌∷◌, map, drop, Bool}
+use Rattle.std.proofs.Common.{true, false, not, ◌&&◌, Some, None, Option, refl, sym, ap, ap₂, subst}
+use Rattle.std.proofs.Common.{◌∙◌}
 use Rattle.std.specs.Prelude.{slice_index_or, Result, Ok, Err, IfErr, IfOk, MatchResult}
 use Rattle.std.proofs.lemmas.Bool.{and_parts}
 use Rattle.std.specs.Ordering.{eq_by_cmp, is_ge}
@@ -67,13 +68,15 @@ AreFull row = (full_at row 2 ≡ true) × (full_at row 3 ≡ true) × (full_at r
 
 full : (row : Row) → are_present None 0 meta.columns row ≡ true → AreFull row
 full row p =
-    let one = and_parts (full_at row 1) (full_at row 2 && (full_at row 3 && (full_at row 4 && true))) p in
+    let one =
+    and_parts (full_at row 1) (full_at row 2 && (full_at row 3 && (full_at row 4 && true))) p in
     let two = and_parts (full_at row 2) (full_at row 3 && (full_at row 4 && true)) one.1 in
     let three = and_parts (full_at row 3) (full_at row 4 && true) two.1 in
     let four = and_parts (full_at row 4) true three.1 in
     (two.0, three.0, four.0)
 
-right : (row : Row) → passes_checks meta row ≡ true → (right_at row 2 ≡ true) × (right_at row 4 ≡ true)
+right : (row : Row) → passes_checks meta row ≡ true →
+    (right_at row 2 ≡ true) × (right_at row 4 ≡ true)
 right row p =
     let one = and_parts (right_at row 1) (right_at row 2 && (right_at row 4 && true)) p in
     let two = and_parts (right_at row 2) (right_at row 4 && true) one.1 in
@@ -81,22 +84,26 @@ right row p =
     (two.0, three.0)
 
 typed : (x : Value) (vs : Row) → are_typed None 0 meta.columns vs ≡ true → AreFull (x ∷ vs)
-    → (right_at (x ∷ vs) 2 ≡ true) × (right_at (x ∷ vs) 4 ≡ true) → columns (x ∷ vs) ≡ meta_cells (meta_in vs)
+    → (right_at (x ∷ vs) 2 ≡ true) × (right_at (x ∷ vs) 4 ≡ true)
+    → columns (x ∷ vs) ≡ meta_cells (meta_in vs)
 typed x [] kinds fulls rules = absurd (let no : false ≡ true = fulls.0 in cc)
 typed x (a ∷ []) kinds fulls rules = absurd (let no : false ≡ true = fulls.0 in cc)
 typed x (a ∷ b ∷ []) kinds fulls rules = absurd (let no : false ≡ true = fulls.1 in cc)
 typed x (a ∷ b ∷ c ∷ []) kinds fulls rules = absurd (let no : false ≡ true = fulls.2 in cc)
 typed x (a ∷ b ∷ c ∷ d ∷ more) kinds fulls rules =
     let rest = are_typed None 4 [] more in
-    let one = and_parts (is_of kind.Integer a) (is_of kind.Integer b && (is_of kind.Text c && (is_of kind.Integer d && rest)))
+    let one = and_parts (is_of kind.Integer a)
+    (is_of kind.Integer b && (is_of kind.Text c && (is_of kind.Integer d && rest)))
     kinds in
-    let two = and_parts (is_of kind.Integer b) (is_of kind.Text c && (is_of kind.Integer d && rest)) one.1 in
+    let two =
+    and_parts (is_of kind.Integer b) (is_of kind.Text c && (is_of kind.Integer d && rest)) one.1 in
     let three = and_parts (is_of kind.Text c) (is_of kind.Integer d && rest) two.1 in
     let four = and_parts (is_of kind.Integer d) rest three.1 in
     ap₂ ◌∷◌ (whole_in b two.0 fulls.0 rules.0) (ap₂ ◌∷◌ (text_of c three.0 fulls.1)
     (ap (λ v. v ∷ []) (whole_in d four.0 fulls.2 rules.1)))
 
-row_in : (row : Row) → are_typed None 0 meta.columns (drop 1 row) ≡ true → are_present None 0 meta.columns row ≡ true
+row_in : (row : Row) → are_typed None 0 meta.columns (drop 1 row) ≡ true
+    → are_present None 0 meta.columns row ≡ true
     → passes_checks meta row ≡ true → columns row ≡ meta_cells (meta_in (drop 1 row))
 row_in [] kinds there rules = absurd (let no : false ≡ true = (full [] there).0 in cc)
 row_in (x ∷ vs) kinds there rules = typed x vs kinds (full (x ∷ vs) there) (right (x ∷ vs) rules)
@@ -116,7 +123,8 @@ fitting trees fits row has =
 there : (old new : State) (rows : List Row) → Answers read_meta_text [] old new rows
     → (o : Option Meta) × (rows ≡ map meta_cells (one_or_none o))
 there old new rows got =
-    elim (one_selected meta (inl refl) (inl refl) refl old.now.trees got.fits got.book.stored.0 columns
+    elim (one_selected meta (inl refl)
+    (inl refl) refl old.now.trees got.fits got.book.stored.0 columns
     (λ r. eq_by_cmp row_cmp (key_of meta.primary r) meta_key) meta_key (refl, tt) (λ r. refl) rows
     (meta_selected old new rows got)) [
       | inl none ↦ (None, none)
@@ -127,15 +135,16 @@ there old new rows got =
     ]
 
 -- the one row that was read is refused
-pub one_refused : (rows : List Row) (row : Row) → rows ≡ row ∷ [] → ((m : Meta) → row ≡ meta_cells m → ¬ IsRuledMeta m)
+pub one_refused : (rows : List Row) (row : Row) → rows ≡ row ∷ []
+    → ((m : Meta) → row ≡ meta_cells m → ¬ IsRuledMeta m)
     → (o : Option Meta) → rows ≡ map meta_cells (one_or_none o) → IsRefusedMeta o
 one_refused rows row is refused None none = absurd (let no : row ∷ [] ≡ [] = sym is ∙ none in cc)
 one_refused rows row is refused (Some m) some =
     refused m (ap (λ (l : List Row). slice_index_or l 0 row) (sym is ∙ some))
 
 -- several are none's
-pub several_refused : (rows : List Row) → ((o : Option Row) → ¬ (rows ≡ one_or_none o)) → (o : Option Meta)
-    → rows ≡ map meta_cells (one_or_none o) → IsRefusedMeta o
+pub several_refused : (rows : List Row) → ((o : Option Row) → ¬ (rows ≡ one_or_none o))
+    → (o : Option Meta) → rows ≡ map meta_cells (one_or_none o) → IsRefusedMeta o
 several_refused rows several None none = absurd (several None none)
 several_refused rows several (Some m) some = absurd (several (Some (meta_cells m)) some)
 
@@ -149,7 +158,8 @@ meta_refused old new rows got refused =
 
 -- ---- one end of a clause of both
 
-pub at_ok : {T E : Type 0} (P : T → Type 0) (Q : E → Type 0) (r : Result T E) → MatchResult r P Q → IfOk r P
+pub at_ok : {T E : Type 0} (P : T → Type 0) (Q : E → Type 0) (r : Result T E) →
+    MatchResult r P Q → IfOk r P
 at_ok P Q (Ok x) h = h
 at_ok P Q (Err e) h = tt
 

@@ -36,7 +36,7 @@ use Rattle.sql_rows.specs.Values.{nat, head_cells, head_values, head_key, head_i
 use Rattle.sql_rows.specs.Content.{with_account, with_head, rows_in, content_of}
 use Rattle.sql_rows.specs.Makes.{Makes}
 use Rattle.sql_rows.proofs.Stays.{only_changed, rows_turn}
-use Rattle.sql_rows.proofs.Writes.{writes}
+use Rattle.sql_rows.proofs.Writes.{writes, makes_turned}
 
 abbrev pub put_account_text : List ℕ
 put_account_text =
@@ -57,7 +57,10 @@ places = 1 ∷ []
 
 put_is : command_of (understood book_schema put_account_text)
     ≡ InsertOr 1 Abort (Values terms 6)
-    (record { target = Some places; update = Some (record { lets = []; body = pick 2 5 project }) } ∷ [])
+    (record {
+      target = Some places;
+      update = Some (record { lets = []; body = pick 2 5 project });
+    } ∷ [])
 unfolding understood everything
 put_is = refl
 
@@ -82,13 +85,15 @@ module _ (a : List ℕ) (h : Head) where
   unset : cast_row accounts (Null ∷ values) ≡ Null ∷ values
   unset = simp (cast_int, cast_null)
 
-  meets : (id : ℤ) (other : Row) → conflicts (Some places) book_schema.indexes accounts (Int id ∷ values) other
+  meets : (id : ℤ) (other : Row) →
+      conflicts (Some places) book_schema.indexes accounts (Int id ∷ values) other
       ≡ eq_by_cmp row_cmp (key_of places other) (key_of places (Int id ∷ values))
-  meets id other = or_false (agree plain places other places (Int id ∷ values)) ∙ agree_ties places other
-      (Int id ∷ values) (refl, tt)
+  meets id other = or_false (agree plain places other places (Int id ∷ values))
+      ∙ agree_ties places other (Int id ∷ values) (refl, tt)
 
   puts : (old new : State) (r : Result ℕ Error) → (IsTrue old.is_open → IsBook old)
-      → OnOk r (ExecutesInside 0 put_account_text values old new r) → OnOk r (Puts accounts values old new)
+      → OnOk r (ExecutesInside 0 put_account_text values old new r)
+      → OnOk r (Puts accounts values old new)
   puts =
       puts_table 1 accounts refl (inr (inl refl)) (key_index accounts) (inr (inl refl))
       refl refl refl (λ e. omega arith) refl
@@ -96,33 +101,29 @@ module _ (a : List ℕ) (h : Head) where
       (λ id met r. refl) (λ id met. refl) refl (λ v. refl) (λ id. (refl, tt)) meets
 
   abbrev grown : Trees → ℕ
-  grown old = if is_some (look accounts old (head_key a)) then length (old 2) else length (old 2) + 1
+  grown old = if is_some (look accounts old (head_key a)) then length (old 2)
+      else length (old 2) + 1
 
   turns : (old new : Trees) → Changes accounts values old new → length (new 2) ≡ grown old
       → content_of new ≡ with_account a h (content_of old)
   turns old new c more =
       only_changed 2 old new c.others
-      ∙ (λ i. record (rows_turn a (content_of old) (with_head h) (λ r. r.head) (λ r f. record r { head = f })
-      (λ r. refl) (λ r. refl) (rows_in new)
-      (λ x. put_tells head_in accounts values old new c h (head_told (Text a) h) (head_key x) (same_name a x)
-      (text_last a x)) i) {
+      ∙ (λ i. record (rows_turn a (content_of old) (with_head h) (λ r. r.head) (λ r f. record r {
+        head = f;
+      }) (λ r. refl) (λ r. refl) (rows_in new)
+      (λ x. put_tells head_in accounts values old new c h (head_told (Text a) h) (head_key x)
+      (same_name a x) (text_last a x)) i) {
         count = (more ∙ ap (λ b. if b then length (old 2) else length (old 2) + 1)
             (sym (is_some_map head_in (look accounts old (head_key a))))) i;
       })
 
-  pub makes_account : (params : Row) → params ≡ values → (old new : State) (r : Result ℕ Error) → HasBook old
+  pub makes_account : (params : Row) → params ≡ values
+      → (old new : State) (r : Result ℕ Error) → HasBook old
       → Attempts (λ old new. ExecutesInside 0 put_account_text params old new r) old new r
       → Attempts (Makes (with_account a h)) old new r
   makes_account = writes put_account_text values (Puts accounts values) (with_account a h) puts
-      (λ old new p. record {
-        turns = record {
-          content = turns old.now.trees new.now.trees p.changes p.counts;
-          catalog = p.changes.catalog;
-          stored = p.book.stored;
-        };
-        book = p.book;
-        shows = p.shows;
-      })
+      (λ old new p. makes_turned (with_account a h) old new
+      (turns old.now.trees new.now.trees p.changes p.counts) p.changes.catalog p.book p.shows)
 
   -- the parameters, as they are bound
   pub bound_account : (v1 v2 v3 v4 v5 : Value)

@@ -1,7 +1,8 @@
 -- What the text of `put_answer` does.
 use Rattle.std.specs.Prelude.{codes, option_map, is_some, length, if◌then◌else◌}
-use Rattle.std.proofs.Common.{◌≡◌, ◌≢◌, inl, inr, ℕ, ℤ, pos, ◌+◌, List, [], ◌∷◌, ◌++◌, map, Bool, true, false, ◌&&◌}
-use Rattle.std.proofs.Common.{Some, None, Option, Ok, Err, Result, OnOk, IsTrue, refl, sym, ap, ◌∙◌, arith, nat_eq}
+use Rattle.std.proofs.Common.{◌≡◌, ◌≢◌, inl, inr, ℕ, ℤ, pos, ◌+◌, List, [], ◌∷◌, ◌++◌, map, Bool}
+use Rattle.std.proofs.Common.{true, false, ◌&&◌, Some, None, Option, Ok, Err, Result, OnOk, IsTrue}
+use Rattle.std.proofs.Common.{refl, sym, ap, ◌∙◌, arith, nat_eq}
 use Rattle.std.specs.Ordering.{eq_by_cmp}
 use Rattle.sqlite_value.specs.declared.value.Value.{Value}
 use Rattle.sqlite_value.specs.declared.value.Value.TheVariants.{Null, Int, Text}
@@ -56,7 +57,10 @@ places = 1 ∷ 2 ∷ 3 ∷ 4 ∷ []
 
 put_is : command_of (understood book_schema put_answer_text)
     ≡ InsertOr 7 Abort (Values terms 7)
-    (record { target = Some places; update = Some (record { lets = []; body = pick 14 6 project }) } ∷ [])
+    (record {
+      target = Some places;
+      update = Some (record { lets = []; body = pick 14 6 project });
+    } ∷ [])
 unfolding understood everything
 put_is = refl
 
@@ -74,33 +78,42 @@ module _ (a : List ℕ) (kind : ℕ) (name : List ℕ) (number : ℕ) (k : Kept)
   unset : cast_row answers (Null ∷ values) ≡ Null ∷ values
   unset = simp (cast_int, cast_null)
 
-  meets : (id : ℤ) (other : Row) → conflicts (Some places) book_schema.indexes answers (Int id ∷ values) other
+  meets : (id : ℤ) (other : Row) →
+      conflicts (Some places) book_schema.indexes answers (Int id ∷ values) other
       ≡ eq_by_cmp row_cmp (key_of places other) (key_of places (Int id ∷ values))
-  meets id other = or_false (agree plain places other places (Int id ∷ values)) ∙ agree_ties places other
-      (Int id ∷ values) (refl, (refl, (refl, (refl, tt))))
+  meets id other = or_false (agree plain places other places (Int id ∷ values))
+      ∙ agree_ties places other (Int id ∷ values) (refl, (refl, (refl, (refl, tt))))
 
   puts : (old new : State) (r : Result ℕ Error) → (IsTrue old.is_open → IsBook old)
-      → OnOk r (ExecutesInside 0 put_answer_text values old new r) → OnOk r (Puts answers values old new)
+      → OnOk r (ExecutesInside 0 put_answer_text values old new r)
+      → OnOk r (Puts answers values old new)
   puts =
-      puts_table 7 answers refl (inr (inr (inr (inr (inr (inr (inr (inl refl)))))))) (key_index answers)
-      (inr (inr (inr (inr (inr (inr (inr (inl refl))))))))
+      puts_table 7 answers refl (inr (inr (inr (inr (inr (inr (inr (inl refl))))))))
+      (key_index answers) (inr (inr (inr (inr (inr (inr (inr (inl refl))))))))
       refl refl refl (λ e. omega arith) refl
       put_answer_text terms project 7 6 put_is put_plain values (λ olds new. refl) again unset
-      (λ id met r. refl) (λ id met. refl) refl (λ v. refl) (λ id. (refl, (refl, (refl, (refl, tt))))) meets
+      (λ id met r. refl) (λ id met. refl) refl (λ v. refl)
+      (λ id. (refl, (refl, (refl, (refl, tt))))) meets
 
   turns : (old new : Trees) → Changes answers values old new
       → content_of new ≡ with_rows a (with_answer kind name number k) (content_of old)
   turns old new c =
       only_changed 14 old new c.others
-      ∙ rows_turn a (content_of old) (with_answer kind name number k) (λ r. r.answers) (λ r f. record r { answers = f }) (λ r. refl)
-      (λ r. refl) (rows_in new) (λ x. at_each (same_name a x) _ _ _ (λ l. at_each (same_name a x) _ _ _ (λ t. at_each (same_name a x) _ _ _ (λ m.
-      put_tells answer_in answers values old new c k refl (answer_key x l t m) (same_name a x && (nat_eq kind l && (same_name name t && nat_eq number m)))
-      (text_number_text_number a x kind l name t number m) ∙ apart_if (same_name a x) (nat_eq kind l && (same_name name t && nat_eq number m)) _ _))))
+      ∙ rows_turn a (content_of old) (with_answer kind name number k) (λ r. r.answers)
+      (λ r f. record r { answers = f }) (λ r. refl)
+      (λ r. refl) (rows_in new) (λ x. at_each (same_name a x) _ _ _
+      (λ l. at_each (same_name a x) _ _ _ (λ t. at_each (same_name a x) _ _ _ (λ m.
+      put_tells answer_in answers values old new c k refl (answer_key x l t m)
+      (same_name a x && (nat_eq kind l && (same_name name t && nat_eq number m)))
+      (text_number_text_number a x kind l name t number m)
+      ∙ apart_if (same_name a x) (nat_eq kind l && (same_name name t && nat_eq number m)) _ _))))
 
-  pub makes_answer : (params : Row) → params ≡ values → (old new : State) (r : Result ℕ Error) → HasBook old
+  pub makes_answer : (params : Row) → params ≡ values
+      → (old new : State) (r : Result ℕ Error) → HasBook old
       → Attempts (λ old new. ExecutesInside 0 put_answer_text params old new r) old new r
       → Attempts (Makes (with_rows a (with_answer kind name number k))) old new r
-  makes_answer = writes put_answer_text values (Puts answers values) (with_rows a (with_answer kind name number k)) puts
+  makes_answer = writes put_answer_text values (Puts answers values)
+      (with_rows a (with_answer kind name number k)) puts
       (puts_make answers values (with_rows a (with_answer kind name number k)) turns)
 
   -- the parameters, as they are bound

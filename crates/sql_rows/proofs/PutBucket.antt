@@ -1,7 +1,8 @@
 -- What the text of `put_bucket` does.
 use Rattle.std.specs.Prelude.{codes, option_map, is_some, length, if◌then◌else◌}
-use Rattle.std.proofs.Common.{◌≡◌, ◌≢◌, inl, inr, ℕ, ℤ, pos, ◌+◌, List, [], ◌∷◌, ◌++◌, map, Bool, true, false, ◌&&◌}
-use Rattle.std.proofs.Common.{Some, None, Option, Ok, Err, Result, OnOk, IsTrue, refl, sym, ap, ◌∙◌, arith, nat_eq}
+use Rattle.std.proofs.Common.{◌≡◌, ◌≢◌, inl, inr, ℕ, ℤ, pos, ◌+◌, List, [], ◌∷◌, ◌++◌, map, Bool}
+use Rattle.std.proofs.Common.{true, false, ◌&&◌, Some, None, Option, Ok, Err, Result, OnOk, IsTrue}
+use Rattle.std.proofs.Common.{refl, sym, ap, ◌∙◌, arith, nat_eq}
 use Rattle.std.specs.Ordering.{eq_by_cmp}
 use Rattle.sqlite_value.specs.declared.value.Value.{Value}
 use Rattle.sqlite_value.specs.declared.value.Value.TheVariants.{Null, Int, Text}
@@ -49,11 +50,13 @@ put_bucket_text =
     ++ codes "charged = excluded.charged, expired = excluded.expired"
 
 abbrev terms : List Term
-terms = lit Null ∷ col 0 0 ∷ col 0 1 ∷ col 0 2 ∷ col 0 3 ∷ col 0 4 ∷ col 0 5 ∷ col 0 6 ∷ col 0 7 ∷ col 0 8 ∷
+terms = lit Null ∷ col 0 0 ∷ col 0 1 ∷ col 0 2 ∷ col 0 3 ∷ col 0 4 ∷ col 0 5 ∷ col 0 6
+    ∷ col 0 7 ∷ col 0 8 ∷
     col 0 9 ∷ []
 
 abbrev project : List Term
-project = col 1 0 ∷ col 1 0 ∷ col 0 12 ∷ col 0 13 ∷ col 0 14 ∷ col 0 15 ∷ col 0 16 ∷ col 0 17 ∷ col 0 18 ∷
+project =
+    col 1 0 ∷ col 1 0 ∷ col 0 12 ∷ col 0 13 ∷ col 0 14 ∷ col 0 15 ∷ col 0 16 ∷ col 0 17 ∷ col 0 18 ∷
     col 0 19 ∷ col 0 20 ∷ col 0 21 ∷ []
 
 abbrev places : List ℕ
@@ -61,7 +64,10 @@ places = 1 ∷ 2 ∷ []
 
 put_is : command_of (understood book_schema put_bucket_text)
     ≡ InsertOr 2 Abort (Values terms 11)
-    (record { target = Some places; update = Some (record { lets = []; body = pick 4 10 project }) } ∷ [])
+    (record {
+      target = Some places;
+      update = Some (record { lets = []; body = pick 4 10 project });
+    } ∷ [])
 unfolding understood everything
 put_is = refl
 
@@ -86,13 +92,15 @@ module _ (a : List ℕ) (b : Bucket) where
   unset : cast_row buckets (Null ∷ values) ≡ Null ∷ values
   unset = simp (cast_int, cast_or_null, cast_null)
 
-  meets : (id : ℤ) (other : Row) → conflicts (Some places) book_schema.indexes buckets (Int id ∷ values) other
+  meets : (id : ℤ) (other : Row) →
+      conflicts (Some places) book_schema.indexes buckets (Int id ∷ values) other
       ≡ eq_by_cmp row_cmp (key_of places other) (key_of places (Int id ∷ values))
-  meets id other = or_false (agree plain places other places (Int id ∷ values)) ∙ agree_ties places other
-      (Int id ∷ values) (refl, (refl, tt))
+  meets id other = or_false (agree plain places other places (Int id ∷ values))
+      ∙ agree_ties places other (Int id ∷ values) (refl, (refl, tt))
 
   puts : (old new : State) (r : Result ℕ Error) → (IsTrue old.is_open → IsBook old)
-      → OnOk r (ExecutesInside 0 put_bucket_text values old new r) → OnOk r (Puts buckets values old new)
+      → OnOk r (ExecutesInside 0 put_bucket_text values old new r)
+      → OnOk r (Puts buckets values old new)
   puts =
       puts_table 2 buckets refl (inr (inr (inl refl))) (key_index buckets) (inr (inr (inl refl)))
       refl refl refl (λ e. omega arith) refl
@@ -103,15 +111,19 @@ module _ (a : List ℕ) (b : Bucket) where
       → content_of new ≡ with_rows a (with_bucket b) (content_of old)
   turns old new c =
       only_changed 4 old new c.others
-      ∙ rows_turn a (content_of old) (with_bucket b) (λ r. r.buckets) (λ r f. record r { buckets = f }) (λ r. refl)
+      ∙ rows_turn a (content_of old) (with_bucket b) (λ r. r.buckets)
+      (λ r f. record r { buckets = f }) (λ r. refl)
       (λ r. refl) (rows_in new) (λ x. at_each (same_name a x) _ _ _ (λ n.
-      put_tells bucket_in buckets values old new c b (bucket_told (Text a) b) (bucket_key x n) (same_name a x && (nat_eq b.number n))
+      put_tells bucket_in buckets values old new c b (bucket_told (Text a) b) (bucket_key x n)
+      (same_name a x && (nat_eq b.number n))
       (text_number a x b.number n) ∙ apart_if (same_name a x) (nat_eq b.number n) _ _))
 
-  pub makes_bucket : (params : Row) → params ≡ values → (old new : State) (r : Result ℕ Error) → HasBook old
+  pub makes_bucket : (params : Row) → params ≡ values
+      → (old new : State) (r : Result ℕ Error) → HasBook old
       → Attempts (λ old new. ExecutesInside 0 put_bucket_text params old new r) old new r
       → Attempts (Makes (with_rows a (with_bucket b))) old new r
-  makes_bucket = writes put_bucket_text values (Puts buckets values) (with_rows a (with_bucket b)) puts
+  makes_bucket =
+      writes put_bucket_text values (Puts buckets values) (with_rows a (with_bucket b)) puts
       (puts_make buckets values (with_rows a (with_bucket b)) turns)
 
   -- the parameters, as they are bound
@@ -126,6 +138,7 @@ module _ (a : List ℕ) (b : Bucket) where
       → v8 ≡ nat b.reserved
       → v9 ≡ nat b.charged
       → v10 ≡ nat b.expired
-      → ◌≡◌ {A = Row} (map bound_value (v1 ∷ v2 ∷ v3 ∷ v4 ∷ v5 ∷ v6 ∷ v7 ∷ v8 ∷ v9 ∷ v10 ∷ [])) values
+      → ◌≡◌ {A = Row}
+      (map bound_value (v1 ∷ v2 ∷ v3 ∷ v4 ∷ v5 ∷ v6 ∷ v7 ∷ v8 ∷ v9 ∷ v10 ∷ [])) values
   bound_bucket v1 v2 v3 v4 v5 v6 v7 v8 v9 v10 e1 e2 e3 e4 e5 e6 e7 e8 e9 e10 = rw
       (e1, e2, e3, e4, e5, e6, e7, e8, e9, e10) refl

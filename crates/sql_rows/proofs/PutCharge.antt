@@ -1,7 +1,8 @@
 -- What the text of `put_charge` does.
 use Rattle.std.specs.Prelude.{codes, option_map, is_some, length, if◌then◌else◌}
-use Rattle.std.proofs.Common.{◌≡◌, ◌≢◌, inl, inr, ℕ, ℤ, pos, ◌+◌, List, [], ◌∷◌, ◌++◌, map, Bool, true, false, ◌&&◌}
-use Rattle.std.proofs.Common.{Some, None, Option, Ok, Err, Result, OnOk, IsTrue, refl, sym, ap, ◌∙◌, arith, nat_eq}
+use Rattle.std.proofs.Common.{◌≡◌, ◌≢◌, inl, inr, ℕ, ℤ, pos, ◌+◌, List, [], ◌∷◌, ◌++◌, map, Bool}
+use Rattle.std.proofs.Common.{true, false, ◌&&◌, Some, None, Option, Ok, Err, Result, OnOk, IsTrue}
+use Rattle.std.proofs.Common.{refl, sym, ap, ◌∙◌, arith, nat_eq}
 use Rattle.std.specs.Ordering.{eq_by_cmp}
 use Rattle.sqlite_value.specs.declared.value.Value.{Value}
 use Rattle.sqlite_value.specs.declared.value.Value.TheVariants.{Null, Int, Text}
@@ -49,10 +50,12 @@ put_charge_text =
     ++ codes "uncollected = excluded.uncollected"
 
 abbrev terms : List Term
-terms = lit Null ∷ col 0 0 ∷ col 0 1 ∷ col 0 2 ∷ col 0 3 ∷ col 0 4 ∷ col 0 5 ∷ col 0 6 ∷ col 0 7 ∷ col 0 8 ∷ []
+terms = lit Null ∷ col 0 0 ∷ col 0 1 ∷ col 0 2 ∷ col 0 3 ∷ col 0 4 ∷ col 0 5 ∷ col 0 6 ∷ col 0 7
+    ∷ col 0 8 ∷ []
 
 abbrev project : List Term
-project = col 1 0 ∷ col 1 0 ∷ col 0 11 ∷ col 0 12 ∷ col 0 13 ∷ col 0 14 ∷ col 0 15 ∷ col 0 16 ∷ col 0 17 ∷
+project =
+    col 1 0 ∷ col 1 0 ∷ col 0 11 ∷ col 0 12 ∷ col 0 13 ∷ col 0 14 ∷ col 0 15 ∷ col 0 16 ∷ col 0 17 ∷
     col 0 18 ∷ col 0 19 ∷ []
 
 abbrev places : List ℕ
@@ -60,7 +63,10 @@ places = 1 ∷ 2 ∷ []
 
 put_is : command_of (understood book_schema put_charge_text)
     ≡ InsertOr 9 Abort (Values terms 10)
-    (record { target = Some places; update = Some (record { lets = []; body = pick 18 9 project }) } ∷ [])
+    (record {
+      target = Some places;
+      update = Some (record { lets = []; body = pick 18 9 project });
+    } ∷ [])
 unfolding understood everything
 put_is = refl
 
@@ -78,16 +84,18 @@ module _ (a : List ℕ) (row : ChargeRow) where
   unset : cast_row charges (Null ∷ values) ≡ Null ∷ values
   unset = simp (cast_int, cast_null)
 
-  meets : (id : ℤ) (other : Row) → conflicts (Some places) book_schema.indexes charges (Int id ∷ values) other
+  meets : (id : ℤ) (other : Row) →
+      conflicts (Some places) book_schema.indexes charges (Int id ∷ values) other
       ≡ eq_by_cmp row_cmp (key_of places other) (key_of places (Int id ∷ values))
-  meets id other = or_false (agree plain places other places (Int id ∷ values)) ∙ agree_ties places other
-      (Int id ∷ values) (refl, (refl, tt))
+  meets id other = or_false (agree plain places other places (Int id ∷ values))
+      ∙ agree_ties places other (Int id ∷ values) (refl, (refl, tt))
 
   puts : (old new : State) (r : Result ℕ Error) → (IsTrue old.is_open → IsBook old)
-      → OnOk r (ExecutesInside 0 put_charge_text values old new r) → OnOk r (Puts charges values old new)
+      → OnOk r (ExecutesInside 0 put_charge_text values old new r)
+      → OnOk r (Puts charges values old new)
   puts =
-      puts_table 9 charges refl (inr (inr (inr (inr (inr (inr (inr (inr (inr (inl refl)))))))))) (key_index charges)
-      (inr (inr (inr (inr (inr (inr (inr (inr (inr (inl refl))))))))))
+      puts_table 9 charges refl (inr (inr (inr (inr (inr (inr (inr (inr (inr (inl refl))))))))))
+      (key_index charges) (inr (inr (inr (inr (inr (inr (inr (inr (inr (inl refl))))))))))
       refl refl refl (λ e. omega arith) refl
       put_charge_text terms project 10 9 put_is put_plain values (λ olds new. refl) again unset
       (λ id met r. refl) (λ id met. refl) refl (λ v. refl) (λ id. (refl, (refl, tt))) meets
@@ -96,15 +104,19 @@ module _ (a : List ℕ) (row : ChargeRow) where
       → content_of new ≡ with_rows a (with_charge row) (content_of old)
   turns old new c =
       only_changed 18 old new c.others
-      ∙ rows_turn a (content_of old) (with_charge row) (λ r. r.charges) (λ r f. record r { charges = f }) (λ r. refl)
+      ∙ rows_turn a (content_of old) (with_charge row) (λ r. r.charges)
+      (λ r f. record r { charges = f }) (λ r. refl)
       (λ r. refl) (rows_in new) (λ x. at_each (same_name a x) _ _ _ (λ n.
-      put_tells charge_in charges values old new c row refl (charge_key x n) (same_name a x && (nat_eq row.number n))
+      put_tells charge_in charges values old new c row refl (charge_key x n)
+      (same_name a x && (nat_eq row.number n))
       (text_number a x row.number n) ∙ apart_if (same_name a x) (nat_eq row.number n) _ _))
 
-  pub makes_charge : (params : Row) → params ≡ values → (old new : State) (r : Result ℕ Error) → HasBook old
+  pub makes_charge : (params : Row) → params ≡ values
+      → (old new : State) (r : Result ℕ Error) → HasBook old
       → Attempts (λ old new. ExecutesInside 0 put_charge_text params old new r) old new r
       → Attempts (Makes (with_rows a (with_charge row))) old new r
-  makes_charge = writes put_charge_text values (Puts charges values) (with_rows a (with_charge row)) puts
+  makes_charge =
+      writes put_charge_text values (Puts charges values) (with_rows a (with_charge row)) puts
       (puts_make charges values (with_rows a (with_charge row)) turns)
 
   -- the parameters, as they are bound
@@ -119,4 +131,5 @@ module _ (a : List ℕ) (row : ChargeRow) where
       → v8 ≡ nat row.collected.0
       → v9 ≡ nat row.uncollected.0
       → ◌≡◌ {A = Row} (map bound_value (v1 ∷ v2 ∷ v3 ∷ v4 ∷ v5 ∷ v6 ∷ v7 ∷ v8 ∷ v9 ∷ [])) values
-  bound_charge v1 v2 v3 v4 v5 v6 v7 v8 v9 e1 e2 e3 e4 e5 e6 e7 e8 e9 = rw (e1, e2, e3, e4, e5, e6, e7, e8, e9) refl
+  bound_charge v1 v2 v3 v4 v5 v6 v7 v8 v9 e1 e2 e3 e4 e5 e6 e7 e8 e9 =
+      rw (e1, e2, e3, e4, e5, e6, e7, e8, e9) refl

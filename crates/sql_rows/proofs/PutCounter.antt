@@ -1,7 +1,8 @@
 -- What the text of `put_counter` does.
 use Rattle.std.specs.Prelude.{codes, option_map, is_some, length, if◌then◌else◌}
-use Rattle.std.proofs.Common.{◌≡◌, ◌≢◌, inl, inr, ℕ, ℤ, pos, ◌+◌, List, [], ◌∷◌, ◌++◌, map, Bool, true, false, ◌&&◌}
-use Rattle.std.proofs.Common.{Some, None, Option, Ok, Err, Result, OnOk, IsTrue, refl, sym, ap, ◌∙◌, arith, nat_eq}
+use Rattle.std.proofs.Common.{◌≡◌, ◌≢◌, inl, inr, ℕ, ℤ, pos, ◌+◌, List, [], ◌∷◌, ◌++◌, map, Bool}
+use Rattle.std.proofs.Common.{true, false, ◌&&◌, Some, None, Option, Ok, Err, Result, OnOk, IsTrue}
+use Rattle.std.proofs.Common.{refl, sym, ap, ◌∙◌, arith, nat_eq}
 use Rattle.std.specs.Ordering.{eq_by_cmp}
 use Rattle.sqlite_value.specs.declared.value.Value.{Value}
 use Rattle.sqlite_value.specs.declared.value.Value.TheVariants.{Null, Int, Text}
@@ -57,7 +58,10 @@ places = 1 ∷ 2 ∷ 3 ∷ []
 
 put_is : command_of (understood book_schema put_counter_text)
     ≡ InsertOr 3 Abort (Values terms 5)
-    (record { target = Some places; update = Some (record { lets = []; body = pick 6 4 project }) } ∷ [])
+    (record {
+      target = Some places;
+      update = Some (record { lets = []; body = pick 6 4 project });
+    } ∷ [])
 unfolding understood everything
 put_is = refl
 
@@ -75,16 +79,18 @@ module _ (a : List ℕ) (k : Counter) where
   unset : cast_row counters (Null ∷ values) ≡ Null ∷ values
   unset = simp (cast_int, cast_null)
 
-  meets : (id : ℤ) (other : Row) → conflicts (Some places) book_schema.indexes counters (Int id ∷ values) other
+  meets : (id : ℤ) (other : Row) →
+      conflicts (Some places) book_schema.indexes counters (Int id ∷ values) other
       ≡ eq_by_cmp row_cmp (key_of places other) (key_of places (Int id ∷ values))
-  meets id other = or_false (agree plain places other places (Int id ∷ values)) ∙ agree_ties places other
-      (Int id ∷ values) (refl, (refl, (refl, tt)))
+  meets id other = or_false (agree plain places other places (Int id ∷ values))
+      ∙ agree_ties places other (Int id ∷ values) (refl, (refl, (refl, tt)))
 
   puts : (old new : State) (r : Result ℕ Error) → (IsTrue old.is_open → IsBook old)
-      → OnOk r (ExecutesInside 0 put_counter_text values old new r) → OnOk r (Puts counters values old new)
+      → OnOk r (ExecutesInside 0 put_counter_text values old new r)
+      → OnOk r (Puts counters values old new)
   puts =
-      puts_table 3 counters refl (inr (inr (inr (inl refl)))) (key_index counters) (inr (inr (inr (inl refl))))
-      refl refl refl (λ e. omega arith) refl
+      puts_table 3 counters refl (inr (inr (inr (inl refl)))) (key_index counters)
+      (inr (inr (inr (inl refl)))) refl refl refl (λ e. omega arith) refl
       put_counter_text terms project 5 4 put_is put_plain values (λ olds new. refl) again unset
       (λ id met r. refl) (λ id met. refl) refl (λ v. refl) (λ id. (refl, (refl, (refl, tt)))) meets
 
@@ -92,15 +98,19 @@ module _ (a : List ℕ) (k : Counter) where
       → content_of new ≡ with_rows a (with_counter k) (content_of old)
   turns old new c =
       only_changed 6 old new c.others
-      ∙ rows_turn a (content_of old) (with_counter k) (λ r. r.counters) (λ r f. record r { counters = f }) (λ r. refl)
-      (λ r. refl) (rows_in new) (λ x. at_each (same_name a x) _ _ _ (λ g. at_each (same_name a x) _ _ _ (λ y.
-      put_tells counter_in counters values old new c k refl (counter_key x g y) (same_name a x && (nat_eq k.group g && nat_eq k.cycle y))
-      (text_number_number a x k.group g k.cycle y) ∙ apart_if (same_name a x) (nat_eq k.group g && nat_eq k.cycle y) _ _)))
+      ∙ rows_turn a (content_of old) (with_counter k) (λ r. r.counters)
+      (λ r f. record r { counters = f }) (λ r. refl) (λ r. refl) (rows_in new)
+      (λ x. at_each (same_name a x) _ _ _ (λ g. at_each (same_name a x) _ _ _ (λ y.
+      put_tells counter_in counters values old new c k refl (counter_key x g y)
+      (same_name a x && (nat_eq k.group g && nat_eq k.cycle y)) (text_number_number a x k.group g
+      k.cycle y) ∙ apart_if (same_name a x) (nat_eq k.group g && nat_eq k.cycle y) _ _)))
 
-  pub makes_counter : (params : Row) → params ≡ values → (old new : State) (r : Result ℕ Error) → HasBook old
+  pub makes_counter : (params : Row) → params ≡ values
+      → (old new : State) (r : Result ℕ Error) → HasBook old
       → Attempts (λ old new. ExecutesInside 0 put_counter_text params old new r) old new r
       → Attempts (Makes (with_rows a (with_counter k))) old new r
-  makes_counter = writes put_counter_text values (Puts counters values) (with_rows a (with_counter k)) puts
+  makes_counter =
+      writes put_counter_text values (Puts counters values) (with_rows a (with_counter k)) puts
       (puts_make counters values (with_rows a (with_counter k)) turns)
 
   -- the parameters, as they are bound

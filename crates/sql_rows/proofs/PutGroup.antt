@@ -1,7 +1,8 @@
 -- What the text of `put_group` does.
 use Rattle.std.specs.Prelude.{codes, option_map, is_some, length, if◌then◌else◌}
-use Rattle.std.proofs.Common.{◌≡◌, ◌≢◌, inl, inr, ℕ, ℤ, pos, ◌+◌, List, [], ◌∷◌, ◌++◌, map, Bool, true, false, ◌&&◌}
-use Rattle.std.proofs.Common.{Some, None, Option, Ok, Err, Result, OnOk, IsTrue, refl, sym, ap, ◌∙◌, arith, nat_eq}
+use Rattle.std.proofs.Common.{◌≡◌, ◌≢◌, inl, inr, ℕ, ℤ, pos, ◌+◌, List, [], ◌∷◌, ◌++◌, map, Bool}
+use Rattle.std.proofs.Common.{true, false, ◌&&◌, Some, None, Option, Ok, Err, Result, OnOk, IsTrue}
+use Rattle.std.proofs.Common.{refl, sym, ap, ◌∙◌, arith, nat_eq}
 use Rattle.std.specs.Ordering.{eq_by_cmp}
 use Rattle.sqlite_value.specs.declared.value.Value.{Value}
 use Rattle.sqlite_value.specs.declared.value.Value.TheVariants.{Null, Int, Text}
@@ -32,7 +33,8 @@ use Rattle.sql_tables.proofs.Steps.{or_false}
 use Rattle.sql_tables.proofs.Tabled.{puts_table}
 use Rattle.sql_tables.proofs.Ties.{agree_ties}
 use Rattle.sql_tables.proofs.Upserts.{pick}
-use Rattle.sql_rows.specs.Values.{nat, Group, PeriodNames, group_cells, group_values, group_key, group_in, flag_number}
+use Rattle.sql_rows.specs.Values.{nat, Group, PeriodNames, group_cells, group_values, group_key}
+use Rattle.sql_rows.specs.Values.{group_in, flag_number}
 use Rattle.sql_rows.specs.Content.{Rows, Content, with_rows, with_group, rows_in, content_of}
 use Rattle.sql_rows.specs.Makes.{Makes}
 use Rattle.sql_rows.proofs.Stays.{only_changed, rows_turn, at_each}
@@ -51,14 +53,18 @@ abbrev terms : List Term
 terms = lit Null ∷ col 0 0 ∷ col 0 1 ∷ col 0 2 ∷ col 0 3 ∷ col 0 4 ∷ col 0 5 ∷ col 0 6 ∷ []
 
 abbrev project : List Term
-project = col 1 0 ∷ col 1 0 ∷ col 0 9 ∷ col 0 10 ∷ col 0 11 ∷ col 0 12 ∷ col 0 13 ∷ col 0 14 ∷ col 0 15 ∷ []
+project = col 1 0 ∷ col 1 0 ∷ col 0 9 ∷ col 0 10 ∷ col 0 11 ∷ col 0 12 ∷ col 0 13 ∷ col 0 14
+    ∷ col 0 15 ∷ []
 
 abbrev places : List ℕ
 places = 1 ∷ 2 ∷ 3 ∷ []
 
 put_is : command_of (understood book_schema put_group_text)
     ≡ InsertOr 5 Abort (Values terms 8)
-    (record { target = Some places; update = Some (record { lets = []; body = pick 10 7 project }) } ∷ [])
+    (record {
+      target = Some places;
+      update = Some (record { lets = []; body = pick 10 7 project });
+    } ∷ [])
 unfolding understood everything
 put_is = refl
 
@@ -83,16 +89,18 @@ module _ (a s : List ℕ) (g : ℕ) (row : Group) where
   unset : cast_row session_groups (Null ∷ values) ≡ Null ∷ values
   unset = simp (cast_int, cast_or_text, cast_null)
 
-  meets : (id : ℤ) (other : Row) → conflicts (Some places) book_schema.indexes session_groups (Int id ∷ values) other
+  meets : (id : ℤ) (other : Row) →
+      conflicts (Some places) book_schema.indexes session_groups (Int id ∷ values) other
       ≡ eq_by_cmp row_cmp (key_of places other) (key_of places (Int id ∷ values))
-  meets id other = or_false (agree plain places other places (Int id ∷ values)) ∙ agree_ties places other
-      (Int id ∷ values) (refl, (refl, (refl, tt)))
+  meets id other = or_false (agree plain places other places (Int id ∷ values))
+      ∙ agree_ties places other (Int id ∷ values) (refl, (refl, (refl, tt)))
 
   puts : (old new : State) (r : Result ℕ Error) → (IsTrue old.is_open → IsBook old)
-      → OnOk r (ExecutesInside 0 put_group_text values old new r) → OnOk r (Puts session_groups values old new)
+      → OnOk r (ExecutesInside 0 put_group_text values old new r)
+      → OnOk r (Puts session_groups values old new)
   puts =
-      puts_table 5 session_groups refl (inr (inr (inr (inr (inr (inl refl)))))) (key_index session_groups)
-      (inr (inr (inr (inr (inr (inl refl))))))
+      puts_table 5 session_groups refl (inr (inr (inr (inr (inr (inl refl))))))
+      (key_index session_groups) (inr (inr (inr (inr (inr (inl refl))))))
       refl refl refl (λ e. omega arith) refl
       put_group_text terms project 8 7 put_is put_plain values (λ olds new. refl) again unset
       (λ id met r. refl) (λ id met. refl) refl (λ v. refl) (λ id. (refl, (refl, (refl, tt)))) meets
@@ -101,15 +109,19 @@ module _ (a s : List ℕ) (g : ℕ) (row : Group) where
       → content_of new ≡ with_rows a (with_group s g row) (content_of old)
   turns old new c =
       only_changed 10 old new c.others
-      ∙ rows_turn a (content_of old) (with_group s g row) (λ r. r.groups) (λ r f. record r { groups = f }) (λ r. refl)
-      (λ r. refl) (rows_in new) (λ x. at_each (same_name a x) _ _ _ (λ t. at_each (same_name a x) _ _ _ (λ h.
-      put_tells group_in session_groups values old new c row (group_told (Text a) (Text s) g row) (group_key x t h) (same_name a x && (same_name s t && nat_eq g h))
+      ∙ rows_turn a (content_of old) (with_group s g row) (λ r. r.groups)
+      (λ r f. record r { groups = f }) (λ r. refl) (λ r. refl) (rows_in new)
+      (λ x. at_each (same_name a x) _ _ _ (λ t. at_each (same_name a x) _ _ _ (λ h.
+      put_tells group_in session_groups values old new c row (group_told (Text a) (Text s) g row)
+      (group_key x t h) (same_name a x && (same_name s t && nat_eq g h))
       (text_text_number a x s t g h) ∙ apart_if (same_name a x) (same_name s t && nat_eq g h) _ _)))
 
-  pub makes_group : (params : Row) → params ≡ values → (old new : State) (r : Result ℕ Error) → HasBook old
+  pub makes_group : (params : Row) → params ≡ values
+      → (old new : State) (r : Result ℕ Error) → HasBook old
       → Attempts (λ old new. ExecutesInside 0 put_group_text params old new r) old new r
       → Attempts (Makes (with_rows a (with_group s g row))) old new r
-  makes_group = writes put_group_text values (Puts session_groups values) (with_rows a (with_group s g row)) puts
+  makes_group = writes put_group_text values (Puts session_groups values)
+      (with_rows a (with_group s g row)) puts
       (puts_make session_groups values (with_rows a (with_group s g row)) turns)
 
   -- the parameters, as they are bound

@@ -1,7 +1,8 @@
 -- What the text of `put_hold` does.
 use Rattle.std.specs.Prelude.{codes, option_map, is_some, length, if◌then◌else◌}
-use Rattle.std.proofs.Common.{◌≡◌, ◌≢◌, inl, inr, ℕ, ℤ, pos, ◌+◌, List, [], ◌∷◌, ◌++◌, map, Bool, true, false, ◌&&◌}
-use Rattle.std.proofs.Common.{Some, None, Option, Ok, Err, Result, OnOk, IsTrue, refl, sym, ap, ◌∙◌, arith, nat_eq}
+use Rattle.std.proofs.Common.{◌≡◌, ◌≢◌, inl, inr, ℕ, ℤ, pos, ◌+◌, List, [], ◌∷◌, ◌++◌, map, Bool}
+use Rattle.std.proofs.Common.{true, false, ◌&&◌, Some, None, Option, Ok, Err, Result, OnOk, IsTrue}
+use Rattle.std.proofs.Common.{refl, sym, ap, ◌∙◌, arith, nat_eq}
 use Rattle.std.specs.Ordering.{eq_by_cmp}
 use Rattle.sqlite_value.specs.declared.value.Value.{Value}
 use Rattle.sqlite_value.specs.declared.value.Value.TheVariants.{Null, Int, Text}
@@ -43,7 +44,8 @@ put_hold_text =
     codes "INSERT INTO holds VALUES (?1, ?2, ?3, ?4, ?5) "
     ++ codes "ON CONFLICT (account, session, rating_group, bucket) DO UPDATE SET "
     ++ codes "account = excluded.account, session = excluded.session, "
-    ++ codes "rating_group = excluded.rating_group, bucket = excluded.bucket, amount = excluded.amount"
+    ++ codes
+    "rating_group = excluded.rating_group, bucket = excluded.bucket, amount = excluded.amount"
 
 abbrev terms : List Term
 terms = lit Null ∷ col 0 0 ∷ col 0 1 ∷ col 0 2 ∷ col 0 3 ∷ col 0 4 ∷ []
@@ -56,7 +58,10 @@ places = 1 ∷ 2 ∷ 3 ∷ 4 ∷ []
 
 put_is : command_of (understood book_schema put_hold_text)
     ≡ InsertOr 6 Abort (Values terms 6)
-    (record { target = Some places; update = Some (record { lets = []; body = pick 12 5 project }) } ∷ [])
+    (record {
+      target = Some places;
+      update = Some (record { lets = []; body = pick 12 5 project });
+    } ∷ [])
 unfolding understood everything
 put_is = refl
 
@@ -74,33 +79,42 @@ module _ (a s : List ℕ) (g n amount : ℕ) where
   unset : cast_row holds (Null ∷ values) ≡ Null ∷ values
   unset = simp (cast_int, cast_null)
 
-  meets : (id : ℤ) (other : Row) → conflicts (Some places) book_schema.indexes holds (Int id ∷ values) other
+  meets : (id : ℤ) (other : Row) →
+      conflicts (Some places) book_schema.indexes holds (Int id ∷ values) other
       ≡ eq_by_cmp row_cmp (key_of places other) (key_of places (Int id ∷ values))
-  meets id other = or_false (agree plain places other places (Int id ∷ values)) ∙ agree_ties places other
-      (Int id ∷ values) (refl, (refl, (refl, (refl, tt))))
+  meets id other = or_false (agree plain places other places (Int id ∷ values))
+      ∙ agree_ties places other (Int id ∷ values) (refl, (refl, (refl, (refl, tt))))
 
   puts : (old new : State) (r : Result ℕ Error) → (IsTrue old.is_open → IsBook old)
-      → OnOk r (ExecutesInside 0 put_hold_text values old new r) → OnOk r (Puts holds values old new)
+      → OnOk r (ExecutesInside 0 put_hold_text values old new r)
+      → OnOk r (Puts holds values old new)
   puts =
       puts_table 6 holds refl (inr (inr (inr (inr (inr (inr (inl refl))))))) (key_index holds)
       (inr (inr (inr (inr (inr (inr (inl refl)))))))
       refl refl refl (λ e. omega arith) refl
       put_hold_text terms project 6 5 put_is put_plain values (λ olds new. refl) again unset
-      (λ id met r. refl) (λ id met. refl) refl (λ v. refl) (λ id. (refl, (refl, (refl, (refl, tt))))) meets
+      (λ id met r. refl) (λ id met. refl) refl (λ v. refl)
+      (λ id. (refl, (refl, (refl, (refl, tt))))) meets
 
   turns : (old new : Trees) → Changes holds values old new
       → content_of new ≡ with_rows a (with_hold s g n amount) (content_of old)
   turns old new c =
       only_changed 12 old new c.others
-      ∙ rows_turn a (content_of old) (with_hold s g n amount) (λ r. r.holds) (λ r f. record r { holds = f }) (λ r. refl)
-      (λ r. refl) (rows_in new) (λ x. at_each (same_name a x) _ _ _ (λ t. at_each (same_name a x) _ _ _ (λ h. at_each (same_name a x) _ _ _ (λ m.
-      put_tells hold_in holds values old new c amount refl (hold_key x t h m) (same_name a x && (same_name s t && (nat_eq g h && nat_eq n m)))
-      (text_text_number_number a x s t g h n m) ∙ apart_if (same_name a x) (same_name s t && (nat_eq g h && nat_eq n m)) _ _))))
+      ∙ rows_turn a (content_of old) (with_hold s g n amount) (λ r. r.holds)
+      (λ r f. record r { holds = f }) (λ r. refl)
+      (λ r. refl) (rows_in new) (λ x. at_each (same_name a x) _ _ _
+      (λ t. at_each (same_name a x) _ _ _ (λ h. at_each (same_name a x) _ _ _ (λ m.
+      put_tells hold_in holds values old new c amount refl (hold_key x t h m)
+      (same_name a x && (same_name s t && (nat_eq g h && nat_eq n m)))
+      (text_text_number_number a x s t g h n m)
+      ∙ apart_if (same_name a x) (same_name s t && (nat_eq g h && nat_eq n m)) _ _))))
 
-  pub makes_hold : (params : Row) → params ≡ values → (old new : State) (r : Result ℕ Error) → HasBook old
+  pub makes_hold : (params : Row) → params ≡ values
+      → (old new : State) (r : Result ℕ Error) → HasBook old
       → Attempts (λ old new. ExecutesInside 0 put_hold_text params old new r) old new r
       → Attempts (Makes (with_rows a (with_hold s g n amount))) old new r
-  makes_hold = writes put_hold_text values (Puts holds values) (with_rows a (with_hold s g n amount)) puts
+  makes_hold =
+      writes put_hold_text values (Puts holds values) (with_rows a (with_hold s g n amount)) puts
       (puts_make holds values (with_rows a (with_hold s g n amount)) turns)
 
   -- the parameters, as they are bound

@@ -1,7 +1,8 @@
 -- What the text of `put_meta` does.
 use Rattle.std.specs.Prelude.{codes, option_map, is_some, length, if◌then◌else◌}
-use Rattle.std.proofs.Common.{◌≡◌, ◌≢◌, inl, inr, ℕ, ℤ, pos, ◌+◌, List, [], ◌∷◌, ◌++◌, map, Bool, true, false, ◌&&◌}
-use Rattle.std.proofs.Common.{Some, None, Option, Ok, Err, Result, OnOk, IsTrue, refl, sym, ap, ◌∙◌, arith, nat_eq}
+use Rattle.std.proofs.Common.{◌≡◌, ◌≢◌, inl, inr, ℕ, ℤ, pos, ◌+◌, List, [], ◌∷◌, ◌++◌, map, Bool}
+use Rattle.std.proofs.Common.{true, false, ◌&&◌, Some, None, Option, Ok, Err, Result, OnOk, IsTrue}
+use Rattle.std.proofs.Common.{refl, sym, ap, ◌∙◌, arith, nat_eq}
 use Rattle.std.specs.Ordering.{eq_by_cmp}
 use Rattle.sqlite_value.specs.declared.value.Value.{Value}
 use Rattle.sqlite_value.specs.declared.value.Value.TheVariants.{Null, Int, Text}
@@ -56,7 +57,10 @@ places = 1 ∷ []
 
 put_is : command_of (understood book_schema put_meta_text)
     ≡ InsertOr 0 Abort (Values terms 5)
-    (record { target = Some places; update = Some (record { lets = []; body = pick 0 4 project }) } ∷ [])
+    (record {
+      target = Some places;
+      update = Some (record { lets = []; body = pick 0 4 project });
+    } ∷ [])
 unfolding understood everything
 put_is = refl
 
@@ -74,10 +78,11 @@ module _ (m : Meta) where
   unset : cast_row meta (Null ∷ values) ≡ Null ∷ values
   unset = simp (cast_int, cast_null)
 
-  meets : (id : ℤ) (other : Row) → conflicts (Some places) book_schema.indexes meta (Int id ∷ values) other
+  meets : (id : ℤ) (other : Row) →
+      conflicts (Some places) book_schema.indexes meta (Int id ∷ values) other
       ≡ eq_by_cmp row_cmp (key_of places other) (key_of places (Int id ∷ values))
-  meets id other = or_false (agree plain places other places (Int id ∷ values)) ∙ agree_ties places other
-      (Int id ∷ values) (refl, tt)
+  meets id other = or_false (agree plain places other places (Int id ∷ values))
+      ∙ agree_ties places other (Int id ∷ values) (refl, tt)
 
   puts : (old new : State) (r : Result ℕ Error) → (IsTrue old.is_open → IsBook old)
       → OnOk r (ExecutesInside 0 put_meta_text values old new r) → OnOk r (Puts meta values old new)
@@ -87,12 +92,14 @@ module _ (m : Meta) where
       put_meta_text terms project 5 4 put_is put_plain values (λ olds new. refl) again unset
       (λ id met r. refl) (λ id met. refl) refl (λ v. refl) (λ id. (refl, tt)) meets
 
-  turns : (old new : Trees) → Changes meta values old new → content_of new ≡ with_meta m (content_of old)
+  turns : (old new : Trees) → Changes meta values old new →
+      content_of new ≡ with_meta m (content_of old)
   turns old new c = only_changed 0 old new c.others ∙ (λ i. record (content_of old) {
     meta = put_tells meta_in meta values old new c m refl meta_key true (number_last 1 1) i;
   })
 
-  pub makes_meta : (params : Row) → params ≡ values → (old new : State) (r : Result ℕ Error) → HasBook old
+  pub makes_meta : (params : Row) → params ≡ values
+      → (old new : State) (r : Result ℕ Error) → HasBook old
       → Attempts (λ old new. ExecutesInside 0 put_meta_text params old new r) old new r
       → Attempts (Makes (with_meta m)) old new r
   makes_meta = writes put_meta_text values (Puts meta values) (with_meta m) puts

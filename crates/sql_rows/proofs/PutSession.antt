@@ -1,7 +1,8 @@
 -- What the text of `put_session` does.
 use Rattle.std.specs.Prelude.{codes, option_map, is_some, length, if◌then◌else◌}
-use Rattle.std.proofs.Common.{◌≡◌, ◌≢◌, inl, inr, ℕ, ℤ, pos, ◌+◌, List, [], ◌∷◌, ◌++◌, map, Bool, true, false, ◌&&◌}
-use Rattle.std.proofs.Common.{Some, None, Option, Ok, Err, Result, OnOk, IsTrue, refl, sym, ap, ◌∙◌, arith, nat_eq}
+use Rattle.std.proofs.Common.{◌≡◌, ◌≢◌, inl, inr, ℕ, ℤ, pos, ◌+◌, List, [], ◌∷◌, ◌++◌, map, Bool}
+use Rattle.std.proofs.Common.{true, false, ◌&&◌, Some, None, Option, Ok, Err, Result, OnOk, IsTrue}
+use Rattle.std.proofs.Common.{refl, sym, ap, ◌∙◌, arith, nat_eq}
 use Rattle.std.specs.Ordering.{eq_by_cmp}
 use Rattle.sqlite_value.specs.declared.value.Value.{Value}
 use Rattle.sqlite_value.specs.declared.value.Value.TheVariants.{Null, Int, Text}
@@ -35,7 +36,8 @@ use Rattle.sql_tables.proofs.Steps.{or_false}
 use Rattle.sql_tables.proofs.Tabled.{puts_table}
 use Rattle.sql_tables.proofs.Ties.{agree_ties}
 use Rattle.sql_tables.proofs.Upserts.{pick}
-use Rattle.sql_rows.specs.Values.{nat, session_cells, session_values, session_key, session_in, state_number}
+use Rattle.sql_rows.specs.Values.{nat, session_cells, session_values, session_key, session_in}
+use Rattle.sql_rows.specs.Values.{state_number}
 use Rattle.sql_rows.specs.Content.{Rows, Content, with_rows, with_session, rows_in, content_of}
 use Rattle.sql_rows.specs.Makes.{Makes}
 use Rattle.sql_rows.proofs.Stays.{only_changed, rows_turn, at_each}
@@ -46,7 +48,8 @@ put_session_text =
     codes "INSERT INTO sessions VALUES (?1, ?2, ?3, ?4, ?5) "
     ++ codes "ON CONFLICT (account, session) DO UPDATE SET "
     ++ codes "account = excluded.account, session = excluded.session, "
-    ++ codes "last_number = excluded.last_number, touched = excluded.touched, state = excluded.state"
+    ++ codes
+    "last_number = excluded.last_number, touched = excluded.touched, state = excluded.state"
 
 abbrev terms : List Term
 terms = lit Null ∷ col 0 0 ∷ col 0 1 ∷ col 0 2 ∷ col 0 3 ∷ col 0 4 ∷ []
@@ -59,7 +62,10 @@ places = 1 ∷ 2 ∷ []
 
 put_is : command_of (understood book_schema put_session_text)
     ≡ InsertOr 4 Abort (Values terms 6)
-    (record { target = Some places; update = Some (record { lets = []; body = pick 8 5 project }) } ∷ [])
+    (record {
+      target = Some places;
+      update = Some (record { lets = []; body = pick 8 5 project });
+    } ∷ [])
 unfolding understood everything
 put_is = refl
 
@@ -85,13 +91,15 @@ module _ (a : List ℕ) (row : Session) where
   unset : cast_row sessions (Null ∷ values) ≡ Null ∷ values
   unset = simp (cast_int, cast_null)
 
-  meets : (id : ℤ) (other : Row) → conflicts (Some places) book_schema.indexes sessions (Int id ∷ values) other
+  meets : (id : ℤ) (other : Row) →
+      conflicts (Some places) book_schema.indexes sessions (Int id ∷ values) other
       ≡ eq_by_cmp row_cmp (key_of places other) (key_of places (Int id ∷ values))
-  meets id other = or_false (agree plain places other places (Int id ∷ values)) ∙ agree_ties places other
-      (Int id ∷ values) (refl, (refl, tt))
+  meets id other = or_false (agree plain places other places (Int id ∷ values))
+      ∙ agree_ties places other (Int id ∷ values) (refl, (refl, tt))
 
   puts : (old new : State) (r : Result ℕ Error) → (IsTrue old.is_open → IsBook old)
-      → OnOk r (ExecutesInside 0 put_session_text values old new r) → OnOk r (Puts sessions values old new)
+      → OnOk r (ExecutesInside 0 put_session_text values old new r)
+      → OnOk r (Puts sessions values old new)
   puts =
       puts_table 4 sessions refl (inr (inr (inr (inr (inl refl))))) (key_index sessions)
       (inr (inr (inr (inr (inl refl)))))
@@ -103,15 +111,19 @@ module _ (a : List ℕ) (row : Session) where
       → content_of new ≡ with_rows a (with_session row) (content_of old)
   turns old new c =
       only_changed 8 old new c.others
-      ∙ rows_turn a (content_of old) (with_session row) (λ r. r.sessions) (λ r f. record r { sessions = f }) (λ r. refl)
+      ∙ rows_turn a (content_of old) (with_session row) (λ r. r.sessions)
+      (λ r f. record r { sessions = f }) (λ r. refl)
       (λ r. refl) (rows_in new) (λ x. at_each (same_name a x) _ _ _ (λ s.
-      put_tells session_in sessions values old new c row (session_told (Text a) row) (session_key x s) (same_name a x && (same_name row.id s))
+      put_tells session_in sessions values old new c row (session_told (Text a) row)
+      (session_key x s) (same_name a x && (same_name row.id s))
       (text_text a x row.id s) ∙ apart_if (same_name a x) (same_name row.id s) _ _))
 
-  pub makes_session : (params : Row) → params ≡ values → (old new : State) (r : Result ℕ Error) → HasBook old
+  pub makes_session : (params : Row) → params ≡ values
+      → (old new : State) (r : Result ℕ Error) → HasBook old
       → Attempts (λ old new. ExecutesInside 0 put_session_text params old new r) old new r
       → Attempts (Makes (with_rows a (with_session row))) old new r
-  makes_session = writes put_session_text values (Puts sessions values) (with_rows a (with_session row)) puts
+  makes_session =
+      writes put_session_text values (Puts sessions values) (with_rows a (with_session row)) puts
       (puts_make sessions values (with_rows a (with_session row)) turns)
 
   -- the parameters, as they are bound

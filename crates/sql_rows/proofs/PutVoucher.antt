@@ -30,7 +30,8 @@ use Rattle.sql_tables.proofs.Steps.{or_false}
 use Rattle.sql_tables.proofs.Tabled.{puts_table}
 use Rattle.sql_tables.proofs.Ties.{agree_ties}
 use Rattle.sql_tables.proofs.Upserts.{pick}
-use Rattle.sql_rows.specs.Values.{nat, Voucher, voucher_cells, voucher_values, voucher_key, voucher_in, optional_in, optional_text_in}
+use Rattle.sql_rows.specs.Values.{nat, Voucher, voucher_cells, voucher_values, voucher_key}
+use Rattle.sql_rows.specs.Values.{voucher_in, optional_in, optional_text_in}
 use Rattle.sql_rows.specs.Content.{with_voucher, content_of}
 use Rattle.sql_rows.specs.Makes.{Makes}
 use Rattle.sql_rows.proofs.Stays.{only_changed}
@@ -46,7 +47,10 @@ put_voucher_text =
 
 put_is : command_of (understood book_schema put_voucher_text)
     ≡ InsertOr 8 Abort (Values terms 6)
-    (record { target = Some places; update = Some (record { lets = []; body = pick 16 5 project }) } ∷ [])
+    (record {
+      target = Some places;
+      update = Some (record { lets = []; body = pick 16 5 project });
+    } ∷ [])
 unfolding understood everything
 put_is = refl
 
@@ -80,27 +84,31 @@ module _ (code : List ℕ) (row : Voucher) where
   unset : cast_row vouchers (Null ∷ values) ≡ Null ∷ values
   unset = simp (cast_int, cast_or_null, cast_or_text, cast_null)
 
-  meets : (id : ℤ) (other : Row) → conflicts (Some places) book_schema.indexes vouchers (Int id ∷ values) other
+  meets : (id : ℤ) (other : Row) →
+      conflicts (Some places) book_schema.indexes vouchers (Int id ∷ values) other
       ≡ eq_by_cmp row_cmp (key_of places other) (key_of places (Int id ∷ values))
-  meets id other = or_false (agree plain places other places (Int id ∷ values)) ∙ agree_ties places other
-      (Int id ∷ values) (refl, tt)
+  meets id other = or_false (agree plain places other places (Int id ∷ values))
+      ∙ agree_ties places other (Int id ∷ values) (refl, tt)
 
   puts : (old new : State) (r : Result ℕ Error) → (IsTrue old.is_open → IsBook old)
-      → OnOk r (ExecutesInside 0 put_voucher_text values old new r) → OnOk r (Puts vouchers values old new)
+      → OnOk r (ExecutesInside 0 put_voucher_text values old new r)
+      → OnOk r (Puts vouchers values old new)
   puts =
-      puts_table 8 vouchers refl (inr (inr (inr (inr (inr (inr (inr (inr (inl refl))))))))) (key_index vouchers)
-      (inr (inr (inr (inr (inr (inr (inr (inr (inl refl)))))))))
+      puts_table 8 vouchers refl (inr (inr (inr (inr (inr (inr (inr (inr (inl refl)))))))))
+      (key_index vouchers) (inr (inr (inr (inr (inr (inr (inr (inr (inl refl)))))))))
       refl refl refl (λ e. omega arith) refl
       put_voucher_text terms project 6 5 put_is put_plain values (λ olds new. refl) again unset
       (λ id met r. refl) (λ id met. refl) refl (λ v. refl) (λ id. (refl, tt)) meets
 
-  turns : (old new : Trees) → Changes vouchers values old new → content_of new ≡ with_voucher code row (content_of old)
+  turns : (old new : Trees) → Changes vouchers values old new →
+      content_of new ≡ with_voucher code row (content_of old)
   turns old new c = only_changed 16 old new c.others ∙ (λ i. record (content_of old) {
-    vouchers = λ k. put_tells voucher_in vouchers values old new c row (voucher_told (Text code) row) (voucher_key k)
-        (same_name code k) (text_last code k) i;
+    vouchers = λ k. put_tells voucher_in vouchers values old new c row
+        (voucher_told (Text code) row) (voucher_key k) (same_name code k) (text_last code k) i;
   })
 
-  pub makes_voucher : (params : Row) → params ≡ values → (old new : State) (r : Result ℕ Error) → HasBook old
+  pub makes_voucher : (params : Row) → params ≡ values
+      → (old new : State) (r : Result ℕ Error) → HasBook old
       → Attempts (λ old new. ExecutesInside 0 put_voucher_text params old new r) old new r
       → Attempts (Makes (with_voucher code row)) old new r
   makes_voucher = writes put_voucher_text values (Puts vouchers values) (with_voucher code row) puts

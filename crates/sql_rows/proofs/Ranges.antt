@@ -1,5 +1,6 @@
 -- What SQL's tests say of numbers that lie beyond one and up to another.
-use Rattle.std.proofs.Common.{◌≡◌, ℕ, pos, negsuc, Bool, true, false, not, ◌&&◌, cond, Less, Equal, Greater, Some, is_eq, refl, sym, ap, ap₂, ◌∙◌, arith, nat_lt}
+use Rattle.std.proofs.Common.{◌≡◌, ℕ, pos, negsuc, Bool, true, false, not, ◌&&◌, cond, Less, Equal}
+use Rattle.std.proofs.Common.{Greater, Some, is_eq, refl, sym, ap, ap₂, ◌∙◌, arith, nat_lt}
 use Rattle.std.specs.Prelude.{nat_le}
 use Rattle.std.specs.Ordering.{int_cmp, is_gt, is_le}
 use Rattle.std.proofs.lemmas.Bool.{and_parts, and_from}
@@ -60,7 +61,8 @@ pub within_told : (after last m : ℕ) →
 within_told after last m = ap₂ ◌&&◌ (beyond_told m after) (up_to_told m last)
 
 not_none : (after last : ℕ) → (nat_lt after 0 && nat_le 0 last) ≡ true → ⊥
-not_none after last h = let low = (and_parts (nat_lt after 0) (nat_le 0 last) h).0 in grind (arith, nat_tests, low)
+not_none after last h = let low = (and_parts (nat_lt after 0) (nat_le 0 last) h).0 in
+    grind (arith, nat_tests, low)
 
 -- what isn't a number reads as 0, which lies beyond none
 pub number_within : (after last : ℕ) (v : Value) →

@@ -1,7 +1,7 @@
 -- What the text of `read_account` answers.
 use Rattle.std.specs.Prelude.{codes}
-use Rattle.std.proofs.Common.{◌≡◌, inl, inr, ℕ, pos, List, [], ◌∷◌, ◌++◌, map, drop, Bool, true, false, ◌&&◌, Some}
-use Rattle.std.proofs.Common.{None, Option, Equal, refl, sym, ap, subst, ◌∙◌}
+use Rattle.std.proofs.Common.{◌≡◌, inl, inr, ℕ, pos, List, [], ◌∷◌, ◌++◌, map, drop, Bool, true}
+use Rattle.std.proofs.Common.{false, ◌&&◌, Some, None, Option, Equal, refl, sym, ap, subst, ◌∙◌}
 use Rattle.std.specs.List.{list_all}
 use Rattle.std.specs.Ordering.{eq_by_cmp}
 use Rattle.sqlite_value.specs.declared.value.Value.TheVariants.{Null, Int, Text}
@@ -69,19 +69,21 @@ back : (x : Head) (r : Row) → head_cells x ≡ columns r → head_in (drop 1 r
 back x r is = same_columns r ∙ ap (λ w. head_in (Null ∷ w)) (sym is) ∙ head_told Null x
 
 module _ (a : List ℕ) where
-  means : (r : Row) → list_all (holds_in (head_key a ∷ r ∷ [])) terms ≡ eq_by_cmp row_cmp (key_of places r) (head_key a)
+  means : (r : Row) → list_all (holds_in (head_key a ∷ r ∷ [])) terms
+      ≡ eq_by_cmp row_cmp (key_of places r) (head_key a)
   unfolding first_key
   means r = agree_ties_at places r (0 ∷ []) (head_key a) (refl, tt)
 
-  pub account_read : (old new : State) (rows : List Row) (o : Option Head) → Answers read_account_text (head_key a)
-      old new rows
+  pub account_read : (old new : State) (rows : List Row) (o : Option Head) →
+      Answers read_account_text (head_key a) old new rows
       → rows ≡ map head_cells (one_or_none o) → o ≡ (rows_in old.now.trees a).head
   account_read old new rows o got is =
       one_told accounts (inr (inl refl)) (inr (inl refl)) refl old.now.trees got.fits
-      (got.book.stored.1.0) head_in head_cells columns (λ r. eq_by_cmp row_cmp (key_of places r) (head_key a))
-      (head_key a) (refl, tt)
+      (got.book.stored.1.0) head_in head_cells columns
+      (λ r. eq_by_cmp row_cmp (key_of places r) (head_key a)) (head_key a) (refl, tt)
       (λ x r m. back x r) (λ r. refl) o
-      (subst (Selects (λ r. eq_by_cmp row_cmp (key_of places r) (head_key a)) columns (old.now.trees 2)) is
+      (subst (Selects (λ r. eq_by_cmp row_cmp (key_of places r) (head_key a)) columns
+      (old.now.trees 2)) is
       (told read_account_text names 2 terms project [] text_is read_account_plain (head_key a)
       (λ r. eq_by_cmp row_cmp (key_of places r) (head_key a)) columns
       means (λ r. refl) old new rows got))

@@ -1,7 +1,8 @@
 -- What the text of `read_accounts` answers.
 use Rattle.std.specs.Prelude.{codes, option_map}
-use Rattle.std.proofs.Common.{◌≡◌, inl, inr, ℕ, pos, List, [], ◌∷◌, ◌++◌, map, drop, Bool, true, false, ◌&&◌, ◌||◌}
-use Rattle.std.proofs.Common.{Some, None, Option, is_eq, refl, sym, ap, ap₂, subst, ◌∙◌, nat_eq, nat_lt}
+use Rattle.std.proofs.Common.{◌≡◌, inl, inr, ℕ, pos, List, [], ◌∷◌, ◌++◌, map, drop, Bool, true}
+use Rattle.std.proofs.Common.{false, ◌&&◌, ◌||◌, Some, None, Option, is_eq, refl, sym, ap, ap₂}
+use Rattle.std.proofs.Common.{subst, ◌∙◌, nat_eq, nat_lt}
 use Rattle.std.proofs.lemmas.Bool.{and_parts, and_from}
 use Rattle.std.specs.List.{list_all, find}
 use Rattle.std.specs.Ordering.{eq_by_cmp}
@@ -81,13 +82,15 @@ splits a r = keys_split (Text a) (column r 1) [] [] ∙ and_true _
 wanted : (a x : List ℕ) (r : Row) → head_key x ≡ columns r → rest a r ≡ same_name x a
 wanted a x r is = ap (λ (w : Row). is_eq (value_cmp (Text a) (column w 0))) (sym is) ∙ text_tie x a
 
-pub accounts_read : (old new : State) (rows : List Row) (xs : List (List ℕ)) → Answers read_accounts_text [] old new rows
+pub accounts_read : (old new : State) (rows : List Row) (xs : List (List ℕ))
+    → Answers read_accounts_text [] old new rows
     → map head_key xs ≡ rows → AreAccounts (content_of old.now.trees) xs
 accounts_read old new rows xs got is = record {
   found = λ a.
       ap is_some (listed_told accounts (inr (inl refl)) (inr (inl refl)) refl old.now.trees got.fits
-      (got.book.stored.1.0) number_in head_key columns (λ r. true) (head_key a) (refl, tt) (λ x r m. back x r)
-      (λ x. same_name x a) (λ x. true) (λ r. true) (rest a) (λ r. true) (λ r. refl) (splits a) (wanted a)
+      (got.book.stored.1.0) number_in head_key columns (λ r. true) (head_key a) (refl, tt)
+      (λ x r m. back x r) (λ x. same_name x a) (λ x. true) (λ r. true) (rest a) (λ r. true)
+      (λ r. refl) (splits a) (wanted a)
       (λ r m h. refl) (λ x r e same. refl) xs selects ∙ only_all _)
       ∙ is_some_map number_in _ ∙ sym (is_some_map head_in _);
   count =
@@ -99,5 +102,5 @@ accounts_read old new rows xs got is = record {
     selects : Selects (λ r. true) columns (old.now.trees 2) (map head_key xs)
     selects =
         subst (Selects (λ r. true) columns (old.now.trees 2)) (sym is)
-        (told read_accounts_text names 2 [] project order text_is read_accounts_plain [] (λ r. true) columns
-        (λ r. refl) (λ r. refl) old new rows got)
+        (told read_accounts_text names 2 [] project order text_is read_accounts_plain []
+        (λ r. true) columns (λ r. refl) (λ r. refl) old new rows got)

@@ -1,7 +1,7 @@
 -- What the text of `read_answer` answers.
 use Rattle.std.specs.Prelude.{codes}
-use Rattle.std.proofs.Common.{◌≡◌, inl, inr, ℕ, pos, List, [], ◌∷◌, ◌++◌, map, drop, Bool, true, false, ◌&&◌, Some}
-use Rattle.std.proofs.Common.{None, Option, Equal, refl, sym, ap, subst, ◌∙◌}
+use Rattle.std.proofs.Common.{◌≡◌, inl, inr, ℕ, pos, List, [], ◌∷◌, ◌++◌, map, drop, Bool, true}
+use Rattle.std.proofs.Common.{false, ◌&&◌, Some, None, Option, Equal, refl, sym, ap, subst, ◌∙◌}
 use Rattle.std.specs.List.{list_all}
 use Rattle.std.specs.Ordering.{eq_by_cmp}
 use Rattle.sqlite_value.specs.declared.value.Value.TheVariants.{Null, Int, Text}
@@ -70,7 +70,8 @@ back : (x : Kept) (r : Row) → answer_cells x ≡ columns r → answer_in (drop
 back x r is = same_columns r ∙ ap (λ w. answer_in (Null ∷ Null ∷ Null ∷ Null ∷ w)) (sym is) ∙ refl
 
 module _ (a : List ℕ) (kind : ℕ) (name : List ℕ) (number : ℕ) where
-  means : (r : Row) → list_all (holds_in (answer_key a kind name number ∷ r ∷ [])) terms ≡ eq_by_cmp row_cmp
+  means : (r : Row) →
+      list_all (holds_in (answer_key a kind name number ∷ r ∷ [])) terms ≡ eq_by_cmp row_cmp
       (key_of places r) (answer_key a kind name number)
   unfolding first_key
   means r = agree_ties_at places r (0 ∷ 1 ∷ 2 ∷ 3 ∷ []) (answer_key a kind name number)
@@ -78,7 +79,8 @@ module _ (a : List ℕ) (kind : ℕ) (name : List ℕ) (number : ℕ) where
 
   pub answer_read : (old new : State) (rows : List Row) (o : Option Kept) → Answers read_answer_text
       (answer_key a kind name number) old new rows
-      → rows ≡ map answer_cells (one_or_none o) → o ≡ (rows_in old.now.trees a).answers kind name number
+      → rows ≡ map answer_cells (one_or_none o)
+      → o ≡ (rows_in old.now.trees a).answers kind name number
   answer_read old new rows o got is =
       one_told answers (inr (inr (inr (inr (inr (inr (inr (inl refl))))))))
       (inr (inr (inr (inr (inr (inr (inr (inl refl)))))))) refl old.now.trees got.fits
@@ -86,8 +88,10 @@ module _ (a : List ℕ) (kind : ℕ) (name : List ℕ) (number : ℕ) where
       (λ r. eq_by_cmp row_cmp (key_of places r) (answer_key a kind name number))
       (answer_key a kind name number) (refl, (refl, (refl, (refl, tt))))
       (λ x r m. back x r) (λ r. refl) o
-      (subst (Selects (λ r. eq_by_cmp row_cmp (key_of places r) (answer_key a kind name number)) columns
+      (subst (Selects (λ r.
+      eq_by_cmp row_cmp (key_of places r) (answer_key a kind name number)) columns
       (old.now.trees 14)) is
-      (told read_answer_text names 14 terms project [] text_is read_answer_plain (answer_key a kind name number)
+      (told read_answer_text names 14 terms project [] text_is read_answer_plain
+      (answer_key a kind name number)
       (λ r. eq_by_cmp row_cmp (key_of places r) (answer_key a kind name number)) columns
       means (λ r. refl) old new rows got))

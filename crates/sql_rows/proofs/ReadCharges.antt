@@ -1,7 +1,8 @@
 -- What the text of `read_charges_within` answers.
 use Rattle.std.specs.Prelude.{codes, option_map}
-use Rattle.std.proofs.Common.{◌≡◌, inl, inr, ℕ, pos, List, [], ◌∷◌, ◌++◌, map, drop, Bool, true, false, ◌&&◌, ◌||◌}
-use Rattle.std.proofs.Common.{Some, None, Option, is_eq, refl, sym, ap, ap₂, subst, ◌∙◌, nat_eq, nat_lt}
+use Rattle.std.proofs.Common.{◌≡◌, inl, inr, ℕ, pos, List, [], ◌∷◌, ◌++◌, map, drop, Bool, true}
+use Rattle.std.proofs.Common.{false, ◌&&◌, ◌||◌, Some, None, Option, is_eq, refl, sym, ap, ap₂}
+use Rattle.std.proofs.Common.{subst, ◌∙◌, nat_eq, nat_lt}
 use Rattle.std.specs.Prelude.{nat_le}
 use Rattle.std.proofs.lemmas.Bool.{and_parts, and_from}
 use Rattle.std.specs.List.{list_all, find}
@@ -41,11 +42,13 @@ abbrev project : List Term
 project = col 1 2 ∷ col 1 3 ∷ col 1 4 ∷ col 1 5 ∷ col 1 6 ∷ col 1 7 ∷ col 1 8 ∷ col 1 9 ∷ []
 
 abbrev names : List (List ℕ)
-names = codes "number" ∷ codes "moment" ∷ codes "session" ∷ codes "rating_group" ∷ codes "blocks" ∷ codes "rated" ∷
+names = codes "number" ∷ codes "moment" ∷ codes "session" ∷ codes "rating_group" ∷ codes "blocks"
+    ∷ codes "rated" ∷
     codes "collected" ∷ codes "uncollected" ∷ []
 
 abbrev columns : Row → Row
-columns r = column r 2 ∷ column r 3 ∷ column r 4 ∷ column r 5 ∷ column r 6 ∷ column r 7 ∷ column r 8 ∷ column r 9 ∷ []
+columns r = column r 2 ∷ column r 3 ∷ column r 4 ∷ column r 5 ∷ column r 6 ∷ column r 7 ∷ column r 8
+    ∷ column r 9 ∷ []
 
 same_columns : (r : Row) → charge_in (drop 1 r) ≡ charge_in (Null ∷ columns r)
 same_columns [] = refl
@@ -55,7 +58,8 @@ back : (x : ChargeRow) (r : Row) → charge_cells x ≡ columns r → charge_in 
 back x r is = same_columns r ∙ ap (λ w. charge_in (Null ∷ w)) (sym is) ∙ refl
 
 abbrev pub read_charges_within_text : List ℕ
-read_charges_within_text = codes "SELECT number, moment, session, rating_group, blocks, rated, collected, uncollected "
+read_charges_within_text =
+    codes "SELECT number, moment, session, rating_group, blocks, rated, collected, uncollected "
     ++ codes "FROM charges WHERE account = ?1 AND number > ?2 AND number <= ?3 ORDER BY number"
 
 abbrev charges_terms : List Term
@@ -68,7 +72,10 @@ abbrev charges_order : List (Term × Key)
 charges_order = (col 1 2, record { collation = Binary; descending = false }) ∷ []
 
 charges_is : (command_of (understood book_schema read_charges_within_text)
-    ≡ Select (record { lets = []; body = select_from 18 charges_terms project charges_order }) names) ×
+    ≡ Select (record {
+      lets = [];
+      body = select_from 18 charges_terms project charges_order;
+    }) names) ×
     (reads_listing book_schema read_charges_within_text ≡ false)
 unfolding understood everything
 charges_is = (refl, refl)
@@ -90,33 +97,38 @@ module _ (a : List ℕ) (after last : ℕ) where
   splits : (n : ℕ) (r : Row) → meets (1 ∷ 2 ∷ []) (charge_key a n) r ≡ (front r && rest n r)
   splits n r =
       keys_split (Text a) (column r 1) (nat n ∷ []) (column r 2 ∷ [])
-      ∙ ap₂ ◌&&◌ (sym (equal_turned (column r 1) (Text a) refl)) (keys_split (nat n) (column r 2) [] [] ∙ and_true _)
+      ∙ ap₂ ◌&&◌ (sym (equal_turned (column r 1) (Text a) refl))
+      (keys_split (nat n) (column r 2) [] [] ∙ and_true _)
 
-  wanted : (n : ℕ) (x : ChargeRow) (r : Row) → charge_cells x ≡ columns r → rest n r ≡ nat_eq x.number n
-  wanted n x r is = ap (λ (w : Row). is_eq (value_cmp (nat n) (column w 0))) (sym is) ∙ int_tie x.number n
+  wanted : (n : ℕ) (x : ChargeRow) (r : Row) → charge_cells x ≡ columns r →
+      rest n r ≡ nat_eq x.number n
+  wanted n x r is = ap (λ (w : Row). is_eq (value_cmp (nat n) (column w 0))) (sym is)
+      ∙ int_tie x.number n
 
   lies : (r : Row) → is_within after last (charge_in (drop 1 r)) ≡ true → extra r ≡ true
   lies [] h = number_within after last Null h
   lies (v ∷ vs) h = number_within after last (column vs 1) h
 
-  lies_told : (x : ChargeRow) (r : Row) → extra r ≡ true → charge_cells x ≡ columns r → is_within after last x ≡ true
+  lies_told : (x : ChargeRow) (r : Row) → extra r ≡ true → charge_cells x ≡ columns r →
+      is_within after last x ≡ true
   lies_told x r e is =
       sym (within_told after last x.number)
       ∙ ap (λ (w : Row). lies_within after last (column w 0)) is ∙ e
 
-  pub charges_read : (old new : State) (rows : List Row) (xs : List ChargeRow) → Answers read_charges_within_text
-      (Text a ∷ nat after ∷ nat last ∷ []) old new rows
+  pub charges_read : (old new : State) (rows : List Row) (xs : List ChargeRow) →
+      Answers read_charges_within_text (Text a ∷ nat after ∷ nat last ∷ []) old new rows
       → map charge_cells xs ≡ rows → AreCharges (is_within after last) (rows_in old.now.trees a) xs
   charges_read old new rows xs got is n =
       listed_told charges (inr (inr (inr (inr (inr (inr (inr (inr (inr (inl refl))))))))))
       (inr (inr (inr (inr (inr (inr (inr (inr (inr (inl refl)))))))))) refl old.now.trees got.fits
       (got.book.stored.1.1.1.1.1.1.1.1.1.0) charge_in charge_cells columns
       (λ r. front r && extra r) (charge_key a n) (refl, (refl, tt)) (λ x r m. back x r)
-      (λ x. nat_eq x.number n) (is_within after last) front (rest n) extra (λ r. refl) (splits n) (wanted n)
-      (λ r m. lies r) lies_told xs
+      (λ x. nat_eq x.number n) (is_within after last) front (rest n) extra (λ r. refl)
+      (splits n) (wanted n) (λ r m. lies r) lies_told xs
       (subst (Selects (λ r. front r && extra r) columns (old.now.trees 18)) (sym is)
-      (told read_charges_within_text names 18 charges_terms project charges_order charges_is read_charges_within_plain
-      (Text a ∷ nat after ∷ nat last ∷ [])
+      (told read_charges_within_text names 18 charges_terms project charges_order charges_is
+      read_charges_within_plain (Text a ∷ nat after ∷ nat last ∷ [])
       (λ r. front r && extra r) columns
-      (λ r. ap (λ t. front r && t) (and_last (is_beyond (column r 2) (nat after)) (is_up_to (column r 2) (nat last))))
+      (λ r. ap (λ t. front r && t)
+      (and_last (is_beyond (column r 2) (nat after)) (is_up_to (column r 2) (nat last))))
       (λ r. refl) old new rows got))

@@ -1,7 +1,7 @@
 -- What the text of `read_counter` answers.
 use Rattle.std.specs.Prelude.{codes}
-use Rattle.std.proofs.Common.{◌≡◌, inl, inr, ℕ, pos, List, [], ◌∷◌, ◌++◌, map, drop, Bool, true, false, ◌&&◌, Some}
-use Rattle.std.proofs.Common.{None, Option, Equal, refl, sym, ap, subst, ◌∙◌}
+use Rattle.std.proofs.Common.{◌≡◌, inl, inr, ℕ, pos, List, [], ◌∷◌, ◌++◌, map, drop, Bool, true}
+use Rattle.std.proofs.Common.{false, ◌&&◌, Some, None, Option, Equal, refl, sym, ap, subst, ◌∙◌}
 use Rattle.std.specs.List.{list_all}
 use Rattle.std.specs.Ordering.{eq_by_cmp}
 use Rattle.sqlite_value.specs.declared.value.Value.TheVariants.{Null, Int, Text}
@@ -59,32 +59,35 @@ pub read_counter_plain : IsPlain (understood book_schema read_counter_text)
 unfolding understood everything
 read_counter_plain = (refl, refl)
 
-abbrev columns : Row → Row
+abbrev pub columns : Row → Row
 columns r = column r 2 ∷ column r 3 ∷ column r 4 ∷ []
 
 same_columns : (r : Row) → counter_in (drop 1 r) ≡ counter_in (Null ∷ columns r)
 same_columns [] = refl
 same_columns (v ∷ vs) = refl
 
-back : (x : Counter) (r : Row) → counter_cells x ≡ columns r → counter_in (drop 1 r) ≡ x
+pub back : (x : Counter) (r : Row) → counter_cells x ≡ columns r → counter_in (drop 1 r) ≡ x
 back x r is = same_columns r ∙ ap (λ w. counter_in (Null ∷ w)) (sym is) ∙ refl
 
 module _ (a : List ℕ) (g y : ℕ) where
-  means : (r : Row) → list_all (holds_in (counter_key a g y ∷ r ∷ [])) terms ≡ eq_by_cmp row_cmp (key_of places r)
+  means : (r : Row) →
+      list_all (holds_in (counter_key a g y ∷ r ∷ [])) terms ≡ eq_by_cmp row_cmp (key_of places r)
       (counter_key a g y)
   unfolding first_key
   means r = agree_ties_at places r (0 ∷ 1 ∷ 2 ∷ []) (counter_key a g y) (refl, (refl, (refl, tt)))
 
-  pub counter_read : (old new : State) (rows : List Row) (o : Option Counter) → Answers read_counter_text
-      (counter_key a g y) old new rows
+  pub counter_read : (old new : State) (rows : List Row) (o : Option Counter) →
+      Answers read_counter_text (counter_key a g y) old new rows
       → rows ≡ map counter_cells (one_or_none o) → o ≡ (rows_in old.now.trees a).counters g y
   counter_read old new rows o got is =
-      one_told counters (inr (inr (inr (inl refl)))) (inr (inr (inr (inl refl)))) refl old.now.trees got.fits
+      one_told counters (inr (inr (inr (inl refl))))
+      (inr (inr (inr (inl refl)))) refl old.now.trees got.fits
       (got.book.stored.1.1.1.0) counter_in counter_cells columns
       (λ r. eq_by_cmp row_cmp (key_of places r) (counter_key a g y)) (counter_key a g y)
       (refl, (refl, (refl, tt)))
       (λ x r m. back x r) (λ r. refl) o
-      (subst (Selects (λ r. eq_by_cmp row_cmp (key_of places r) (counter_key a g y)) columns (old.now.trees 6)) is
-      (told read_counter_text names 6 terms project [] text_is read_counter_plain (counter_key a g y)
+      (subst (Selects (λ r. eq_by_cmp row_cmp (key_of places r) (counter_key a g y)) columns
+      (old.now.trees 6)) is (told read_counter_text names 6 terms project [] text_is
+      read_counter_plain (counter_key a g y)
       (λ r. eq_by_cmp row_cmp (key_of places r) (counter_key a g y)) columns
       means (λ r. refl) old new rows got))

@@ -1,11 +1,12 @@
 -- What the text of `read_counters_in` answers.
 use Rattle.std.specs.Prelude.{codes, if◌then◌else◌}
-use Rattle.std.proofs.Common.{◌≡◌, inl, inr, ℕ, pos, List, [], ◌∷◌, ◌++◌, map, drop, Bool, true, false, ◌&&◌}
-use Rattle.std.proofs.Common.{Some, None, Option, is_eq, refl, sym, ap, ap₂, subst, ◌∙◌, nat_eq}
+use Rattle.std.proofs.Common.{◌≡◌, inl, inr, ℕ, pos, List, [], ◌∷◌, ◌++◌, map, Bool, true, false}
+use Rattle.std.proofs.Common.{◌&&◌, Some, None, Option, is_eq, refl, sym, ap, ap₂, subst, ◌∙◌}
+use Rattle.std.proofs.Common.{nat_eq}
 use Rattle.std.proofs.lemmas.Bool.{and_parts, cases_Bool}
 use Rattle.std.specs.Cmp.{unsigned_Decides}
 use Rattle.std.specs.List.{find}
-use Rattle.sqlite_value.specs.declared.value.Value.TheVariants.{Null, Int, Text}
+use Rattle.sqlite_value.specs.declared.value.Value.TheVariants.{Int, Text}
 use Rattle.sqlite_value.specs.declared.keys.Collation.TheVariants.{Binary}
 use Rattle.sqlite_value.specs.declared.keys.Key.{Key}
 use Rattle.sqlite_value.specs.Order.{Row, column, value_cmp}
@@ -33,6 +34,7 @@ use Rattle.reserving.specs.declared.session.Counter.{Counter}
 use Rattle.sql_rows.specs.Values.{nat, counter_key, counter_in, counter_cells}
 use Rattle.sql_rows.specs.Content.{rows_in}
 use Rattle.sql_rows.specs.Lists.{AreCountersIn}
+use Rattle.sql_rows.proofs.ReadCounter.{columns, back}
 
 abbrev project : List Term
 project = col 1 2 ∷ col 1 3 ∷ col 1 4 ∷ []
@@ -40,21 +42,13 @@ project = col 1 2 ∷ col 1 3 ∷ col 1 4 ∷ []
 abbrev names : List (List ℕ)
 names = codes "rating_group" ∷ codes "cycle" ∷ codes "blocks" ∷ []
 
-abbrev columns : Row → Row
-columns r = column r 2 ∷ column r 3 ∷ column r 4 ∷ []
-
-same_columns : (r : Row) → counter_in (drop 1 r) ≡ counter_in (Null ∷ columns r)
-same_columns [] = refl
-same_columns (v ∷ vs) = refl
-
-back : (x : Counter) (r : Row) → counter_cells x ≡ columns r → counter_in (drop 1 r) ≡ x
-back x r is = same_columns r ∙ ap (λ w. counter_in (Null ∷ w)) (sym is) ∙ refl
-
 abbrev pub read_counters_in_text : List ℕ
-read_counters_in_text = codes "SELECT rating_group, cycle, blocks FROM counters WHERE account = ?1 AND cycle = ?2"
+read_counters_in_text =
+    codes "SELECT rating_group, cycle, blocks FROM counters WHERE account = ?1 AND cycle = ?2"
 
 abbrev terms : List Term
-terms = op2 (Compare Eq Binary) (col 1 1) (col 0 0) ∷ op2 (Compare Eq Binary) (col 1 3) (col 0 1) ∷ []
+terms =
+    op2 (Compare Eq Binary) (col 1 1) (col 0 0) ∷ op2 (Compare Eq Binary) (col 1 3) (col 0 1) ∷ []
 
 abbrev order : List (Term × Key)
 order = []
@@ -76,7 +70,8 @@ module _ (a : List ℕ) where
   abbrev rest : ℕ → ℕ → Row → Bool
   rest g y r = is_eq (value_cmp (nat g) (column r 2)) && is_eq (value_cmp (nat y) (column r 3))
 
-  splits : (g y : ℕ) (r : Row) → meets (1 ∷ 2 ∷ 3 ∷ []) (counter_key a g y) r ≡ (front r && rest g y r)
+  splits : (g y : ℕ) (r : Row) →
+      meets (1 ∷ 2 ∷ 3 ∷ []) (counter_key a g y) r ≡ (front r && rest g y r)
   splits g y r =
       keys_split (Text a) (column r 1) (nat g ∷ nat y ∷ []) (column r 2 ∷ column r 3 ∷ [])
       ∙ ap₂ ◌&&◌ (sym (equal_turned (column r 1) (Text a) refl))
@@ -86,7 +81,8 @@ module _ (a : List ℕ) where
   wanted : (g y : ℕ) (x : Counter) (r : Row) → counter_cells x ≡ columns r → rest g y r ≡
       (nat_eq x.group g && nat_eq x.cycle y)
   wanted g y x r is =
-      ap₂ ◌&&◌ (ap (λ (w : Row). is_eq (value_cmp (nat g) (column w 0))) (sym is) ∙ int_tie x.group g)
+      ap₂ ◌&&◌ (ap (λ (w : Row). is_eq (value_cmp (nat g) (column w 0))) (sym is)
+      ∙ int_tie x.group g)
       (ap (λ (w : Row). is_eq (value_cmp (nat y) (column w 1))) (sym is) ∙ int_tie x.cycle y)
 
 module _ (a : List ℕ) (cycle : ℕ) where
@@ -94,14 +90,17 @@ module _ (a : List ℕ) (cycle : ℕ) where
   extra r = equal Binary (column r 3) (nat cycle)
 
   -- a row under the key of a counter of the cycle passes the test
-  lives : (g : ℕ) (r : Row) → meets (1 ∷ 2 ∷ 3 ∷ []) (counter_key a g cycle) r ≡ true → extra r ≡ true
+  lives : (g : ℕ) (r : Row) → meets (1 ∷ 2 ∷ 3 ∷ []) (counter_key a g cycle) r ≡ true →
+      extra r ≡ true
   lives g r m =
       let parts = and_parts (front a r) (rest a g cycle r) (sym (splits a g cycle r) ∙ m) in
-      let last = and_parts (is_eq (value_cmp (nat g) (column r 2))) (is_eq (value_cmp (nat cycle) (column r 3))) parts.1 in
+      let last = and_parts (is_eq (value_cmp (nat g) (column r 2)))
+      (is_eq (value_cmp (nat cycle) (column r 3))) parts.1 in
       equal_turned (column r 3) (nat cycle) refl ∙ last.1
 
   -- each that was read is of the cycle
-  of_cycle : (x : Counter) (r : Row) → extra r ≡ true → counter_cells x ≡ columns r → x.cycle ≡ cycle
+  of_cycle : (x : Counter) (r : Row) → extra r ≡ true → counter_cells x ≡ columns r →
+      x.cycle ≡ cycle
   of_cycle x r e is = (unsigned_Decides x.cycle cycle).0 (sym (int_tie x.cycle cycle)
       ∙ ap (λ (w : Row). is_eq (value_cmp (nat cycle) (column w 1))) is
       ∙ sym (equal_turned (column r 3) (nat cycle) refl) ∙ e)
@@ -109,24 +108,27 @@ module _ (a : List ℕ) (cycle : ℕ) where
   abbrev AreSelected : List Row → List Counter → Type 0
   AreSelected stored xs = Selects (λ r. front a r && extra r) columns stored (map counter_cells xs)
 
-  none_other : (stored : List Row) (xs : List Counter) → AreSelected stored xs → (g c : ℕ) → nat_eq c cycle ≡ false
-      → find (λ x. nat_eq x.group g && nat_eq x.cycle c) xs ≡ None
-  none_other stored xs selects g c other = go (find (λ x. nat_eq x.group g && nat_eq x.cycle c) xs) refl
+  none_other : (stored : List Row) (xs : List Counter) → AreSelected stored xs → (g c : ℕ)
+      → nat_eq c cycle ≡ false → find (λ x. nat_eq x.group g && nat_eq x.cycle c) xs ≡ None
+  none_other stored xs selects g c other =
+      go (find (λ x. nat_eq x.group g && nat_eq x.cycle c) xs) refl
     where
       go : (o : Option Counter) → find (λ x. nat_eq x.group g && nat_eq x.cycle c) xs ≡ o
           → find (λ x. nat_eq x.group g && nat_eq x.cycle c) xs ≡ None
       go None e = e
       go (Some x) e =
           let h = has_found (λ x. nat_eq x.group g && nat_eq x.cycle c) xs x e in
-          let it = selected_from (λ r. front a r && extra r) columns stored (map counter_cells xs) selects
+          let it =
+          selected_from (λ r. front a r && extra r) columns stored (map counter_cells xs) selects
           (counter_cells x) (mapped_to counter_cells xs x h.0) in
           let both = and_parts (front a it.0) (extra it.0) it.2 in
           let named = and_parts (nat_eq x.group g) (nat_eq x.cycle c) h.1 in
-          let same : c ≡ cycle = sym ((unsigned_Decides x.cycle c).0 named.1) ∙ of_cycle x it.0 both.1 it.3 in
+          let same : c ≡ cycle = sym ((unsigned_Decides x.cycle c).0 named.1)
+          ∙ of_cycle x it.0 both.1 it.3 in
           absurd (let no : true ≡ false = sym ((unsigned_Decides c cycle).1 same) ∙ other in cc)
 
-  pub counters_read : (old new : State) (rows : List Row) (xs : List Counter) → Answers read_counters_in_text
-      (Text a ∷ nat cycle ∷ []) old new rows
+  pub counters_read : (old new : State) (rows : List Row) (xs : List Counter) →
+      Answers read_counters_in_text (Text a ∷ nat cycle ∷ []) old new rows
       → map counter_cells xs ≡ rows → AreCountersIn cycle (rows_in old.now.trees a) xs
   counters_read old new rows xs got is g c = elim (cases_Bool (nat_eq c cycle)) [
     | inl here ↦ rw here (subst (λ y. find (λ x. nat_eq x.group g && nat_eq x.cycle y) xs
@@ -138,13 +140,17 @@ module _ (a : List ℕ) (cycle : ℕ) where
       selects = subst (Selects (λ r. front a r && extra r) columns (old.now.trees 6)) (sym is)
           (told read_counters_in_text names 6 terms project order text_is read_counters_in_plain
           (Text a ∷ nat cycle ∷ [])
-          (λ r. front a r && extra r) columns (λ r. and_last (front a r) (extra r)) (λ r. refl) old new rows got)
+          (λ r. front a r && extra r) columns (λ r. and_last (front a r) (extra r))
+          (λ r. refl) old new rows got)
 
-      at : find (λ x. nat_eq x.group g && nat_eq x.cycle cycle) xs ≡ (rows_in old.now.trees a).counters g cycle
+      at : find (λ x. nat_eq x.group g && nat_eq x.cycle cycle) xs
+          ≡ (rows_in old.now.trees a).counters g cycle
       at =
-          listed_told counters (inr (inr (inr (inl refl)))) (inr (inr (inr (inl refl)))) refl old.now.trees got.fits
+          listed_told counters (inr (inr (inr (inl refl))))
+          (inr (inr (inr (inl refl)))) refl old.now.trees got.fits
           (got.book.stored.1.1.1.0) counter_in counter_cells columns
-          (λ r. front a r && extra r) (counter_key a g cycle) (refl, (refl, (refl, tt))) (λ x r m. back x r)
-          (λ x. nat_eq x.group g && nat_eq x.cycle cycle) (λ x. true) (front a) (rest a g cycle) extra (λ r. refl)
-          (splits a g cycle) (wanted a g cycle) (λ r m h. lives g r m) (λ x r e same. refl) xs selects
+          (λ r. front a r && extra r) (counter_key a g cycle) (refl, (refl, (refl, tt)))
+          (λ x r m. back x r) (λ x. nat_eq x.group g && nat_eq x.cycle cycle) (λ x. true) (front a)
+          (rest a g cycle) extra (λ r. refl) (splits a g cycle) (wanted a g cycle)
+          (λ r m h. lives g r m) (λ x r e same. refl) xs selects
           ∙ only_all _

@@ -1,7 +1,8 @@
 -- What the text of `read_groups` answers.
 use Rattle.std.specs.Prelude.{codes, option_map}
-use Rattle.std.proofs.Common.{◌≡◌, inl, inr, ℕ, pos, List, [], ◌∷◌, ◌++◌, map, drop, Bool, true, false, ◌&&◌, ◌||◌}
-use Rattle.std.proofs.Common.{Some, None, Option, is_eq, refl, sym, ap, ap₂, subst, ◌∙◌, nat_eq, nat_lt}
+use Rattle.std.proofs.Common.{◌≡◌, inl, inr, ℕ, pos, List, [], ◌∷◌, ◌++◌, map, drop, Bool, true}
+use Rattle.std.proofs.Common.{false, ◌&&◌, ◌||◌, Some, None, Option, is_eq, refl, sym, ap, ap₂}
+use Rattle.std.proofs.Common.{subst, ◌∙◌, nat_eq, nat_lt}
 use Rattle.std.proofs.lemmas.Bool.{and_parts, and_from}
 use Rattle.std.specs.List.{list_all, find}
 use Rattle.std.specs.Ordering.{eq_by_cmp}
@@ -46,7 +47,8 @@ abbrev project : List Term
 project = col 1 3 ∷ col 1 4 ∷ col 1 5 ∷ col 1 6 ∷ col 1 7 ∷ []
 
 abbrev names : List (List ℕ)
-names = codes "rating_group" ∷ codes "used" ∷ codes "reserved" ∷ codes "period_before" ∷ codes "period_after" ∷ []
+names = codes "rating_group" ∷ codes "used" ∷ codes "reserved" ∷ codes "period_before"
+    ∷ codes "period_after" ∷ []
 
 abbrev columns : Row → Row
 columns r = column r 3 ∷ column r 4 ∷ column r 5 ∷ column r 6 ∷ column r 7 ∷ []
@@ -71,7 +73,8 @@ abbrev groups_order : List (Term × Key)
 groups_order = []
 
 groups_is : (command_of (understood book_schema read_groups_text)
-    ≡ Select (record { lets = []; body = select_from 10 groups_terms project groups_order }) names) ×
+    ≡ Select (record { lets = []; body = select_from 10 groups_terms project groups_order }) names)
+    ×
     (reads_listing book_schema read_groups_text ≡ false)
 unfolding understood everything
 groups_is = (refl, refl)
@@ -80,7 +83,8 @@ pub read_groups_plain : IsPlain (understood book_schema read_groups_text)
 unfolding understood everything
 read_groups_plain = (refl, refl)
 
-rows_only : (o : Option Row) → option_map (λ (x : GroupAt). x.row) (option_map at_in o) ≡ option_map group_in o
+rows_only : (o : Option Row) →
+    option_map (λ (x : GroupAt). x.row) (option_map at_in o) ≡ option_map group_in o
 rows_only None = refl
 rows_only (Some v) = refl
 
@@ -96,23 +100,27 @@ module _ (a s : List ℕ) where
       keys_split (Text a) (column r 1) (Text s ∷ nat g ∷ []) (column r 2 ∷ column r 3 ∷ [])
       ∙ ap₂ ◌&&◌ (sym (equal_turned (column r 1) (Text a) refl))
       (keys_split (Text s) (column r 2) (nat g ∷ []) (column r 3 ∷ [])
-      ∙ ap₂ ◌&&◌ (sym (equal_turned (column r 2) (Text s) refl)) (keys_split (nat g) (column r 3) [] [] ∙ and_true _))
-      ∙ and_apart (equal Binary (column r 1) (Text a)) (equal Binary (column r 2) (Text s)) (rest g r)
+      ∙ ap₂ ◌&&◌ (sym (equal_turned (column r 2) (Text s) refl))
+      (keys_split (nat g) (column r 3) [] [] ∙ and_true _))
+      ∙ and_apart (equal Binary (column r 1) (Text a))
+      (equal Binary (column r 2) (Text s)) (rest g r)
 
-  wanted : (g : ℕ) (x : GroupAt) (r : Row) → group_at_cells x ≡ columns r → rest g r ≡ nat_eq x.group g
-  wanted g x r is = ap (λ (w : Row). is_eq (value_cmp (nat g) (column w 0))) (sym is) ∙ int_tie x.group g
+  wanted : (g : ℕ) (x : GroupAt) (r : Row) → group_at_cells x ≡ columns r →
+      rest g r ≡ nat_eq x.group g
+  wanted g x r is = ap (λ (w : Row). is_eq (value_cmp (nat g) (column w 0))) (sym is)
+      ∙ int_tie x.group g
 
-  pub groups_read : (old new : State) (rows : List Row) (xs : List GroupAt) → Answers read_groups_text
-      (Text a ∷ Text s ∷ []) old new rows
+  pub groups_read : (old new : State) (rows : List Row) (xs : List GroupAt) →
+      Answers read_groups_text (Text a ∷ Text s ∷ []) old new rows
       → map group_at_cells xs ≡ rows → AreGroups (rows_in old.now.trees a) s xs
   groups_read old new rows xs got is g =
       ap (option_map (λ (x : GroupAt). x.row))
       (listed_told session_groups (inr (inr (inr (inr (inr (inl refl))))))
-      (inr (inr (inr (inr (inr (inl refl)))))) refl old.now.trees got.fits (got.book.stored.1.1.1.1.1.0) at_in
-      group_at_cells columns
+      (inr (inr (inr (inr (inr (inl refl)))))) refl old.now.trees got.fits
+      (got.book.stored.1.1.1.1.1.0) at_in group_at_cells columns
       (λ r. front r && true) (group_key a s g) (refl, (refl, (refl, tt))) (λ x r m. back x r)
-      (λ x. nat_eq x.group g) (λ x. true) front (rest g) (λ r. true) (λ r. refl) (splits g) (wanted g)
-      (λ r m h. refl) (λ x r e same. refl) xs
+      (λ x. nat_eq x.group g) (λ x. true) front (rest g) (λ r. true) (λ r. refl)
+      (splits g) (wanted g) (λ r m h. refl) (λ x r e same. refl) xs
       (subst (Selects (λ r. front r && true) columns (old.now.trees 10)) (sym is)
       (told read_groups_text names 10 groups_terms project groups_order groups_is read_groups_plain
       (Text a ∷ Text s ∷ [])

@@ -1,7 +1,8 @@
 -- What the text of `read_holds` answers.
 use Rattle.std.specs.Prelude.{codes, option_map}
-use Rattle.std.proofs.Common.{◌≡◌, inl, inr, ℕ, pos, List, [], ◌∷◌, ◌++◌, map, drop, Bool, true, false, ◌&&◌, ◌||◌}
-use Rattle.std.proofs.Common.{Some, None, Option, is_eq, refl, sym, ap, ap₂, subst, ◌∙◌, nat_eq, nat_lt}
+use Rattle.std.proofs.Common.{◌≡◌, inl, inr, ℕ, pos, List, [], ◌∷◌, ◌++◌, map, drop, Bool, true}
+use Rattle.std.proofs.Common.{false, ◌&&◌, ◌||◌, Some, None, Option, is_eq, refl, sym, ap, ap₂}
+use Rattle.std.proofs.Common.{subst, ◌∙◌, nat_eq, nat_lt}
 use Rattle.std.proofs.lemmas.Bool.{and_parts, and_from}
 use Rattle.std.specs.List.{list_all, find}
 use Rattle.std.specs.Ordering.{eq_by_cmp}
@@ -76,7 +77,8 @@ pub read_holds_plain : IsPlain (understood book_schema read_holds_text)
 unfolding understood everything
 read_holds_plain = (refl, refl)
 
-amounts_only : (o : Option Row) → option_map (λ (x : HoldAt). x.amount) (option_map at_in o) ≡ option_map hold_in o
+amounts_only : (o : Option Row) →
+    option_map (λ (x : HoldAt). x.amount) (option_map at_in o) ≡ option_map hold_in o
 amounts_only None = refl
 amounts_only (Some v) = refl
 
@@ -87,20 +89,24 @@ module _ (a s : List ℕ) where
   abbrev rest : ℕ → ℕ → Row → Bool
   rest g n r = is_eq (value_cmp (nat g) (column r 3)) && is_eq (value_cmp (nat n) (column r 4))
 
-  splits : (g n : ℕ) (r : Row) → meets (1 ∷ 2 ∷ 3 ∷ 4 ∷ []) (hold_key a s g n) r ≡ (front r && rest g n r)
+  splits : (g n : ℕ) (r : Row) →
+      meets (1 ∷ 2 ∷ 3 ∷ 4 ∷ []) (hold_key a s g n) r ≡ (front r && rest g n r)
   splits g n r =
-      keys_split (Text a) (column r 1) (Text s ∷ nat g ∷ nat n ∷ []) (column r 2 ∷ column r 3 ∷ column r 4 ∷ [])
+      keys_split (Text a) (column r 1) (Text s ∷ nat g ∷ nat n ∷ [])
+      (column r 2 ∷ column r 3 ∷ column r 4 ∷ [])
       ∙ ap₂ ◌&&◌ (sym (equal_turned (column r 1) (Text a) refl))
       (keys_split (Text s) (column r 2) (nat g ∷ nat n ∷ []) (column r 3 ∷ column r 4 ∷ [])
       ∙ ap₂ ◌&&◌ (sym (equal_turned (column r 2) (Text s) refl))
       (keys_split (nat g) (column r 3) (nat n ∷ []) (column r 4 ∷ []) ∙ ap₂ ◌&&◌ refl
       (keys_split (nat n) (column r 4) [] [] ∙ and_true _)))
-      ∙ and_apart (equal Binary (column r 1) (Text a)) (equal Binary (column r 2) (Text s)) (rest g n r)
+      ∙ and_apart (equal Binary (column r 1) (Text a))
+      (equal Binary (column r 2) (Text s)) (rest g n r)
 
   wanted : (g n : ℕ) (x : HoldAt) (r : Row) → hold_cells x ≡ columns r → rest g n r ≡
       (nat_eq x.group g && nat_eq x.bucket n)
   wanted g n x r is =
-      ap₂ ◌&&◌ (ap (λ (w : Row). is_eq (value_cmp (nat g) (column w 0))) (sym is) ∙ int_tie x.group g)
+      ap₂ ◌&&◌ (ap (λ (w : Row). is_eq (value_cmp (nat g) (column w 0))) (sym is)
+      ∙ int_tie x.group g)
       (ap (λ (w : Row). is_eq (value_cmp (nat n) (column w 1))) (sym is) ∙ int_tie x.bucket n)
 
   pub holds_read : (old new : State) (rows : List Row) (xs : List HoldAt) → Answers read_holds_text
@@ -111,9 +117,9 @@ module _ (a s : List ℕ) where
       (listed_told holds (inr (inr (inr (inr (inr (inr (inl refl)))))))
       (inr (inr (inr (inr (inr (inr (inl refl))))))) refl old.now.trees got.fits
       (got.book.stored.1.1.1.1.1.1.0) at_in hold_cells columns
-      (λ r. front r && true) (hold_key a s g n) (refl, (refl, (refl, (refl, tt)))) (λ x r m. back x r)
-      (λ x. nat_eq x.group g && nat_eq x.bucket n) (λ x. true) front (rest g n) (λ r. true) (λ r. refl)
-      (splits g n) (wanted g n) (λ r m h. refl) (λ x r e same. refl) xs
+      (λ r. front r && true) (hold_key a s g n) (refl, (refl, (refl, (refl, tt))))
+      (λ x r m. back x r) (λ x. nat_eq x.group g && nat_eq x.bucket n) (λ x. true) front (rest g n)
+      (λ r. true) (λ r. refl) (splits g n) (wanted g n) (λ r m h. refl) (λ x r e same. refl) xs
       (subst (Selects (λ r. front r && true) columns (old.now.trees 12)) (sym is)
       (told read_holds_text names 12 holds_terms project holds_order holds_is read_holds_plain
       (Text a ∷ Text s ∷ [])

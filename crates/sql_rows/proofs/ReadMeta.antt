@@ -1,7 +1,7 @@
 -- What the text of `read_meta` answers.
 use Rattle.std.specs.Prelude.{codes}
-use Rattle.std.proofs.Common.{◌≡◌, inl, inr, ℕ, pos, List, [], ◌∷◌, ◌++◌, map, drop, Bool, true, false, ◌&&◌, Some}
-use Rattle.std.proofs.Common.{None, Option, Equal, refl, sym, ap, subst, ◌∙◌}
+use Rattle.std.proofs.Common.{◌≡◌, inl, inr, ℕ, pos, List, [], ◌∷◌, ◌++◌, map, drop, Bool, true}
+use Rattle.std.proofs.Common.{false, ◌&&◌, Some, None, Option, Equal, refl, sym, ap, subst, ◌∙◌}
 use Rattle.std.specs.List.{list_all}
 use Rattle.std.specs.Ordering.{eq_by_cmp}
 use Rattle.sqlite_value.specs.declared.value.Value.TheVariants.{Null, Int, Text}
@@ -65,9 +65,12 @@ same_columns (v ∷ vs) = refl
 back : (x : Meta) (r : Row) → meta_cells x ≡ columns r → meta_in (drop 1 r) ≡ x
 back x r is = same_columns r ∙ ap (λ w. meta_in (Null ∷ w)) (sym is) ∙ refl
 
-means : (r : Row) → list_all (holds_in ([] ∷ r ∷ [])) terms ≡ eq_by_cmp row_cmp (key_of places r) (meta_key)
+means : (r : Row) →
+    list_all (holds_in ([] ∷ r ∷ [])) terms ≡ eq_by_cmp row_cmp (key_of places r) (meta_key)
 unfolding first_key
-means r = and_true (equal Binary (column r 1) (nat 1)) ∙ equal_present (column r 1) (nat 1) refl ∙ sym (and_true _)
+means r = and_true (equal Binary (column r 1) (nat 1))
+    ∙ equal_present (column r 1) (nat 1) refl
+    ∙ sym (and_true _)
     ∙ tie_parts (value_cmp (column r 1) (nat 1)) Equal
 
 pub meta_selected : (old new : State) (rows : List Row) → Answers read_meta_text [] old new rows
@@ -76,12 +79,13 @@ meta_selected old new rows got =
     told read_meta_text names 0 terms project [] text_is read_meta_plain []
     (λ r. eq_by_cmp row_cmp (key_of places r) (meta_key)) columns means (λ r. refl) old new rows got
 
-pub meta_read : (old new : State) (rows : List Row) (o : Option Meta) → Answers read_meta_text [] old new rows
+pub meta_read : (old new : State) (rows : List Row) (o : Option Meta)
+    → Answers read_meta_text [] old new rows
     → rows ≡ map meta_cells (one_or_none o) → o ≡ (content_of old.now.trees).meta
 meta_read old new rows o got is =
     one_told meta (inl refl) (inl refl) refl old.now.trees got.fits
-    (got.book.stored.0) meta_in meta_cells columns (λ r. eq_by_cmp row_cmp (key_of places r) (meta_key))
-    (meta_key) (refl, tt)
+    (got.book.stored.0) meta_in meta_cells columns
+    (λ r. eq_by_cmp row_cmp (key_of places r) (meta_key)) (meta_key) (refl, tt)
     (λ x r m. back x r) (λ r. refl) o
-    (subst (Selects (λ r. eq_by_cmp row_cmp (key_of places r) (meta_key)) columns (old.now.trees 0)) is
-    (meta_selected old new rows got))
+    (subst (Selects (λ r. eq_by_cmp row_cmp (key_of places r) (meta_key)) columns (old.now.trees 0))
+    is (meta_selected old new rows got))

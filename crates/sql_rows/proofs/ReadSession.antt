@@ -68,21 +68,23 @@ pub back : (x : Session) (r : Row) → session_cells x ≡ columns r → session
 back x r is = same_columns r ∙ ap (λ w. session_in (Null ∷ w)) (sym is) ∙ session_told Null x
 
 module _ (a s : List ℕ) where
-  means : (r : Row) → list_all (holds_in (session_key a s ∷ r ∷ [])) terms ≡ eq_by_cmp row_cmp (key_of places r)
+  means : (r : Row) →
+      list_all (holds_in (session_key a s ∷ r ∷ [])) terms ≡ eq_by_cmp row_cmp (key_of places r)
       (session_key a s)
   unfolding first_key
   means r = agree_ties_at places r (0 ∷ 1 ∷ []) (session_key a s) (refl, (refl, tt))
 
-  pub session_read : (old new : State) (rows : List Row) (o : Option Session) → Answers read_session_text
-      (session_key a s) old new rows
+  pub session_read : (old new : State) (rows : List Row) (o : Option Session) →
+      Answers read_session_text (session_key a s) old new rows
       → rows ≡ map session_cells (one_or_none o) → o ≡ (rows_in old.now.trees a).sessions s
   session_read old new rows o got is =
-      one_told sessions (inr (inr (inr (inr (inl refl))))) (inr (inr (inr (inr (inl refl))))) refl old.now.trees
-      got.fits
+      one_told sessions (inr (inr (inr (inr (inl refl)))))
+      (inr (inr (inr (inr (inl refl))))) refl old.now.trees got.fits
       (got.book.stored.1.1.1.1.0) session_in session_cells columns
-      (λ r. eq_by_cmp row_cmp (key_of places r) (session_key a s)) (session_key a s) (refl, (refl, tt))
-      (λ x r m. back x r) (λ r. refl) o
-      (subst (Selects (λ r. eq_by_cmp row_cmp (key_of places r) (session_key a s)) columns (old.now.trees 8)) is
+      (λ r. eq_by_cmp row_cmp (key_of places r) (session_key a s)) (session_key a s)
+      (refl, (refl, tt)) (λ x r m. back x r) (λ r. refl) o
+      (subst (Selects (λ r. eq_by_cmp row_cmp (key_of places r) (session_key a s)) columns
+      (old.now.trees 8)) is
       (told read_session_text names 8 terms project [] text_is read_session_plain (session_key a s)
       (λ r. eq_by_cmp row_cmp (key_of places r) (session_key a s)) columns
       means (λ r. refl) old new rows got))

@@ -1,7 +1,7 @@
 -- What the text of `read_voucher` answers.
 use Rattle.std.specs.Prelude.{codes}
-use Rattle.std.proofs.Common.{◌≡◌, inl, inr, ℕ, pos, List, [], ◌∷◌, ◌++◌, map, drop, Bool, true, false, ◌&&◌, Some}
-use Rattle.std.proofs.Common.{None, Option, Equal, refl, sym, ap, subst, ◌∙◌}
+use Rattle.std.proofs.Common.{◌≡◌, inl, inr, ℕ, pos, List, [], ◌∷◌, ◌++◌, map, drop, Bool, true}
+use Rattle.std.proofs.Common.{false, ◌&&◌, Some, None, Option, Equal, refl, sym, ap, subst, ◌∙◌}
 use Rattle.std.specs.List.{list_all}
 use Rattle.std.specs.Ordering.{eq_by_cmp}
 use Rattle.sqlite_value.specs.declared.value.Value.TheVariants.{Null, Int, Text}
@@ -75,13 +75,13 @@ module _ (code : List ℕ) where
   test r = eq_by_cmp row_cmp (key_of places r) (voucher_key code)
 
   pub voucher_read : (old new : State) (rows : List Row) (o : Option Voucher)
-      → Answers read_voucher_text (voucher_key code) old new rows → rows ≡ map voucher_cells (one_or_none o)
-      → o ≡ (content_of old.now.trees).vouchers code
+      → Answers read_voucher_text (voucher_key code) old new rows
+      → rows ≡ map voucher_cells (one_or_none o) → o ≡ (content_of old.now.trees).vouchers code
   voucher_read old new rows o got is =
       one_told vouchers (inr (inr (inr (inr (inr (inr (inr (inr (inl refl)))))))))
       (inr (inr (inr (inr (inr (inr (inr (inr (inl refl))))))))) refl old.now.trees got.fits
-      (got.book.stored.1.1.1.1.1.1.1.1.0) voucher_in voucher_cells columns test (voucher_key code) (refl, tt)
-      (λ x r m. back x r) (λ r. refl) o
+      (got.book.stored.1.1.1.1.1.1.1.1.0) voucher_in voucher_cells columns test
+      (voucher_key code) (refl, tt) (λ x r m. back x r) (λ r. refl) o
       (subst (Selects test columns (old.now.trees 16)) is
-      (told read_voucher_text names 16 terms project [] text_is read_voucher_plain (voucher_key code) test columns
-      means (λ r. refl) old new rows got))
+      (told read_voucher_text names 16 terms project [] text_is read_voucher_plain
+      (voucher_key code) test columns means (λ r. refl) old new rows got))

@@ -1,7 +1,8 @@
 -- What the text of `remove_holds` does.
 use Rattle.std.specs.Prelude.{codes, option_map, length, if◌then◌else◌}
-use Rattle.std.proofs.Common.{◌≡◌, ◌≢◌, inl, inr, ℕ, ℤ, pos, List, [], ◌∷◌, ◌++◌, map, take, Bool, true, false, ◌&&◌}
-use Rattle.std.proofs.Common.{Some, None, Ok, Err, Result, OnOk, IsTrue, refl, ◌∙◌, arith, nat_eq}
+use Rattle.std.proofs.Common.{◌≡◌, ◌≢◌, inl, inr, ℕ, ℤ, pos, List, [], ◌∷◌, ◌++◌, map, take, Bool}
+use Rattle.std.proofs.Common.{true, false, ◌&&◌, Some, None, Ok, Err, Result, OnOk, IsTrue, refl}
+use Rattle.std.proofs.Common.{◌∙◌, arith, nat_eq}
 use Rattle.std.specs.List.{list_all}
 use Rattle.std.specs.Ordering.{eq_by_cmp}
 use Rattle.sqlite_value.specs.declared.value.Value.{Value}
@@ -34,10 +35,11 @@ use Rattle.sql_rows.specs.Values.{nat, group_key, hold_key, hold_in}
 use Rattle.sql_rows.specs.Content.{Rows, Content, with_rows, without_holds, rows_in, content_of}
 use Rattle.sql_rows.specs.Makes.{Makes}
 use Rattle.sql_rows.proofs.Stays.{only_changed, rows_turn, at_each}
-use Rattle.sql_rows.proofs.Writes.{writes}
+use Rattle.sql_rows.proofs.Writes.{writes, makes_turned}
 
 abbrev pub remove_holds_text : List ℕ
-remove_holds_text = codes "DELETE FROM holds WHERE account = ?1 AND session = ?2 AND rating_group = ?3"
+remove_holds_text =
+    codes "DELETE FROM holds WHERE account = ?1 AND session = ?2 AND rating_group = ?3"
 
 abbrev of_group : List Term
 of_group =
@@ -71,18 +73,21 @@ module _ (a s : List ℕ) (g : ℕ) where
   means r = agree_ties_at (1 ∷ 2 ∷ 3 ∷ []) r (0 ∷ 1 ∷ 2 ∷ []) wanted (refl, (refl, (refl, tt)))
 
   removes : (old new : State) (r : Result ℕ Error) → (IsTrue old.is_open → IsBook old)
-      → OnOk r (ExecutesInside 0 remove_holds_text wanted old new r) → OnOk r (Removes holds wanted old new)
+      → OnOk r (ExecutesInside 0 remove_holds_text wanted old new r)
+      → OnOk r (Removes holds wanted old new)
   removes old new (Err e) book h = tt
   removes old new (Ok count) has h =
       let book = has h.1.was_open in
       let stored = book.stored.1.1.1.1.1.1.0 in
       let command = Delete 6 (record { lets = []; body = rowids_where 12 of_group }) in
-      let w = runs_as remove_holds_text wanted old new book_schema book.schema command remove_is remove_plain count
-      h.0 in
+      let w = runs_as remove_holds_text wanted old new book_schema book.schema command remove_is
+      remove_plain count h.0 in
       let done = removes_rows book_schema 6 holds refl wanted of_group test gone (λ x. refl) old new
-      (statement_of remove_holds_text (understood book_schema remove_holds_text)) count book.schema stored w in
+      (statement_of remove_holds_text (understood book_schema remove_holds_text)) count
+      book.schema stored w in
       let p : RemovesRows places book_schema holds wanted old.now.trees new.now.trees =
-      removes_key places book_schema holds wanted test old.now.trees new.now.trees means stored done.1 in
+      removes_key places book_schema holds wanted test old.now.trees new.now.trees means
+      stored done.1 in
       record {
         changes = record {
           rows = p.rows;
@@ -100,25 +105,22 @@ module _ (a s : List ℕ) (g : ℕ) where
       → content_of new ≡ with_rows a (without_holds s g) (content_of old)
   turns old new c =
       only_changed 12 old new c.others
-      ∙ rows_turn a (content_of old) (without_holds s g) (λ r. r.holds) (λ r f. record r { holds = f }) (λ r. refl)
-      (λ r. refl) (rows_in new) (λ x. at_each (same_name a x) _ _ _ (λ t. at_each (same_name a x) _ _ _ (λ h. at_each
+      ∙ rows_turn a (content_of old) (without_holds s g) (λ r. r.holds)
+      (λ r f. record r { holds = f }) (λ r. refl) (λ r. refl) (rows_in new)
+      (λ x. at_each (same_name a x) _ _ _ (λ t. at_each (same_name a x) _ _ _ (λ h. at_each
       (same_name a x) _ _ _ (λ m.
-      end_tells hold_in holds wanted old new c (hold_key x t h m) (same_name a x && (same_name s t && nat_eq g h))
-      (text_text_number a x s t g h) ∙ apart_if (same_name a x) (same_name s t && nat_eq g h) _ _))))
+      end_tells hold_in holds wanted old new c (hold_key x t h m)
+      (same_name a x && (same_name s t && nat_eq g h)) (text_text_number a x s t g h)
+      ∙ apart_if (same_name a x) (same_name s t && nat_eq g h) _ _))))
 
-  pub makes_none : (params : Row) → params ≡ wanted → (old new : State) (r : Result ℕ Error) → HasBook old
+  pub makes_none : (params : Row) → params ≡ wanted
+      → (old new : State) (r : Result ℕ Error) → HasBook old
       → Attempts (λ old new. ExecutesInside 0 remove_holds_text params old new r) old new r
       → Attempts (Makes (with_rows a (without_holds s g))) old new r
-  makes_none = writes remove_holds_text wanted (Removes holds wanted) (with_rows a (without_holds s g)) removes
-      (λ old new p. record {
-        turns = record {
-          content = turns old.now.trees new.now.trees p.changes;
-          catalog = p.changes.catalog;
-          stored = p.book.stored;
-        };
-        book = p.book;
-        shows = p.shows;
-      })
+  makes_none = writes remove_holds_text wanted (Removes holds wanted)
+      (with_rows a (without_holds s g)) removes
+      (λ old new p. makes_turned (with_rows a (without_holds s g)) old new
+      (turns old.now.trees new.now.trees p.changes) p.changes.catalog p.book p.shows)
 
   -- the parameters, as they are bound
   pub bound_group : (v1 v2 v3 : Value) → v1 ≡ Text a → v2 ≡ Text s → v3 ≡ nat g

@@ -11,7 +11,8 @@ module _ {X : Type 0} (number : X → ℕ) where
   nothing_after None = tt
   nothing_after (Some x) = tt
 
-  pub rises_map : {Y : Type 0} (f : Y → X) (ys : List Y) → Rises (λ y. number (f y)) ys → Rises number (map f ys)
+  pub rises_map : {Y : Type 0} (f : Y → X) (ys : List Y) → Rises (λ y. number (f y)) ys →
+      Rises number (map f ys)
   rises_map f [] rise = tt
   rises_map f (x ∷ []) rise = tt
   rises_map f (x ∷ y ∷ zs) rise = (rise.0, rises_map f (y ∷ zs) rise.1)

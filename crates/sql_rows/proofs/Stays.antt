@@ -1,27 +1,30 @@
 -- What of the content stays where a table stays.
-use Rattle.std.proofs.Common.{◌≡◌, ◌≢◌, ℕ, List, [], ◌∷◌, Bool, true, false, Some, None, Option, length, refl, sym, ap}
-use Rattle.std.proofs.Common.{◌∙◌, eq-eqb}
+use Rattle.std.proofs.Common.{◌≡◌, ◌≢◌, ℕ, List, [], ◌∷◌, Bool, true, false, Some, None, Option}
+use Rattle.std.proofs.Common.{length, refl, sym, ap, ◌∙◌, eq-eqb}
 use Rattle.std.specs.List.{AllByRecursion}
 use Rattle.std.specs.Prelude.{if◌then◌else◌, ◌==◌}
 use Rattle.sqlite_schema.specs.declared.schema.Table.{Table}
 use Rattle.sql_tables.specs.Keyed.{same_name}
 use Rattle.sqlite_trees.specs.Tree.{Trees}
-use Rattle.sql_tables.specs.Schema.{meta, accounts, buckets, counters, sessions, session_groups, holds, answers}
-use Rattle.sql_tables.specs.Schema.{vouchers, charges, book_schema}
+use Rattle.sql_tables.specs.Schema.{meta, accounts, buckets, counters, sessions, session_groups}
+use Rattle.sql_tables.specs.Schema.{holds, answers, vouchers, charges, book_schema}
 use Rattle.sql_tables.proofs.Found.{kept_tells}
-use Rattle.sql_rows.specs.Values.{meta_key, head_key, bucket_key, counter_key, session_key, group_key, hold_key}
-use Rattle.sql_rows.specs.Values.{answer_key, voucher_key, charge_key, meta_in, head_in, bucket_in, counter_in}
-use Rattle.sql_rows.specs.Values.{session_in, group_in, hold_in, answer_in, voucher_in, charge_in}
+use Rattle.sql_rows.specs.Values.{meta_key, head_key, bucket_key, counter_key, session_key}
+use Rattle.sql_rows.specs.Values.{group_key, hold_key, answer_key, voucher_key, charge_key, meta_in}
+use Rattle.sql_rows.specs.Values.{head_in, bucket_in, counter_in, session_in, group_in, hold_in}
+use Rattle.sql_rows.specs.Values.{answer_in, voucher_in, charge_in}
 use Rattle.sql_rows.specs.Content.{Rows, Content, rows_in, content_of, with_rows}
 
-pub meta_kept : (old new : Trees) → new meta.tree ≡ old meta.tree → (content_of new).meta ≡ (content_of old).meta
+pub meta_kept : (old new : Trees) → new meta.tree ≡ old meta.tree →
+    (content_of new).meta ≡ (content_of old).meta
 meta_kept old new e = kept_tells meta_in meta old new e meta_key
 
 pub vouchers_kept : (old new : Trees) → new vouchers.tree ≡ old vouchers.tree → (code : List ℕ)
     → (content_of new).vouchers code ≡ (content_of old).vouchers code
 vouchers_kept old new e code = kept_tells voucher_in vouchers old new e (voucher_key code)
 
-pub head_kept : (old new : Trees) → new accounts.tree ≡ old accounts.tree → (x : List ℕ) → (rows_in new x).head ≡
+pub head_kept : (old new : Trees) → new accounts.tree ≡ old accounts.tree → (x : List ℕ) →
+    (rows_in new x).head ≡
     (rows_in old x).head
 head_kept old new e x = kept_tells head_in accounts old new e (head_key x)
 
@@ -29,25 +32,30 @@ pub buckets_kept : (old new : Trees) → new buckets.tree ≡ old buckets.tree �
     (rows_in new x).buckets n ≡ (rows_in old x).buckets n
 buckets_kept old new e x n = kept_tells bucket_in buckets old new e (bucket_key x n)
 
-pub counters_kept : (old new : Trees) → new counters.tree ≡ old counters.tree → (x : List ℕ) (g c : ℕ) →
+pub counters_kept : (old new : Trees) → new counters.tree ≡ old counters.tree →
+    (x : List ℕ) (g c : ℕ) →
     (rows_in new x).counters g c ≡ (rows_in old x).counters g c
 counters_kept old new e x g c = kept_tells counter_in counters old new e (counter_key x g c)
 
-pub sessions_kept : (old new : Trees) → new sessions.tree ≡ old sessions.tree → (x : List ℕ) (s : List ℕ) →
+pub sessions_kept : (old new : Trees) → new sessions.tree ≡ old sessions.tree →
+    (x : List ℕ) (s : List ℕ) →
     (rows_in new x).sessions s ≡ (rows_in old x).sessions s
 sessions_kept old new e x s = kept_tells session_in sessions old new e (session_key x s)
 
-pub groups_kept : (old new : Trees) → new session_groups.tree ≡ old session_groups.tree → (x : List ℕ) (s : List ℕ)
-    (g : ℕ) → (rows_in new x).groups s g ≡ (rows_in old x).groups s g
+pub groups_kept : (old new : Trees) → new session_groups.tree ≡ old session_groups.tree →
+    (x : List ℕ) (s : List ℕ) (g : ℕ) → (rows_in new x).groups s g ≡ (rows_in old x).groups s g
 groups_kept old new e x s g = kept_tells group_in session_groups old new e (group_key x s g)
 
-pub holds_kept : (old new : Trees) → new holds.tree ≡ old holds.tree → (x : List ℕ) (s : List ℕ) (g n : ℕ) →
+pub holds_kept : (old new : Trees) → new holds.tree ≡ old holds.tree →
+    (x : List ℕ) (s : List ℕ) (g n : ℕ) →
     (rows_in new x).holds s g n ≡ (rows_in old x).holds s g n
 holds_kept old new e x s g n = kept_tells hold_in holds old new e (hold_key x s g n)
 
-pub answers_kept : (old new : Trees) → new answers.tree ≡ old answers.tree → (x : List ℕ) (kind : ℕ) (name : List ℕ)
-    (number : ℕ) → (rows_in new x).answers kind name number ≡ (rows_in old x).answers kind name number
-answers_kept old new e x kind name number = kept_tells answer_in answers old new e (answer_key x kind name number)
+pub answers_kept : (old new : Trees) → new answers.tree ≡ old answers.tree →
+    (x : List ℕ) (kind : ℕ) (name : List ℕ) (number : ℕ) →
+    (rows_in new x).answers kind name number ≡ (rows_in old x).answers kind name number
+answers_kept old new e x kind name number =
+    kept_tells answer_in answers old new e (answer_key x kind name number)
 
 pub charges_kept : (old new : Trees) → new charges.tree ≡ old charges.tree → (x : List ℕ) (n : ℕ) →
     (rows_in new x).charges n ≡ (rows_in old x).charges n
@@ -62,7 +70,8 @@ is_swapped at t old new same = go (t == at) refl
   where
     go : (b : Bool) → (t == at) ≡ b → new t ≡ (if b then new t else old t)
     go true e = refl
-    go false e = same (λ is. let yes' : (t == at) ≡ true = eq-eqb t at is in let f : true ≡ false = sym yes' ∙ e in cc)
+    go false e = same (λ is. let yes' : (t == at) ≡ true = eq-eqb t at is in
+        let f : true ≡ false = sym yes' ∙ e in cc)
 
 -- where the other tables stay, the content is that of the one that is new
 pub only_changed : (at : ℕ) (old new : Trees)
@@ -87,7 +96,8 @@ only_changed at old new same = λ i. record {
     mix : Trees
     mix = swapped at old new
 
-    is : (t : Table) → (t.tree ≢ at → new t.tree ≡ old t.tree) → new t.tree ≡ swapped at old new t.tree
+    is : (t : Table) → (t.tree ≢ at → new t.tree ≡ old t.tree) →
+        new t.tree ≡ swapped at old new t.tree
     is t = is_swapped at t.tree old new
 
 pub at_each : {A B : Type 0} (p : Bool) (f g h : A → B) → ((x : A) → h x ≡ (if p then f x else g x))
@@ -97,9 +107,10 @@ at_each false f g h e = λ i x. e x i
 
 -- a field of one account's rows changes, and no other account's
 pub rows_turn : {F : Type 0} (a : List ℕ) (c : Content) (change : Rows → Rows) (field : Rows → F)
-    (set : Rows → F → Rows) → ((r : Rows) → set r (field r) ≡ r) → ((r : Rows) → set r (field (change r)) ≡ change r)
-    → (rows : List ℕ → Rows)
-    → ((x : List ℕ) → field (rows x) ≡ (if same_name a x then field (change (c.rows x)) else field (c.rows x)))
+    (set : Rows → F → Rows) → ((r : Rows) → set r (field r) ≡ r)
+    → ((r : Rows) → set r (field (change r)) ≡ change r) → (rows : List ℕ → Rows)
+    → ((x : List ℕ) →
+    field (rows x) ≡ (if same_name a x then field (change (c.rows x)) else field (c.rows x)))
     → record c { rows = λ x. set (c.rows x) (field (rows x)) } ≡ with_rows a change c
 rows_turn a c change field set stays changes rows told = λ i. record c {
   rows = λ x. (ap (set (c.rows x)) (told x) ∙ choose (same_name a x) (c.rows x)) i;

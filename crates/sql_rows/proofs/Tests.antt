@@ -1,7 +1,7 @@
 -- What SQL's tests say of numbers.
-use Rattle.std.proofs.Common.{◌≡◌, ℕ, ℤ, pos, negsuc, zero, suc, ◌<◌, Bool, true, false, not, ◌&&◌, ◌||◌, cond}
-use Rattle.std.proofs.Common.{Ordering, Less, Equal, Greater, Some, None, Option, is_eq, refl, sym, ap, ap₂, ◌∙◌}
-use Rattle.std.proofs.Common.{arith, nat_eq, nat_lt, ltb-true, eqb-true}
+use Rattle.std.proofs.Common.{◌≡◌, ℕ, ℤ, pos, negsuc, zero, suc, ◌<◌, Bool, true, false, not, ◌&&◌}
+use Rattle.std.proofs.Common.{◌||◌, cond, Ordering, Less, Equal, Greater, Some, None, Option, is_eq}
+use Rattle.std.proofs.Common.{refl, sym, ap, ap₂, ◌∙◌, arith, nat_eq, nat_lt, ltb-true, eqb-true}
 use Rattle.std.specs.Prelude.{◌==◌, if◌then◌else◌}
 use Rattle.std.specs.Ordering.{int_cmp, is_gt}
 use Rattle.std.proofs.lemmas.Bool.{or_parts}
@@ -28,7 +28,8 @@ above_zero v = binary (Compare Gt Binary) v (Int (pos 0))
 
 pub above : (x : ℕ) → above_zero (nat x) ≡ from_truth (Some (nat_lt 0 x))
 unfolding binary
-above x = ap (λ o. from_truth (Some (is_gt o))) (value_cmp-Int (pos x) (pos 0)) ∙ ap (λ t. from_truth (Some t)) (more x)
+above x = ap (λ o. from_truth (Some (is_gt o))) (value_cmp-Int (pos x) (pos 0))
+    ∙ ap (λ t. from_truth (Some t)) (more x)
   where
     choose : (p q : Bool) → p ≡ false → is_gt (cond p Less (cond q Greater Equal)) ≡ q
     choose true q e = absurd (cc)
@@ -66,16 +67,18 @@ or_right3 (Some false) = refl
 abbrev pub either_above : Value → Value → Bool
 either_above v w = is_true (binary Or (above_zero v) (above_zero w))
 
-pub above_either : (v w : Value) → (nat_lt 0 (nat_in v) || nat_lt 0 (nat_in w)) ≡ true → either_above v w ≡ true
+pub above_either : (v w : Value) → (nat_lt 0 (nat_in v) || nat_lt 0 (nat_in w)) ≡ true →
+    either_above v w ≡ true
 unfolding binary
 above_either v w h = go (nat_lt 0 (nat_in v)) refl
   where
     go : (b : Bool) → nat_lt 0 (nat_in v) ≡ b → is_true (from_truth
         (or3 (truth (above_zero v)) (truth (above_zero w)))) ≡ true
-    go true e = ap (λ t. is_true (from_truth (or3 t (truth (above_zero w))))) (above_truth v e) ∙ or_left3
-        (truth (above_zero w))
+    go true e = ap (λ t. is_true (from_truth (or3 t (truth (above_zero w))))) (above_truth v e)
+        ∙ or_left3 (truth (above_zero w))
     go false e = ap (λ t. is_true (from_truth (or3 (truth (above_zero v)) t)))
-        (above_truth w (sym (ap (λ b. b || nat_lt 0 (nat_in w)) e) ∙ h)) ∙ or_right3 (truth (above_zero v))
+        (above_truth w (sym (ap (λ b. b || nat_lt 0 (nat_in w)) e) ∙ h))
+        ∙ or_right3 (truth (above_zero v))
 
 or_told : (p q : Bool) → is_true (from_truth (or3 (Some p) (Some q))) ≡ (p || q)
 or_told true true = refl
@@ -92,7 +95,8 @@ either_told m n =
 
 -- ---- the state of a session
 
-open_number : (n : ℕ) → is_open (if n == 1 then Open else if n == 2 then Ended else NeverOpened) ≡ true → n ≡ 1
+open_number : (n : ℕ) →
+    is_open (if n == 1 then Open else if n == 2 then Ended else NeverOpened) ≡ true → n ≡ 1
 open_number n h = go (n == 1) refl
   where
     other : (b : Bool) → is_open (if b then Ended else NeverOpened) ≡ true → ⊥
@@ -101,20 +105,24 @@ open_number n h = go (n == 1) refl
 
     go : (b : Bool) → (n == 1) ≡ b → n ≡ 1
     go true e = eqb-true n 1 e
-    go false e = absurd (other (n == 2) (sym (ap (λ b. is_open (if b then Open else if n == 2 then Ended else
+    go false e =
+        absurd (other (n == 2) (sym (ap (λ b. is_open (if b then Open else if n == 2 then Ended else
         NeverOpened)) e) ∙ h))
 
 pub open_tested : (v : Value) → is_open (state_in v) ≡ true → equal Binary v (nat 1) ≡ true
-open_tested (Int (pos n)) h = ap (λ k. equal Binary (nat k) (nat 1)) (open_number n h) ∙ equal_present (nat 1)
-    (nat 1) refl ∙ int_tie 1 1
+open_tested (Int (pos n)) h = ap (λ k. equal Binary (nat k) (nat 1)) (open_number n h)
+    ∙ equal_present (nat 1) (nat 1) refl ∙ int_tie 1 1
 open_tested Null h = absurd (cc)
 open_tested (Int (negsuc n)) h = absurd (cc)
 open_tested (Real x) h = absurd (cc)
 open_tested (Text t) h = absurd (cc)
 open_tested (Blob b) h = absurd (cc)
 
-pub tested_open : (s : SessionState) → equal Binary (nat (state_number s)) (nat 1) ≡ true → is_open s ≡ true
+pub tested_open : (s : SessionState) → equal Binary (nat (state_number s)) (nat 1) ≡ true →
+    is_open s ≡ true
 tested_open Open h = refl
-tested_open Ended h = absurd (let e : false ≡ true = sym (equal_present (nat 2) (nat 1) refl ∙ int_tie 1 2) ∙ h in cc)
-tested_open NeverOpened h = absurd (let e : false ≡ true = sym (equal_present (nat 3) (nat 1) refl ∙ int_tie 1 3) ∙
+tested_open Ended h =
+    absurd (let e : false ≡ true = sym (equal_present (nat 2) (nat 1) refl ∙ int_tie 1 2) ∙ h in cc)
+tested_open NeverOpened h =
+    absurd (let e : false ≡ true = sym (equal_present (nat 3) (nat 1) refl ∙ int_tie 1 3) ∙
     h in cc)

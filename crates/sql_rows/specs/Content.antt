@@ -1,20 +1,20 @@
 -- What the tables hold, each row under its key.
 -- Source: profile.
-use Rattle.std.specs.Prelude.{ℕ, ◌&&◌, Bool, List, Option, Some, None, option_map, is_some, length, ◌+◌}
-use Rattle.std.specs.Prelude.{if◌then◌else◌, nat_eq}
+use Rattle.std.specs.Prelude.{ℕ, ◌&&◌, Bool, List, Option, Some, None, option_map, is_some, length}
+use Rattle.std.specs.Prelude.{◌+◌, if◌then◌else◌, nat_eq}
 use Rattle.sqlite_trees.specs.Tree.{Trees}
 use Rattle.buckets.specs.Row.{Row as Bucket}
 use Rattle.reserving.specs.declared.session.Session.{Session}
 use Rattle.reserving.specs.declared.session.Counter.{Counter}
 use Rattle.reserving.specs.declared.charge.ChargeRow.{ChargeRow}
 use Rattle.sql_tables.specs.Keyed.{look, same_name}
-use Rattle.sql_tables.specs.Schema.{meta, accounts, buckets, counters, sessions, session_groups, holds, answers}
-use Rattle.sql_tables.specs.Schema.{vouchers, charges}
+use Rattle.sql_tables.specs.Schema.{meta, accounts, buckets, counters, sessions, session_groups}
+use Rattle.sql_tables.specs.Schema.{holds, answers, vouchers, charges}
 use Rattle.sql_rows.specs.declared.head.Head.{Head}
-use Rattle.sql_rows.specs.Values.{Meta, Group, Kept, Voucher, meta_key, head_key, bucket_key, counter_key}
-use Rattle.sql_rows.specs.Values.{session_key, group_key, hold_key, answer_key, voucher_key, charge_key, meta_in}
-use Rattle.sql_rows.specs.Values.{head_in, bucket_in, counter_in, session_in, group_in, hold_in, answer_in}
-use Rattle.sql_rows.specs.Values.{voucher_in, charge_in}
+use Rattle.sql_rows.specs.Values.{Meta, Group, Kept, Voucher, meta_key, head_key, bucket_key}
+use Rattle.sql_rows.specs.Values.{counter_key, session_key, group_key, hold_key, answer_key}
+use Rattle.sql_rows.specs.Values.{voucher_key, charge_key, meta_in, head_in, bucket_in, counter_in}
+use Rattle.sql_rows.specs.Values.{session_in, group_in, hold_in, answer_in, voucher_in, charge_in}
 
 -- what is stored of an account; texts are known by their bytes
 pub record Rows : Type 0 where
@@ -47,7 +47,8 @@ pub record Content : Type 0 where
 
 -- an account's rows change, and no other's
 abbrev pub with_rows : List ℕ → (Rows → Rows) → Content → Content
-with_rows a change c = record c { rows = λ x. if same_name a x then change (c.rows x) else c.rows x }
+with_rows a change c =
+    record c { rows = λ x. if same_name a x then change (c.rows x) else c.rows x }
 
 abbrev pub with_meta : Meta → Content → Content
 with_meta m c = record c { meta = Some m }
@@ -80,7 +81,8 @@ with_group s g x r = record r {
 
 abbrev pub with_hold : List ℕ → ℕ → ℕ → ℕ → Rows → Rows
 with_hold s g n amount r = record r {
-  holds = λ t h m. if same_name s t && (nat_eq g h && nat_eq n m) then Some amount else r.holds t h m;
+  holds = λ t h m. if same_name s t && (nat_eq g h && nat_eq n m) then Some amount
+      else r.holds t h m;
 }
 
 -- a group's holds are gone
@@ -99,7 +101,8 @@ abbrev pub with_charge : ChargeRow → Rows → Rows
 with_charge x r = record r { charges = λ n. if nat_eq x.number n then Some x else r.charges n }
 
 abbrev pub with_voucher : List ℕ → Voucher → Content → Content
-with_voucher code x c = record c { vouchers = λ k. if same_name code k then Some x else c.vouchers k }
+with_voucher code x c =
+    record c { vouchers = λ k. if same_name code k then Some x else c.vouchers k }
 
 -- ---- the tables
 
@@ -111,7 +114,8 @@ rows_in trees a = record {
   sessions = λ s. option_map session_in (look sessions trees (session_key a s));
   groups = λ s g. option_map group_in (look session_groups trees (group_key a s g));
   holds = λ s g n. option_map hold_in (look holds trees (hold_key a s g n));
-  answers = λ kind name number. option_map answer_in (look answers trees (answer_key a kind name number));
+  answers = λ kind name number.
+      option_map answer_in (look answers trees (answer_key a kind name number));
   charges = λ n. option_map charge_in (look charges trees (charge_key a n));
 }
 

@@ -6,7 +6,8 @@ use Rattle.buckets.specs.declared.holds.Hold.{Hold}
 use Rattle.reserving.specs.declared.session.Session.{Session}
 use Rattle.reserving.specs.declared.session.Counter.{Counter}
 use Rattle.reserving.specs.declared.charge.ChargeRow.{ChargeRow}
-use Rattle.sql_rows.specs.Content.{Content, with_rows, with_bucket, with_session, with_charge, with_counter, with_hold}
+use Rattle.sql_rows.specs.Content.{Content, with_rows, with_bucket, with_session, with_charge}
+use Rattle.sql_rows.specs.Content.{with_counter, with_hold}
 
 abbrev pub with_each : {X : Type 0} → (X → Content → Content) → List X → Content → Content
 with_each change [] c = c

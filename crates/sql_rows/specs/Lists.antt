@@ -1,6 +1,8 @@
--- What lists that are read tell of an account's rows: the row under each key, or that there is none.
+-- What lists that are read tell of an account's rows: the row under each key, or that there is
+-- none.
 -- Source: profile.
-use Rattle.std.specs.Prelude.{◌≡◌, ℕ, ◌&&◌, ◌||◌, nat_eq, nat_lt, nat_le, ◌<◌, Bool, not, List, [], ◌∷◌, length, Option, None, option_map, is_some, if◌then◌else◌}
+use Rattle.std.specs.Prelude.{◌≡◌, ℕ, ◌&&◌, ◌||◌, nat_eq, nat_lt, nat_le, ◌<◌, Bool, not, List, []}
+use Rattle.std.specs.Prelude.{◌∷◌, length, Option, None, option_map, is_some, if◌then◌else◌}
 use Rattle.std.specs.List.{find}
 use Rattle.sqlite_value.specs.Order.{Row as Values}
 use Rattle.buckets.specs.Row.{Row as Bucket}
@@ -37,7 +39,8 @@ AreBuckets test rows bs = (n : ℕ) → find (λ b. nat_eq b.number n) bs ≡ on
 
 -- the sessions that pass the test
 abbrev pub AreSessions : (Session → Bool) → Rows → List Session → Type 0
-AreSessions test rows xs = (s : List ℕ) → find (λ x. same_name x.id s) xs ≡ only test (rows.sessions s)
+AreSessions test rows xs = (s : List ℕ) →
+    find (λ x. same_name x.id s) xs ≡ only test (rows.sessions s)
 
 -- what a session has of a rating group
 pub record GroupAt : Type 0 where
@@ -50,7 +53,8 @@ group_at_cells x = group_cells x.group x.row
 
 -- all that the session has
 abbrev pub AreGroups : Rows → List ℕ → List GroupAt → Type 0
-AreGroups rows s xs = (g : ℕ) → option_map (λ (x : GroupAt). x.row) (find (λ x. nat_eq x.group g) xs) ≡ rows.groups s g
+AreGroups rows s xs = (g : ℕ) →
+    option_map (λ (x : GroupAt). x.row) (find (λ x. nat_eq x.group g) xs) ≡ rows.groups s g
 
 -- what is held for a session's rating group of a bucket, in micro-units
 pub record HoldAt : Type 0 where
@@ -64,7 +68,8 @@ hold_cells h = nat h.group ∷ nat h.bucket ∷ nat h.amount ∷ []
 -- all that is held for the session
 abbrev pub AreHolds : Rows → List ℕ → List HoldAt → Type 0
 AreHolds rows s xs = (g n : ℕ) →
-    option_map (λ (x : HoldAt). x.amount) (find (λ x. nat_eq x.group g && nat_eq x.bucket n) xs) ≡ rows.holds s g n
+    option_map (λ (x : HoldAt). x.amount) (find (λ x. nat_eq x.group g && nat_eq x.bucket n) xs)
+    ≡ rows.holds s g n
 
 -- whether a charge lies beyond a number, and up to another
 abbrev pub is_within : ℕ → ℕ → ChargeRow → Bool
@@ -83,4 +88,5 @@ BucketsRise bs = Rises (λ b. b.number) bs
 -- the counters of one cycle
 abbrev pub AreCountersIn : ℕ → Rows → List Counter → Type 0
 AreCountersIn cycle rows xs = (g c : ℕ) →
-    find (λ x. nat_eq x.group g && nat_eq x.cycle c) xs ≡ (if nat_eq c cycle then rows.counters g c else None)
+    find (λ x. nat_eq x.group g && nat_eq x.cycle c) xs
+    ≡ (if nat_eq c cycle then rows.counters g c else None)

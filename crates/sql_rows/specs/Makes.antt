@@ -7,8 +7,8 @@ use Rattle.sqlite.specs.State.{State, Shows}
 use Rattle.sql_tables.specs.Statements.{AreStored, IsBook, IsIdle}
 use Rattle.sql_rows.specs.Content.{Content, content_of}
 
--- the trees after have the content that the change makes of that before, and the same catalog, and no
--- rowid stands twice there
+-- the trees after have the content that the change makes of that before, and the same catalog, and
+-- no rowid stands twice there
 pub record Turns (change : Content → Content) (old new : Trees) : Type 0 where
   pub content : content_of new ≡ change (content_of old)
   pub catalog : new catalog_tree ≡ old catalog_tree
@@ -20,7 +20,8 @@ pub record Makes (change : Content → Content) (old new : State) : Type 0 where
   pub book : IsBook new
   pub shows : Shows old new new.now old.committed true
 
--- the connection was open if it is, and if it was, the change is made: a list of no rows asks nothing of it
+-- the connection was open if it is, and if it was, the change is made: a list of no rows asks
+-- nothing of it
 pub record MakesIfOpen (change : Content → Content) (old new : State) : Type 0 where
   pub was_open : IsTrue new.is_open → IsTrue old.is_open
   pub made : IsTrue old.is_open → Makes change old new

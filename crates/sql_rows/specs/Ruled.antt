@@ -4,7 +4,8 @@ use Rattle.std.specs.Prelude.{ℕ, ◌<◌, ◌≤◌, ◌^◌, Option, Some, No
 use Rattle.std.specs.Str.{IsUtf8}
 use Rattle.sql_rows.specs.Values.{Meta}
 
--- the version is below 2^32, the text is one of characters, and the moment is in the range of moments
+-- the version is below 2^32, the text is one of characters, and the moment is in the range of
+-- moments
 pub record IsRuledMeta (m : Meta) : Type 0 where
   pub version : m.version < 2 ^ 32
   pub book : IsUtf8 m.book

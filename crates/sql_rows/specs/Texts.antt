@@ -42,7 +42,10 @@ abbrev pub names_of : ReadNames → PeriodNames
 names_of p = record { before = string_bytes p.before; after = string_bytes p.after }
 
 abbrev pub group_at : GroupColumns → GroupAt
-group_at g = record { group = g.group; row = record { used = g.used; periods = option_map names_of g.periods } }
+group_at g = record {
+  group = g.group;
+  row = record { used = g.used; periods = option_map names_of g.periods };
+}
 
 abbrev pub hold_at : HeldColumns → HoldAt
 hold_at h = record { group = h.group; bucket = h.bucket; amount = h.amount }

@@ -1,7 +1,7 @@
 -- The values of a row, and the row that values are.
 -- Source: profile.
-use Rattle.std.specs.Prelude.{ℕ, pos, negsuc, Bool, true, false, List, [], ◌∷◌, Option, Some, None, is_some}
-use Rattle.std.specs.Prelude.{if◌then◌else◌, ◌==◌}
+use Rattle.std.specs.Prelude.{ℕ, pos, negsuc, Bool, true, false, List, [], ◌∷◌, Option, Some, None}
+use Rattle.std.specs.Prelude.{is_some, if◌then◌else◌, ◌==◌}
 use Rattle.sqlite_value.specs.declared.value.Value.{Value}
 use Rattle.sqlite_value.specs.declared.value.Value.TheVariants.{Null, Int, Real, Text, Blob}
 use Rattle.sqlite_value.specs.Order.{Row as Values, column}
@@ -83,7 +83,11 @@ abbrev pub meta_values : Meta → Values
 meta_values m = nat 1 ∷ meta_cells m
 
 abbrev pub meta_in : Values → Meta
-meta_in v = record { version = nat_in (column v 1); book = text_in (column v 2); last = nat_in (column v 3) }
+meta_in v = record {
+  version = nat_in (column v 1);
+  book = text_in (column v 2);
+  last = nat_in (column v 3);
+}
 
 -- ---- `accounts`
 
@@ -144,7 +148,11 @@ abbrev pub counter_values : List ℕ → Counter → Values
 counter_values a r = Text a ∷ counter_cells r
 
 abbrev pub counter_in : Values → Counter
-counter_in v = record { group = nat_in (column v 1); cycle = nat_in (column v 2); blocks = nat_in (column v 3) }
+counter_in v = record {
+  group = nat_in (column v 1);
+  cycle = nat_in (column v 2);
+  blocks = nat_in (column v 3);
+}
 
 -- ---- `sessions`
 
@@ -249,7 +257,8 @@ voucher_key code = Text code ∷ []
 
 -- the columns after the key
 abbrev pub voucher_cells : Voucher → Values
-voucher_cells r = nat r.amount ∷ or_null nat r.days ∷ or_null nat r.scope ∷ or_null Text r.account ∷ []
+voucher_cells r =
+    nat r.amount ∷ or_null nat r.days ∷ or_null nat r.scope ∷ or_null Text r.account ∷ []
 
 abbrev pub voucher_values : List ℕ → Voucher → Values
 voucher_values code r = Text code ∷ voucher_cells r

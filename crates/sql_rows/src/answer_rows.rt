@@ -41,7 +41,8 @@ pub fn put_answer_request<S: Alter>(
 ) -> Result<usize, Error>
     requires book { HasBook (state S.Store tx.old.conn.now) }
     ensures same_reference { tx.new.conn.ghost_name ≡ tx.old.conn.ghost_name }
-    ensures makes { Attempts (Makes (with_rows account.now (with_answer request_kind session.now number (record { content = content.now; answer = answer.now }))))
+    ensures makes { Attempts (Makes (with_rows account.now (with_answer request_kind session.now
+        number (record { content = content.now; answer = answer.now }))))
         (state S.Store tx.old.conn.now) (state S.Store tx.new.conn.now) result }
 {
     let of_account = text(account.as_str());
@@ -67,7 +68,8 @@ pub fn put_answer_reference<S: Alter>(
 ) -> Result<usize, Error>
     requires book { HasBook (state S.Store tx.old.conn.now) }
     ensures same_reference { tx.new.conn.ghost_name ≡ tx.old.conn.ghost_name }
-    ensures makes { Attempts (Makes (with_rows account.now (with_answer reference_kind reference.now 0 (record { content = content.now; answer = answer.now }))))
+    ensures makes { Attempts (Makes (with_rows account.now (with_answer reference_kind reference.now
+        0 (record { content = content.now; answer = answer.now }))))
         (state S.Store tx.old.conn.now) (state S.Store tx.new.conn.now) result }
 {
     let of_account = text(account.as_str());
@@ -91,7 +93,8 @@ pub fn read_answer_request<S: Alter>(
     number: u32,
 ) -> Result<Option<Kept>, ReadFault>
     requires idle { HasIdleBook (state S.Store conn.old) }
-    ensures reads { Reads (λ trees o. option_map kept_of o ≡ (rows_in trees account.now).answers request_kind session.now number)
+    ensures reads { Reads (λ trees o.
+        option_map kept_of o ≡ (rows_in trees account.now).answers request_kind session.now number)
         (state S.Store conn.old) (state S.Store conn.new) result }
 {
     let of_account = text(account.as_str());
@@ -109,7 +112,8 @@ pub fn read_answer_reference<S: Alter>(
     reference: &Reference,
 ) -> Result<Option<Kept>, ReadFault>
     requires idle { HasIdleBook (state S.Store conn.old) }
-    ensures reads { Reads (λ trees o. option_map kept_of o ≡ (rows_in trees account.now).answers reference_kind reference.now 0)
+    ensures reads { Reads (λ trees o.
+        option_map kept_of o ≡ (rows_in trees account.now).answers reference_kind reference.now 0)
         (state S.Store conn.old) (state S.Store conn.new) result }
 {
     let of_account = text(account.as_str());

@@ -88,14 +88,16 @@ pub fn put_bucket<S: Alter>(
     )
 }
 
-/// The buckets that have money available or reserved, as they stand: no rule of theirs is tested yet.
+/// The buckets that have money available or reserved, as they stand: no rule of theirs is tested
+/// yet.
 pub fn read_buckets_live<S: Alter>(
     conn: &mut Connection<S>,
     alloc: Global,
     account: &AccountNumber,
 ) -> Result<Vec<BucketColumns>, ReadFault>
     requires idle { HasIdleBook (state S.Store conn.old) }
-    ensures reads { Reads (λ trees bs. AreBuckets is_live (rows_in trees account.now) (map bucket_row bs.items))
+    ensures reads { Reads (λ trees bs.
+        AreBuckets is_live (rows_in trees account.now) (map bucket_row bs.items))
         (state S.Store conn.old) (state S.Store conn.new) result }
 {
     let of_account = text(account.as_str());
@@ -115,7 +117,8 @@ pub fn read_buckets_all<S: Alter>(
     account: &AccountNumber,
 ) -> Result<Vec<BucketColumns>, ReadFault>
     requires idle { HasIdleBook (state S.Store conn.old) }
-    ensures reads { Reads (λ trees bs. AreBuckets (λ b. true) (rows_in trees account.now) (map bucket_row bs.items))
+    ensures reads { Reads (λ trees bs.
+        AreBuckets (λ b. true) (rows_in trees account.now) (map bucket_row bs.items))
         (state S.Store conn.old) (state S.Store conn.new) result }
 {
     let of_account = text(account.as_str());
@@ -128,15 +131,16 @@ pub fn read_buckets_all<S: Alter>(
     buckets_from(alloc, &rows)
 }
 
-/// The buckets that have no money available and none reserved, in the order of their numbers, as they stand: no other
-/// rule of theirs is tested yet.
+/// The buckets that have no money available and none reserved, in the order of their numbers, as
+/// they stand: no other rule of theirs is tested yet.
 pub fn read_buckets_dead<S: Alter>(
     conn: &mut Connection<S>,
     alloc: Global,
     account: &AccountNumber,
 ) -> Result<Vec<BucketColumns>, ReadFault>
     requires idle { HasIdleBook (state S.Store conn.old) }
-    ensures reads { Reads (λ trees bs. AreBuckets is_dead (rows_in trees account.now) (map bucket_row bs.items))
+    ensures reads { Reads (λ trees bs.
+        AreBuckets is_dead (rows_in trees account.now) (map bucket_row bs.items))
         (state S.Store conn.old) (state S.Store conn.new) result }
     ensures order { IfOk result (λ bs. BucketsRise (map bucket_row bs.items)) }
 {
@@ -146,7 +150,8 @@ pub fn read_buckets_dead<S: Alter>(
 
 /// Those that are dead, if each number is above the one before it.
 fn dead_among(buckets: Vec<BucketColumns>) -> Result<Vec<BucketColumns>, ReadFault>
-    ensures dead { IfOk result (λ bs. map bucket_row bs.items ≡ filter is_dead (map bucket_row buckets.items)) }
+    ensures dead { IfOk result
+        (λ bs. map bucket_row bs.items ≡ filter is_dead (map bucket_row buckets.items)) }
     ensures order { OnOk result (BucketsRise (map bucket_row buckets.items)) }
 {
     if !do_buckets_rise(&buckets) {
@@ -218,7 +223,8 @@ pub fn put_buckets<S: Alter>(
     account: &AccountNumber,
     rows: &[Bucket],
 ) -> Result<(), Error>
-    requires open { HasCleanDisk (state S.Store tx.old.conn.now) → IsTrue (state S.Store tx.old.conn.now).is_open →
+    requires open { HasCleanDisk (state S.Store tx.old.conn.now) →
+        IsTrue (state S.Store tx.old.conn.now).is_open →
         IsTrue (state S.Store tx.old.conn.now).in_transaction }
     requires book { HasBook (state S.Store tx.old.conn.now) }
     ensures same_reference { tx.new.conn.ghost_name ≡ tx.old.conn.ghost_name }

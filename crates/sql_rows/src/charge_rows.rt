@@ -69,7 +69,8 @@ pub fn read_charges_within<S: Alter>(
     last: u32,
 ) -> Result<Vec<ChargeRow>, ReadFault>
     requires idle { HasIdleBook (state S.Store conn.old) }
-    ensures reads { Reads (λ trees xs. AreCharges (is_within after last) (rows_in trees account.now) xs.items)
+    ensures reads { Reads (λ trees xs.
+        AreCharges (is_within after last) (rows_in trees account.now) xs.items)
         (state S.Store conn.old) (state S.Store conn.new) result }
     ensures order { IfOk result (λ xs. NumbersRise xs.items) }
 {
@@ -151,7 +152,8 @@ pub fn put_charges<S: Alter>(
     account: &AccountNumber,
     rows: &[ChargeRow],
 ) -> Result<(), Error>
-    requires open { HasCleanDisk (state S.Store tx.old.conn.now) → IsTrue (state S.Store tx.old.conn.now).is_open →
+    requires open { HasCleanDisk (state S.Store tx.old.conn.now) →
+        IsTrue (state S.Store tx.old.conn.now).is_open →
         IsTrue (state S.Store tx.old.conn.now).in_transaction }
     requires book { HasBook (state S.Store tx.old.conn.now) }
     ensures same_reference { tx.new.conn.ghost_name ≡ tx.old.conn.ghost_name }

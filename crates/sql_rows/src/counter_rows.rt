@@ -93,7 +93,8 @@ pub fn put_counters<S: Alter>(
     account: &AccountNumber,
     rows: &[Counter],
 ) -> Result<(), Error>
-    requires open { HasCleanDisk (state S.Store tx.old.conn.now) → IsTrue (state S.Store tx.old.conn.now).is_open →
+    requires open { HasCleanDisk (state S.Store tx.old.conn.now) →
+        IsTrue (state S.Store tx.old.conn.now).is_open →
         IsTrue (state S.Store tx.old.conn.now).in_transaction }
     requires book { HasBook (state S.Store tx.old.conn.now) }
     ensures same_reference { tx.new.conn.ghost_name ≡ tx.old.conn.ghost_name }

@@ -41,8 +41,9 @@ const PUT_GROUP: &str = "INSERT INTO session_groups VALUES (?1, ?2, ?3, ?4, ?5, 
     reserved = excluded.reserved, period_before = excluded.period_before, \
     period_after = excluded.period_after";
 
-/// Puts what a session has of a rating group, with a reservation: the units used, and the names of the tariff periods at
-/// the grant and at the switch. What the reservation holds is put by `put_hold`.
+/// Puts what a session has of a rating group, with a reservation: the units used, and the names of
+/// the tariff periods at the grant and at the switch. What the reservation holds is put by
+/// `put_hold`.
 pub fn put_group_reserved<S: Alter>(
     tx: &mut Transaction<'_, S>,
     account: &AccountNumber,
@@ -86,7 +87,8 @@ pub fn put_group_free<S: Alter>(
 ) -> Result<usize, Error>
     requires book { HasBook (state S.Store tx.old.conn.now) }
     ensures same_reference { tx.new.conn.ghost_name ≡ tx.old.conn.ghost_name }
-    ensures makes { Attempts (Makes (with_rows account.now (with_group session.now group (record { used = used; periods = None }))))
+    ensures makes { Attempts (Makes (with_rows account.now
+        (with_group session.now group (record { used = used; periods = None }))))
         (state S.Store tx.old.conn.now) (state S.Store tx.new.conn.now) result }
 {
     let of_account = text(account.as_str());
@@ -113,7 +115,8 @@ pub fn read_groups<S: Alter>(
     session: &SessionId,
 ) -> Result<Vec<GroupColumns>, ReadFault>
     requires idle { HasIdleBook (state S.Store conn.old) }
-    ensures reads { Reads (λ trees xs. AreGroups (rows_in trees account.now) session.now (map group_at xs.items))
+    ensures reads { Reads (λ trees xs.
+        AreGroups (rows_in trees account.now) session.now (map group_at xs.items))
         (state S.Store conn.old) (state S.Store conn.new) result }
 {
     let of_account = text(account.as_str());

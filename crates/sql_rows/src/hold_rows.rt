@@ -35,7 +35,8 @@ pub fn put_hold<S: Alter>(
 ) -> Result<usize, Error>
     requires book { HasBook (state S.Store tx.old.conn.now) }
     ensures same_reference { tx.new.conn.ghost_name ≡ tx.old.conn.ghost_name }
-    ensures makes { Attempts (Makes (with_rows account.now (with_hold session.now group hold.now.bucket hold.now.amount)))
+    ensures makes { Attempts (Makes (with_rows account.now
+        (with_hold session.now group hold.now.bucket hold.now.amount)))
         (state S.Store tx.old.conn.now) (state S.Store tx.new.conn.now) result }
 {
     let of_account = text(account.as_str());
@@ -83,7 +84,8 @@ pub fn read_holds<S: Alter>(
     session: &SessionId,
 ) -> Result<Vec<HeldColumns>, ReadFault>
     requires idle { HasIdleBook (state S.Store conn.old) }
-    ensures reads { Reads (λ trees xs. AreHolds (rows_in trees account.now) session.now (map hold_at xs.items))
+    ensures reads { Reads (λ trees xs.
+        AreHolds (rows_in trees account.now) session.now (map hold_at xs.items))
         (state S.Store conn.old) (state S.Store conn.new) result }
 {
     let of_account = text(account.as_str());
@@ -132,7 +134,8 @@ pub fn put_holds<S: Alter>(
     group: u32,
     rows: &[Hold],
 ) -> Result<(), Error>
-    requires open { HasCleanDisk (state S.Store tx.old.conn.now) → IsTrue (state S.Store tx.old.conn.now).is_open →
+    requires open { HasCleanDisk (state S.Store tx.old.conn.now) →
+        IsTrue (state S.Store tx.old.conn.now).is_open →
         IsTrue (state S.Store tx.old.conn.now).in_transaction }
     requires book { HasBook (state S.Store tx.old.conn.now) }
     ensures same_reference { tx.new.conn.ghost_name ≡ tx.old.conn.ghost_name }

@@ -1,4 +1,5 @@
-//! Statements over the ten tables: each puts, removes or reads rows, and says so by what the tables hold.
+//! Statements over the ten tables: each puts, removes or reads rows, and says so by what the tables
+//! hold.
 #![tactic(auto)]
 
 mod account_rows;

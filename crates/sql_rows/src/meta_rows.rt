@@ -27,8 +27,8 @@ pub struct Meta {
     pub last: Moment,
 }
 
-/// Puts what is kept once: the version of the tables, the text of the tariff book, and the moment of the last
-/// accepted command.
+/// Puts what is kept once: the version of the tables, the text of the tariff book, and the moment
+/// of the last accepted command.
 pub fn put_meta<S: Alter>(
     tx: &mut Transaction<'_, S>,
     version: u32,
@@ -37,7 +37,8 @@ pub fn put_meta<S: Alter>(
 ) -> Result<usize, Error>
     requires book { HasBook (state S.Store tx.old.conn.now) }
     ensures same_reference { tx.new.conn.ghost_name ≡ tx.old.conn.ghost_name }
-    ensures makes { Attempts (Makes (with_meta (record { version = version; book = book.now; last = last })))
+    ensures makes { Attempts
+        (Makes (with_meta (record { version = version; book = book.now; last = last })))
         (state S.Store tx.old.conn.now) (state S.Store tx.new.conn.now) result }
 {
     let id = whole(1);
@@ -60,7 +61,8 @@ pub fn read_meta<S: Alter>(conn: &mut Connection<S>) -> Result<Option<Meta>, Rea
     ensures reads { Reads (λ trees o. option_map meta_of o ≡ (content_of trees).meta)
         (state S.Store conn.old) (state S.Store conn.new) result }
     // A row that is there and in the rules is answered.
-    ensures refused { HasCleanDisk (state S.Store conn.new) → IfErr result (λ e. e ≡ ReadFault.Rules →
+    ensures refused { HasCleanDisk (state S.Store conn.new) →
+        IfErr result (λ e. e ≡ ReadFault.Rules →
         IsRefusedMeta (content_of (state S.Store conn.old).now.trees).meta) }
 {
     let rows = read(
@@ -72,7 +74,8 @@ pub fn read_meta<S: Alter>(conn: &mut Connection<S>) -> Result<Option<Meta>, Rea
 }
 
 fn meta_among(rows: &[Row]) -> Result<Option<Meta>, ReadFault>
-    ensures { MatchResult result (λ o. rows.now ≡ map meta_cells (one_or_none (option_map meta_of o)))
+    ensures { MatchResult result
+        (λ o. rows.now ≡ map meta_cells (one_or_none (option_map meta_of o)))
         (λ e. e ≡ ReadFault.Rules → (o : Option KeptOnce) →
         rows.now ≡ map meta_cells (one_or_none o) → IsRefusedMeta o) }
 {

@@ -109,7 +109,8 @@ pub fn read_sessions_open<S: Alter>(
     account: &AccountNumber,
 ) -> Result<Vec<Session>, ReadFault>
     requires idle { HasIdleBook (state S.Store conn.old) }
-    ensures reads { Reads (λ trees xs. AreSessions (λ x. is_open x.state) (rows_in trees account.now) xs.items)
+    ensures reads { Reads (λ trees xs.
+        AreSessions (λ x. is_open x.state) (rows_in trees account.now) xs.items)
         (state S.Store conn.old) (state S.Store conn.new) result }
 {
     let of_account = text(account.as_str());
@@ -141,7 +142,8 @@ pub fn put_sessions<S: Alter>(
     account: &AccountNumber,
     rows: &[Session],
 ) -> Result<(), Error>
-    requires open { HasCleanDisk (state S.Store tx.old.conn.now) → IsTrue (state S.Store tx.old.conn.now).is_open →
+    requires open { HasCleanDisk (state S.Store tx.old.conn.now) →
+        IsTrue (state S.Store tx.old.conn.now).is_open →
         IsTrue (state S.Store tx.old.conn.now).in_transaction }
     requires book { HasBook (state S.Store tx.old.conn.now) }
     ensures same_reference { tx.new.conn.ghost_name ≡ tx.old.conn.ghost_name }

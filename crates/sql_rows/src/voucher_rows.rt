@@ -36,8 +36,8 @@ const PUT_VOUCHER: &str = "INSERT INTO vouchers VALUES (?1, ?2, ?3, ?4, ?5) \
     code = excluded.code, amount = excluded.amount, days = excluded.days, \
     scope = excluded.scope, account = excluded.account";
 
-/// Puts a voucher that no account has redeemed: its amount in micro-units, the days that what it gives lasts (none: without
-/// end) and the one rating group that it pays for (none: all).
+/// Puts a voucher that no account has redeemed: its amount in micro-units, the days that what it
+/// gives lasts (none: without end) and the one rating group that it pays for (none: all).
 pub fn put_voucher_unspent<S: Alter>(
     tx: &mut Transaction<'_, S>,
     code: &str,
@@ -47,7 +47,8 @@ pub fn put_voucher_unspent<S: Alter>(
 ) -> Result<usize, Error>
     requires book { HasBook (state S.Store tx.old.conn.now) }
     ensures same_reference { tx.new.conn.ghost_name ≡ tx.old.conn.ghost_name }
-    ensures makes { Attempts (Makes (with_voucher code.now (record { amount = amount; days = days; scope = scope; account = None })))
+    ensures makes { Attempts (Makes (with_voucher code.now
+        (record { amount = amount; days = days; scope = scope; account = None })))
         (state S.Store tx.old.conn.now) (state S.Store tx.new.conn.now) result }
 {
     let of_code = text(code);
@@ -73,7 +74,8 @@ pub fn put_voucher_spent<S: Alter>(
 ) -> Result<usize, Error>
     requires book { HasBook (state S.Store tx.old.conn.now) }
     ensures same_reference { tx.new.conn.ghost_name ≡ tx.old.conn.ghost_name }
-    ensures makes { Attempts (Makes (with_voucher code.now (record { amount = amount; days = days; scope = scope; account = Some account.now })))
+    ensures makes { Attempts (Makes (with_voucher code.now
+        (record { amount = amount; days = days; scope = scope; account = Some account.now })))
         (state S.Store tx.old.conn.now) (state S.Store tx.new.conn.now) result }
 {
     let of_code = text(code);
@@ -95,7 +97,8 @@ pub fn read_voucher<S: Alter>(
     code: &str,
 ) -> Result<Option<VoucherColumns>, ReadFault>
     requires idle { HasIdleBook (state S.Store conn.old) }
-    ensures reads { Reads (λ trees o. option_map voucher_of o ≡ (content_of trees).vouchers code.now)
+    ensures reads { Reads (λ trees o.
+        option_map voucher_of o ≡ (content_of trees).vouchers code.now)
         (state S.Store conn.old) (state S.Store conn.new) result }
 {
     let of_code = text(code);
@@ -108,7 +111,8 @@ pub fn read_voucher<S: Alter>(
 }
 
 fn voucher_among(alloc: Global, rows: &[Row]) -> Result<Option<VoucherColumns>, ReadFault>
-    ensures { IfOk result (λ o. rows.now ≡ map voucher_cells (one_or_none (option_map voucher_of o))) }
+    ensures { IfOk result
+        (λ o. rows.now ≡ map voucher_cells (one_or_none (option_map voucher_of o))) }
 {
     let row = one_of(rows)?;
     match row {

@@ -1,6 +1,6 @@
 -- What a selection that was decoded tells of the rows under a key.
-use Rattle.std.proofs.Common.{◌≡◌, ℕ, List, [], ◌∷◌, map, drop, Bool, true, false, ◌&&◌, Some, None, Option, is_eq}
-use Rattle.std.proofs.Common.{refl, sym, ap, ◌∙◌}
+use Rattle.std.proofs.Common.{◌≡◌, ℕ, List, [], ◌∷◌, map, drop, Bool, true, false, ◌&&◌, Some, None}
+use Rattle.std.proofs.Common.{Option, is_eq, refl, sym, ap, ◌∙◌}
 use Rattle.std.specs.Prelude.{Result, Ok, Err, IfOk, option_and_then, option_map}
 use Rattle.std.proofs.lemmas.Bool.{and_parts, and_from}
 use Rattle.std.specs.List.{AllByRecursion, find}
@@ -17,7 +17,8 @@ use Rattle.sql_tables.specs.Selects.{Selects, only, one_or_none}
 use Rattle.sql_tables.proofs.Keys.{keys_back}
 use Rattle.sql_tables.proofs.Selections.{meets, full_key, selection_tells}
 
-mapped_some : {X : Type 0} (of : Row → X) (o : Option Row) → option_and_then (λ v. Some (of v)) o ≡ option_map of o
+mapped_some : {X : Type 0} (of : Row → X) (o : Option Row) →
+    option_and_then (λ v. Some (of v)) o ≡ option_map of o
 mapped_some of None = refl
 mapped_some of (Some v) = refl
 
@@ -32,18 +33,21 @@ first_in (Some x) = refl
 same_some : {X : Type 0} {x y : X} → ◌≡◌ {A = Option X} (Some x) (Some y) → x ≡ y
 same_some e = cc
 
-module _ (table : Table) (tabled : Has book_schema.tables table) (listed : Has book_schema.indexes (key_index table))
-    (guarding : guards (key_index table) table ≡ true) (trees : Trees) (fits : Fits book_schema trees)
-    (stored : IsStored (trees table.tree))
-    {X : Type 0} (of : Row → X) (cells : X → Row) (columns : Row → Row) (test : Row → Bool) (key : Row)
-    (full : AllByRecursion (λ v. is_null v ≡ false) key)
-    (back : (x : X) (r : Row) → meets table.primary key r ≡ true → cells x ≡ columns r → of (drop 1 r) ≡ x) where
+module _ (table : Table) (tabled : Has book_schema.tables table)
+    (listed : Has book_schema.indexes (key_index table)) (guarding : guards (key_index table) table
+    ≡ true) (trees : Trees) (fits : Fits book_schema trees) (stored : IsStored (trees table.tree))
+    {X : Type 0} (of : Row → X) (cells : X → Row) (columns : Row → Row)
+    (test : Row → Bool) (key : Row) (full : AllByRecursion (λ v. is_null v ≡ false) key)
+    (back : (x : X) (r : Row) → meets table.primary key r ≡ true → cells x ≡ columns r →
+    of (drop 1 r) ≡ x) where
   -- the row under the whole key
-  pub one_told : ((r : Row) → test r ≡ eq_by_cmp row_cmp (key_of table.primary r) key) → (o : Option X)
-      → Selects test columns (trees table.tree) (map cells (one_or_none o)) → o ≡ option_map of (look table trees key)
+  pub one_told : ((r : Row) → test r ≡ eq_by_cmp row_cmp (key_of table.primary r) key)
+      → (o : Option X) → Selects test columns (trees table.tree) (map cells (one_or_none o))
+      → o ≡ option_map of (look table trees key)
   one_told means o selects =
       sym (first_in o)
-      ∙ selection_tells book_schema table tabled (key_index table) listed guarding refl refl trees fits stored
+      ∙ selection_tells book_schema table tabled
+      (key_index table) listed guarding refl refl trees fits stored
       (λ v. Some (of v)) cells columns test (one_or_none o) selects key (λ x. true) (λ x. true)
       (λ r e. full_key table.primary key r full e)
       (λ x r wanted t is. let m = keys_back (key_of table.primary r) key (sym (means r) ∙ t) in
@@ -56,14 +60,16 @@ module _ (table : Table) (tabled : Has book_schema.tables table) (listed : Has b
       → ((r : Row) → test r ≡ (front r && extra r))
       → ((r : Row) → meets table.primary key r ≡ (front r && rest r))
       → ((x : X) (r : Row) → cells x ≡ columns r → rest r ≡ is x)
-      → ((r : Row) → meets table.primary key r ≡ true → live (of (drop 1 r)) ≡ true → extra r ≡ true)
+      → ((r : Row) → meets table.primary key r ≡ true → live (of (drop 1 r)) ≡ true →
+      extra r ≡ true)
       → ((x : X) (r : Row) → extra r ≡ true → cells x ≡ columns r → live x ≡ true)
       → (xs : List X) → Selects test columns (trees table.tree) (map cells xs)
       → find is xs ≡ only live (option_map of (look table trees key))
   listed_told is live front rest extra tests splits wanted lives told xs selects =
-      selection_tells book_schema table tabled (key_index table) listed guarding refl refl trees fits stored
-      (λ v. Some (of v)) cells columns test xs selects key is live (λ r e. full_key table.primary key r full e)
-      (λ x r w t same.
+      selection_tells book_schema table tabled
+      (key_index table) listed guarding refl refl trees fits stored
+      (λ v. Some (of v)) cells columns test xs selects key is live
+      (λ r e. full_key table.primary key r full e) (λ x r w t same.
       let both = and_parts (front r) (extra r) (sym (tests r) ∙ t) in
       let m = splits r ∙ and_from _ _ both.0 (wanted x r same ∙ w) in
       (m, ap Some (back x r m same), told x r both.1 same))
@@ -74,6 +80,7 @@ module _ (table : Table) (tabled : Has book_schema.tables table) (listed : Has b
       ))
       ∙ ap (only live) (mapped_some of (look table trees key))
 
-pub told_if_ok : {V E : Type 0} {P Q : V → Type 0} (r : Result V E) → ((v : V) → P v → Q v) → IfOk r P → IfOk r Q
+pub told_if_ok : {V E : Type 0} {P Q : V → Type 0} (r : Result V E) → ((v : V) → P v → Q v) →
+    IfOk r P → IfOk r Q
 told_if_ok (Ok v) f h = f v h
 told_if_ok (Err e) f h = tt

@@ -1,6 +1,6 @@
 -- A row is the list of its columns, and texts and numbers in SQL's tests.
-use Rattle.std.proofs.Common.{◌≡◌, ◌≢◌, ℕ, pos, suc, List, [], ◌∷◌, Bool, true, false, ◌&&◌, length, Some, None}
-use Rattle.std.proofs.Common.{Option, is_eq, refl, sym, ap, ap₂, ◌∙◌, arith}
+use Rattle.std.proofs.Common.{◌≡◌, ◌≢◌, ℕ, pos, suc, List, [], ◌∷◌, Bool, true, false, ◌&&◌, length}
+use Rattle.std.proofs.Common.{Some, None, Option, is_eq, refl, sym, ap, ap₂, ◌∙◌, arith}
 use Rattle.std.specs.Prelude.{MatchOption}
 use Rattle.std.proofs.lemmas.Cmp.{tied_back}
 use Rattle.sqlite_value.specs.declared.value.Value.{Value}
@@ -27,7 +27,8 @@ pub row_is : (w vs : Row) → length w ≡ length vs → AreFrom 0 w vs → w �
 row_is [] [] long h = refl
 row_is [] (v ∷ vs) long h = absurd (omega (arith, long))
 row_is (x ∷ w) [] long h = absurd (omega (arith, long))
-row_is (x ∷ w) (v ∷ vs) long h = ap₂ ◌∷◌ h.0 (row_is w vs (omega (arith, long)) (are_later 0 x w vs h.1))
+row_is (x ∷ w) (v ∷ vs) long h =
+    ap₂ ◌∷◌ h.0 (row_is w vs (omega (arith, long)) (are_later 0 x w vs h.1))
 
 pub tie_turned : (v w : Value) → is_eq (value_cmp v w) ≡ is_eq (value_cmp w v)
 tie_turned v w = same_test _ _
@@ -38,7 +39,8 @@ tie_turned v w = same_test _ _
 pub equal_turned : (v w : Value) → is_null w ≡ false → equal Binary v w ≡ is_eq (value_cmp w v)
 equal_turned v w full = equal_present v w full ∙ tie_turned v w
 
-pub optional_is : (v : Value) (o : Option ℕ) → MatchOption o (v ≡ Null) (λ n. (v ≢ Null) × (v ≡ Int (pos n))) → v ≡
+pub optional_is : (v : Value) (o : Option ℕ) →
+    MatchOption o (v ≡ Null) (λ n. (v ≢ Null) × (v ≡ Int (pos n))) → v ≡
     or_null (λ n. Int (pos n)) o
 optional_is v None e = e
 optional_is v (Some n) e = e.1

@@ -1,6 +1,6 @@
 -- What a CREATE TABLE makes of the schema, and the ten in turn.
-use Rattle.std.proofs.Common.{◌≡◌, ◌⊎◌, inl, inr, ℕ, List, [], ◌∷◌, take, codes, Bool, true, false, Some, None}
-use Rattle.std.proofs.Common.{Option, Ok, Err, Result, refl, sym, ap, subst, ◌∙◌}
+use Rattle.std.proofs.Common.{◌≡◌, ◌⊎◌, inl, inr, ℕ, List, [], ◌∷◌, take, codes, Bool, true, false}
+use Rattle.std.proofs.Common.{Some, None, Option, Ok, Err, Result, refl, sym, ap, subst, ◌∙◌}
 use Rattle.std.specs.List.{AllByRecursion}
 use Rattle.sqlite_value.specs.Order.{Row}
 use Rattle.sqlite_trees.specs.Tree.{Trees}
@@ -17,10 +17,11 @@ use Rattle.sqlite.specs.Listing.{understood}
 use Rattle.sqlite.specs.State.{State, Writes, Executes}
 use Rattle.sqlite.proofs.Callers.{IsPlain, command_of, statement_of, runs_as}
 use Rattle.sql_tables.proofs.Steps.{went, same_value}
-use Rattle.sql_tables.specs.Schema.{meta, accounts, buckets, counters, sessions, session_groups, holds, answers}
-use Rattle.sql_tables.specs.Schema.{vouchers, charges}
-use Rattle.sql_tables.specs.Texts.{meta_text, accounts_text, buckets_text, counters_text, sessions_text}
-use Rattle.sql_tables.specs.Texts.{session_groups_text, holds_text, answers_text, vouchers_text, charges_text, stage}
+use Rattle.sql_tables.specs.Schema.{meta, accounts, buckets, counters, sessions, session_groups}
+use Rattle.sql_tables.specs.Schema.{holds, answers, vouchers, charges}
+use Rattle.sql_tables.specs.Texts.{meta_text, accounts_text, buckets_text, counters_text}
+use Rattle.sql_tables.specs.Texts.{sessions_text, session_groups_text, holds_text, answers_text}
+use Rattle.sql_tables.specs.Texts.{vouchers_text, charges_text, stage}
 
 -- the table is the last of the schema, and empty, and the others have their rows
 pub record Makes (stage : Schema) (table : Table) (old : Trees) (new : Database) : Type 0 where
@@ -36,9 +37,9 @@ pub record IsText (stage : Schema) (table : Table) (text : List ℕ) : Type 0 wh
   pub defined : table_defined_by text ≡ Ok table
   pub uncounted : lacks_sequence (created stage table) ≡ false
 
-pub makes : (stage : Schema) (table : Table) (text : List ℕ) → IsText stage table text → (old new : State)
-    (count : ℕ) → old.now.schema ≡ stage → Executes text [] old new (Ok count) → Makes stage table old.now.trees
-    new.now
+pub makes : (stage : Schema) (table : Table) (text : List ℕ) → IsText stage table text →
+    (old new : State) (count : ℕ) → old.now.schema ≡ stage → Executes text [] old new (Ok count) →
+    Makes stage table old.now.trees new.now
 makes stage table text is old new count has h =
     let w = subst (λ t. Writes old new None CreateTable t [] count) is.whole
     (runs_as text [] old new stage has CreateTable is.command is.plain count h) in
@@ -46,15 +47,16 @@ makes stage table text is old new count has h =
     let first = went all.1 in
     let made = first.1 in
     let same : made.table ≡ table = same_value (sym made.defined ∙ is.defined) in
-    let schema : first.0.schema ≡ created stage table = made.is ∙ ap (λ s. created s made.table) has ∙ ap
-    (created stage) same in
+    let schema : first.0.schema ≡ created stage table = made.is
+    ∙ ap (λ s. created s made.table) has
+    ∙ ap (created stage) same in
     let plain : lacks_sequence first.0.schema ≡ false = ap lacks_sequence schema ∙ is.uncounted in
     let now : new.now ≡ first.0 = ap (λ (p : Tally × Database). p.1) (same_value all.2) ∙ same_value
     (rw plain at first.2) in
     record {
       schema = ap (λ (d : Database). d.schema) now ∙ schema;
-      empty = ap (λ (d : Database). d.trees (next_tree stage)) now ∙ subst (λ s. first.0.trees (next_tree s) ≡ [])
-          has made.empty;
+      empty = ap (λ (d : Database). d.trees (next_tree stage)) now
+          ∙ subst (λ s. first.0.trees (next_tree s) ≡ []) has made.empty;
       others = subst (λ (d : Database). KeepsRows stage.tables old.now.trees d.trees) (sym now)
           (subst (λ (s : Schema). KeepsRows s.tables old.now.trees first.0.trees) has made.others);
     }
@@ -63,7 +65,8 @@ makes stage table text is old new count has h =
 
 pub meta_is : IsText (stage 0) (record meta { tree = 0 }) meta_text
 unfolding understood everything
-meta_is = record { command = refl; whole = refl; plain = (refl, refl); defined = refl; uncounted = refl }
+meta_is =
+    record { command = refl; whole = refl; plain = (refl, refl); defined = refl; uncounted = refl }
 
 pub meta_next : created (stage 0) (record meta { tree = 0 }) ≡ stage 1
 unfolding understood everything
@@ -71,7 +74,8 @@ meta_next = refl
 
 pub accounts_is : IsText (stage 1) (record accounts { tree = 0 }) accounts_text
 unfolding understood everything
-accounts_is = record { command = refl; whole = refl; plain = (refl, refl); defined = refl; uncounted = refl }
+accounts_is =
+    record { command = refl; whole = refl; plain = (refl, refl); defined = refl; uncounted = refl }
 
 pub accounts_next : created (stage 1) (record accounts { tree = 0 }) ≡ stage 2
 unfolding understood everything
@@ -79,7 +83,8 @@ accounts_next = refl
 
 pub buckets_is : IsText (stage 2) (record buckets { tree = 0 }) buckets_text
 unfolding understood everything
-buckets_is = record { command = refl; whole = refl; plain = (refl, refl); defined = refl; uncounted = refl }
+buckets_is =
+    record { command = refl; whole = refl; plain = (refl, refl); defined = refl; uncounted = refl }
 
 pub buckets_next : created (stage 2) (record buckets { tree = 0 }) ≡ stage 3
 unfolding understood everything
@@ -87,7 +92,8 @@ buckets_next = refl
 
 pub counters_is : IsText (stage 3) (record counters { tree = 0 }) counters_text
 unfolding understood everything
-counters_is = record { command = refl; whole = refl; plain = (refl, refl); defined = refl; uncounted = refl }
+counters_is =
+    record { command = refl; whole = refl; plain = (refl, refl); defined = refl; uncounted = refl }
 
 pub counters_next : created (stage 3) (record counters { tree = 0 }) ≡ stage 4
 unfolding understood everything
@@ -95,7 +101,8 @@ counters_next = refl
 
 pub sessions_is : IsText (stage 4) (record sessions { tree = 0 }) sessions_text
 unfolding understood everything
-sessions_is = record { command = refl; whole = refl; plain = (refl, refl); defined = refl; uncounted = refl }
+sessions_is =
+    record { command = refl; whole = refl; plain = (refl, refl); defined = refl; uncounted = refl }
 
 pub sessions_next : created (stage 4) (record sessions { tree = 0 }) ≡ stage 5
 unfolding understood everything
@@ -103,7 +110,8 @@ sessions_next = refl
 
 pub session_groups_is : IsText (stage 5) (record session_groups { tree = 0 }) session_groups_text
 unfolding understood everything
-session_groups_is = record { command = refl; whole = refl; plain = (refl, refl); defined = refl; uncounted = refl }
+session_groups_is =
+    record { command = refl; whole = refl; plain = (refl, refl); defined = refl; uncounted = refl }
 
 pub session_groups_next : created (stage 5) (record session_groups { tree = 0 }) ≡ stage 6
 unfolding understood everything
@@ -111,7 +119,8 @@ session_groups_next = refl
 
 pub holds_is : IsText (stage 6) (record holds { tree = 0 }) holds_text
 unfolding understood everything
-holds_is = record { command = refl; whole = refl; plain = (refl, refl); defined = refl; uncounted = refl }
+holds_is =
+    record { command = refl; whole = refl; plain = (refl, refl); defined = refl; uncounted = refl }
 
 pub holds_next : created (stage 6) (record holds { tree = 0 }) ≡ stage 7
 unfolding understood everything
@@ -119,7 +128,8 @@ holds_next = refl
 
 pub answers_is : IsText (stage 7) (record answers { tree = 0 }) answers_text
 unfolding understood everything
-answers_is = record { command = refl; whole = refl; plain = (refl, refl); defined = refl; uncounted = refl }
+answers_is =
+    record { command = refl; whole = refl; plain = (refl, refl); defined = refl; uncounted = refl }
 
 pub answers_next : created (stage 7) (record answers { tree = 0 }) ≡ stage 8
 unfolding understood everything
@@ -127,7 +137,8 @@ answers_next = refl
 
 pub vouchers_is : IsText (stage 8) (record vouchers { tree = 0 }) vouchers_text
 unfolding understood everything
-vouchers_is = record { command = refl; whole = refl; plain = (refl, refl); defined = refl; uncounted = refl }
+vouchers_is =
+    record { command = refl; whole = refl; plain = (refl, refl); defined = refl; uncounted = refl }
 
 pub vouchers_next : created (stage 8) (record vouchers { tree = 0 }) ≡ stage 9
 unfolding understood everything
@@ -135,7 +146,8 @@ vouchers_next = refl
 
 pub charges_is : IsText (stage 9) (record charges { tree = 0 }) charges_text
 unfolding understood everything
-charges_is = record { command = refl; whole = refl; plain = (refl, refl); defined = refl; uncounted = refl }
+charges_is =
+    record { command = refl; whole = refl; plain = (refl, refl); defined = refl; uncounted = refl }
 
 pub charges_next : created (stage 9) (record charges { tree = 0 }) ≡ stage 10
 unfolding understood everything

@@ -1,6 +1,6 @@
 -- What the text of an index makes of the schema.
-use Rattle.std.proofs.Common.{◌≡◌, ◌⊎◌, inl, inr, ℕ, List, [], ◌∷◌, Some, None, Option, Ok, Err, Result, refl, sym}
-use Rattle.std.proofs.Common.{ap, ap₂, subst, ◌∙◌}
+use Rattle.std.proofs.Common.{◌≡◌, ◌⊎◌, inl, inr, ℕ, List, [], ◌∷◌, Some, None, Option, Ok, Err}
+use Rattle.std.proofs.Common.{Result, refl, sym, ap, ap₂, subst, ◌∙◌}
 use Rattle.std.specs.Prelude.{slice_get}
 use Rattle.sqlite_trees.specs.Objects.{catalog_tree}
 use Rattle.sqlite_trees.specs.Tree.{Trees}
@@ -28,13 +28,14 @@ pub record Indexes (before after : Schema) (old : Trees) (new : Database) : Type
   pub rows : KeepsRows before.tables old new.trees
 
 module _ (before after : Schema) (table : Table) (index : Index) (place : ℕ) (text : List ℕ)
-    (is : (command_of (understood before text) ≡ CreateIndex place) × (statement_of text (understood before text) ≡ text))
+    (is : (command_of (understood before text) ≡ CreateIndex place)
+    × (statement_of text (understood before text) ≡ text))
     (plain : IsPlain (understood before text)) (at : slice_get before.tables place ≡ Some table)
     (defined : index_defined_by table text ≡ Ok (record index { tree = 0 }))
     -- it is the last, and has the next tree
     (next : indexed before table (record index { tree = 0 }) ≡ after) where
-  makes_index : (old new : State) (count : ℕ) → old.now.schema ≡ before → Executes text [] old new (Ok count)
-      → Indexes before after old.now.trees new.now
+  makes_index : (old new : State) (count : ℕ) → old.now.schema ≡ before
+      → Executes text [] old new (Ok count) → Indexes before after old.now.trees new.now
   makes_index old new count has h =
       let w = subst (λ t. Writes old new None (CreateIndex place) t [] count) is.1
       (runs_as text [] old new before has (CreateIndex place) is.0 plain count h) in
@@ -45,7 +46,10 @@ module _ (before after : Schema) (table : Table) (index : Index) (place : ℕ) (
       let made = all.1 in
       let same : made.index ≡ record index { tree = 0 } = same_value (sym made.defined ∙ defined) in
       let now : new.now ≡ all.0 = ap (λ (p : Tally × Database). p.1) (same_value all.2) in
-      let schema = ap (λ (d : Database). d.schema) now ∙ made.is ∙ ap₂ (λ s i. indexed s table i) has same ∙ next in
+      let schema = ap (λ (d : Database). d.schema) now
+      ∙ made.is
+      ∙ ap₂ (λ s i. indexed s table i) has same
+      ∙ next in
       record {
         schema = schema;
         lists = subst (Lists (new.now.trees catalog_tree)) schema w.sound.lists;
@@ -56,7 +60,8 @@ module _ (before after : Schema) (table : Table) (index : Index) (place : ℕ) (
 -- ---- the sessions of an account by their state
 
 state_is : (command_of (understood (stage 10) sessions_state_text) ≡ CreateIndex 4) ×
-    (statement_of sessions_state_text (understood (stage 10) sessions_state_text) ≡ sessions_state_text)
+    (statement_of sessions_state_text (understood (stage 10) sessions_state_text)
+    ≡ sessions_state_text)
 unfolding understood everything
 state_is = (refl, refl)
 
@@ -64,19 +69,23 @@ state_plain : IsPlain (understood (stage 10) sessions_state_text)
 unfolding understood everything
 state_plain = (refl, refl)
 
-state_defined : index_defined_by sessions sessions_state_text ≡ Ok (record sessions_state { tree = 0 })
+state_defined : index_defined_by sessions sessions_state_text
+    ≡ Ok (record sessions_state { tree = 0 })
 unfolding understood everything
 state_defined = refl
 
 pub makes_state : (old new : State) (count : ℕ) → old.now.schema ≡ stage 10
-    → Executes sessions_state_text [] old new (Ok count) → Indexes (stage 10) (stage 11) old.now.trees new.now
-makes_state = makes_index (stage 10) (stage 11) sessions sessions_state 4 sessions_state_text state_is state_plain
+    → Executes sessions_state_text [] old new (Ok count)
+    → Indexes (stage 10) (stage 11) old.now.trees new.now
+makes_state = makes_index (stage 10)
+    (stage 11) sessions sessions_state 4 sessions_state_text state_is state_plain
     refl state_defined refl
 
 -- ---- the counters of an account by their cycle
 
 cycle_is : (command_of (understood (stage 11) counters_cycle_text) ≡ CreateIndex 3) ×
-    (statement_of counters_cycle_text (understood (stage 11) counters_cycle_text) ≡ counters_cycle_text)
+    (statement_of counters_cycle_text (understood (stage 11) counters_cycle_text)
+    ≡ counters_cycle_text)
 unfolding understood everything
 cycle_is = (refl, refl)
 
@@ -84,11 +93,13 @@ cycle_plain : IsPlain (understood (stage 11) counters_cycle_text)
 unfolding understood everything
 cycle_plain = (refl, refl)
 
-cycle_defined : index_defined_by counters counters_cycle_text ≡ Ok (record counters_cycle { tree = 0 })
+cycle_defined : index_defined_by counters counters_cycle_text
+    ≡ Ok (record counters_cycle { tree = 0 })
 unfolding understood everything
 cycle_defined = refl
 
 pub makes_cycle : (old new : State) (count : ℕ) → old.now.schema ≡ stage 11
-    → Executes counters_cycle_text [] old new (Ok count) → Indexes (stage 11) book_schema old.now.trees new.now
-makes_cycle = makes_index (stage 11) book_schema counters counters_cycle 3 counters_cycle_text cycle_is cycle_plain
-    refl cycle_defined refl
+    → Executes counters_cycle_text [] old new (Ok count)
+    → Indexes (stage 11) book_schema old.now.trees new.now
+makes_cycle = makes_index (stage 11) book_schema counters counters_cycle 3 counters_cycle_text
+    cycle_is cycle_plain refl cycle_defined refl

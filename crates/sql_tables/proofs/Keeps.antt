@@ -1,6 +1,7 @@
 -- What a refusal keeps.
-use Rattle.std.proofs.Common.{◌≡◌, inl, inr, ℕ, List, Option, Some, None, Ok, Err, Result, IfOk, OnOk, OnErr, IsTrue}
-use Rattle.std.proofs.Common.{refl, true, false, Bool, sym, subst, ap, ◌∙◌, arith, ◌≤◌}
+use Rattle.std.proofs.Common.{◌≡◌, inl, inr, ℕ, List, Option, Some, None, Ok, Err, Result, IfOk}
+use Rattle.std.proofs.Common.{OnOk, OnErr, IsTrue, refl, true, false, Bool, sym, subst, ap, ◌∙◌}
+use Rattle.std.proofs.Common.{arith, ◌≤◌}
 use Rattle.std.specs.Result.{IfErr}
 use Rattle.sqlite_value.specs.Order.{Row}
 use Rattle.sqlite_schema.specs.declared.command.Returning.{Returning}
@@ -10,8 +11,9 @@ use Rattle.sqlite.specs.Clock.{timed}
 use Rattle.sqlite.specs.Listing.{understood}
 use Rattle.sqlite_catalog.specs.Listing.{IsSound}
 use Rattle.sqlite_schema.specs.Rules.{Fits}
-use Rattle.sqlite.specs.State.{State, IsLive, ExecutesInside, KeepsCommit, Shows, IsUnchanged, Shown, ShowsRows}
-use Rattle.sqlite.specs.State.{FailsToQuery, FailsToShow, IsNotRun, HasCleanDisk, Survives, CommitsShowing}
+use Rattle.sqlite.specs.State.{State, IsLive, ExecutesInside, KeepsCommit, Shows, IsUnchanged}
+use Rattle.sqlite.specs.State.{Shown, ShowsRows, FailsToQuery, FailsToShow, IsNotRun, HasCleanDisk}
+use Rattle.sqlite.specs.State.{Survives, CommitsShowing}
 use Rattle.sqlite_trees.specs.View.{doubt}
 use Rattle.sqlite.proofs.Callers.{IsPlain, never_commits}
 use Rattle.sqlite.proofs.StateLemmas.{survives_weaker}
@@ -24,8 +26,8 @@ keeps : (old new : State) → Spares old new → KeepsCommit old new
 keeps old new (inl u) = record { was_open = λ on. u.0.was_open; committed = λ on. u.0.committed_is }
 keeps old new (inr r) = record { was_open = r.was_open; committed = λ on. (r.undone on).1 }
 
-pub keeps_err : {A : Type 0} (old new : State) (r : Result A Error) → OnErr r (Spares old new) → OnErr r
-    (KeepsCommit old new)
+pub keeps_err : {A : Type 0} (old new : State) (r : Result A Error) →
+    OnErr r (Spares old new) → OnErr r (KeepsCommit old new)
 keeps_err old new (Ok x) h = tt
 keeps_err old new (Err e) h = keeps old new h
 
@@ -33,8 +35,8 @@ pub keeps_itself : {A : Type 0} (s : State) (r : Result A Error) → OnErr r (Ke
 keeps_itself s (Ok x) = tt
 keeps_itself s (Err e) = record { was_open = λ on. on; committed = λ on. refl }
 
-pub spares : (sql : List ℕ) (params : Row) (old new : State) (r : Result ℕ Error) → ExecutesInside 0 sql params old
-    new r → OnErr r (Spares old new)
+pub spares : (sql : List ℕ) (params : Row) (old new : State) (r : Result ℕ Error) →
+    ExecutesInside 0 sql params old new r → OnErr r (Spares old new)
 spares sql params old new (Ok count) h = tt
 spares sql params old new (Err e) (inl h) = h.1
 spares sql params old new (Err e) (inr h) = inl h.2
@@ -44,7 +46,8 @@ on_ok (Ok x) h = h
 on_ok (Err e) h = tt
 
 -- what is done, told another way
-pub done_as : {A E : Type 0} (does tells : State → State → Type 0) (old new : State) (r : Result A E)
+pub done_as : {A E : Type 0} (does tells : State → State → Type 0) (old new : State)
+    (r : Result A E)
     → (HasCleanDisk old → OnOk r (does old new) → OnOk r (tells old new)) → Attempts does old new r
     → Attempts tells old new r
 done_as does tells old new r how a = record {
@@ -55,50 +58,59 @@ done_as does tells old new r how a = record {
 
 -- ---- what reading keeps
 
-fails_shown : (old new : State) (sql : List ℕ) (c : Compiled) (params : Row) (e : Error) (r : Option Returning) →
+fails_shown : (old new : State) (sql : List ℕ) (c : Compiled) (params : Row) (e : Error)
+    (r : Option Returning) →
     FailsToShow old new sql c params e r → Spares old new
 fails_shown old new sql c params e None h = inl h.3
 fails_shown old new sql c params e (Some what) (inl h) = inl h.1
 fails_shown old new sql c params e (Some what) (inr h) = inr h.3
 
-fails_spares : (sql : List ℕ) (params : Row) (old new : State) (e : Error) → FailsToQuery sql params old new e →
+fails_spares : (sql : List ℕ) (params : Row) (old new : State) (e : Error) →
+    FailsToQuery sql params old new e →
     Spares old new
 unfolding FailsToQuery IsNotRun
 fails_spares sql params old new e (inl (inl h)) = inl h.1
 fails_spares sql params old new e (inl (inr h)) = inr h.3
-fails_spares sql params old new e (inr h) = fails_shown old new sql h.0 (timed params h.0.formats h.1.now) e
+fails_spares sql params old new e (inr h) =
+    fails_shown old new sql h.0 (timed params h.0.formats h.1.now) e
     h.0.returning h.2
 
-shown_open : (old new : State) (sql : List ℕ) (c : Compiled) (params : Row) (rows : List Row) (r : Option Returning)
+shown_open : (old new : State) (sql : List ℕ) (c : Compiled) (params : Row) (rows : List Row)
+    (r : Option Returning)
     → ShowsRows old new sql c params rows r → IsTrue old.is_open
 shown_open old new sql c params rows None h = h.3.0.was_open
 shown_open old new sql c params rows (Some what) h = h.1.shown.was_open
 
-was_shown : (sql : List ℕ) (params : Row) (old new : State) (rows : List Row) → Shown sql params old new rows →
+was_shown : (sql : List ℕ) (params : Row) (old new : State) (rows : List Row) →
+    Shown sql params old new rows →
     IsTrue old.is_open
 unfolding Shown
-was_shown sql params old new rows h = shown_open old new sql h.0 (timed params h.0.formats h.1.now) rows
+was_shown sql params old new rows h =
+    shown_open old new sql h.0 (timed params h.0.formats h.1.now) rows
     h.0.returning h.2
 
 shown_unchanged : (sql : List ℕ) (params : Row) (old new : State) (rows : List Row) → IsPlain
     (understood old.now.schema sql) → Shown sql params old new rows → IsUnchanged old new
 unfolding Shown
-shown_unchanged sql params old new rows plain h = let bare = subst IsPlain h.1.is plain in (rw bare.0 at h.2).3
+shown_unchanged sql params old new rows plain h = let bare = subst IsPlain h.1.is plain in
+    (rw bare.0 at h.2).3
 
 -- a selection changes nothing, whether it answers or fails outside a transaction
-pub reads_still : {V : Type 0} (items : V → List Row) (sql : List ℕ) (params : Row) (old new : State)
-    (r : Result V Error) → IsPlain (understood book_schema sql) → (IsTrue old.is_open → IsIdle old)
-    → IfOk r (λ v. Shown sql params old new (items v)) → IfErr r (FailsToQuery sql params old new) → IsTrue
-    new.is_open → IsStill old new
+pub reads_still : {V : Type 0} (items : V → List Row) (sql : List ℕ) (params : Row)
+    (old new : State) (r : Result V Error) → IsPlain (understood book_schema sql)
+    → (IsTrue old.is_open → IsIdle old) → IfOk r (λ v. Shown sql params old new (items v))
+    → IfErr r (FailsToQuery sql params old new) → IsTrue new.is_open → IsStill old new
 reads_still items sql params old new (Ok v) plain idle ok err on =
     let was = was_shown sql params old new (items v) ok in
     let same = shown_unchanged sql params old new (items v) (subst (λ s. IsPlain (understood s sql))
     (sym (idle was).book.schema) plain) ok in
     record { was_open = was; now_is = same.0.now_is; committed_is = same.0.committed_is }
-reads_still items sql params old new (Err e) plain idle ok err on = go (fails_spares sql params old new e err)
+reads_still items sql params old new (Err e) plain idle ok err on =
+    go (fails_spares sql params old new e err)
   where
     go : Spares old new → IsStill old new
-    go (inl u) = record { was_open = u.0.was_open; now_is = u.0.now_is; committed_is = u.0.committed_is }
+    go (inl u) =
+        record { was_open = u.0.was_open; now_is = u.0.now_is; committed_is = u.0.committed_is }
     go (inr b) = record {
       was_open = b.was_open on;
       now_is = (b.undone on).0 ∙ sym (idle (b.was_open on)).settled;
@@ -116,25 +128,30 @@ idle_still old new idle still = record {
 }
 
 -- a selection commits nothing: what it may show as committed is that of an open connection
-pub reads_survive : (sql : List ℕ) (params : Row) (old new : State) → IsPlain (understood book_schema sql)
-    → HasIdleBook old → Survives old new (CommitsShowing sql params old) → Survives old new (λ _. old.is_open ≡ false)
+pub reads_survive : (sql : List ℕ) (params : Row) (old new : State)
+    → IsPlain (understood book_schema sql) → HasIdleBook old
+    → Survives old new (CommitsShowing sql params old) → Survives old new (λ _. old.is_open ≡ false)
 reads_survive sql params old new plain idle s =
-    survives_weaker old new _ _ (λ clean db may. go (omega (arith, s.clean, clean)) db may old.is_open refl) s
+    survives_weaker old new _ _
+    (λ clean db may. go (omega (arith, s.clean, clean)) db may old.is_open refl) s
   where
-    go : HasCleanDisk old → (db : Trees) → CommitsShowing sql params old db → (b : Bool) → old.is_open ≡ b
-        → old.is_open ≡ false
+    go : HasCleanDisk old → (db : Trees) → CommitsShowing sql params old db → (b : Bool)
+        → old.is_open ≡ b → old.is_open ≡ false
     go clean db may false e = e
-    go clean db may true e = absurd (never_commits sql params old db (subst (λ s. IsPlain (understood s sql))
+    go clean db may true e =
+        absurd (never_commits sql params old db (subst (λ s. IsPlain (understood s sql))
         (sym (idle clean e).book.schema) plain) may)
 
 pub reads_only : {V : Type 0} (items : V → List Row) (sql : List ℕ) (params : Row) (old new : State)
     (r : Result V Error) → IsPlain (understood book_schema sql) → HasIdleBook old
-    → Survives old new (CommitsShowing sql params old) → (old.in_transaction ≡ false → new.in_transaction ≡ false)
+    → Survives old new (CommitsShowing sql params old)
+    → (old.in_transaction ≡ false → new.in_transaction ≡ false)
     → (HasCleanDisk new → IfOk r (λ v. Shown sql params old new (items v)))
     → (HasCleanDisk new → IfErr r (FailsToQuery sql params old new)) → OnlyReads old new
 reads_only items sql params old new r plain idle survives mode ok err = record {
   still = still;
-  idle = λ clean on. let s = still clean on in idle_still old new (idle (cleanness clean) s.was_open) s;
+  idle = λ clean on. let s = still clean on in
+      idle_still old new (idle (cleanness clean) s.was_open) s;
   cleanness = cleanness;
   mode = mode;
   counts = survives.counts;
@@ -145,7 +162,8 @@ reads_only items sql params old new r plain idle survives mode ok err = record {
     cleanness clean = omega (arith, survives.clean, clean)
 
     still : HasCleanDisk new → IsTrue new.is_open → IsStill old new
-    still clean on = reads_still items sql params old new r plain (idle (cleanness clean)) (ok clean) (err clean) on
+    still clean on = reads_still items sql params old new r plain (idle (cleanness clean))
+        (ok clean) (err clean) on
 
 -- one selection after another
 pub only_reads_then : (a b c : State) → OnlyReads a b → OnlyReads b c → OnlyReads a c
@@ -163,14 +181,18 @@ only_reads_then a b c one two = record {
   mode = λ plain. two.mode (one.mode plain);
   counts = omega (arith, one.counts, two.counts);
   closes = λ clean on. elim (one.closes (two.cleanness clean) on) [
-    | inl still ↦ elim (two.closes clean still) [ inl last ↦ inl last | inr fault ↦ inr (omega (arith, one.counts, fault)) ]
+    | inl still ↦ elim (two.closes clean still) [
+      | inl last ↦ inl last
+      | inr fault ↦ inr (omega (arith, one.counts, fault))
+    ]
     | inr fault ↦ inr (omega (arith, two.counts, fault))
   ];
 }
 
 -- ---- the rules of the tables
 
-pub fits_of : (old : State) → IsTrue old.is_open → IsBook old → IsLive old → Fits book_schema old.now.trees
+pub fits_of : (old : State) → IsTrue old.is_open → IsBook old → IsLive old →
+    Fits book_schema old.now.trees
 fits_of old on book live =
     let sound = subst (λ s. IsSound s old.now.trees) book.schema (live on).0 in
     record { rules = λ rule other. sound.obeys.rules rule; indexed = sound.obeys.indexed }

@@ -1,9 +1,11 @@
 -- What a selection from one table answers.
-use Rattle.std.proofs.Common.{◌≡◌, ℕ, ℤ, pos, negsuc, List, [], ◌∷◌, ◌++◌, map, filter, flat_map, Bool, true, false}
-use Rattle.std.proofs.Common.{◌&&◌, cond, Some, None, IsTrue, refl, sym, ap, subst, ◌∙◌, inl, inr}
+use Rattle.std.proofs.Common.{◌≡◌, ℕ, ℤ, pos, negsuc, List, [], ◌∷◌, ◌++◌, map, filter, flat_map}
+use Rattle.std.proofs.Common.{Bool, true, false, ◌&&◌, cond, Some, None, IsTrue, refl, sym, ap}
+use Rattle.std.proofs.Common.{subst, ◌∙◌, inl, inr}
 use Rattle.std.specs.List.{list_all}
 use Rattle.std.specs.List.Sorted.{IsPermutation}
-use Rattle.std.proofs.lemmas.List.Sorted.{IsPermutation-map, IsPermutation-sym, Contains-permutation}
+use Rattle.std.proofs.lemmas.List.Sorted.{IsPermutation-map, IsPermutation-sym}
+use Rattle.std.proofs.lemmas.List.Sorted.{Contains-permutation}
 use Rattle.std.proofs.lemmas.Bool.{cases_Bool}
 use Rattle.std.specs.Prelude.{nat_le, ◌^◌, codes, IfOk, Result, Ok, Err, OnOk}
 use Rattle.sqlite_value.specs.declared.value.Value.{Value}
@@ -35,17 +37,19 @@ use Rattle.sql_tables.specs.Selects.{Selects}
 use Rattle.sql_tables.proofs.Steps.{bare, permuted, mapped_from, mapped_to}
 
 -- each row of the answer is that of a stored row
-pub selected_from : (test : Row → Bool) (columns : Row → Row) (stored out : List Row) → Selects test columns stored
-    out → (v : Row) → Has out v → (r : Row) × Has stored r × (test r ≡ true) × (v ≡ columns r)
+pub selected_from : (test : Row → Bool) (columns : Row → Row) (stored out : List Row) →
+    Selects test columns stored out → (v : Row) → Has out v →
+    (r : Row) × Has stored r × (test r ≡ true) × (v ≡ columns r)
 selected_from test columns stored out s v h =
-    let it = mapped_from columns (filter test stored) v (permuted out (map columns (filter test stored)) v
+    let it =
+    mapped_from columns (filter test stored) v (permuted out (map columns (filter test stored)) v
     (IsPermutation-sym _ _ s.same) h) in
     let has = has_filtered test stored it.0 it.1 in
     (it.0, has.0, has.1, it.2)
 
 -- and each stored row that passes the test is there
-pub selected_to : (test : Row → Bool) (columns : Row → Row) (stored out : List Row) → Selects test columns stored
-    out → (r : Row) → Has stored r → test r ≡ true → Has out (columns r)
+pub selected_to : (test : Row → Bool) (columns : Row → Row) (stored out : List Row) →
+    Selects test columns stored out → (r : Row) → Has stored r → test r ≡ true → Has out (columns r)
 selected_to test columns stored out s r h e = permuted _ out (columns r) s.same
     (mapped_to columns (filter test stored) r (has_kept test stored r h e))
 
@@ -63,17 +67,19 @@ select_from tree filter project order = record {
   offset = lit (Int (pos 0));
 }
 
-module _ (text : List ℕ) (names : List (List ℕ)) (tree : ℕ) (terms project : List Term) (order : List (Term × Key))
-    (is : (command_of (understood book_schema text) ≡ Select (record
+module _ (text : List ℕ) (names : List (List ℕ)) (tree : ℕ) (terms project : List Term)
+    (order : List (Term × Key)) (is : (command_of (understood book_schema text) ≡ Select (record
     { lets = []; body = select_from tree terms project order }) names) ×
     (reads_listing book_schema text ≡ false)) (plain : IsPlain (understood book_schema text))
-    (params : Row) (test : Row → Bool) (columns : Row → Row) (tests : (r : Row) → list_all (holds (params ∷ r ∷ []))
+    (params : Row) (test : Row → Bool) (columns : Row → Row)
+    (tests : (r : Row) → list_all (holds (params ∷ r ∷ []))
     terms ≡ test r) (shows : (r : Row) → eval_all project (params ∷ r ∷ []) ≡ columns r) where
   abbrev query : Query
   query = select_from tree terms project order
 
   matched : (rs : List Row) → map (λ (o : Output). o.1) (map (output query)
-      (flat_map (λ r. cond (list_all (holds (params ∷ r ∷ [])) terms) ((params ∷ r ∷ []) ∷ []) []) rs)) ≡ map
+      (flat_map (λ r.
+      cond (list_all (holds (params ∷ r ∷ [])) terms) ((params ∷ r ∷ []) ∷ []) []) rs)) ≡ map
       columns (filter test rs)
   matched [] = refl
   matched (r ∷ rs) = elim (cases_Bool (test r)) [
@@ -81,8 +87,8 @@ module _ (text : List ℕ) (names : List (List ℕ)) (tree : ℕ) (terms project
     | inr e ↦ rw (tests r, e, matched rs) refl
   ]
 
-  answered : (db : Trees) (rows : List Row) → IsAnswer query (overlay db []) params rows → Selects test columns
-      (db tree) rows
+  answered : (db : Trees) (rows : List Row) → IsAnswer query (overlay db []) params rows →
+      Selects test columns (db tree) rows
   answered db rows a =
       let kept : map (λ (o : Output). o.1) a.kept ≡ map columns (filter test (db tree)) =
       ap (map (λ (o : Output). o.1)) (a.distinct ∙ ap (map (output query))
@@ -94,20 +100,22 @@ module _ (text : List ℕ) (names : List (List ℕ)) (tree : ℕ) (terms project
             (IsPermutation-map (λ (o : Output). o.1) a.kept a.ordered a.same));
       }
 
-  selects : (old new : State) (rows : List Row) → old.now.schema ≡ book_schema → Shown text params old new rows →
+  selects : (old new : State) (rows : List Row) → old.now.schema ≡ book_schema →
+      Shown text params old new rows →
       Selects test columns (old.now.trees tree) rows
   selects old new rows has h =
       answered old.now.trees rows ((reads_as text params old new book_schema has
       (Select (record { lets = []; body = query }) names) is.0 plain is.1 rows h).answer Null)
 
   -- the first rows of an answer
-  pub starts : (s : State) (rows : List Row) → s.now.schema ≡ book_schema → Begins text params s rows →
+  pub starts : (s : State) (rows : List Row) → s.now.schema ≡ book_schema →
+      Begins text params s rows →
       (tail : List Row) × Selects test columns (s.now.trees tree) (rows ++ tail)
   starts s rows has h =
-      let first = begins_as text params s s book_schema has (Select (record { lets = []; body = query }) names) is.0
-      plain is.1 rows h in
+      let first = begins_as text params s s book_schema has
+      (Select (record { lets = []; body = query }) names) is.0 plain is.1 rows h in
       (first.1.0, answered s.now.trees (rows ++ first.1.0) (first.1.1 Null))
 
-  pub told : (old new : State) (rows : List Row) → Answers text params old new rows → Selects test columns
-      (old.now.trees tree) rows
+  pub told : (old new : State) (rows : List Row) → Answers text params old new rows →
+      Selects test columns (old.now.trees tree) rows
   told old new rows a = selects old new rows a.book.schema a.shown

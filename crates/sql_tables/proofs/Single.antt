@@ -1,6 +1,6 @@
 -- A selection by the whole key answers at most one row.
-use Rattle.std.proofs.Common.{◌≡◌, ◌⊎◌, inl, inr, ℕ, List, [], ◌∷◌, map, filter, length, Bool, true, false, is_eq}
-use Rattle.std.proofs.Common.{refl, sym, ap, ap₂, subst, ◌∙◌, arith}
+use Rattle.std.proofs.Common.{◌≡◌, ◌⊎◌, inl, inr, ℕ, List, [], ◌∷◌, map, filter, length, Bool, true}
+use Rattle.std.proofs.Common.{false, is_eq, refl, sym, ap, ap₂, subst, ◌∙◌, arith}
 use Rattle.std.proofs.lemmas.Cmp.{tied_itself}
 use Rattle.std.proofs.lemmas.List.{nil_from_length}
 use Rattle.std.proofs.lemmas.List.Sorted.{length_permutation}
@@ -34,10 +34,12 @@ one_had x (y ∷ ys) long (inr h) = absurd (none ys (nil_from_length ys (omega (
     none (z ∷ zs) e h = cc
 
 only_one : {X : Type 0} (x : X) (ys : List X) → IsPermutation (x ∷ []) ys → ys ≡ x ∷ []
-only_one x ys p = one_had x ys (length_permutation (x ∷ []) ys p) (permuted (x ∷ []) ys x p (inl refl))
+only_one x ys p =
+    one_had x ys (length_permutation (x ∷ []) ys p) (permuted (x ∷ []) ys x p (inl refl))
 
-module _ (table : Table) (tabled : Has book_schema.tables table) (listed : Has book_schema.indexes (key_index table))
-    (guarding : guards (key_index table) table ≡ true) (trees : Trees) (fits : Fits book_schema trees)
+module _ (table : Table) (tabled : Has book_schema.tables table)
+    (listed : Has book_schema.indexes (key_index table)) (guarding : guards (key_index table) table
+    ≡ true) (trees : Trees) (fits : Fits book_schema trees)
     (stored : IsStored (trees table.tree)) (columns : Row → Row) (test : Row → Bool) (key : Row)
     (full : AllByRecursion (λ v. is_null v ≡ false) key)
     (means : (r : Row) → test r ≡ eq_by_cmp row_cmp (key_of table.primary r) key) (out : List Row)
@@ -46,15 +48,18 @@ module _ (table : Table) (tabled : Has book_schema.tables table) (listed : Has b
   met r e = keys_back (key_of table.primary r) key (sym (means r) ∙ e)
 
   -- none, or one that is stored and has the key
-  pub one_selected : (out ≡ []) ⊎ ((r : Row) × Has (trees table.tree) r × (test r ≡ true) × (out ≡ columns r ∷ []))
+  pub one_selected : (out ≡ [])
+      ⊎ ((r : Row) × Has (trees table.tree) r × (test r ≡ true) × (out ≡ columns r ∷ []))
   one_selected = go (filter test (trees table.tree)) refl
     where
       go : (kept : List Row) → filter test (trees table.tree) ≡ kept
-          → (out ≡ []) ⊎ ((r : Row) × Has (trees table.tree) r × (test r ≡ true) × (out ≡ columns r ∷ []))
+          → (out ≡ [])
+          ⊎ ((r : Row) × Has (trees table.tree) r × (test r ≡ true) × (out ≡ columns r ∷ []))
       go [] is = inl (nil_from_length out (length_permutation (map columns []) out
           (subst (λ rs. IsPermutation (map columns rs) out) is selects.same)))
       go (r ∷ []) is =
-          let has = has_filtered test (trees table.tree) r (subst (λ rs. Has rs r) (sym is) (inl refl)) in
+          let has =
+          has_filtered test (trees table.tree) r (subst (λ rs. Has rs r) (sym is) (inl refl)) in
           inr (
             r,
             has.0,
@@ -63,12 +68,17 @@ module _ (table : Table) (tabled : Has book_schema.tables table) (listed : Has b
                 (subst (λ rs. IsPermutation (map columns rs) out) is selects.same),
           )
       go (r ∷ s ∷ rest) is =
-          let first = has_filtered test (trees table.tree) r (subst (λ rs. Has rs r) (sym is) (inl refl)) in
-          let second = has_filtered test (trees table.tree) s (subst (λ rs. Has rs s) (sym is) (inr (inl refl))) in
-          let same : r ≡ s = one_row table.primary book_schema table tabled (key_index table) listed guarding refl
-          refl trees fits stored key (λ x e. full_key table.primary key x full e) r s first.0 second.0
+          let first =
+          has_filtered test (trees table.tree) r (subst (λ rs. Has rs r) (sym is) (inl refl)) in
+          let second = has_filtered test (trees table.tree) s
+          (subst (λ rs. Has rs s) (sym is) (inr (inl refl))) in
+          let same : r ≡ s =
+          one_row table.primary book_schema table tabled (key_index table) listed guarding refl
+          refl trees fits stored key
+          (λ x e. full_key table.primary key x full e) r s first.0 second.0
           (met r first.1) (met s second.1) in
           let apart = (subst IsStored is (stored_filter test (trees table.tree) stored)).0.0.0 in
           absurd (let no : true ≡ false =
-          sym (ap is_eq (tied_itself value_cmp_total (rowid r))) ∙ ap (λ x. is_eq (value_cmp (rowid r) (rowid x))) same
+          sym (ap is_eq (tied_itself value_cmp_total (rowid r)))
+          ∙ ap (λ x. is_eq (value_cmp (rowid r) (rowid x))) same
           ∙ apart in cc)

@@ -1,6 +1,7 @@
 -- An upsert of a table of the book, given what its text means and what is computed at its table.
-use Rattle.std.proofs.Common.{◌≡◌, ◌≢◌, ◌⊎◌, inl, inr, ℕ, ℤ, pos, List, [], ◌∷◌, ◌++◌, Bool, true, false, Some, None}
-use Rattle.std.proofs.Common.{Option, Ok, Err, Result, OnOk, IsTrue, refl, sym, ap, ◌∙◌, length, ◌/◌}
+use Rattle.std.proofs.Common.{◌≡◌, ◌≢◌, ◌⊎◌, inl, inr, ℕ, ℤ, pos, List, [], ◌∷◌, ◌++◌, Bool, true}
+use Rattle.std.proofs.Common.{false, Some, None, Option, Ok, Err, Result, OnOk, IsTrue, refl, sym}
+use Rattle.std.proofs.Common.{ap, ◌∙◌, length, ◌/◌}
 use Rattle.std.specs.List.{AllByRecursion}
 use Rattle.std.specs.Prelude.{slice_get}
 use Rattle.std.specs.Ordering.{eq_by_cmp}
@@ -40,7 +41,8 @@ use Rattle.sql_tables.proofs.Books.{others, stays_stored, catalog_stays}
 
 module _ (at : ℕ) (table : Table) (there : slice_get book_schema.tables at ≡ Some table)
     (tabled : Has book_schema.tables table) (index : Index) (listed : Has book_schema.indexes index)
-    (guarding : guards index table ≡ true) (order : index.order ≡ plain) (columns : index.columns ≡ table.primary)
+    (guarding : guards index table ≡ true) (order : index.order ≡ plain)
+    (columns : index.columns ≡ table.primary)
     (apart : catalog_tree ≢ table.tree) (uncounted : table.is_counted ≡ false)
     (text : List ℕ) (terms project : List Term) (width base : ℕ)
     (is : command_of (understood book_schema text)
@@ -50,34 +52,45 @@ module _ (at : ℕ) (table : Table) (there : slice_get book_schema.tables at ≡
           (record { lets = []; body = pick table.tree base project });
     } ∷ []))
     (plain_text : IsPlain (understood book_schema text)) (values : Row)
-    (kept : (olds : List Row) (new : Row) → works book_schema Enforced 0 table.tree olds (new ∷ []) ≡ [])
+    (kept : (olds : List Row) (new : Row) →
+    works book_schema Enforced 0 table.tree olds (new ∷ []) ≡ [])
     (again : (id : ℤ) → cast_row table (Int id ∷ values) ≡ Int id ∷ values)
     (unset : cast_row table (Null ∷ values) ≡ Null ∷ values)
     (shows : (id : ℤ) (met : Value) (r : Row) → eval_all project
     ((values ++ met ∷ shown table (Int id ∷ values)) ∷ r ∷ []) ≡ rowid r ∷ rowid r ∷ values)
-    (finds : (id : ℤ) (met : Value) → column (values ++ met ∷ shown table (Int id ∷ values)) base ≡ met)
-    (supplied : value_rows (stamped table values) width (length terms / width) terms ≡ (Null ∷ values) ∷ [])
+    (finds : (id : ℤ) (met : Value) →
+    column (values ++ met ∷ shown table (Int id ∷ values)) base ≡ met)
+    (supplied : value_rows (stamped table values) width (length terms / width) terms
+    ≡ (Null ∷ values) ∷ [])
     (keys : (v : Value) → key_of table.primary (v ∷ values) ≡ key_of table.primary (Null ∷ values))
-    (full : (id : ℤ) → AllByRecursion (λ p. is_null (column (Int id ∷ values) p) ≡ false) table.primary)
-    (meets : (id : ℤ) (other : Row) → conflicts (Some table.primary) book_schema.indexes table (Int id ∷ values)
-    other ≡ eq_by_cmp row_cmp (key_of table.primary other) (key_of table.primary (Int id ∷ values))) where
-  pub puts_table : (old new : State) (r : Result ℕ Error) → (IsTrue old.is_open → IsBook old) → OnOk r
+    (full : (id : ℤ) →
+    AllByRecursion (λ p. is_null (column (Int id ∷ values) p) ≡ false) table.primary)
+    (meets : (id : ℤ) (other : Row) →
+    conflicts (Some table.primary) book_schema.indexes table (Int id ∷ values)
+    other
+    ≡ eq_by_cmp row_cmp (key_of table.primary other) (key_of table.primary (Int id ∷ values))) where
+  pub puts_table : (old new : State) (r : Result ℕ Error) →
+      (IsTrue old.is_open → IsBook old) → OnOk r
       (ExecutesInside 0 text values old new r) → OnOk r (Puts table values old new)
   puts_table old new (Err e) book x = tt
   puts_table old new (Ok count) has x =
       let book = has x.1.was_open in
-      let stored : IsStored (old.now.trees table.tree) = all_has (λ (t : Table). IsStored (old.now.trees t.tree))
+      let stored : IsStored (old.now.trees table.tree) =
+      all_has (λ (t : Table). IsStored (old.now.trees t.tree))
       book_schema.tables table book.stored tabled in
-      let command = InsertOr at Abort (Values terms width) (record
-      { target = Some table.primary; update = Some (record { lets = []; body = pick table.tree base project }) }
+      let command = InsertOr at Abort (Values terms width) (record {
+        target = Some table.primary;
+        update = Some (record { lets = []; body = pick table.tree base project });
+      }
       ∷ []) in
       let w = runs_as text values old new book_schema book.schema command is plain_text count x.0 in
-      let done = puts_row book_schema at table there values values base table.primary project kept again unset shows
-      finds terms width uncounted supplied old new (statement_of text (understood book_schema text)) count
-      book.schema stored.1 w in
+      let done = puts_row book_schema
+      at table there values values base table.primary project kept again unset shows
+      finds terms width uncounted supplied old new
+      (statement_of text (understood book_schema text)) count book.schema stored.1 w in
       let p : PutsRow table.primary book_schema table values old.now.trees new.now.trees =
-      puts_key table.primary book_schema table tabled index listed guarding order columns values old.now.trees
-      new.now.trees stored keys full meets done.1 in
+      puts_key table.primary book_schema table tabled index listed guarding order columns
+      values old.now.trees new.now.trees stored keys full meets done.1 in
       record {
         changes = record {
           rows = p.rows;
@@ -90,5 +103,6 @@ module _ (at : ℕ) (table : Table) (there : slice_get book_schema.tables at ≡
               book.stored;
         };
         shows = x.1;
-        counts = counted table.primary book_schema table values old.now.trees new.now.trees stored keys meets done.1;
+        counts = counted table.primary book_schema table values old.now.trees new.now.trees stored
+            keys meets done.1;
       }

@@ -1,6 +1,6 @@
 -- What a call tells that makes values of the rows of one selection, and of two calls in turn.
-use Rattle.std.proofs.Common.{◌≡◌, ℕ, List, Bool, true, false, true≢false, IsTrue, Result, IfOk, OnOk, refl, subst, sym}
-use Rattle.std.proofs.Common.{arith}
+use Rattle.std.proofs.Common.{◌≡◌, ℕ, List, Bool, true, false, true≢false, IsTrue, Result, IfOk}
+use Rattle.std.proofs.Common.{OnOk, refl, subst, sym, arith}
 use Rattle.sqlite_value.specs.Order.{Row}
 use Rattle.sqlite_trees.specs.Tree.{Trees}
 use Rattle.sqlite.specs.State.{State, HasCleanDisk, Survives}
@@ -10,28 +10,34 @@ use Rattle.sql_tables.proofs.ByKey.{told_if_ok}
 use Rattle.sql_tables.proofs.Keeps.{on_ok}
 
 -- what is made of the rows is told by the tables
-pub reads_as : {V E : Type 0} {P : V → Type 0} (told : Trees → V → Type 0) (sql : List ℕ) (held params : Row)
+pub reads_as : {V E : Type 0} {P : V → Type 0} (told : Trees → V → Type 0) (sql : List ℕ)
+    (held params : Row)
     (old new : State) (rows slice : List Row) (r : Result V E) → OnlyReads old new
-    → Survives old new (λ _. old.is_open ≡ false) → (HasCleanDisk new → Answers sql held old new rows)
-    → held ≡ params → slice ≡ rows → IfOk r P
-    → ((v : V) → Answers sql params old new slice → P v → told old.now.trees v) → Reads told old new r
-reads_as told sql held params old new rows slice r only survives answers is same made tells = record {
-  found = λ clean. told_if_ok r (λ v p. tells v
-      (subst (λ l. Answers sql params old new l) (sym same)
-      (subst (λ w. Answers sql w old new rows) is (answers clean))) p) made;
-  only = only;
-  stays = λ clean. on_ok r (answers clean).is_open;
-  survives = survives;
-}
+    → Survives old new (λ _. old.is_open ≡ false)
+    → (HasCleanDisk new → Answers sql held old new rows) → held ≡ params → slice ≡ rows → IfOk r P
+    → ((v : V) → Answers sql params old new slice → P v → told old.now.trees v)
+    → Reads told old new r
+reads_as told sql held params old new rows slice r only survives answers is same made tells =
+    record {
+      found = λ clean. told_if_ok r (λ v p. tells v
+          (subst (λ l. Answers sql params old new l) (sym same)
+          (subst (λ w. Answers sql w old new rows) is (answers clean))) p) made;
+      only = only;
+      stays = λ clean. on_ok r (answers clean).is_open;
+      survives = survives;
+    }
 
--- one after another: where the first left the connection open, a stop leaves what it left before both
-pub survive_then : (old mid new : State) → (HasCleanDisk mid → IsTrue old.is_open → IsTrue mid.is_open)
+-- one after another: where the first left the connection open, a stop leaves what it left before
+-- both
+pub survive_then : (old mid new : State)
+    → (HasCleanDisk mid → IsTrue old.is_open → IsTrue mid.is_open)
     → Survives old mid (λ _. old.is_open ≡ false) → Survives mid new (λ _. mid.is_open ≡ false)
     → Survives old new (λ _. old.is_open ≡ false)
 survive_then old mid new on one two =
-    survives_then old mid new (λ _. old.is_open ≡ false) (λ _. mid.is_open ≡ false) (λ _. old.is_open ≡ false)
-    (λ clean db shut. shut)
-    (λ clean db shut. was_shut old.is_open mid.is_open (on (omega (arith, two.clean, clean))) shut) one two
+    survives_then old mid new (λ _. old.is_open ≡ false) (λ _. mid.is_open ≡ false)
+    (λ _. old.is_open ≡ false) (λ clean db shut. shut)
+    (λ clean db shut.
+    was_shut old.is_open mid.is_open (on (omega (arith, two.clean, clean))) shut) one two
   where
     was_shut : (b m : Bool) → (IsTrue b → IsTrue m) → m ≡ false → b ≡ false
     was_shut false m to shut = refl

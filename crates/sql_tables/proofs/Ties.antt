@@ -1,6 +1,7 @@
 -- SQL's equality and the order of values.
-use Rattle.std.proofs.Common.{◌≡◌, ◌⊎◌, inl, inr, ℕ, ℤ, List, [], ◌∷◌, Bool, true, false, not, ◌&&◌, Ordering, Less}
-use Rattle.std.proofs.Common.{Equal, Greater, is_eq, IsTrue, Some, None, refl, sym, ap, ap₂, subst, ◌∙◌}
+use Rattle.std.proofs.Common.{◌≡◌, ◌⊎◌, inl, inr, ℕ, ℤ, List, [], ◌∷◌, Bool, true, false, not, ◌&&◌}
+use Rattle.std.proofs.Common.{Ordering, Less, Equal, Greater, is_eq, IsTrue, Some, None, refl, sym}
+use Rattle.std.proofs.Common.{ap, ap₂, subst, ◌∙◌}
 use Rattle.std.proofs.lemmas.Cmp.{tied_itself}
 use Rattle.std.specs.FinMap.{int_cmp-IsAntisymmetric}
 use Rattle.std.specs.List.{AllByRecursion}
@@ -34,7 +35,8 @@ equal_present (Real x) b h = rw h (truth_told _)
 equal_present (Text t) b h = rw h (truth_told _)
 equal_present (Blob t) b h = rw h (truth_told _)
 
-pub same_ints : (a b : Value) → IsTrue (is_int a) → IsTrue (is_int b) → equal Binary a b ≡ true → a ≡ b
+pub same_ints : (a b : Value) → IsTrue (is_int a) → IsTrue (is_int b) →
+    equal Binary a b ≡ true → a ≡ b
 same_ints (Int m) (Int n) p q e = ap Int (int_cmp-IsAntisymmetric m n
     (sym (value_cmp-Int m n) ∙ equal_is _ (sym (equal_present (Int m) (Int n) refl) ∙ e)))
 same_ints Null b p q e = absurd (cc)
@@ -47,7 +49,8 @@ same_ints (Int m) (Text x) p q e = absurd (cc)
 same_ints (Int m) (Blob x) p q e = absurd (cc)
 
 pub equals_itself : (a : Value) → IsTrue (is_int a) → equal Binary a a ≡ true
-equals_itself (Int n) p = equal_present (Int n) (Int n) refl ∙ ap is_eq (tied_itself value_cmp_total (Int n))
+equals_itself (Int n) p = equal_present (Int n) (Int n) refl
+    ∙ ap is_eq (tied_itself value_cmp_total (Int n))
 equals_itself Null p = absurd (cc)
 equals_itself (Real x) p = absurd (cc)
 equals_itself (Text x) p = absurd (cc)
@@ -59,7 +62,8 @@ tie_parts Equal p = refl
 tie_parts Greater p = refl
 
 -- SQL's equality of keys is that of the order, where the key has no NULL
-pub agree_ties : (places : List ℕ) (row new : Row) → AllByRecursion (λ p. is_null (column new p) ≡ false) places
+pub agree_ties : (places : List ℕ) (row new : Row)
+    → AllByRecursion (λ p. is_null (column new p) ≡ false) places
     → agree plain places row places new ≡ eq_by_cmp row_cmp (key_of places row) (key_of places new)
 unfolding first_key
 agree_ties [] row new all = refl
@@ -75,6 +79,7 @@ unfolding first_key
 agree_ties_at [] row [] new all = refl
 agree_ties_at [] row (q ∷ qs) new all = refl
 agree_ties_at (p ∷ ps) row [] new all = refl
-agree_ties_at (p ∷ ps) row (q ∷ qs) new all = ap₂ ◌&&◌ (equal_present (column row p) (column new q) all.0)
+agree_ties_at (p ∷ ps) row (q ∷ qs) new all =
+    ap₂ ◌&&◌ (equal_present (column row p) (column new q) all.0)
     (agree_ties_at ps row qs new all.1) ∙ tie_parts (value_cmp (column row p) (column new q))
     (row_cmp (key_of ps row) (key_of qs new))

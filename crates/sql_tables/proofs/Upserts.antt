@@ -1,7 +1,8 @@
 -- What INSERT .. ON CONFLICT (key) DO UPDATE of one row makes of its table.
-use Rattle.std.proofs.Common.{◌≡◌, ◌≢◌, ◌⊎◌, inl, inr, ℕ, ℤ, pos, negsuc, List, [], ◌∷◌, ◌++◌, map, flat_map, length}
-use Rattle.std.proofs.Common.{slice_get, drop, Bool, true, false, not, ◌&&◌, cond, if◌then◌else◌, ◌/◌, ◌<◌, Some}
-use Rattle.std.proofs.Common.{None, Option, Ok, Err, Result, OnOk, IsTrue, refl, sym, ap, subst, ◌∙◌, arith}
+use Rattle.std.proofs.Common.{◌≡◌, ◌≢◌, ◌⊎◌, inl, inr, ℕ, ℤ, pos, negsuc, List, [], ◌∷◌, ◌++◌, map}
+use Rattle.std.proofs.Common.{flat_map, length, slice_get, drop, Bool, true, false, not, ◌&&◌, cond}
+use Rattle.std.proofs.Common.{if◌then◌else◌, ◌/◌, ◌<◌, Some, None, Option, Ok, Err, Result, OnOk}
+use Rattle.std.proofs.Common.{IsTrue, refl, sym, ap, subst, ◌∙◌, arith}
 use Rattle.std.specs.Prelude.{nat_le, ◌^◌}
 use Rattle.std.proofs.lemmas.Bool.{cases_Bool, and_parts}
 use Rattle.std.proofs.lemmas.Cmp.{tied_itself}
@@ -37,17 +38,18 @@ use Rattle.sqlite_rules.specs.Cast.{cast_row}
 use Rattle.sqlite_rules.specs.Keys.{AreConflicts, conflicts}
 use Rattle.sqlite_rules.specs.Lists.{Has}
 use Rattle.sqlite_rules.specs.Calls.{ids_of}
-use Rattle.sqlite_rules.specs.Edit.{Edit, edit_of, edited, left_by, id_in, next_rowid, is_taken, are_fresh, taken_by}
-use Rattle.sqlite_rules.specs.Edit.{Applies, IsNoIndex, with_rowid, without_all, put_all}
+use Rattle.sqlite_rules.specs.Edit.{Edit, edit_of, edited, left_by, id_in, next_rowid, is_taken}
+use Rattle.sqlite_rules.specs.Edit.{are_fresh, taken_by, Applies, IsNoIndex, with_rowid}
+use Rattle.sqlite_rules.specs.Edit.{without_all, put_all}
 use Rattle.sqlite_rules.specs.Action.{works, Writes as Settling}
 use Rattle.sqlite_rules.proofs.ActionLemmas.{no_works}
 use Rattle.sqlite_rules.proofs.ListLemmas.{all_has, some_from}
 use Rattle.sqlite_rules.proofs.TableLemmas.{int_is, has_put}
 use Rattle.sqlite_rules.proofs.PlaceLemmas.{given as given_news}
 use Rattle.sqlite.specs.Does.{Tally, Does}
-use Rattle.sqlite.specs.Rows.{Written, Task, Then, Clears, Puts, Upserts, Meets, Resolves, Updates, Judged, Tries}
-use Rattle.sqlite.specs.Rows.{TriesEach, InsertsOr, Edited, Queried, mended, nothing, stamped, count_of, rowids_for}
-use Rattle.sqlite.specs.Rows.{Counts, shown}
+use Rattle.sqlite.specs.Rows.{Written, Task, Then, Clears, Puts, Upserts, Meets, Resolves, Updates}
+use Rattle.sqlite.specs.Rows.{Judged, Tries, TriesEach, InsertsOr, Edited, Queried, mended, nothing}
+use Rattle.sqlite.specs.Rows.{stamped, count_of, rowids_for, Counts, shown}
 use Rattle.sqlite.specs.Effect.{Database, Answers, value_rows, IsSource}
 use Rattle.sqlite.specs.declared.error.Error.{Error}
 use Rattle.sqlite.specs.State.{State, mode_of, Writes}
@@ -75,31 +77,36 @@ not_not true e = absurd (cc)
 not_not false e = refl
 
 -- the table has the new row among these, and each other tree is as it was
-pub record Put (schema : Schema) (table : Table) (new : Row) (before : List Row) (old next : Trees) : Type 0 where
+pub record Put (schema : Schema) (table : Table) (new : Row) (before : List Row)
+    (old next : Trees) : Type 0 where
   pub fresh : is_taken before new ≡ false
   pub rows : next table.tree ≡ put_row new before
   pub others : (t : ℕ) → t ≢ table.tree → IsNoIndex schema t → next t ≡ old t
   pub fits : Fits schema next
 
 -- no row meets the new one, which is there under a new rowid
-pub record Added (schema : Schema) (table : Table) (target : List ℕ) (values : Row) (db next : Trees) : Type 0 where
+pub record Added (schema : Schema) (table : Table) (target : List ℕ) (values : Row)
+    (db next : Trees) : Type 0 where
   pub none : (r : Row) → Has (db table.tree) r → conflicts (Some target) schema.indexes table
       (Int (next_rowid (db table.tree)) ∷ values) r ≡ true → ⊥
   pub put : Put schema table (Int (next_rowid (db table.tree)) ∷ values) (db table.tree) db next
 
 -- a row meets it, and it is there under the rowid of that row, which is gone
-pub record Moved (schema : Schema) (table : Table) (target : List ℕ) (values : Row) (db next : Trees) : Type 0 where
+pub record Moved (schema : Schema) (table : Table) (target : List ℕ) (values : Row)
+    (db next : Trees) : Type 0 where
   pub there : Row
   pub has : Has (db table.tree) there
-  pub meets : conflicts (Some target) schema.indexes table (Int (next_rowid (db table.tree)) ∷ values) there ≡ true
+  pub meets : conflicts (Some target) schema.indexes table
+      (Int (next_rowid (db table.tree)) ∷ values) there ≡ true
   pub put : Put schema table (Int (id_in (rowid there)) ∷ values)
       (without_rowid (id_in (rowid there)) (db table.tree)) db next
 
 abbrev pub Upserted : Schema → Table → List ℕ → Row → Trees → Trees → Type 0
-Upserted schema table target values db next = Added schema table target values db next ⊎ Moved schema table target
-    values db next
+Upserted schema table target values db next = Added schema table target values db next
+    ⊎ Moved schema table target values db next
 
-step_made : (schema : Schema) (db next : Trees) (edit : Edit) → Settling schema Enforced db edit (Ok next) →
+step_made : (schema : Schema) (db next : Trees) (edit : Edit) →
+    Settling schema Enforced db edit (Ok next) →
     (mid : Trees) × Applies schema Enforced db edit mid
 step_made schema db next edit (inl refused) = absurd (let e = refused.2 in cc)
 step_made schema db next edit (inr (inl big)) = absurd (let e = big.3 in cc)
@@ -113,7 +120,8 @@ once : (before : List Row) (a : Row) (more : List Row) → are_fresh before (a �
 once before a more fresh =
     let later : are_fresh (put_row a before) (a ∷ more) ≡ true = (and_parts _ _ fresh).1 in
     let free : not (is_taken (put_row a before) a) ≡ true = (and_parts _ _ later).0 in
-    let taken : is_taken (put_row a before) a ≡ true = some_from (λ r. is_eq (value_cmp (rowid r) (rowid a)))
+    let taken : is_taken (put_row a before) a ≡ true =
+    some_from (λ r. is_eq (value_cmp (rowid r) (rowid a)))
     (put_row a before) a (has_put a before) (ap is_eq (tied_itself value_cmp_total (rowid a))) in
     false_is_true (sym (ap not taken) ∙ free)
 
@@ -121,15 +129,16 @@ once before a more fresh =
 abbrev Copies : {X : Type 0} → X → List X → Type 0
 Copies x xs = AllByRecursion (λ y. y ≡ x) xs × (0 < length xs)
 
-module _ (limit : Option ℕ) (schema : Schema) (table : Table) (params values : Row) (base : ℕ) (target : List ℕ)
-    (project : List Term) (db : Trees)
+module _ (limit : Option ℕ) (schema : Schema) (table : Table) (params values : Row) (base : ℕ)
+    (target : List ℕ) (project : List Term) (db : Trees)
     (keyed : AllByRecursion (λ r. IsTrue (is_int (rowid r))) (db table.tree))
     (kept : (olds : List Row) (new : Row) → works schema Enforced 0 table.tree olds (new ∷ []) ≡ [])
     (again : (id : ℤ) → cast_row table (Int id ∷ values) ≡ Int id ∷ values)
     (plain : cast_row table (Null ∷ values) ≡ Null ∷ values)
     (shows : (id : ℤ) (there : Value) (r : Row) → eval_all project
     ((params ++ there ∷ shown table (Int id ∷ values)) ∷ r ∷ []) ≡ rowid r ∷ rowid r ∷ values)
-    (finds : (id : ℤ) (there : Value) → column (params ++ there ∷ shown table (Int id ∷ values)) base ≡ there) where
+    (finds : (id : ℤ) (there : Value) →
+    column (params ++ there ∷ shown table (Int id ∷ values)) base ≡ there) where
   abbrev task : Task
   task = record { limit = limit; keys = Enforced; schema = schema; table = table; params = params }
 
@@ -149,7 +158,8 @@ module _ (limit : Option ℕ) (schema : Schema) (table : Table) (params values :
   matched : (there : Value) (rows : List Row) → map (output query)
       (flat_map (λ r. cond (equal Binary (rowid r) (column (given there) base) && true)
       ((given there ∷ r ∷ []) ∷ []) []) rows)
-      ≡ map (picked there) (Rattle.std.specs.Prelude.filter (λ r. equal Binary (rowid r) there) rows)
+      ≡ map (picked there)
+      (Rattle.std.specs.Prelude.filter (λ r. equal Binary (rowid r) there) rows)
   matched there [] = refl
   matched there (r ∷ rows) = elim (cases_Bool (equal Binary (rowid r) there)) [
     | inl e ↦ rw (
@@ -162,7 +172,8 @@ module _ (limit : Option ℕ) (schema : Schema) (table : Table) (params values :
     | inr e ↦ rw (finds (next_rowid (db table.tree)) there, e, matched there rows) refl
   ]
 
-  all_picked : (there : Value) (rows : List Row) → AllByRecursion (λ r. IsTrue (is_int (rowid r))) rows → IsTrue
+  all_picked : (there : Value) (rows : List Row) →
+      AllByRecursion (λ r. IsTrue (is_int (rowid r))) rows → IsTrue
       (is_int there)
       → AllByRecursion (λ o. o ≡ ([], there ∷ there ∷ values)) (map (picked there)
       (Rattle.std.specs.Prelude.filter (λ r. equal Binary (rowid r) there) rows))
@@ -176,16 +187,19 @@ module _ (limit : Option ℕ) (schema : Schema) (table : Table) (params values :
     | inr e ↦ rw e (all_picked there rows ints.1 int)
   ]
 
-  some_picked : (there : Row) (rows : List Row) → Has rows there → IsTrue (is_int (rowid there)) → 0 < length
-      (map (picked (rowid there)) (Rattle.std.specs.Prelude.filter (λ r. equal Binary (rowid r) (rowid there)) rows))
+  some_picked : (there : Row) (rows : List Row) → Has rows there →
+      IsTrue (is_int (rowid there)) → 0 < length (map (picked (rowid there))
+      (Rattle.std.specs.Prelude.filter (λ r. equal Binary (rowid r) (rowid there)) rows))
   some_picked there [] h int = absurd h
   some_picked there (r ∷ rows) (inl h) int = rw (← h, equals_itself (rowid there) int) (omega arith)
-  some_picked there (r ∷ rows) (inr h) int = elim (cases_Bool (equal Binary (rowid r) (rowid there))) [
-    | inl e ↦ rw e (omega arith)
-    | inr e ↦ rw e (some_picked there rows h int)
-  ]
+  some_picked there (r ∷ rows) (inr h) int =
+      elim (cases_Bool (equal Binary (rowid r) (rowid there))) [
+        | inl e ↦ rw e (omega arith)
+        | inr e ↦ rw e (some_picked there rows h int)
+      ]
 
-  answered : (there : Row) (rows : List Row) → Has (db table.tree) there → IsAnswer query (overlay db [])
+  answered : (there : Row) (rows : List Row) → Has (db table.tree) there →
+      IsAnswer query (overlay db [])
       (given (rowid there)) rows → Copies (rowid there ∷ rowid there ∷ values) rows
   answered there rows has a =
       let int = all_has _ (db table.tree) there keyed has in
@@ -204,24 +218,28 @@ module _ (limit : Option ℕ) (schema : Schema) (table : Table) (params values :
       subst (Copies (rowid there ∷ rowid there ∷ values)) (sym a.shown)
       (shown_all a.ordered all, rw (length-map a.ordered (λ (o : Output). o.1)) some)
     where
-      shown_all : (os : List Output) → AllByRecursion (λ o. o ≡ ([], rowid there ∷ rowid there ∷ values)) os →
+      shown_all : (os : List Output) →
+          AllByRecursion (λ o. o ≡ ([], rowid there ∷ rowid there ∷ values)) os →
           AllByRecursion (λ r. r ≡ rowid there ∷ rowid there ∷ values) (map (λ o. o.1) os)
       shown_all [] h = tt
       shown_all (o ∷ os) h = (ap (λ p. p.1) h.0, shown_all os h.1)
 
-  puts : (mid : Trees) (one : Written) → Puts task new mid (Ok one) → Put schema table new (mid table.tree) mid
-      one.trees
+  puts : (mid : Trees) (one : Written) → Puts task new mid (Ok one) →
+      Put schema table new (mid table.tree) mid one.trees
   puts mid one h =
       let edit = edit_of mid table [] Given 0 (new ∷ []) in
       let it = went h in
-      let done = one_step schema Enforced mid it.0 edit (no_works schema Enforced 0 table.tree edit.news) it.1 in
+      let done = one_step schema Enforced mid it.0 edit
+      (no_works schema Enforced 0 table.tree edit.news) it.1 in
       let trees : one.trees ≡ it.0 = ap (λ (w : Written). w.trees) (same_value it.2) in
       let news : edit.news ≡ new ∷ [] = ap (λ r. r ∷ []) (again _) in
-      let fresh : are_fresh (mid table.tree) (new ∷ []) ≡ true = subst (λ n. are_fresh (mid table.tree) n ≡ true)
-      news done.fresh in
+      let fresh : are_fresh (mid table.tree) (new ∷ []) ≡ true =
+      subst (λ n. are_fresh (mid table.tree) n ≡ true) news done.fresh in
       record {
         fresh = not_not _ (and_parts _ _ fresh).0;
-        rows = ap (λ (t : Trees). t table.tree) trees ∙ done.rows ∙ ap (λ r. put_row r (mid table.tree)) (again _);
+        rows = ap (λ (t : Trees). t table.tree) trees
+            ∙ done.rows
+            ∙ ap (λ r. put_row r (mid table.tree)) (again _);
         others = λ t other free. ap (λ (d : Trees). d t) trees ∙ done.others t other free;
         fits = subst (Fits schema) (sym trees) done.fits;
       }
@@ -229,10 +247,12 @@ module _ (limit : Option ℕ) (schema : Schema) (table : Table) (params values :
   -- the rows of the answer are the one new row
   news_of : (id : ℤ) (rows : List Row) → rows ≡ (Int id ∷ Int id ∷ values) ∷ [] →
       (edit_of db table (ids_of rows) Given 1 rows).news ≡ (Int id ∷ values) ∷ []
-  news_of id rows is = ap (λ rs. (edit_of db table (ids_of rs) Given 1 rs).news) is ∙ ap (λ r. r ∷ []) (again id)
+  news_of id rows is = ap (λ rs. (edit_of db table (ids_of rs) Given 1 rs).news) is
+      ∙ ap (λ r. r ∷ []) (again id)
 
-  alone : (id : ℤ) (rows : List Row) (next : Trees) → Copies (Int id ∷ Int id ∷ values) rows → Settling schema
-      Enforced db (edit_of db table (ids_of rows) Given 1 rows) (Ok next) → rows ≡ (Int id ∷ Int id ∷ values) ∷ []
+  alone : (id : ℤ) (rows : List Row) (next : Trees) → Copies (Int id ∷ Int id ∷ values) rows →
+      Settling schema Enforced db (edit_of db table (ids_of rows) Given 1 rows) (Ok next) →
+      rows ≡ (Int id ∷ Int id ∷ values) ∷ []
   alone id [] next copies h = absurd (omega (arith, copies.1))
   alone id (x ∷ []) next copies h = ap (λ r. r ∷ []) copies.0.0
   alone id (x ∷ y ∷ more) next copies h =
@@ -248,10 +268,10 @@ module _ (limit : Option ℕ) (schema : Schema) (table : Table) (params values :
       absurd (once (left_by db edit) (Int id ∷ values) (map f more)
       (subst (λ n. are_fresh (left_by db edit) n ≡ true) both it.1.fresh))
 
-  moves : (there : Row) (found : Row) (one : Written) → Has (db table.tree) there → conflicts (Some target)
-      schema.indexes table new there ≡ true → found ≡ rowid there ∷ []
-      → Resolves task new db found (Some (record { lets = []; body = query })) (Ok one) → Moved schema table target
-      values db one.trees
+  moves : (there : Row) (found : Row) (one : Written) → Has (db table.tree) there →
+      conflicts (Some target) schema.indexes table new there ≡ true → found ≡ rowid there ∷ []
+      → Resolves task new db found (Some (record { lets = []; body = query })) (Ok one)
+      → Moved schema table target values db one.trees
   moves there found one has meets is h =
       let int = all_has _ (db table.tree) there keyed has in
       let id = id_in (rowid there) in
@@ -268,10 +288,12 @@ module _ (limit : Option ℕ) (schema : Schema) (table : Table) (params values :
       let edit = edit_of db table (ids_of rows) Given 1 rows in
       let news = news_of id rows only in
       let gone : edit.gone ≡ id ∷ [] = ap ids_of only in
-      let done = one_step schema Enforced db it.0 edit (subst (λ n. works schema Enforced 0 table.tree
+      let done =
+      one_step schema Enforced db it.0 edit (subst (λ n. works schema Enforced 0 table.tree
       (taken_by db edit) n ≡ []) (sym news) (kept (taken_by db edit) (Int id ∷ values))) it.1 in
       let trees : one.trees ≡ it.0 = ap (λ (w : Written). w.trees) (same_value it.2) in
-      let left : left_by db edit ≡ without_rowid id (db table.tree) = ap (without_all (db table.tree)) gone in
+      let left : left_by db edit ≡ without_rowid id (db table.tree) =
+      ap (without_all (db table.tree)) gone in
       let fresh : are_fresh (without_rowid id (db table.tree)) ((Int id ∷ values) ∷ []) ≡ true =
       subst (λ n. are_fresh (without_rowid id (db table.tree)) n ≡ true) news
       (subst (λ l. are_fresh l edit.news ≡ true) left done.fresh) in
@@ -281,8 +303,10 @@ module _ (limit : Option ℕ) (schema : Schema) (table : Table) (params values :
         meets = meets;
         put = record {
           fresh = not_not _ (and_parts _ _ fresh).0;
-          rows = ap (λ (t : Trees). t table.tree) trees ∙ done.rows ∙ ap (put_all (left_by db edit)) news ∙ ap
-              (put_row (Int id ∷ values)) left;
+          rows = ap (λ (t : Trees). t table.tree) trees
+              ∙ done.rows
+              ∙ ap (put_all (left_by db edit)) news
+              ∙ ap (put_row (Int id ∷ values)) left;
           others = λ t other free. ap (λ (d : Trees). d t) trees ∙ done.others t other free;
           fits = subst (Fits schema) (sym trees) done.fits;
         };
@@ -291,30 +315,33 @@ module _ (limit : Option ℕ) (schema : Schema) (table : Table) (params values :
   abbrev clause : Upsert
   clause = record { target = Some target; update = Some (record { lets = []; body = query }) }
 
-  upserts : (one : Written) → Upserts task Abort new db (clause ∷ []) (Ok one) → Upserted schema table target values
-      db one.trees
+  upserts : (one : Written) → Upserts task Abort new db (clause ∷ []) (Ok one) →
+      Upserted schema table target values db one.trees
   upserts one h = met h.0 h.1 h.2
     where
-      added : (found : List Row) → Clears task Abort new db found (Ok one) → Put schema table new (db table.tree) db
-          one.trees
+      added : (found : List Row) → Clears task Abort new db found (Ok one) →
+          Put schema table new (db table.tree) db one.trees
       added [] c = puts db one c
       added (x ∷ more) c = puts db one c
 
-      met : (found : List Row) → AreConflicts (Some target) schema.indexes table (db table.tree) new found → Meets
-          task (Upserts task Abort new db []) new db clause found (Ok one) → Upserted schema table target values db
-          one.trees
-      met [] c m = inl (record { none = λ r has meets. c.complete r has meets; put = added m.0 m.2 })
+      met : (found : List Row) →
+          AreConflicts (Some target) schema.indexes table (db table.tree) new found → Meets
+          task (Upserts task Abort new db []) new db clause found (Ok one) →
+          Upserted schema table target values db one.trees
+      met [] c m =
+          inl (record { none = λ r has meets. c.complete r has meets; put = added m.0 m.2 })
       met (x ∷ more) c m =
           let why = c.sound x (inl refl) in
           inr (moves why.0 x one why.1 why.2 why.3 m)
 
-  judged : (one : Written) (verdict : Option Refusal) → Judged task Abort (clause ∷ []) new db verdict (Ok one) →
+  judged : (one : Written) (verdict : Option Refusal) →
+      Judged task Abort (clause ∷ []) new db verdict (Ok one) →
       Upserted schema table target values db one.trees
   judged one None h = upserts one h
   judged one (Some why) h = absurd (let e = h in cc)
 
-  tries : (one : Written) → Tries task Abort (clause ∷ []) new db (Ok one) → Upserted schema table target values db
-      one.trees
+  tries : (one : Written) → Tries task Abort (clause ∷ []) new db (Ok one) →
+      Upserted schema table target values db one.trees
   tries one (inl h) = absurd (let e = h.1 in cc)
   tries one (inr h) = judged one h.0 h.2
 
@@ -323,44 +350,50 @@ module _ (limit : Option ℕ) (schema : Schema) (table : Table) (params values :
   made top uncounted = ap (λ r. with_rowid (rowids_for table top) (db table.tree) r) plain ∙ ap
       (λ b. with_rowid (if b then Above top else Chosen) (db table.tree) (Null ∷ values)) uncounted
 
-  uncounts : (mid next : Trees) (counter : Option Row) (top : ℤ) → table.is_counted ≡ false → Counts task mid
-      counter top (Ok next) → next ≡ mid
+  uncounts : (mid next : Trees) (counter : Option Row) (top : ℤ) → table.is_counted ≡ false →
+      Counts task mid counter top (Ok next) → next ≡ mid
   uncounts mid next counter top uncounted h = same_value (rw uncounted at h)
 
   inserts : (terms : List Term) (width : ℕ) (done : Written) → table.is_counted ≡ false
       → value_rows (stamped table params) width (length terms / width) terms ≡ (Null ∷ values) ∷ []
-      → InsertsOr task Abort (clause ∷ []) (Values terms width) db (Ok done) → Upserted schema table target values
-      db done.trees
+      → InsertsOr task Abort (clause ∷ []) (Values terms width) db (Ok done)
+      → Upserted schema table target values db done.trees
   inserts terms width done uncounted supplied h =
       let sourced = went h in
       let counted = went sourced.2 in
       let tried = went counted.2 in
       let ended = went tried.2 in
-      let each = subst (λ rows. TriesEach task Abort (clause ∷ []) rows (count_of counted.0) (nothing db)
+      let each =
+      subst (λ rows. TriesEach task Abort (clause ∷ []) rows (count_of counted.0) (nothing db)
       (Ok tried.0)) (sourced.1.1 ∙ supplied) tried.1 in
       let one = went each in
       let put = tries one.0 (subst (λ r. Tries task Abort (clause ∷ []) r db (Ok one.0))
       (made (count_of counted.0) uncounted) one.1) in
-      let first : tried.0.0.trees ≡ one.0.trees = ap (λ (p : Written × ℤ). p.0.trees) (same_value one.2) in
-      let uncounting : ended.0 ≡ tried.0.0.trees = uncounts tried.0.0.trees ended.0 counted.0 tried.0.1 uncounted
+      let first : tried.0.0.trees ≡ one.0.trees =
+      ap (λ (p : Written × ℤ). p.0.trees) (same_value one.2) in
+      let uncounting : ended.0 ≡ tried.0.0.trees =
+      uncounts tried.0.0.trees ended.0 counted.0 tried.0.1 uncounted
       ended.1 in
       let last : done.trees ≡ ended.0 = ap (λ (w : Written). w.trees) (same_value ended.2) in
       let same : one.0.trees ≡ done.trees = sym (last ∙ uncounting ∙ first) in
       subst (Upserted schema table target values db) same put
 
 -- the same of the whole statement
-module _ (schema : Schema) (at : ℕ) (table : Table) (there : slice_get schema.tables at ≡ Some table)
+module _ (schema : Schema) (at : ℕ) (table : Table)
+    (there : slice_get schema.tables at ≡ Some table)
     (params values : Row) (base : ℕ) (target : List ℕ) (project : List Term)
     (kept : (olds : List Row) (new : Row) → works schema Enforced 0 table.tree olds (new ∷ []) ≡ [])
     (again : (id : ℤ) → cast_row table (Int id ∷ values) ≡ Int id ∷ values)
     (plain : cast_row table (Null ∷ values) ≡ Null ∷ values)
     (shows : (id : ℤ) (there : Value) (r : Row) → eval_all project
     ((params ++ there ∷ shown table (Int id ∷ values)) ∷ r ∷ []) ≡ rowid r ∷ rowid r ∷ values)
-    (finds : (id : ℤ) (there : Value) → column (params ++ there ∷ shown table (Int id ∷ values)) base ≡ there)
+    (finds : (id : ℤ) (there : Value) →
+    column (params ++ there ∷ shown table (Int id ∷ values)) base ≡ there)
     (terms : List Term) (width : ℕ) (uncounted : table.is_counted ≡ false)
-    (supplied : value_rows (stamped table params) width (length terms / width) terms ≡ (Null ∷ values) ∷ []) where
-  pub puts_row : (old new : State) (text : List ℕ) (count : ℕ) → old.now.schema ≡ schema → AllByRecursion
-      (λ r. IsTrue (is_int (rowid r))) (old.now.trees table.tree)
+    (supplied : value_rows (stamped table params) width (length terms / width) terms
+    ≡ (Null ∷ values) ∷ []) where
+  pub puts_row : (old new : State) (text : List ℕ) (count : ℕ) → old.now.schema ≡ schema →
+      AllByRecursion (λ r. IsTrue (is_int (rowid r))) (old.now.trees table.tree)
       → Writes old new None (InsertOr at Abort (Values terms width)
       (record {
         target = Some target;
@@ -368,15 +401,19 @@ module _ (schema : Schema) (at : ℕ) (table : Table) (there : slice_get schema.
       } ∷ [])) text params count
       → (new.now.schema ≡ schema) × Upserted schema table target values old.now.trees new.now.trees
   puts_row old new text count has keyed w =
-      let command = InsertOr at Abort (Values terms width) (record
-      { target = Some target; update = Some (record { lets = []; body = pick table.tree base project }) } ∷ []) in
-      let does = subst (λ s. Does old.step_limit (mode_of old) params (record old.now { schema = s }) text None
+      let command = InsertOr at Abort (Values terms width) (record {
+        target = Some target;
+        update = Some (record { lets = []; body = pick table.tree base project });
+      } ∷ []) in
+      let does =
+      subst (λ s. Does old.step_limit (mode_of old) params (record old.now { schema = s }) text None
       command (Ok (w.tally, new.now))) has w.changed in
       let done = went (rw there at does) in
       let concluded = went (went done.2).2 in
       let now = ap (λ (p : Tally × Database). p.1) (same_value concluded.2) in (
         ap (λ (d : Database). d.schema) now,
-        subst (Upserted schema table target values old.now.trees) (sym (ap (λ (d : Database). d.trees) now))
-            (inserts old.step_limit schema table params values base target project old.now.trees keyed kept again plain
+        subst (Upserted schema table target values old.now.trees)
+            (sym (ap (λ (d : Database). d.trees) now)) (inserts old.step_limit schema table params
+            values base target project old.now.trees keyed kept again plain
             shows finds terms width done.0 uncounted supplied done.1),
       )

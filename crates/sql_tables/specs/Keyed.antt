@@ -1,6 +1,7 @@
 -- A table as a map from its keys to its rows.
 use Rattle.std.specs.Cmp.Lexicographic.{pointwise}
-use Rattle.std.specs.Prelude.{nat_eq, ◌≡◌, ℕ, Bool, List, [], ◌∷◌, map, drop, Option, Some, None, cond, IsTrue, false}
+use Rattle.std.specs.Prelude.{nat_eq, ◌≡◌, ℕ, Bool, List, [], ◌∷◌, map, drop, Option, Some, None}
+use Rattle.std.specs.Prelude.{cond, IsTrue, false}
 use Rattle.std.specs.FinMap.{FinMap, from_entries, get, insert}
 use Rattle.std.specs.List.{AllByRecursion}
 use Rattle.std.specs.Ordering.{is_eq}
@@ -29,8 +30,8 @@ Alike a b = (key : Row) → get a key ≡ get b key
 
 -- no rowid stands twice, and each is an integer
 abbrev pub IsStored : List Row → Type 0
-IsStored rows = IsAscending (λ a b. is_eq (value_cmp (rowid a) (rowid b)) ≡ false) rows × AllByRecursion
-    (λ r. IsTrue (is_int (rowid r))) rows
+IsStored rows = IsAscending (λ a b. is_eq (value_cmp (rowid a) (rowid b)) ≡ false) rows
+    × AllByRecursion (λ r. IsTrue (is_int (rowid r))) rows
 
 -- the columns under a key
 abbrev pub look : Table → Trees → Row → Option Row

@@ -8,11 +8,13 @@ use Rattle.sqlite_schema.specs.declared.schema.Schema.{Schema}
 
 abbrev pub is_of_money : List ℕ → Bool
 is_of_money name = same_name (codes "meta") name || (same_name (codes "accounts") name
-    || (same_name (codes "buckets") name || (same_name (codes "counters") name || same_name (codes "charges") name)))
+    || (same_name (codes "buckets") name
+    || (same_name (codes "counters") name || same_name (codes "charges") name)))
 
 abbrev pub is_of_sessions : List ℕ → Bool
 is_of_sessions name = same_name (codes "sessions") name || (same_name (codes "session_groups") name
-    || (same_name (codes "holds") name || (same_name (codes "answers") name || same_name (codes "vouchers") name)))
+    || (same_name (codes "holds") name
+    || (same_name (codes "answers") name || same_name (codes "vouchers") name)))
 
 -- whether a name is that of one of the ten tables, but for the case of its letters
 abbrev pub is_ours : List ℕ → Bool

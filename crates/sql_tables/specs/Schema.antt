@@ -102,14 +102,15 @@ table name tree columns key checks references = record {
 
 abbrev pub meta : Table
 meta = table (codes "meta") 0
-    (number (codes "id") ∷ number (codes "version") ∷ text (codes "book") ∷ number (codes "last_moment") ∷ [])
-    (1 ∷ [])
+    (number (codes "id") ∷ number (codes "version") ∷ text (codes "book")
+    ∷ number (codes "last_moment") ∷ []) (1 ∷ [])
     (at_least_zero 1 ∷ at_least_zero 2 ∷ at_least_zero 4 ∷ [])
     []
 
 abbrev pub accounts : Table
 accounts = table (codes "accounts") 2
-    (text (codes "account") ∷ number (codes "barred") ∷ number (codes "as_of") ∷ number (codes "next_bucket") ∷
+    (text (codes "account") ∷ number (codes "barred") ∷ number (codes "as_of")
+    ∷ number (codes "next_bucket") ∷
     number (codes "next_charge") ∷ [])
     (1 ∷ [])
     (at_least_zero 2 ∷ at_least_zero 3 ∷ at_least_zero 4 ∷ at_least_zero 5 ∷ [])
@@ -117,7 +118,8 @@ accounts = table (codes "accounts") 2
 
 abbrev pub buckets : Table
 buckets = table (codes "buckets") 4
-    (text (codes "account") ∷ number (codes "number") ∷ number (codes "starts") ∷ number (codes "ends") ∷
+    (text (codes "account") ∷ number (codes "number") ∷ number (codes "starts")
+    ∷ number (codes "ends") ∷
     optional_number (codes "scope") ∷ number (codes "credited") ∷ number (codes "available") ∷
     number (codes "reserved") ∷ number (codes "charged") ∷ number (codes "expired") ∷ [])
     (1 ∷ 2 ∷ [])
@@ -144,7 +146,8 @@ sessions = table (codes "sessions") 8
 
 abbrev pub session_groups : Table
 session_groups = table (codes "session_groups") 10
-    (text (codes "account") ∷ text (codes "session") ∷ number (codes "rating_group") ∷ number (codes "used") ∷
+    (text (codes "account") ∷ text (codes "session") ∷ number (codes "rating_group")
+    ∷ number (codes "used") ∷
     number (codes "reserved") ∷ optional_text (codes "period_before") ∷
     optional_text (codes "period_after") ∷ [])
     (1 ∷ 2 ∷ 3 ∷ [])
@@ -157,12 +160,14 @@ holds = table (codes "holds") 12
     number (codes "bucket") ∷ number (codes "amount") ∷ [])
     (1 ∷ 2 ∷ 3 ∷ 4 ∷ [])
     (at_least_zero 3 ∷ at_least_zero 4 ∷ at_least_zero 5 ∷ [])
-    (belongs (1 ∷ 2 ∷ 3 ∷ []) (codes "session_groups") (codes "account" ∷ codes "session" ∷ codes "rating_group" ∷ []) ∷
+    (belongs (1 ∷ 2 ∷ 3 ∷ []) (codes "session_groups")
+    (codes "account" ∷ codes "session" ∷ codes "rating_group" ∷ []) ∷
     belongs (1 ∷ 4 ∷ []) (codes "buckets") (codes "account" ∷ codes "number" ∷ []) ∷ [])
 
 abbrev pub answers : Table
 answers = table (codes "answers") 14
-    (text (codes "account") ∷ number (codes "kind") ∷ text (codes "name") ∷ number (codes "number") ∷
+    (text (codes "account") ∷ number (codes "kind") ∷ text (codes "name")
+    ∷ number (codes "number") ∷
     text (codes "content") ∷ text (codes "answer") ∷ [])
     (1 ∷ 2 ∷ 3 ∷ 4 ∷ [])
     (at_least_zero 2 ∷ at_least_zero 4 ∷ [])
@@ -178,7 +183,8 @@ vouchers = table (codes "vouchers") 16
 
 abbrev pub charges : Table
 charges = table (codes "charges") 18
-    (text (codes "account") ∷ number (codes "number") ∷ number (codes "moment") ∷ text (codes "session") ∷
+    (text (codes "account") ∷ number (codes "number") ∷ number (codes "moment")
+    ∷ text (codes "session") ∷
     number (codes "rating_group") ∷ number (codes "blocks") ∷ number (codes "rated") ∷
     number (codes "collected") ∷ number (codes "uncollected") ∷ [])
     (1 ∷ 2 ∷ [])
@@ -191,10 +197,18 @@ charges = table (codes "charges") 18
 -- the index that a primary key makes
 abbrev pub index_on : List ℕ → ℕ → ℕ → List ℕ → Index
 index_on name tree table columns =
-    record { name = name; tree = tree; table = table; columns = columns; order = plain; is_unique = true }
+    record {
+      name = name;
+      tree = tree;
+      table = table;
+      columns = columns;
+      order = plain;
+      is_unique = true;
+    }
 
 abbrev pub key_index : Table → Index
-key_index t = index_on (codes "sqlite_autoindex_" ++ t.name ++ codes "_1") (suc t.tree) t.tree t.primary
+key_index t =
+    index_on (codes "sqlite_autoindex_" ++ t.name ++ codes "_1") (suc t.tree) t.tree t.primary
 
 -- live sessions without their account's past ones
 abbrev pub sessions_state : Index
@@ -222,7 +236,8 @@ counters_cycle = record {
 
 abbrev pub book_schema : Schema
 book_schema = record {
-  tables = meta ∷ accounts ∷ buckets ∷ counters ∷ sessions ∷ session_groups ∷ holds ∷ answers ∷ vouchers ∷ charges ∷ [];
+  tables = meta ∷ accounts ∷ buckets ∷ counters ∷ sessions ∷ session_groups ∷ holds ∷ answers
+      ∷ vouchers ∷ charges ∷ [];
   indexes =
       key_index meta
       ∷ key_index accounts

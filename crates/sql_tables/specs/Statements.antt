@@ -1,6 +1,7 @@
 -- What statements do to a connection.
-use Rattle.std.specs.Prelude.{◌≡◌, ◌≢◌, ◌⊎◌, ◌≤◌, ℕ, true, List, [], ◌∷◌, Option, None, cond, take, length, is_some, ◌+◌}
-use Rattle.std.specs.Prelude.{if◌then◌else◌, IsTrue, false, Result, IfOk, OnOk, OnErr}
+use Rattle.std.specs.Prelude.{◌≡◌, ◌≢◌, ◌⊎◌, ◌≤◌, ℕ, true, List, [], ◌∷◌, Option, None, cond, take}
+use Rattle.std.specs.Prelude.{length, is_some, ◌+◌, if◌then◌else◌, IsTrue, false, Result, IfOk}
+use Rattle.std.specs.Prelude.{OnOk, OnErr}
 use Rattle.std.specs.List.{AllByRecursion}
 use Rattle.std.specs.FinMap.{get, insert}
 use Rattle.std.specs.Ordering.{eq_by_cmp}
@@ -10,7 +11,8 @@ use Rattle.sqlite_disk.specs.Disk.{MoreFaults}
 use Rattle.sqlite_trees.specs.Objects.{catalog_tree}
 use Rattle.sqlite_trees.specs.Tree.{Trees}
 use Rattle.sqlite_schema.specs.declared.schema.Table.{Table}
-use Rattle.sqlite.specs.State.{State, HasCleanDisk, Shows, Shown, IsUnchanged, IsRolledBack, KeepsCommit, Survives}
+use Rattle.sqlite.specs.State.{State, HasCleanDisk, Shows, Shown, IsUnchanged, IsRolledBack}
+use Rattle.sqlite.specs.State.{KeepsCommit, Survives}
 use Rattle.sqlite_schema.specs.Rules.{Fits}
 use Rattle.sql_tables.specs.Keyed.{key_of, table_of, Alike, IsStored, look}
 use Rattle.sql_tables.specs.Schema.{book_schema}
@@ -39,8 +41,10 @@ HasIdleBook s = HasCleanDisk s → IsTrue s.is_open → IsIdle s
 -- the row stands in the place of any with its key, and the other tables stay
 pub record Changes (table : Table) (values : Row) (old new : Trees) : Type 0 where
   pub rows : Alike (table_of table.primary (new table.tree))
-      (insert (table_of table.primary (old table.tree)) (key_of table.primary (Null ∷ values)) values)
-  pub others : AllByRecursion (λ (t : Table). t.tree ≢ table.tree → new t.tree ≡ old t.tree) book_schema.tables
+      (insert (table_of table.primary (old table.tree))
+      (key_of table.primary (Null ∷ values)) values)
+  pub others : AllByRecursion (λ (t : Table). t.tree ≢ table.tree →
+      new t.tree ≡ old t.tree) book_schema.tables
   pub catalog : new catalog_tree ≡ old catalog_tree
 
 -- the rows whose key begins with these values are gone, and the other tables stay
@@ -48,7 +52,8 @@ pub record Ends (table : Table) (wanted : Row) (old new : Trees) : Type 0 where
   pub rows : (key : Row) → get (table_of table.primary (new table.tree)) key
       ≡ cond (eq_by_cmp row_cmp (take (length wanted) key) wanted) None
       (get (table_of table.primary (old table.tree)) key)
-  pub others : AllByRecursion (λ (t : Table). t.tree ≢ table.tree → new t.tree ≡ old t.tree) book_schema.tables
+  pub others : AllByRecursion (λ (t : Table). t.tree ≢ table.tree →
+      new t.tree ≡ old t.tree) book_schema.tables
   pub catalog : new catalog_tree ≡ old catalog_tree
 
 -- inside a transaction
@@ -78,9 +83,10 @@ pub record IsStill (old new : State) : Type 0 where
   pub now_is : new.now ≡ old.now
   pub committed_is : new.committed ≡ old.committed
 
--- within a transaction: the call does this, or it answers an error and keeps what was committed; a stop in it leaves
--- what was committed
-pub record Attempts {A E : Type 0} (does : State → State → Type 0) (old new : State) (result : Result A E) : Type 0
+-- within a transaction: the call does this, or it answers an error and keeps what was committed; a
+-- stop in it leaves what was committed
+pub record Attempts {A E : Type 0} (does : State → State → Type 0) (old new : State)
+    (result : Result A E) : Type 0
   where
     pub done : HasCleanDisk new → OnOk result (does old new)
     pub kept : HasCleanDisk new → OnErr result (KeepsCommit old new)
@@ -94,10 +100,12 @@ pub record OnlyReads (old new : State) : Type 0 where
   pub mode : old.in_transaction ≡ false → new.in_transaction ≡ false
   pub counts : old.faults ≤ new.faults
   -- only a fault of the disk shuts the connection
-  pub closes : HasCleanDisk new → IsTrue old.is_open → IsTrue new.is_open ⊎ MoreFaults old.faults new.faults
+  pub closes : HasCleanDisk new → IsTrue old.is_open →
+      IsTrue new.is_open ⊎ MoreFaults old.faults new.faults
 
 -- outside a transaction: what the call answers is told by the tables, and it changes nothing
-pub record Reads {A E : Type 0} (told : Trees → A → Type 0) (old new : State) (result : Result A E) : Type 0 where
+pub record Reads {A E : Type 0} (told : Trees → A → Type 0) (old new : State)
+    (result : Result A E) : Type 0 where
   pub found : HasCleanDisk new → IfOk result (told old.now.trees)
   pub only : OnlyReads old new
   -- after an answer the connection is open

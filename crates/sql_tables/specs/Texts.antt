@@ -10,7 +10,8 @@ meta_text =
     ++ codes "  id INT NOT NULL PRIMARY KEY CHECK (id >= 0), -- always 1\n"
     ++ codes "  version INTEGER NOT NULL CHECK (version >= 0), -- of these tables: 1\n"
     ++ codes "  book TEXT NOT NULL, -- the tariff book, as TOML\n"
-    ++ codes "  last_moment INTEGER NOT NULL CHECK (last_moment >= 0) -- of the last accepted command, in seconds since 1970\n"
+    ++ codes
+    "  last_moment INTEGER NOT NULL CHECK (last_moment >= 0) -- of the last accepted command, in seconds since 1970\n"
     ++ codes ") STRICT"
 
 abbrev pub accounts_text : List ℕ
@@ -18,9 +19,12 @@ accounts_text =
     codes "CREATE TABLE accounts (\n"
     ++ codes "  account TEXT NOT NULL, -- E.164 number, digits alone\n"
     ++ codes "  barred INTEGER NOT NULL CHECK (barred >= 0), -- 0 or 1\n"
-    ++ codes "  as_of INTEGER NOT NULL CHECK (as_of >= 0), -- moment that the rows of the account stand for\n"
-    ++ codes "  next_bucket INTEGER NOT NULL CHECK (next_bucket >= 0), -- number of the next bucket\n"
-    ++ codes "  next_charge INTEGER NOT NULL CHECK (next_charge >= 0), -- number of the next charge\n"
+    ++ codes
+    "  as_of INTEGER NOT NULL CHECK (as_of >= 0), -- moment that the rows of the account stand for\n"
+    ++ codes
+    "  next_bucket INTEGER NOT NULL CHECK (next_bucket >= 0), -- number of the next bucket\n"
+    ++ codes
+    "  next_charge INTEGER NOT NULL CHECK (next_charge >= 0), -- number of the next charge\n"
     ++ codes "  PRIMARY KEY (account)\n"
     ++ codes ") STRICT"
 
@@ -31,9 +35,11 @@ buckets_text =
     ++ codes "  number INTEGER NOT NULL CHECK (number >= 0), -- from 1 in each account\n"
     ++ codes "  starts INTEGER NOT NULL CHECK (starts >= 0), -- first moment of its use\n"
     ++ codes "  ends INTEGER NOT NULL CHECK (ends >= 0), -- first moment at which it is over\n"
-    ++ codes "  scope INTEGER CHECK (scope >= 0), -- the one rating group that it pays for; NULL: all\n"
+    ++ codes
+    "  scope INTEGER CHECK (scope >= 0), -- the one rating group that it pays for; NULL: all\n"
     ++ codes "  credited INTEGER NOT NULL CHECK (credited >= 0), -- micro-units, as each amount\n"
-    ++ codes "  available INTEGER NOT NULL CHECK (available >= 0), -- neither reserved nor charged, before its end\n"
+    ++ codes
+    "  available INTEGER NOT NULL CHECK (available >= 0), -- neither reserved nor charged, before its end\n"
     ++ codes "  reserved INTEGER NOT NULL CHECK (reserved >= 0), -- held for live sessions\n"
     ++ codes "  charged INTEGER NOT NULL CHECK (charged >= 0),\n"
     ++ codes "  expired INTEGER NOT NULL CHECK (expired >= 0), -- left at its end\n"
@@ -58,7 +64,8 @@ sessions_text =
     codes "CREATE TABLE sessions (\n"
     ++ codes "  account TEXT NOT NULL,\n"
     ++ codes "  session TEXT NOT NULL, -- Session-Id\n"
-    ++ codes "  last_number INTEGER NOT NULL CHECK (last_number >= 0), -- CC-Request-Number of the last accepted request\n"
+    ++ codes
+    "  last_number INTEGER NOT NULL CHECK (last_number >= 0), -- CC-Request-Number of the last accepted request\n"
     ++ codes "  touched INTEGER NOT NULL CHECK (touched >= 0), -- moment of that request\n"
     ++ codes "  state INTEGER NOT NULL CHECK (state >= 0), -- 1 open, 2 ended, 3 never opened\n"
     ++ codes "  PRIMARY KEY (account, session),\n"
@@ -72,7 +79,8 @@ session_groups_text =
     ++ codes "  session TEXT NOT NULL,\n"
     ++ codes "  rating_group INTEGER NOT NULL CHECK (rating_group >= 0),\n"
     ++ codes "  used INTEGER NOT NULL CHECK (used >= 0), -- units\n"
-    ++ codes "  reserved INTEGER NOT NULL CHECK (reserved >= 0), -- 1 with a reservation, 0 without\n"
+    ++ codes
+    "  reserved INTEGER NOT NULL CHECK (reserved >= 0), -- 1 with a reservation, 0 without\n"
     ++ codes "  period_before TEXT, -- tariff period at the grant\n"
     ++ codes "  period_after TEXT, -- tariff period at the switch\n"
     ++ codes "  PRIMARY KEY (account, session, rating_group),\n"
@@ -88,7 +96,8 @@ holds_text =
     ++ codes "  bucket INTEGER NOT NULL CHECK (bucket >= 0), -- number of the bucket\n"
     ++ codes "  amount INTEGER NOT NULL CHECK (amount >= 0), -- micro-units\n"
     ++ codes "  PRIMARY KEY (account, session, rating_group, bucket),\n"
-    ++ codes "  FOREIGN KEY (account, session, rating_group) REFERENCES session_groups (account, session, rating_group),\n"
+    ++ codes
+    "  FOREIGN KEY (account, session, rating_group) REFERENCES session_groups (account, session, rating_group),\n"
     ++ codes "  FOREIGN KEY (account, bucket) REFERENCES buckets (account, number)\n"
     ++ codes ") STRICT"
 
@@ -96,9 +105,11 @@ abbrev pub answers_text : List ℕ
 answers_text =
     codes "CREATE TABLE answers (\n"
     ++ codes "  account TEXT NOT NULL,\n"
-    ++ codes "  kind INTEGER NOT NULL CHECK (kind >= 0), -- 1 request of a session, 2 reference of an operator\n"
+    ++ codes
+    "  kind INTEGER NOT NULL CHECK (kind >= 0), -- 1 request of a session, 2 reference of an operator\n"
     ++ codes "  name TEXT NOT NULL, -- Session-Id or reference\n"
-    ++ codes "  number INTEGER NOT NULL CHECK (number >= 0), -- CC-Request-Number; 0 with a reference\n"
+    ++ codes
+    "  number INTEGER NOT NULL CHECK (number >= 0), -- CC-Request-Number; 0 with a reference\n"
     ++ codes "  content TEXT NOT NULL, -- the command, as JSON\n"
     ++ codes "  answer TEXT NOT NULL, -- its first answer, as JSON\n"
     ++ codes "  PRIMARY KEY (account, kind, name, number),\n"
@@ -140,6 +151,11 @@ sessions_state_text = codes "CREATE INDEX sessions_state ON sessions (account, s
 abbrev pub counters_cycle_text : List ℕ
 counters_cycle_text = codes "CREATE INDEX counters_cycle ON counters (account, cycle)"
 
--- the first of the tables, with the indexes of their keys; 11: all of them, with the first index more
+-- the first of the tables, with the indexes of their keys; 11: all of them, with the first index
+-- more
 abbrev pub stage : ℕ → Schema
-stage tables = record { tables = take tables book_schema.tables; indexes = take tables book_schema.indexes; views = [] }
+stage tables = record {
+  tables = take tables book_schema.tables;
+  indexes = take tables book_schema.indexes;
+  views = [];
+}

@@ -1,5 +1,6 @@
 ghost use Rattle.std.specs.Prelude.{◌≡◌, ◌⊎◌, false, IsTrue, IfOk, OnOk, OnErr};
-ghost use Rattle.sql_tables.specs.Stages.{AreEmpty, Builds, BuildsAll, CommitsAll, HasStage, IsBlank};
+ghost use Rattle.sql_tables.specs.Stages.{AreEmpty, Builds, BuildsAll, CommitsAll, HasStage};
+ghost use Rattle.sql_tables.specs.Stages.{IsBlank};
 ghost use Rattle.sql_tables.specs.Schema.{book_schema};
 ghost use Rattle.sql_tables.specs.Statements.{Attempts};
 ghost use Rattle.sqlite.specs.Held.{state};
@@ -14,7 +15,8 @@ use std::alloc::Global;
 fn create_meta<S: Alter>(tx: &mut Transaction<'_, S>) -> Result<usize, Error>
     requires stage { HasStage 0 (state S.Store tx.old.conn.now) }
     ensures same_reference { tx.new.conn.ghost_name ≡ tx.old.conn.ghost_name }
-    ensures makes { Attempts (Builds 1) (state S.Store tx.old.conn.now) (state S.Store tx.new.conn.now) result }
+    ensures makes { Attempts (Builds 1) (state S.Store tx.old.conn.now)
+        (state S.Store tx.new.conn.now) result }
 {
     write(
         tx,
@@ -32,7 +34,8 @@ fn create_meta<S: Alter>(tx: &mut Transaction<'_, S>) -> Result<usize, Error>
 fn create_accounts<S: Alter>(tx: &mut Transaction<'_, S>) -> Result<usize, Error>
     requires stage { HasStage 1 (state S.Store tx.old.conn.now) }
     ensures same_reference { tx.new.conn.ghost_name ≡ tx.old.conn.ghost_name }
-    ensures makes { Attempts (Builds 2) (state S.Store tx.old.conn.now) (state S.Store tx.new.conn.now) result }
+    ensures makes { Attempts (Builds 2) (state S.Store tx.old.conn.now)
+        (state S.Store tx.new.conn.now) result }
 {
     write(
         tx,
@@ -52,7 +55,8 @@ fn create_accounts<S: Alter>(tx: &mut Transaction<'_, S>) -> Result<usize, Error
 fn create_buckets<S: Alter>(tx: &mut Transaction<'_, S>) -> Result<usize, Error>
     requires stage { HasStage 2 (state S.Store tx.old.conn.now) }
     ensures same_reference { tx.new.conn.ghost_name ≡ tx.old.conn.ghost_name }
-    ensures makes { Attempts (Builds 3) (state S.Store tx.old.conn.now) (state S.Store tx.new.conn.now) result }
+    ensures makes { Attempts (Builds 3) (state S.Store tx.old.conn.now)
+        (state S.Store tx.new.conn.now) result }
 {
     write(
         tx,
@@ -79,7 +83,8 @@ fn create_buckets<S: Alter>(tx: &mut Transaction<'_, S>) -> Result<usize, Error>
 fn create_counters<S: Alter>(tx: &mut Transaction<'_, S>) -> Result<usize, Error>
     requires stage { HasStage 3 (state S.Store tx.old.conn.now) }
     ensures same_reference { tx.new.conn.ghost_name ≡ tx.old.conn.ghost_name }
-    ensures makes { Attempts (Builds 4) (state S.Store tx.old.conn.now) (state S.Store tx.new.conn.now) result }
+    ensures makes { Attempts (Builds 4) (state S.Store tx.old.conn.now)
+        (state S.Store tx.new.conn.now) result }
 {
     write(
         tx,
@@ -99,7 +104,8 @@ fn create_counters<S: Alter>(tx: &mut Transaction<'_, S>) -> Result<usize, Error
 fn create_sessions<S: Alter>(tx: &mut Transaction<'_, S>) -> Result<usize, Error>
     requires stage { HasStage 4 (state S.Store tx.old.conn.now) }
     ensures same_reference { tx.new.conn.ghost_name ≡ tx.old.conn.ghost_name }
-    ensures makes { Attempts (Builds 5) (state S.Store tx.old.conn.now) (state S.Store tx.new.conn.now) result }
+    ensures makes { Attempts (Builds 5) (state S.Store tx.old.conn.now)
+        (state S.Store tx.new.conn.now) result }
 {
     write(
         tx,
@@ -120,7 +126,8 @@ fn create_sessions<S: Alter>(tx: &mut Transaction<'_, S>) -> Result<usize, Error
 fn create_session_groups<S: Alter>(tx: &mut Transaction<'_, S>) -> Result<usize, Error>
     requires stage { HasStage 5 (state S.Store tx.old.conn.now) }
     ensures same_reference { tx.new.conn.ghost_name ≡ tx.old.conn.ghost_name }
-    ensures makes { Attempts (Builds 6) (state S.Store tx.old.conn.now) (state S.Store tx.new.conn.now) result }
+    ensures makes { Attempts (Builds 6) (state S.Store tx.old.conn.now)
+        (state S.Store tx.new.conn.now) result }
 {
     write(
         tx,
@@ -143,7 +150,8 @@ fn create_session_groups<S: Alter>(tx: &mut Transaction<'_, S>) -> Result<usize,
 fn create_holds<S: Alter>(tx: &mut Transaction<'_, S>) -> Result<usize, Error>
     requires stage { HasStage 6 (state S.Store tx.old.conn.now) }
     ensures same_reference { tx.new.conn.ghost_name ≡ tx.old.conn.ghost_name }
-    ensures makes { Attempts (Builds 7) (state S.Store tx.old.conn.now) (state S.Store tx.new.conn.now) result }
+    ensures makes { Attempts (Builds 7) (state S.Store tx.old.conn.now)
+        (state S.Store tx.new.conn.now) result }
 {
     write(
         tx,
@@ -165,7 +173,8 @@ fn create_holds<S: Alter>(tx: &mut Transaction<'_, S>) -> Result<usize, Error>
 fn create_answers<S: Alter>(tx: &mut Transaction<'_, S>) -> Result<usize, Error>
     requires stage { HasStage 7 (state S.Store tx.old.conn.now) }
     ensures same_reference { tx.new.conn.ghost_name ≡ tx.old.conn.ghost_name }
-    ensures makes { Attempts (Builds 8) (state S.Store tx.old.conn.now) (state S.Store tx.new.conn.now) result }
+    ensures makes { Attempts (Builds 8) (state S.Store tx.old.conn.now)
+        (state S.Store tx.new.conn.now) result }
 {
     write(
         tx,
@@ -187,7 +196,8 @@ fn create_answers<S: Alter>(tx: &mut Transaction<'_, S>) -> Result<usize, Error>
 fn create_vouchers<S: Alter>(tx: &mut Transaction<'_, S>) -> Result<usize, Error>
     requires stage { HasStage 8 (state S.Store tx.old.conn.now) }
     ensures same_reference { tx.new.conn.ghost_name ≡ tx.old.conn.ghost_name }
-    ensures makes { Attempts (Builds 9) (state S.Store tx.old.conn.now) (state S.Store tx.new.conn.now) result }
+    ensures makes { Attempts (Builds 9) (state S.Store tx.old.conn.now)
+        (state S.Store tx.new.conn.now) result }
 {
     write(
         tx,
@@ -208,7 +218,8 @@ fn create_vouchers<S: Alter>(tx: &mut Transaction<'_, S>) -> Result<usize, Error
 fn create_charges<S: Alter>(tx: &mut Transaction<'_, S>) -> Result<usize, Error>
     requires stage { HasStage 9 (state S.Store tx.old.conn.now) }
     ensures same_reference { tx.new.conn.ghost_name ≡ tx.old.conn.ghost_name }
-    ensures makes { Attempts (Builds 10) (state S.Store tx.old.conn.now) (state S.Store tx.new.conn.now) result }
+    ensures makes { Attempts (Builds 10) (state S.Store tx.old.conn.now)
+        (state S.Store tx.new.conn.now) result }
 {
     write(
         tx,
@@ -234,7 +245,8 @@ fn create_charges<S: Alter>(tx: &mut Transaction<'_, S>) -> Result<usize, Error>
 fn create_sessions_state<S: Alter>(tx: &mut Transaction<'_, S>) -> Result<usize, Error>
     requires stage { HasStage 10 (state S.Store tx.old.conn.now) }
     ensures same_reference { tx.new.conn.ghost_name ≡ tx.old.conn.ghost_name }
-    ensures makes { Attempts (Builds 11) (state S.Store tx.old.conn.now) (state S.Store tx.new.conn.now) result }
+    ensures makes { Attempts (Builds 11) (state S.Store tx.old.conn.now)
+        (state S.Store tx.new.conn.now) result }
 {
     write(
         tx,
@@ -247,7 +259,8 @@ fn create_sessions_state<S: Alter>(tx: &mut Transaction<'_, S>) -> Result<usize,
 fn create_counters_cycle<S: Alter>(tx: &mut Transaction<'_, S>) -> Result<usize, Error>
     requires stage { HasStage 11 (state S.Store tx.old.conn.now) }
     ensures same_reference { tx.new.conn.ghost_name ≡ tx.old.conn.ghost_name }
-    ensures makes { Attempts BuildsAll (state S.Store tx.old.conn.now) (state S.Store tx.new.conn.now) result }
+    ensures makes { Attempts BuildsAll (state S.Store tx.old.conn.now)
+        (state S.Store tx.new.conn.now) result }
 {
     write(
         tx,
@@ -260,7 +273,8 @@ fn create_counters_cycle<S: Alter>(tx: &mut Transaction<'_, S>) -> Result<usize,
 fn create_money<S: Alter>(tx: &mut Transaction<'_, S>) -> Result<(), Error>
     requires stage { HasStage 0 (state S.Store tx.old.conn.now) }
     ensures same_reference { tx.new.conn.ghost_name ≡ tx.old.conn.ghost_name }
-    ensures makes { Attempts (Builds 4) (state S.Store tx.old.conn.now) (state S.Store tx.new.conn.now) result }
+    ensures makes { Attempts (Builds 4) (state S.Store tx.old.conn.now)
+        (state S.Store tx.new.conn.now) result }
 {
     create_meta(tx)?;
     create_accounts(tx)?;
@@ -273,7 +287,8 @@ fn create_money<S: Alter>(tx: &mut Transaction<'_, S>) -> Result<(), Error>
 fn create_sessions_tables<S: Alter>(tx: &mut Transaction<'_, S>) -> Result<(), Error>
     requires stage { HasStage 4 (state S.Store tx.old.conn.now) }
     ensures same_reference { tx.new.conn.ghost_name ≡ tx.old.conn.ghost_name }
-    ensures makes { Attempts (Builds 8) (state S.Store tx.old.conn.now) (state S.Store tx.new.conn.now) result }
+    ensures makes { Attempts (Builds 8) (state S.Store tx.old.conn.now)
+        (state S.Store tx.new.conn.now) result }
 {
     create_sessions(tx)?;
     create_session_groups(tx)?;
@@ -286,7 +301,8 @@ fn create_sessions_tables<S: Alter>(tx: &mut Transaction<'_, S>) -> Result<(), E
 fn create_rest<S: Alter>(tx: &mut Transaction<'_, S>) -> Result<(), Error>
     requires stage { HasStage 8 (state S.Store tx.old.conn.now) }
     ensures same_reference { tx.new.conn.ghost_name ≡ tx.old.conn.ghost_name }
-    ensures makes { Attempts BuildsAll (state S.Store tx.old.conn.now) (state S.Store tx.new.conn.now) result }
+    ensures makes { Attempts BuildsAll (state S.Store tx.old.conn.now)
+        (state S.Store tx.new.conn.now) result }
 {
     create_vouchers(tx)?;
     create_charges(tx)?;
@@ -299,7 +315,8 @@ fn create_rest<S: Alter>(tx: &mut Transaction<'_, S>) -> Result<(), Error>
 pub fn create_each<S: Alter>(tx: &mut Transaction<'_, S>) -> Result<(), Error>
     requires stage { HasStage 0 (state S.Store tx.old.conn.now) }
     ensures same_reference { tx.new.conn.ghost_name ≡ tx.old.conn.ghost_name }
-    ensures makes { Attempts BuildsAll (state S.Store tx.old.conn.now) (state S.Store tx.new.conn.now) result }
+    ensures makes { Attempts BuildsAll (state S.Store tx.old.conn.now)
+        (state S.Store tx.new.conn.now) result }
 {
     create_money(tx)?;
     create_sessions_tables(tx)?;
@@ -307,15 +324,20 @@ pub fn create_each<S: Alter>(tx: &mut Transaction<'_, S>) -> Result<(), Error>
     Ok(())
 }
 
-/// Makes the ten tables and their indexes in a database that has none: all of them or nothing, also over a crash.
+/// Makes the ten tables and their indexes in a database that has none: all of them or nothing, also
+/// over a crash.
 pub fn create_tables<S: Alter>(conn: &mut Connection<S>) -> Result<(), Error>
     requires idle { conn.old.in_transaction ≡ false }
-    requires blank { HasCleanDisk (state S.Store conn.old) → IsTrue (state S.Store conn.old).is_open → IsBlank (state S.Store conn.old) }
+    requires blank { HasCleanDisk (state S.Store conn.old) →
+        IsTrue (state S.Store conn.old).is_open → IsBlank (state S.Store conn.old) }
     ensures idle { conn.new.in_transaction ≡ false }
-    ensures done { HasCleanDisk (state S.Store conn.new) → OnOk result (CommitsAll (state S.Store conn.new)) }
+    ensures done { HasCleanDisk (state S.Store conn.new) →
+        OnOk result (CommitsAll (state S.Store conn.new)) }
     ensures kept { HasCleanDisk (state S.Store conn.new) → IsTrue (state S.Store conn.new).is_open
-        → OnErr result (IsTrue (state S.Store conn.old).is_open × ((state S.Store conn.new).now ≡ (state S.Store conn.old).now)) }
-    ensures crash { Survives (state S.Store conn.old) (state S.Store conn.new) (λ trees. AreEmpty book_schema.tables trees) }
+        → OnErr result (IsTrue (state S.Store conn.old).is_open
+        × ((state S.Store conn.new).now ≡ (state S.Store conn.old).now)) }
+    ensures crash { Survives (state S.Store conn.old) (state S.Store conn.new)
+        (λ trees. AreEmpty book_schema.tables trees) }
 {
     let mut tx = conn.transaction();
     create_each(&mut tx)?;
@@ -325,7 +347,8 @@ pub fn create_tables<S: Alter>(conn: &mut Connection<S>) -> Result<(), Error>
 /// A database in memory that has the ten tables, all empty.
 pub fn create_in_memory(alloc: Global) -> Result<Connection<MemStore>, Error>
     ensures idle { IfOk result (λ conn. conn.in_transaction ≡ false) }
-    ensures made { IfOk result (λ conn. HasCleanDisk (state over_memory conn) → CommitsAll (state over_memory conn)) }
+    ensures made { IfOk result
+        (λ conn. HasCleanDisk (state over_memory conn) → CommitsAll (state over_memory conn)) }
 {
     let mut conn = Connection::open_in_memory(alloc)?;
     create_tables(&mut conn)?;

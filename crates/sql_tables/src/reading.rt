@@ -1,4 +1,5 @@
-ghost use Rattle.std.specs.Prelude.{◌≡◌, ◌<◌, ◌^◌, ℕ, List, Option, false, IfErr, IfOk, IfSome, MatchResult, pos, length, option_map};
+ghost use Rattle.std.specs.Prelude.{◌≡◌, ◌<◌, ◌^◌, ℕ, List, Option, false, IfErr, IfOk, IfSome};
+ghost use Rattle.std.specs.Prelude.{MatchResult, pos, length, option_map};
 ghost use Rattle.sql_tables.specs.Schema.{book_schema};
 ghost use Rattle.sql_tables.specs.Selects.{one_or_none};
 ghost use Rattle.sql_tables.specs.Statements.{Answers, HasIdleBook, OnlyReads};
@@ -48,7 +49,8 @@ pub fn read<S: Alter>(
     requires plain { IsPlain (understood book_schema sql.now) }
     requires idle { HasIdleBook (state S.Store conn.old) }
     ensures answers { HasCleanDisk (state S.Store conn.new) → IfOk result (λ rows.
-        Answers sql.now (bound params.now) (state S.Store conn.old) (state S.Store conn.new) rows.items) }
+        Answers sql.now (bound params.now) (state S.Store conn.old)
+        (state S.Store conn.new) rows.items) }
     ensures reads { OnlyReads (state S.Store conn.old) (state S.Store conn.new) }
     // A stop leaves what it left before.
     ensures stops { Survives (state S.Store conn.old) (state S.Store conn.new)
@@ -110,7 +112,8 @@ pub fn small_at(row: &Row, at: usize) -> Result<u32, ReadFault>
 /// The number in a column, none where it is NULL.
 pub fn optional_at(row: &Row, at: usize) -> Result<Option<u32>, ReadFault>
     ensures { MatchResult result (λ o. column row.now at ≡ or_null (λ n. Int (pos n)) o)
-        (λ e. e ≡ ReadFault.Rules → at < length row.now → (o : Option ℕ) → IfSome o (λ n. n < 2 ^ 32) →
+        (λ e. e ≡ ReadFault.Rules → at < length row.now → (o : Option ℕ) →
+        IfSome o (λ n. n < 2 ^ 32) →
         ¬ (column row.now at ≡ or_null (λ n. Int (pos n)) o)) }
 {
     match row.get::<Option<u32>>(at) {

@@ -46,7 +46,8 @@ pub fn large<'a>(number: u64) -> ValueRef<'a>
     ValueRef::Int(number as i64)
 }
 
-/// A number as the parameter of this place; its error is a number from 2^63 on, which SQL's integers don't have.
+/// A number as the parameter of this place; its error is a number from 2^63 on, which SQL's
+/// integers don't have.
 pub fn checked<'a>(number: u128, place: usize) -> Result<ValueRef<'a>, Error>
     ensures { IfOk result (λ value. owned value ≡ Int (pos number)) }
 {

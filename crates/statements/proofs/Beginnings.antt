@@ -1,5 +1,6 @@
 -- Beginnings of texts that are written.
-use Rattle.std.proofs.Common.{◌≡◌, ℕ, List, [], ◌++◌, take, drop, refl, sym, ap, ◌∙◌, take-append-drop, append_assoc, append-nil, subst}
+use Rattle.std.proofs.Common.{◌≡◌, ℕ, List, [], ◌++◌, take, drop, refl, sym, ap, ◌∙◌}
+use Rattle.std.proofs.Common.{take-append-drop, append_assoc, append-nil, subst}
 use Rattle.std.specs.Prelude.{Option}
 use Rattle.std.specs.Io.KnownBytes.{Appends}
 use Rattle.std.proofs.KnownBytes.{Appends-nil, Appends-trans}
@@ -36,6 +37,21 @@ begun_second a b c first second p h = record {
   written = Appends-trans a b c first h.part p h.written;
   whole = ap (λ l. first ++ l) h.whole ∙ sym (append_assoc first h.part h.rest);
 }
+
+-- two texts and a third, which is told by a value, are written, or a beginning of the third
+pub three_written : {A : Type 0} (a b c d : Option (List ℕ)) (first second : List ℕ)
+    (third : A → List ℕ) (s t : A) → s ≡ t → Appends a b first → Appends b c second →
+    Appends c d (third s) → Appends a d ((first ++ second) ++ third t)
+three_written a b c d first second third s t is p q r =
+    Appends-trans a c d (first ++ second) (third t) (Appends-trans a b c first second p q)
+    (subst (λ x. Appends c d (third x)) is r)
+
+pub three_begun : {A : Type 0} (a b c d : Option (List ℕ)) (first second : List ℕ)
+    (third : A → List ℕ) (s t : A) → s ≡ t → Appends a b first → Appends b c second →
+    WritesBeginning c d (third s) → WritesBeginning a d ((first ++ second) ++ third t)
+three_begun a b c d first second third s t is p q r =
+    begun_second a c d (first ++ second) (third t) (Appends-trans a b c first second p q)
+    (subst (λ x. WritesBeginning c d (third x)) is r)
 
 -- of a text that is written in parts, this is left
 pub record Remains (old new : Option (List ℕ)) (text left : List ℕ) : Type 0 where

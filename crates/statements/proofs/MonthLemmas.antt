@@ -1,5 +1,7 @@
 -- What is written by rows that are shown one after another is the text of the month's rows.
-use Rattle.std.proofs.Common.{◌≡◌, ℕ, ◌+◌, ◌++◌, Bool, true, false, cond, List, [], ◌∷◌, take, drop, Some, None, refl, sym, ap, ◌∙◌, subst, append-nil, append_assoc, take-append-drop}
+use Rattle.std.proofs.Common.{◌≡◌, ℕ, ◌+◌, ◌++◌, Bool, true, false, cond, List, [], ◌∷◌, take, drop}
+use Rattle.std.proofs.Common.{Some, None, refl, sym, ap, ◌∙◌, subst, append-nil, append_assoc}
+use Rattle.std.proofs.Common.{take-append-drop}
 use Rattle.std.specs.Prelude.{Option, is_some, Result, Ok, Err, IsErr}
 use Rattle.statements.specs.Charges.{Writes}
 use Rattle.statements.specs.declared.fault.StatementFault.{StatementFault}
@@ -124,7 +126,8 @@ module _ {W : Type 0} (contents : W → Option (List ℕ)) (book : Book) (cycle 
             ∙ ap (λ s. sums_from s others) (t.sums refl ∙ row_sums old c h)
             ∙ sym (sums_split p old.sums c others);
         begun = λ k. subst (WritesBeginning (contents old.writer.now) (contents new.writer.now))
-            (sym whole) (begun_second (contents old.writer.now) (contents next.writer.now) (contents new.writer.now) (text_if p form c) (charges_text form others) first (w.begun k));
+            (sym whole) (begun_second (contents old.writer.now) (contents next.writer.now) (contents
+            new.writer.now) (text_if p form c) (charges_text form others) first (w.begun k));
       }
 
   wrote_stopped : (old next new : MonthRows W) (c : ChargeColumns) (rest : List ChargeColumns) →
@@ -240,7 +243,8 @@ module _ {W : Type 0} (contents : W → Option (List ℕ)) (book : Book) (month 
         shown.0,
         wrote contents book (cycle_of_month month) form
             (take shown.0 (filter (is_between 0 4102444800) rows)) old new h
-            (subst (λ l. Visits (TakesRow contents) (take shown.0 l) old new) (ranged rows) shown.1),
+            (subst (λ l. Visits (TakesRow contents) (take shown.0 l) old new)
+            (ranged rows) shown.1),
       )
 
   pub begun_name : SeesBeginning (TakesRow contents) from until charges old new →

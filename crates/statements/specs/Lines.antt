@@ -9,10 +9,12 @@ use Rattle.statements.specs.declared.rows.Sums.{Sums}
 
 abbrev pub title_line : List ℕ → ℕ → ℕ → List ℕ
 title_line account month moment =
-    codes "ACCOUNT " ++ (account ++ (codes " MONTH " ++ (decimal month ++ (codes " MOMENT " ++ (decimal moment ++ codes "\n")))))
+    codes "ACCOUNT " ++ (account
+    ++ (codes " MONTH " ++ (decimal month ++ (codes " MOMENT " ++ (decimal moment ++ codes "\n")))))
 
 abbrev pub heading : List ℕ
-heading = codes "    MOMENT      GROUP     BLOCKS               RATED           COLLECTED         UNCOLLECTED\n"
+heading = codes
+    "    MOMENT      GROUP     BLOCKS               RATED           COLLECTED         UNCOLLECTED\n"
 
 abbrev pub charge_line : ChargeColumns → List ℕ
 charge_line c =
@@ -23,10 +25,13 @@ charge_line c =
 abbrev pub total_line : Sums → List ℕ
 total_line s =
     codes "                TOTAL"
-    ++ columns_text (set 10 s.blocks ∷ set 19 s.rated ∷ set 19 s.collected ∷ set 19 s.uncollected ∷ [])
+    ++ columns_text (set 10 s.blocks ∷ set 19 s.rated ∷ set 19 s.collected
+    ∷ set 19 s.uncollected ∷ [])
 
 abbrev pub bucket_heading : List ℕ
-bucket_heading = codes "    BUCKET         CREDITED        AVAILABLE         RESERVED          CHARGED          EXPIRED\n"
+bucket_heading =
+    codes
+    "    BUCKET         CREDITED        AVAILABLE         RESERVED          CHARGED          EXPIRED\n"
 
 abbrev pub bucket_line : Row → List ℕ
 bucket_line b =

@@ -9,7 +9,8 @@ use Rattle.reserving.specs.ChargeColumns.{ChargeColumns}
 use Rattle.charge_sources.specs.Rows.{is_between}
 use Rattle.statements.specs.Months.{is_of_month}
 use Rattle.statements.specs.Records.{header_record, charge_record}
-use Rattle.statements.specs.Lines.{title_line, heading, charge_line, total_line, bucket_heading, bucket_line, date_line}
+use Rattle.statements.specs.Lines.{title_line, heading, charge_line, total_line, bucket_heading}
+use Rattle.statements.specs.Lines.{bucket_line, date_line}
 use Rattle.statements.specs.declared.rows.Form.{Form}
 use Rattle.statements.specs.declared.rows.Form.TheVariants.{Lines, Records}
 use Rattle.statements.specs.declared.rows.Sums.{Sums}

@@ -1,7 +1,8 @@
 ghost use Rattle.std.specs.Prelude.{◌≡◌, ◌++◌, sum_by, string_bytes, OnOk, IfOk};
 ghost use Rattle.statements.specs.Columns.{set};
 ghost use Rattle.statements.specs.Texts.{head_text, buckets_text, foot_text};
-ghost use Rattle.statements.specs.Lines.{title_line, charge_line, total_line, bucket_line, date_line};
+ghost use Rattle.statements.specs.Lines.{title_line, charge_line, total_line, bucket_line};
+ghost use Rattle.statements.specs.Lines.{date_line};
 
 use crate::columns::{Column, push_column, push_columns};
 use crate::rows::Sums;

@@ -79,7 +79,8 @@ fn write_charge<W: Write>(
         (Appends (W.contents writer.old) (W.contents writer.new) (charge_text form row.now)) }
     ensures sums { OnOk result (sums.new ≡ plus_charge sums.old row.now) }
     ensures err { OnErr result
-        (WritesBeginning (W.contents writer.old) (W.contents writer.new) (charge_text form row.now)) }
+        (WritesBeginning (W.contents writer.old) (W.contents writer.new)
+        (charge_text form row.now)) }
 {
     let text = charge_text(alloc, form, row)?;
     let next = sums.plus(row).ok_or(StreamFault::Memory)?;

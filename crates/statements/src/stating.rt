@@ -5,7 +5,8 @@ ghost use Rattle.charge_sources.specs.Rows.{AreCharges};
 ghost use Rattle.statements.specs.Charges.{Asks, Writes};
 ghost use Rattle.statements.specs.Records.{header_record};
 ghost use Rattle.statements.specs.Months.{cycle_of_month};
-ghost use Rattle.statements.specs.Texts.{of_month, charges_text, sums_of, head_text, foot_text, statement_text, export_text, WritesBeginning};
+ghost use Rattle.statements.specs.Texts.{of_month, charges_text, sums_of, head_text, foot_text};
+ghost use Rattle.statements.specs.Texts.{statement_text, export_text, WritesBeginning};
 ghost use Rattle.std.specs.Prelude.{List};
 
 use crate::fault::StatementFault;

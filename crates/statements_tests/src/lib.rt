@@ -1,4 +1,5 @@
-//! Tests of `statements`: what is written of accounts in memory, and of sources and writers that fail.
+//! Tests of `statements`: what is written of accounts in memory, and of sources and writers that
+//! fail.
 #![tactic(auto)]
 
 #[cfg(test)]

@@ -1,5 +1,8 @@
 -- Names of periods: each is found at its own place.
-use Rattle.std.proofs.Common.{◌≡◌, ℕ, ◌+◌, Bool, true, false, not, ◌&&◌, ◌||◌, List, [], ◌∷◌, ◌++◌, length, Option, Some, None, slice_get, ◌-◌, ◌≤◌, IfSome, unwrap_or, zero, suc, refl, ap, ◌⊎◌, inl, inr, arith, nat_le, add-zero, zero-add, sym}
+use Rattle.std.proofs.Common.{◌≡◌, ℕ, ◌+◌, Bool, true, false, not, ◌&&◌, ◌||◌, List, [], ◌∷◌, ◌++◌}
+use Rattle.std.proofs.Common.{length, Option, Some, None, slice_get, ◌-◌, ◌≤◌, IfSome, unwrap_or}
+use Rattle.std.proofs.Common.{zero, suc, refl, ap, ◌⊎◌, inl, inr, arith, nat_le, add-zero, zero-add}
+use Rattle.std.proofs.Common.{sym}
 use Rattle.std.specs.Prelude.{if◌then◌else◌, nat_eq}
 use Rattle.std.specs.List.{list_all, list_any}
 use Rattle.std.specs.Char.{is_ascii_lowercase}

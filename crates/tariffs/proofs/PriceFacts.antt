@@ -1,5 +1,6 @@
 -- The prices of a group, period by period.
-use Rattle.std.proofs.Common.{◌≡◌, ℕ, true, List, [], ◌∷◌, length, set, zero, suc, replicate, Vec, Global, sym, ap, ◌∙◌}
+use Rattle.std.proofs.Common.{◌≡◌, ℕ, true, List, [], ◌∷◌, length, set, zero, suc, replicate, Vec}
+use Rattle.std.proofs.Common.{Global, sym, ap, ◌∙◌}
 use Rattle.std.proofs.lemmas.List.{length-replicate, length-map}
 use Rattle.std.specs.List.{AllByRecursion, list_all}
 use Rattle.std.proofs.lemmas.Bool.{and_parts, false≢true}

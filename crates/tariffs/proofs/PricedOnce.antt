@@ -1,25 +1,33 @@
 -- Each period is priced by exactly one entry.
-use Rattle.std.proofs.Common.{◌≡◌, ◌≢◌, ℕ, ◌<◌, ◌≤◌, ◌==◌, Bool, true, false, not, List, [], ◌∷◌, ◌++◌, length, get_or, set, zero, suc, replicate, Option, Some, None, Result, Ok, slice_get, refl, sym, ap, ◌∙◌, subst, true≢false, ◌⊎◌, inl, inr, arith, length-set, append-nil, append_assoc}
-use Rattle.std.specs.Prelude.{if◌then◌else◌, nat_le, option_and_then, codes, slice_set, slice_index_or}
+use Rattle.std.proofs.Common.{◌≡◌, ◌≢◌, ℕ, ◌<◌, ◌≤◌, ◌==◌, Bool, true, false, not, List, [], ◌∷◌}
+use Rattle.std.proofs.Common.{◌++◌, length, get_or, set, zero, suc, replicate, Option, Some, None}
+use Rattle.std.proofs.Common.{Result, Ok, slice_get, refl, sym, ap, ◌∙◌, subst, true≢false, ◌⊎◌}
+use Rattle.std.proofs.Common.{inl, inr, arith, length-set, append-nil, append_assoc}
+use Rattle.std.specs.Prelude.{if◌then◌else◌, nat_le, option_and_then, codes, slice_set}
+use Rattle.std.specs.Prelude.{slice_index_or}
 use Rattle.std.specs.List.{filter, list_all}
 use Rattle.std.specs.Option.{option_eq}
 use Rattle.std.proofs.lemmas.Bool.{and_parts, leb-true, not-true}
 use Rattle.std.proofs.lemmas.Bool.Decides.{nat_tests}
-use Rattle.std.proofs.lemmas.List.{get_or-set_same, get_or-set_other, get_or-replicate, length-replicate}
+use Rattle.std.proofs.lemmas.List.{get_or-set_same, get_or-set_other, get_or-replicate}
+use Rattle.std.proofs.lemmas.List.{length-replicate}
 use Rattle.std.proofs.lemmas.List.Elements.{filter-append}
 use Rattle.toml.specs.Data.{Data, Items, no_items, item, Members, get_member, as_str, as_table}
 use Rattle.calendar.specs.declared.week.Period.{Period}
 use Rattle.first_fault.specs.Steps as steps
 use Rattle.first_fault.proofs.Steps.{same_value, bind_ok, where_ok, counted}
 use Rattle.book_fields.specs.declared.fault.BookFault.{BookFault}
-use Rattle.book_fields.specs.declared.fault.BookFault.TheVariants.{Missing, WrongKind, OutOfRange, UnknownPeriod}
+use Rattle.book_fields.specs.declared.fault.BookFault.TheVariants.{Missing, WrongKind, OutOfRange}
+use Rattle.book_fields.specs.declared.fault.BookFault.TheVariants.{UnknownPeriod}
 use Rattle.book_fields.specs.Faults.{◌>>=◌, or_fault, where_holds}
-use Rattle.book_fields.specs.Fields.{member_of, text_of, array_of, filled_array_of, item_count, item_list, table_at, each}
+use Rattle.book_fields.specs.Fields.{member_of, text_of, array_of, filled_array_of, item_count}
+use Rattle.book_fields.specs.Fields.{item_list, table_at, each}
 use Rattle.tariffs.specs.declared.tiers.Tier.{Tier}
 use Rattle.tariffs.specs.Prices.{has_tiers}
 use Rattle.tariffs.specs.Names.{same_text, period_of, period_named, AreDistinct}
 use Rattle.tariffs.specs.PriceFields.{next_tier, tiers_of, price_of, with_price, prices_of}
-use Rattle.tariffs.specs.PricedOnce.{period_text, names_period, entry_tiers, IsPricedOnce, PricesAreOnce}
+use Rattle.tariffs.specs.PricedOnce.{period_text, names_period, entry_tiers, IsPricedOnce}
+use Rattle.tariffs.specs.PricedOnce.{PricesAreOnce}
 use Rattle.tariffs.proofs.NameFacts.{same_itself, same_is, named_back}
 
 or_found : {A : Type 0} (e : BookFault) (o : Option A) (v : A) → or_fault e o ≡ Ok v → o ≡ Some v

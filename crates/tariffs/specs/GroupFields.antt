@@ -1,6 +1,7 @@
 -- The rating groups of a book's document.
 -- Source: RFC 8506 sections 8.16, 8.29 and 8.34 for what the keys say; the keys: profile.
-use Rattle.std.specs.Prelude.{ℕ, ◌/◌, ◌==◌, ◌&&◌, not, List, [], Option, Some, None, Result, Ok, Err, nat_le, if◌then◌else◌, codes}
+use Rattle.std.specs.Prelude.{ℕ, ◌/◌, ◌==◌, ◌&&◌, not, List, [], Option, Some, None, Result, Ok}
+use Rattle.std.specs.Prelude.{Err, nat_le, if◌then◌else◌, codes}
 use Rattle.std.specs.List.{list_any}
 use Rattle.toml.specs.Data.{Data, Members}
 use Rattle.calendar.specs.declared.cycle.Cycle.{Cycle}

@@ -1,6 +1,8 @@
 -- The names of a book's tariff periods.
 -- Source: profile.
-use Rattle.std.specs.Prelude.{◌≡◌, ℕ, ◌+◌, ◌≤◌, ◌&&◌, Bool, not, List, [], ◌∷◌, length, map, Option, Some, None, Result, nat_le, nat_eq, slice_get, if◌then◌else◌, codes, String, string_bytes}
+use Rattle.std.specs.Prelude.{◌≡◌, ℕ, ◌+◌, ◌≤◌, ◌&&◌, Bool, not, List, [], ◌∷◌, length, map, Option}
+use Rattle.std.specs.Prelude.{Some, None, Result, nat_le, nat_eq, slice_get, if◌then◌else◌, codes}
+use Rattle.std.specs.Prelude.{String, string_bytes}
 use Rattle.std.specs.List.{list_all, list_any}
 use Rattle.std.specs.Cmp.Lexicographic.{pointwise}
 use Rattle.std.specs.Char.{is_ascii_lowercase}

@@ -1,13 +1,17 @@
 -- The prices of a group in a book's document.
 -- Source: TS 32.296, rating function; the keys: profile.
-use Rattle.std.specs.Prelude.{ℕ, ◌+◌, ◌-◌, ◌==◌, Bool, true, false, not, List, [], length, replicate, slice_get, slice_index_or, slice_set, Option, Some, None, Result, Ok, nat_lt, unwrap_or, option_and_then, codes}
+use Rattle.std.specs.Prelude.{ℕ, ◌+◌, ◌-◌, ◌==◌, Bool, true, false, not, List, [], length}
+use Rattle.std.specs.Prelude.{replicate, slice_get, slice_index_or, slice_set, Option, Some, None}
+use Rattle.std.specs.Prelude.{Result, Ok, nat_lt, unwrap_or, option_and_then, codes}
 use Rattle.std.specs.List.{list_all}
 use Rattle.toml.specs.Data.{Data, Members}
 use Rattle.calendar.specs.declared.week.Period.{Period}
 use Rattle.book_fields.specs.declared.fault.BookFault.{BookFault}
-use Rattle.book_fields.specs.declared.fault.BookFault.TheVariants.{Missing, OutOfRange, TiersNotRising}
+use Rattle.book_fields.specs.declared.fault.BookFault.TheVariants.{Missing, OutOfRange}
+use Rattle.book_fields.specs.declared.fault.BookFault.TheVariants.{TiersNotRising}
 use Rattle.book_fields.specs.Faults.{◌>>=◌, where_holds}
-use Rattle.book_fields.specs.Fields.{number_in, array_of, filled_array_of, item_count, table_at, each, collected}
+use Rattle.book_fields.specs.Fields.{number_in, array_of, filled_array_of, item_count, table_at}
+use Rattle.book_fields.specs.Fields.{each, collected}
 use Rattle.tariffs.specs.declared.tiers.Tier.{Tier}
 use Rattle.tariffs.specs.Prices.{has_tiers}
 use Rattle.tariffs.specs.Names.{period_of}

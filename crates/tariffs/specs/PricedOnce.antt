@@ -1,7 +1,8 @@
 -- One price for each period: of the entries of a group's `price` exactly one names it, and its
 -- tiers are the period's.
 -- Source: profile.
-use Rattle.std.specs.Prelude.{◌≡◌, ℕ, Bool, List, [], ◌∷◌, Option, Some, Result, Ok, slice_get, slice_index_or, option_and_then, codes}
+use Rattle.std.specs.Prelude.{◌≡◌, ℕ, Bool, List, [], ◌∷◌, Option, Some, Result, Ok, slice_get}
+use Rattle.std.specs.Prelude.{slice_index_or, option_and_then, codes}
 use Rattle.std.specs.List.{filter}
 use Rattle.std.specs.Option.{option_eq}
 use Rattle.toml.specs.Data.{Data, Items, Members, get_member, as_str, as_table}

@@ -1,5 +1,6 @@
 -- Prices by tiers (TS 32.296, rating).
-use Rattle.std.specs.Prelude.{◌≡◌, ℕ, ◌≤◌, ◌<◌, Bool, true, false, not, IsTrue, ◌==◌, nat_le, List, [], ◌∷◌, length, map, if◌then◌else◌, Option, Some, None, Vec}
+use Rattle.std.specs.Prelude.{◌≡◌, ℕ, ◌≤◌, ◌<◌, Bool, true, false, not, IsTrue, ◌==◌, nat_le, List}
+use Rattle.std.specs.Prelude.{[], ◌∷◌, length, map, if◌then◌else◌, Option, Some, None, Vec}
 use Rattle.std.specs.List.{AllByRecursion}
 use Rattle.std.specs.declared.alloc.Global.{Global}
 use Rattle.tariffs.specs.declared.tiers.Tier.{Tier}

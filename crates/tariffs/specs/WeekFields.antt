@@ -1,6 +1,9 @@
 -- The zone and the week of a book's document.
 -- Source: profile.
-use Rattle.std.specs.Prelude.{ℕ, ◌+◌, ◌-◌, ◌*◌, ◌==◌, ◌&&◌, Bool, true, false, not, List, [], ◌∷◌, replicate, slice_index_or, slice_set, Option, Some, None, Result, Ok, nat_le, nat_lt, ℤ, pos, neg_ℤ, int_le, unsigned_abs, if◌then◌else◌, option_and_then, codes}
+use Rattle.std.specs.Prelude.{ℕ, ◌+◌, ◌-◌, ◌*◌, ◌==◌, ◌&&◌, Bool, true, false, not, List, [], ◌∷◌}
+use Rattle.std.specs.Prelude.{replicate, slice_index_or, slice_set, Option, Some, None, Result, Ok}
+use Rattle.std.specs.Prelude.{nat_le, nat_lt, ℤ, pos, neg_ℤ, int_le, unsigned_abs, if◌then◌else◌}
+use Rattle.std.specs.Prelude.{option_and_then, codes}
 use Rattle.std.specs.Char.{is_ascii_digit}
 use Rattle.toml.specs.Data.{Data, Members, as_integer}
 use Rattle.calendar.specs.declared.week.Entry.{Entry}

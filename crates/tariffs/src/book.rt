@@ -1,7 +1,10 @@
-ghost use Rattle.std.specs.Prelude.{◌≡◌, ◌≢◌, ◌==◌, ℕ, ◌+◌, ◌*◌, ◌<◌, ◌≤◌, nat_lt, pos, ◌+ℤ◌, ◌*ℤ◌, length, find, slice_get, option_copied, IfOk, IfErr, IfSome, IfNone, Ok, Err};
+ghost use Rattle.std.specs.Prelude.{◌≡◌, ◌≢◌, ◌==◌, ℕ, ◌+◌, ◌*◌, ◌<◌, ◌≤◌, nat_lt, pos, ◌+ℤ◌, ◌*ℤ◌};
+ghost use Rattle.std.specs.Prelude.{length, find, slice_get, option_copied, IfOk, IfErr, IfSome};
+ghost use Rattle.std.specs.Prelude.{IfNone, Ok, Err};
 ghost use Rattle.toml.specs.Data.{Members};
 ghost use Rattle.toml.specs.View.{table_view};
-ghost use Rattle.calendar.specs.Timetable.{period_at, IsEntryAt, IsChange, switch_within, validity_from, cycle_of, day_end, IsDayEnd};
+ghost use Rattle.calendar.specs.Timetable.{period_at, IsEntryAt, IsChange, switch_within};
+ghost use Rattle.calendar.specs.Timetable.{validity_from, cycle_of, day_end, IsDayEnd};
 ghost use Rattle.calendar.specs.Clock.{day};
 ghost use Rattle.calendar.specs.declared.week.Entry.{Entry};
 ghost use Rattle.jiff.specs.Types.{Date};

@@ -4,7 +4,9 @@ ghost use Rattle.toml.specs.View.{view, table_view, items_view};
 ghost use Rattle.book_fields.specs.Faults.{Gives};
 ghost use Rattle.book_fields.specs.Fields.{collected};
 ghost use Rattle.tariffs.specs.Tariffs.{IsTariff, AreOfOtherGroups};
-ghost use Rattle.tariffs.specs.GroupFields.{id_of, unit_named, unit_of, most_units, max_grant_of, cycle_named, cycle_of, redirect_of, final_action_of, group_of, groups_of};
+ghost use Rattle.tariffs.specs.GroupFields.{id_of, unit_named, unit_of, most_units, max_grant_of};
+ghost use Rattle.tariffs.specs.GroupFields.{cycle_named, cycle_of, redirect_of, final_action_of};
+ghost use Rattle.tariffs.specs.GroupFields.{group_of, groups_of};
 
 use crate::final_action::FinalAction;
 use crate::names::PeriodNames;

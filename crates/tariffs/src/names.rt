@@ -1,10 +1,12 @@
-ghost use Rattle.std.specs.Prelude.{◌≡◌, ◌≤◌, ◌<◌, [], length, string_bytes, slice_get, option_copied, IfOk, IfSome, Some, true, vec_len};
+ghost use Rattle.std.specs.Prelude.{◌≡◌, ◌≤◌, ◌<◌, [], length, string_bytes, slice_get};
+ghost use Rattle.std.specs.Prelude.{option_copied, IfOk, IfSome, Some, true, vec_len};
 ghost use Rattle.std.specs.List.{list_all, list_any};
 ghost use Rattle.std.specs.Char.{is_ascii_lowercase};
 ghost use Rattle.toml.specs.View.{view, table_view, items_view};
 ghost use Rattle.book_fields.specs.Faults.{Gives};
 ghost use Rattle.book_fields.specs.Fields.{collected};
-ghost use Rattle.tariffs.specs.Names.{texts, same_text, is_name, name_of, names_of, period_named, period_of, ArePeriods, AreDistinct};
+ghost use Rattle.tariffs.specs.Names.{texts, same_text, is_name, name_of, names_of, period_named};
+ghost use Rattle.tariffs.specs.Names.{period_of, ArePeriods, AreDistinct};
 
 use book_fields::BookFault;
 use calendar::Period;

@@ -3,9 +3,11 @@ ghost use Rattle.std.specs.List.{AllByRecursion, list_all};
 ghost use Rattle.toml.specs.View.{view, table_view, items_view};
 ghost use Rattle.book_fields.specs.Faults.{Gives};
 ghost use Rattle.book_fields.specs.Fields.{each, collected};
-ghost use Rattle.tariffs.specs.Prices.{AreTiers, IsBoundAfter, IsPriceOrNone, has_tiers, tier_lists};
+ghost use Rattle.tariffs.specs.Prices.{AreTiers, IsBoundAfter, IsPriceOrNone, has_tiers};
+ghost use Rattle.tariffs.specs.Prices.{tier_lists};
 ghost use Rattle.tariffs.specs.PricedOnce.{PricesAreOnce};
-ghost use Rattle.tariffs.specs.PriceFields.{last_bound, bound_of, tier_of, next_tier, tiers_of, price_of, with_price, prices_of};
+ghost use Rattle.tariffs.specs.PriceFields.{last_bound, bound_of, tier_of, next_tier, tiers_of};
+ghost use Rattle.tariffs.specs.PriceFields.{price_of, with_price, prices_of};
 
 use crate::names::PeriodNames;
 use crate::tiers::Tier;

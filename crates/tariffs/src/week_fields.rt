@@ -1,9 +1,12 @@
-ghost use Rattle.std.specs.Prelude.{◌≡◌, ◌<◌, ◌≤◌, [], IfOk, IfSome, All, false, replicate, length, string_bytes, codes};
+ghost use Rattle.std.specs.Prelude.{◌≡◌, ◌<◌, ◌≤◌, [], IfOk, IfSome, All, false, replicate, length};
+ghost use Rattle.std.specs.Prelude.{string_bytes, codes};
 ghost use Rattle.jiff.specs.Words.{IsWithin};
 ghost use Rattle.toml.specs.View.{view, table_view, items_view};
 ghost use Rattle.book_fields.specs.Faults.{Gives};
 ghost use Rattle.book_fields.specs.Fields.{text_of, each, collected};
-ghost use Rattle.tariffs.specs.WeekFields.{minutes_of, signed_minutes, zone_minutes, zone_of, day_of, with_day, days_of, minute_of, entry_of, entries_of};
+ghost use Rattle.tariffs.specs.WeekFields.{minutes_of, signed_minutes, zone_minutes, zone_of};
+ghost use Rattle.tariffs.specs.WeekFields.{day_of, with_day, days_of, minute_of, entry_of};
+ghost use Rattle.tariffs.specs.WeekFields.{entries_of};
 
 use crate::names::PeriodNames;
 use book_fields::BookFault;

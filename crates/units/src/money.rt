@@ -1,4 +1,5 @@
-ghost use Rattle.std.specs.Prelude.{◌≡◌, ℕ, ◌≤◌, ◌↔◌, ◌<ℤ◌, ◌⊎◌, pos, IsSome, IfSome, IfOk, IsErrOf};
+ghost use Rattle.std.specs.Prelude.{◌≡◌, ℕ, ◌≤◌, ◌↔◌, ◌<ℤ◌, ◌⊎◌, pos, IsSome, IfSome, IfOk};
+ghost use Rattle.std.specs.Prelude.{IsErrOf};
 ghost use Rattle.units.specs.Amounts.{micros_of, IsExponent};
 
 use std::marker::Model;
@@ -57,7 +58,8 @@ impl Money {
         ensures exponent { IsErrOf result UnitFault.Exponent → IsExponent exponent → ⊥ }
         ensures exponent_told { (IsExponent exponent → ⊥) → IsErrOf result UnitFault.Exponent }
         ensures out_of_range { IsErrOf result UnitFault.OutOfRange →
-            (micros_of digits exponent <ℤ pos 0) ⊎ (pos 1_000_000_000_000_000 <ℤ micros_of digits exponent) }
+            (micros_of digits exponent <ℤ pos 0)
+            ⊎ (pos 1_000_000_000_000_000 <ℤ micros_of digits exponent) }
     {
         let factor: u64 = match exponent {
             -6 => 1,

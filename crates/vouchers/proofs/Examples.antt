@@ -7,10 +7,20 @@ use Rattle.vouchers.specs.Rows.{number_in, optional_in, terms_of, voucher_of}
 
 -- three vouchers: with days, with more days, with a scope
 pub three_vouchers : vouchers_in
-    (codes "code,amount,days,scope\n000000000001,5000000,30,\n000000000002,10000000,90,\n000000000003,1000000,7,20\n")
-    ≡ Ok (record { code = codes "000000000001"; terms = record { amount = 5000000; days = Some 30; scope = None } }
-    ∷ record { code = codes "000000000002"; terms = record { amount = 10000000; days = Some 90; scope = None } }
-    ∷ record { code = codes "000000000003"; terms = record { amount = 1000000; days = Some 7; scope = Some 20 } } ∷ [])
+    (codes
+    "code,amount,days,scope\n000000000001,5000000,30,\n000000000002,10000000,90,\n000000000003,1000000,7,20\n")
+    ≡ Ok (record {
+      code = codes "000000000001";
+      terms = record { amount = 5000000; days = Some 30; scope = None };
+    }
+    ∷ record {
+      code = codes "000000000002";
+      terms = record { amount = 10000000; days = Some 90; scope = None };
+    }
+    ∷ record {
+      code = codes "000000000003";
+      terms = record { amount = 1000000; days = Some 7; scope = Some 20 };
+    } ∷ [])
 unfolding csv_on_literals vouchers_from voucher_of terms_of number_in optional_in
 three_vouchers = refl
 
@@ -32,6 +42,9 @@ header_alone = refl
 -- a byte order mark, an empty line, CR LF, quoted fields, no days
 pub as_csv_reads : vouchers_in
     (0xEF ∷ 0xBB ∷ 0xBF ∷ codes "code,\"amount\",days,scope\r\n\r\n\"000000000001\",1,,0\r\n")
-    ≡ Ok (record { code = codes "000000000001"; terms = record { amount = 1; days = None; scope = Some 0 } } ∷ [])
+    ≡ Ok (record {
+      code = codes "000000000001";
+      terms = record { amount = 1; days = None; scope = Some 0 };
+    } ∷ [])
 unfolding csv_on_literals vouchers_from voucher_of terms_of number_in optional_in
 as_csv_reads = refl

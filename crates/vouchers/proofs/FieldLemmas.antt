@@ -1,5 +1,6 @@
 -- A field of a record, and fields that are no text.
-use Rattle.std.proofs.Common.{◌≡◌, ◌&&◌, ◌==◌, ◌<◌, ◌≤◌, ℕ, zero, suc, List, [], ◌∷◌, length, true, false, Option, Some, None, IsUtf8, refl, ap, ◌∙◌, arith, All}
+use Rattle.std.proofs.Common.{◌≡◌, ◌&&◌, ◌==◌, ◌<◌, ◌≤◌, ℕ, zero, suc, List, [], ◌∷◌, length, true}
+use Rattle.std.proofs.Common.{false, Option, Some, None, IsUtf8, refl, ap, ◌∙◌, arith, All}
 use Rattle.std.specs.Prelude.{IfSome, nat_le}
 use Rattle.std.specs.List.{list_all}
 use Rattle.std.specs.Char.{is_ascii_digit}
@@ -38,7 +39,8 @@ ascii (b ∷ bs) e =
 
 -- what is no text isn't all digits
 no_digits : (bs : List ℕ) → ¬ (IsUtf8 bs) → list_all is_digit bs ≡ false
-no_digits bs other = false_from_ne_true (list_all is_digit bs) (λ e. other (IsUtf8-from_ascii bs (IsAscii-from_all bs (ascii bs e))))
+no_digits bs other = false_from_ne_true (list_all is_digit bs)
+    (λ e. other (IsUtf8-from_ascii bs (IsAscii-from_all bs (ascii bs e))))
 
 same_digits : (bs : List ℕ) → list_all is_ascii_digit bs ≡ list_all is_digit bs
 same_digits [] = refl
@@ -47,7 +49,8 @@ same_digits (b ∷ bs) = ap (λ t. is_digit b && t) (same_digits bs)
 -- so it says no number
 pub no_number : (bs : List ℕ) → ¬ (IsUtf8 bs) → number_of bs ≡ None
 no_number bs other =
-    rw (and_right (nat_le 1 (length bs)) _ (and_right (nat_le (length bs) 16) _ (same_digits bs ∙ no_digits bs other))) refl
+    rw (and_right (nat_le 1 (length bs)) _
+    (and_right (nat_le (length bs) 16) _ (same_digits bs ∙ no_digits bs other))) refl
 
 -- and is no code
 pub no_code : (bs : List ℕ) → ¬ (IsUtf8 bs) → is_voucher_code bs ≡ false
@@ -58,6 +61,7 @@ days_in_range : (days : Option ℕ) → IfSome days (λ n. (1 ≤ n) × (n ≤ 3
 days_in_range None h = refl
 days_in_range (Some n) h = grind arith
 
-pub terms_in_range : (amount : ℕ) (days : Option ℕ) → (1 ≤ amount) × (amount ≤ 1_000_000_000_000_000)
+pub terms_in_range : (amount : ℕ) (days : Option ℕ)
+    → (1 ≤ amount) × (amount ≤ 1_000_000_000_000_000)
     → IfSome days (λ n. (1 ≤ n) × (n ≤ 3650)) → are_terms amount days ≡ true
 terms_in_range amount days some h = grind (arith, days_in_range days h)

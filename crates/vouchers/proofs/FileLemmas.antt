@@ -1,8 +1,12 @@
 -- What has been read of a file, and what follows from it for the whole file.
-use Rattle.std.proofs.Common.{◌≡◌, ◌≢◌, ◌+◌, ◌≤◌, ℕ, List, [], ◌∷◌, ◌++◌, length, Bool, true, false, Option, Some, None, IfSome, IfErr, Result, Ok, Err, IsTrue, refl, sym, ap, subst, ◌∙◌, arith, append_assoc, option_map, length-append, ◌&&◌, if◌then◌else◌}
+use Rattle.std.proofs.Common.{◌≡◌, ◌≢◌, ◌+◌, ◌≤◌, ℕ, List, [], ◌∷◌, ◌++◌, length, Bool, true, false}
+use Rattle.std.proofs.Common.{Option, Some, None, IfSome, IfErr, Result, Ok, Err, IsTrue, refl, sym}
+use Rattle.std.proofs.Common.{ap, subst, ◌∙◌, arith, append_assoc, option_map, length-append, ◌&&◌}
+use Rattle.std.proofs.Common.{if◌then◌else◌}
 use Rattle.std.proofs.lemmas.List.{append-nil}
 use Rattle.std.proofs.lemmas.Bool.{and_parts}
-use Rattle.csv.specs.Reading.{Reached, ReadRecord, default_config, strip_bom, source_of, reader_state, reader_config, reader_trim}
+use Rattle.csv.specs.Reading.{Reached, ReadRecord, default_config, strip_bom, source_of}
+use Rattle.csv.specs.Reading.{reader_state, reader_config, reader_trim}
 use Rattle.csv.specs.declared.reader.Reader.{Reader}
 use Rattle.csv.specs.declared.parser.State.{State}
 use Rattle.csv.specs.declared.parser.State.TheVariants as st
@@ -13,19 +17,22 @@ use Rattle.vouchers.specs.declared.fault.FaultKind.TheVariants.{Header, Memory}
 use Rattle.vouchers.specs.declared.fault.VoucherFault.{VoucherFault}
 use Rattle.commands.specs.declared.command.VoucherAddition.{VoucherAddition}
 use Rattle.vouchers.specs.Faults.{is_in_file}
-use Rattle.vouchers.specs.Files.{records_in, fault_at, at_record, vouchers_from, vouchers_of, vouchers_in, MayStopAt, ReadsFirst}
+use Rattle.vouchers.specs.Files.{records_in, fault_at, at_record, vouchers_from, vouchers_of}
+use Rattle.vouchers.specs.Files.{vouchers_in, MayStopAt, ReadsFirst}
 use Rattle.vouchers.specs.Rows.{voucher_of, is_header}
 use Rattle.vouchers.proofs.RecordLemmas.{reached_first}
 
 -- ---- vouchers one after the other
 
-same_reading : (r : Result (List VoucherAddition) VoucherFault) → r ≡ (r >>= λ rest. Ok ([] ++ rest))
+same_reading : (r : Result (List VoucherAddition) VoucherFault) →
+    r ≡ (r >>= λ rest. Ok ([] ++ rest))
 same_reading (Ok rows) = refl
 same_reading (Err f) = refl
 
 two_readings : (rows : List VoucherAddition) (row : VoucherAddition)
     (r : Result (List VoucherAddition) VoucherFault)
-    → ((r >>= λ rest. Ok (row ∷ rest)) >>= λ rest. Ok (rows ++ rest)) ≡ (r >>= λ rest. Ok ((rows ++ row ∷ []) ++ rest))
+    → ((r >>= λ rest. Ok (row ∷ rest)) >>= λ rest. Ok (rows ++ rest))
+    ≡ (r >>= λ rest. Ok ((rows ++ row ∷ []) ++ rest))
 two_readings rows row (Ok rest) = ap Ok (sym (append_assoc rows (row ∷ []) rest))
 two_readings rows row (Err f) = refl
 
@@ -33,7 +40,8 @@ two_readings rows row (Err f) = refl
 abbrev NotBefore : ℕ → Result (List VoucherAddition) VoucherFault → Type 0
 NotBefore n r = IfErr r (λ f. n ≤ f.record_number)
 
-not_before_bind : (n : ℕ) (rows : List VoucherAddition) (r : Result (List VoucherAddition) VoucherFault)
+not_before_bind : (n : ℕ) (rows : List VoucherAddition)
+    (r : Result (List VoucherAddition) VoucherFault)
     → NotBefore n r → NotBefore n (r >>= λ rest. Ok (rows ++ rest))
 not_before_bind n rows (Ok rest) h = tt
 not_before_bind n rows (Err f) h = h
@@ -48,13 +56,15 @@ not_before_more n (Err kind) more h = omega arith
 not_before : (n : ℕ) (records : List (List (List ℕ))) → NotBefore n (vouchers_from n records)
 unfolding vouchers_from
 not_before n [] = tt
-not_before n (fields ∷ more) = not_before_more n (voucher_of fields) (vouchers_from (n + 1) more) (not_before (n + 1) more)
+not_before n (fields ∷ more) =
+    not_before_more n (voucher_of fields) (vouchers_from (n + 1) more) (not_before (n + 1) more)
 
 -- ---- a file that was read in part
 
 -- of a text the header and these records were read, up to the one before this number; they say
 -- these vouchers
-pub record HasRead (text : List ℕ) (source : Option (List ℕ)) (state : State) (rows : List VoucherAddition) (number : ℕ) : Type 0 where
+pub record HasRead (text : List ℕ) (source : Option (List ℕ)) (state : State)
+    (rows : List VoucherAddition) (number : ℕ) : Type 0 where
   pub header : List (List ℕ)
   pub others : List (List (List ℕ))
   pub left : List ℕ
@@ -62,12 +72,14 @@ pub record HasRead (text : List ℕ) (source : Option (List ℕ)) (state : State
   pub reached : Reached default_config st.StartRecord (strip_bom text) (header ∷ others) state left
   pub first : is_header header ≡ true
   pub count : 2 + length others ≡ number
-  pub so_far : (more : List (List (List ℕ))) → vouchers_from 2 (others ++ more) ≡ (vouchers_from number more >>= λ rest. Ok (rows ++ rest))
+  pub so_far : (more : List (List (List ℕ))) →
+      vouchers_from 2 (others ++ more) ≡ (vouchers_from number more >>= λ rest. Ok (rows ++ rest))
 
 -- the same of a reader, where the bytes that it began with are known
 abbrev pub Knows : {R : Type 0} → (R → Option (List ℕ)) → Option (List ℕ) → Reader R
     → List VoucherAddition → ℕ → Type 0
-Knows rem start reader rows number = IfSome start (λ text. HasRead text (source_of rem reader) (reader_state reader) rows number)
+Knows rem start reader rows number =
+    IfSome start (λ text. HasRead text (source_of rem reader) (reader_state reader) rows number)
 
 -- the whole file, by the records that follow
 whole : (text : List ℕ) (header : List (List ℕ)) (others more : List (List (List ℕ)))
@@ -83,7 +95,8 @@ header_read : {R : Type 0} (rem : R → Option (List ℕ)) (start : Option (List
 unfolding Reached
 header_read rem None a b fields config source state read first = tt
 header_read rem (Some text) a b fields config source state read first =
-    let (left, at, reached) = rows-more rem a b fields default_config st.StartRecord (strip_bom text) (strip_bom text) [] config source (sym state, refl) read in
+    let (left, at, reached) = rows-more rem a b fields default_config st.StartRecord
+    (strip_bom text) (strip_bom text) [] config source (sym state, refl) read in
     record {
       header = fields;
       others = [];
@@ -123,12 +136,14 @@ no_header_read : {R : Type 0} (rem : R → Option (List ℕ)) (start : Option (L
 unfolding Reached
 no_header_read rem None a b found fields config source state read other = tt
 no_header_read rem (Some text) a b true fields config source state read other =
-    let (left, at, reached) = rows-more rem a b fields default_config st.StartRecord (strip_bom text) (strip_bom text) [] config source (sym state, refl) read in
+    let (left, at, reached) = rows-more rem a b fields default_config st.StartRecord
+    (strip_bom text) (strip_bom text) [] config source (sym state, refl) read in
     let (more, records, last) = reached_first text (fields ∷ []) (reader_state b) left reached in
     header_fault (records_in text) fields more other records
 no_header_read rem (Some text) a b false fields config source state read other =
     let over = rows-end rem a b fields default_config (strip_bom text) config source read in
-    let (more, records, last) = reached_first text [] (reader_state a) (strip_bom text) (sym state, refl) in
+    let (more, records, last) =
+    reached_first text [] (reader_state a) (strip_bom text) (sym state, refl) in
     ap vouchers_of (records ∙ last over)
 
 -- the first record is none, or no header
@@ -150,7 +165,8 @@ pub goes_on : {R : Type 0} (rem : R → Option (List ℕ)) (start : Option (List
 unfolding vouchers_from
 goes_on rem None a b fields rows row number config had read is = tt
 goes_on rem (Some text) a b fields rows row number config had read is =
-    let (left, at, reached) = rows-more rem a b fields default_config st.StartRecord (strip_bom text) had.left (had.header ∷ had.others) config had.left_is had.reached read in
+    let (left, at, reached) = rows-more rem a b fields default_config st.StartRecord
+    (strip_bom text) had.left (had.header ∷ had.others) config had.left_is had.reached read in
     record {
       header = had.header;
       others = had.others ++ fields ∷ [];
@@ -160,8 +176,11 @@ goes_on rem (Some text) a b fields rows row number config had read is =
       first = had.first;
       count = omega (arith, had.count, length-append had.others (fields ∷ []));
       so_far = λ more.
-          ap (vouchers_from 2) (append_assoc had.others (fields ∷ []) more) ∙ had.so_far (fields ∷ more)
-          ∙ ap (λ (r : Result VoucherAddition FaultKind). (at_record number r >>= λ row. vouchers_from (number + 1) more >>= λ rest. Ok (row ∷ rest)) >>= λ rest. Ok (rows ++ rest)) is
+          ap (vouchers_from 2) (append_assoc had.others (fields ∷ []) more)
+          ∙ had.so_far (fields ∷ more)
+          ∙ ap (λ (r : Result VoucherAddition FaultKind). (at_record number r >>= λ row.
+          vouchers_from (number + 1) more >>= λ rest. Ok (row ∷ rest)) >>= λ rest.
+          Ok (rows ++ rest)) is
           ∙ two_readings rows row (vouchers_from (number + 1) more);
     }
 
@@ -181,11 +200,15 @@ pub fails : {R : Type 0} (rem : R → Option (List ℕ)) (start : Option (List �
 unfolding vouchers_from
 fails rem None a b fields rows number f config had read at_number in_file is = tt
 fails rem (Some text) a b fields rows number f config had read at_number in_file is =
-    let (left, at, reached) = rows-more rem a b fields default_config st.StartRecord (strip_bom text) had.left (had.header ∷ had.others) config had.left_is had.reached read in
-    let (more, records, last) = reached_first text (had.header ∷ had.others ++ fields ∷ []) (reader_state b) left reached in
+    let (left, at, reached) = rows-more rem a b fields default_config st.StartRecord
+    (strip_bom text) had.left (had.header ∷ had.others) config had.left_is had.reached read in
+    let (more, records, last) =
+    reached_first text (had.header ∷ had.others ++ fields ∷ []) (reader_state b) left reached in
     whole text had.header (had.others ++ fields ∷ []) more had.first records
     ∙ ap (vouchers_from 2) (append_assoc had.others (fields ∷ []) more) ∙ had.so_far (fields ∷ more)
-    ∙ ap (λ (r : Result VoucherAddition FaultKind). (at_record number r >>= λ row. vouchers_from (number + 1) more >>= λ rest. Ok (row ∷ rest)) >>= λ rest. Ok (rows ++ rest)) (is (not_memory f.kind in_file))
+    ∙ ap (λ (r : Result VoucherAddition FaultKind).
+    (at_record number r >>= λ row. vouchers_from (number + 1) more >>= λ rest. Ok (row ∷ rest))
+    >>= λ rest. Ok (rows ++ rest)) (is (not_memory f.kind in_file))
     ∙ ap Err (fault_is f number at_number)
 
 -- no record follows
@@ -197,9 +220,11 @@ unfolding vouchers_from
 ends rem None a b fields rows number config had read = tt
 ends rem (Some text) a b fields rows number config had read =
     let over = rows-end rem a b fields default_config had.left config had.left_is read in
-    let (more, records, last) = reached_first text (had.header ∷ had.others) (reader_state a) had.left had.reached in
+    let (more, records, last) =
+    reached_first text (had.header ∷ had.others) (reader_state a) had.left had.reached in
     whole text had.header had.others more had.first records ∙ had.so_far more
-    ∙ ap (λ (rs : List (List (List ℕ))). vouchers_from number rs >>= λ rest. Ok (rows ++ rest)) (last over) ∙ ap Ok (append-nil rows)
+    ∙ ap (λ (rs : List (List (List ℕ))). vouchers_from number rs >>= λ rest. Ok (rows ++ rest))
+    (last over) ∙ ap Ok (append-nil rows)
 
 -- reading stopped at this record
 pub stops : {R : Type 0} (rem : R → Option (List ℕ)) (start : Option (List ℕ)) (a : Reader R)
@@ -207,18 +232,23 @@ pub stops : {R : Type 0} (rem : R → Option (List ℕ)) (start : Option (List �
     → IfSome start (MayStopAt number)
 stops rem None a rows number had = tt
 stops rem (Some text) a rows number had =
-    let (more, records, last) = reached_first text (had.header ∷ had.others) (reader_state a) had.left had.reached in
+    let (more, records, last) =
+    reached_first text (had.header ∷ had.others) (reader_state a) had.left had.reached in
     let total = whole text had.header had.others more had.first records ∙ had.so_far more in
     record {
-      within = omega (arith, had.count, ap length records, length-append (had.header ∷ had.others) more);
-      no_earlier = subst (NotBefore number) (sym total) (not_before_bind number rows (vouchers_from number more) (not_before number more));
+      numbered = omega (arith, had.count);
+      within =
+          omega (arith, had.count, ap length records, length-append (had.header ∷ had.others) more);
+      no_earlier = subst (NotBefore number) (sym total)
+          (not_before_bind number rows (vouchers_from number more) (not_before number more));
     }
 
 from_first : (records : List (List (List ℕ))) → NotBefore 1 (vouchers_of records)
 from_first [] = omega arith
 from_first (fields ∷ more) = first_of (is_header fields) (vouchers_from 2 more) (not_before 2 more)
   where
-    first_of : (b : Bool) (r : Result (List VoucherAddition) VoucherFault) → NotBefore 2 r → NotBefore 1 (if b then r else Err (fault_at 1 Header))
+    first_of : (b : Bool) (r : Result (List VoucherAddition) VoucherFault) → NotBefore 2 r →
+        NotBefore 1 (if b then r else Err (fault_at 1 Header))
     first_of true (Ok rows) h = tt
     first_of true (Err f) h = omega (arith, h)
     first_of false r h = omega arith
@@ -226,4 +256,8 @@ from_first (fields ∷ more) = first_of (is_header fields) (vouchers_from 2 more
 -- it stopped at the first
 pub stops_first : (start : Option (List ℕ)) → IfSome start (MayStopAt 1)
 stops_first None = tt
-stops_first (Some text) = record { within = omega arith; no_earlier = from_first (records_in text) }
+stops_first (Some text) = record {
+  numbered = omega arith;
+  within = omega arith;
+  no_earlier = from_first (records_in text);
+}

@@ -2,7 +2,8 @@
 -- Source: profile.
 use Rattle.std.specs.Prelude.{ℕ, Bool, true, false}
 use Rattle.vouchers.specs.declared.fault.FaultKind.{FaultKind}
-use Rattle.vouchers.specs.declared.fault.FaultKind.TheVariants.{Header, FieldCount, Code, Amount, Days, Scope, Read, Memory}
+use Rattle.vouchers.specs.declared.fault.FaultKind.TheVariants.{Header, FieldCount, Code, Amount}
+use Rattle.vouchers.specs.declared.fault.FaultKind.TheVariants.{Days, Scope, Read, Memory}
 
 -- the number under which a fault is told
 abbrev pub number_of : FaultKind → ℕ

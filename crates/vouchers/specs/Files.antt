@@ -1,9 +1,9 @@
 -- What a file of vouchers says: all its vouchers in order, or its first fault with the number of
--- its record. Records are
--- those of the csv crate: a byte order mark at the start is no part of them, and an empty line is
--- none.
+-- its record. Records are those of the csv crate: a byte order mark at the start is no part of
+-- them, and an empty line is none.
 -- Source: profile; RFC 4180.
-use Rattle.std.specs.Prelude.{◌≡◌, ℕ, ◌+◌, ◌≤◌, ◌&&◌, Bool, Option, List, [], ◌∷◌, length, IfErr, Result, Ok, Err, if◌then◌else◌}
+use Rattle.std.specs.Prelude.{◌≡◌, ℕ, ◌+◌, ◌≤◌, ◌&&◌, Bool, Option, List, [], ◌∷◌, length, IfErr}
+use Rattle.std.specs.Prelude.{Result, Ok, Err, if◌then◌else◌}
 use Rattle.csv.specs.Reading.{ReadRecord, records, default_config, strip_bom}
 use Rattle.csv.specs.declared.reader.Reader.{Reader}
 use Rattle.first_fault.specs.Steps.{◌>>=◌}
@@ -37,17 +37,21 @@ vouchers_from number (fields ∷ more) = do
 -- the header is record 1, and the vouchers follow it
 abbrev pub vouchers_of : List (List (List ℕ)) → Result (List VoucherAddition) VoucherFault
 vouchers_of [] = Err (fault_at 1 Header)
-vouchers_of (fields ∷ more) = if is_header fields then vouchers_from 2 more else Err (fault_at 1 Header)
+vouchers_of (fields ∷ more) =
+    if is_header fields then vouchers_from 2 more else Err (fault_at 1 Header)
 
 -- what a file says
 abbrev pub vouchers_in : List ℕ → Result (List VoucherAddition) VoucherFault
 vouchers_in text = vouchers_of (records_in text)
 
--- reading may stop at this record: no earlier one has a fault, and it is at most one past the last
+-- reading may stop at this record: no earlier one has a fault, and it is at most one past the last;
+-- the first is record 1
 pub record MayStopAt (number : ℕ) (text : List ℕ) : Type 0 where
+  pub numbered : 1 ≤ number
   pub within : number ≤ length (records_in text) + 1
   pub no_earlier : IfErr (vouchers_in text) (λ fault. number ≤ fault.record_number)
 
 -- a first record was taken, or there is none; it is the header where `has` says so
 abbrev pub ReadsFirst : {R : Type 0} → (R → Option (List ℕ)) → Reader R → Reader R → Bool → Type 0
-ReadsFirst rem old new has = (found : Bool) × (fields : List (List ℕ)) × ReadRecord rem old new found fields × (has ≡ (found && is_header fields))
+ReadsFirst rem old new has = (found : Bool) × (fields : List (List ℕ))
+    × ReadRecord rem old new found fields × (has ≡ (found && is_header fields))

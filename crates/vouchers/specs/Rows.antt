@@ -1,12 +1,14 @@
 -- The voucher that a record says: its four fields, read from the left.
 -- Source: profile; the fields are those of CSV, RFC 4180.
-use Rattle.std.specs.Prelude.{ℕ, ◌≤◌, ◌&&◌, ◌==◌, List, [], ◌∷◌, length, get_or, codes, Bool, Option, Some, None, IfSome, IsTrue, Result, Ok, nat_le}
+use Rattle.std.specs.Prelude.{ℕ, ◌≤◌, ◌&&◌, ◌==◌, List, [], ◌∷◌, length, get_or, codes, Bool}
+use Rattle.std.specs.Prelude.{Option, Some, None, IfSome, IsTrue, Result, Ok, nat_le}
 use Rattle.first_fault.specs.Steps.{◌>>=◌, or_fault, where_holds}
 use Rattle.identifiers.specs.Texts.{is_voucher_code, same_name}
 use Rattle.written_numbers.specs.Numbers.{number_of}
 use Rattle.redemptions.specs.declared.terms.VoucherTerms.{VoucherTerms}
 use Rattle.vouchers.specs.declared.fault.FaultKind.{FaultKind}
-use Rattle.vouchers.specs.declared.fault.FaultKind.TheVariants.{FieldCount, Code, Amount, Days, Scope}
+use Rattle.vouchers.specs.declared.fault.FaultKind.TheVariants.{FieldCount, Code, Amount, Days}
+use Rattle.vouchers.specs.declared.fault.FaultKind.TheVariants.{Scope}
 use Rattle.commands.specs.declared.command.VoucherAddition.{VoucherAddition}
 
 -- the field at a place, counted from 0; empty past the last
@@ -44,7 +46,8 @@ voucher_of fields = do
 
 -- the first record of a file
 abbrev pub is_header : List (List ℕ) → Bool
-is_header fields = (length fields == 4) && same_name (field fields 0) (codes "code") && same_name (field fields 1) (codes "amount")
+is_header fields = (length fields == 4) && same_name (field fields 0) (codes "code")
+    && same_name (field fields 1) (codes "amount")
     && same_name (field fields 2) (codes "days") && same_name (field fields 3) (codes "scope")
 
 -- the ranges of terms that were read

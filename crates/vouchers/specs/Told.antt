@@ -1,7 +1,8 @@
 -- A file of vouchers, record by record: the first is the header, and each other says one voucher;
 -- or the first record with a fault is told.
 -- Source: profile; the records are those of CSV, RFC 4180.
-use Rattle.std.specs.Prelude.{◌≡◌, ◌↔◌, ◌⊎◌, ℕ, ◌+◌, List, [], ◌∷◌, ◌++◌, length, map, true, false, Result, Ok, Err}
+use Rattle.std.specs.Prelude.{◌≡◌, ◌↔◌, ◌⊎◌, ℕ, ◌+◌, List, [], ◌∷◌, ◌++◌, length, map, true, false}
+use Rattle.std.specs.Prelude.{Result, Ok, Err}
 use Rattle.vouchers.specs.Files.{fault_at, records_in, vouchers_in}
 use Rattle.vouchers.specs.Rows.{is_header, voucher_of}
 use Rattle.vouchers.specs.declared.fault.FaultKind.{FaultKind}

@@ -54,6 +54,8 @@ impl FaultKind {
 #[derive(Clone, Copy, Debug, Drop, Error, PartialEq, Eq)]
 #[error("{kind} at record {record_number}")]
 pub struct VoucherFault {
+    /// The record's number in the file; the header is 1.
     pub record_number: u64,
+    /// What is wrong with it.
     pub kind: FaultKind,
 }

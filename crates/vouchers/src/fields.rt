@@ -3,8 +3,10 @@ ghost use Rattle.csv.specs.Records.{fields_of};
 ghost use Rattle.first_fault.specs.Steps.{Says, GivesUnless, where_holds};
 ghost use Rattle.identifiers.specs.Texts.{is_voucher_code};
 ghost use Rattle.written_numbers.specs.Numbers.{number_of};
-ghost use Rattle.vouchers.specs.Rows.{AreInRange, IsVoucher, field, is_header, number_in, optional_in, terms_of, voucher_of};
-ghost use Rattle.vouchers.specs.declared.fault.FaultKind.TheVariants.{Amount, Code, Days, Scope, Memory};
+ghost use Rattle.vouchers.specs.Rows.{AreInRange, IsVoucher, field, is_header, number_in};
+ghost use Rattle.vouchers.specs.Rows.{optional_in, terms_of, voucher_of};
+ghost use Rattle.vouchers.specs.declared.fault.FaultKind.TheVariants.{Amount, Code, Days, Scope};
+ghost use Rattle.vouchers.specs.declared.fault.FaultKind.TheVariants.{Memory};
 
 use crate::fault::FaultKind;
 use commands::VoucherAddition;

@@ -1,4 +1,5 @@
-ghost use Rattle.std.specs.Prelude.{◌≡◌, ◌≢◌, if◌then◌else◌, All, IfErr, IfOk, IfSome, IsTrue, OnOk, Ok, Err, false};
+ghost use Rattle.std.specs.Prelude.{◌≡◌, ◌≢◌, if◌then◌else◌, All, IfErr, IfOk, IfSome, IsTrue};
+ghost use Rattle.std.specs.Prelude.{OnOk, Ok, Err, false};
 ghost use Rattle.csv.specs.Reading.{ReadRecord, Ready, error_kind, is_io, reader_trim};
 ghost use Rattle.csv.specs.Records.{fields_of};
 ghost use Rattle.csv.specs.declared.reader.Trim.TheVariants as trim;
@@ -89,15 +90,14 @@ fn voucher_at(
 }
 
 /// The vouchers of a file in their order: CSV of the header `code,amount,days,scope` and a record a
-/// voucher. Numbers
-/// are 1 to 16 digits without a sign. Empty days mean no end, an empty scope all rating groups. A
-/// byte order mark at
-/// the start is no part of the file, and an empty line is no record.
+/// voucher. Numbers are 1 to 16 digits without a sign. Empty days mean no end, an empty scope all
+/// rating groups. A byte order mark at the start is no part of the file, and an empty line is no
+/// record.
 ///
 /// # Errors
 /// The first fault in the order of the records, and in a record in the order of `FaultKind`; or
-/// that the reader failed
-/// or memory ran out, where no record before has a fault. Nothing of the file is handed out then.
+/// that the reader failed or memory ran out, where no record before has a fault. Nothing of the
+/// file is handed out then.
 pub fn read_vouchers<R: Read + Drop>(
     alloc: Global,
     reader: R,

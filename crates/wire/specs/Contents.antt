@@ -86,4 +86,5 @@ abbrev pub CreditsAreInOrder : (Credit → Data) → Type 0
 CreditsAreInOrder spelled = (c : Credit) → IsCredit c → AreInByteOrder (spelled c)
 
 abbrev pub RedemptionsAreInOrder : (VoucherRedemption → Data) → Type 0
-RedemptionsAreInOrder spelled = (r : VoucherRedemption) → IsRedemption r → AreInByteOrder (spelled r)
+RedemptionsAreInOrder spelled = (r : VoucherRedemption) → IsRedemption r →
+    AreInByteOrder (spelled r)

@@ -5,7 +5,11 @@ ghost use Rattle.commands.specs.Names.{name_of};
 ghost use Rattle.json_fields.specs.Gives.{Gives};
 ghost use Rattle.wire.specs.Credits.{credit_data};
 ghost use Rattle.wire.specs.Redeemed.{redemption_data};
-ghost use Rattle.wire.specs.Contents.{content_text, content_of, request_content_in, credit_content_in, redemption_content_in, operator_content_when, content_when, account_of, ContentsReadAgain, ReadsWritten, CreditsAreInOrder, RedemptionsAreInOrder};
+ghost use Rattle.wire.specs.Contents.{content_text, content_of, request_content_in};
+ghost use Rattle.wire.specs.Contents.{credit_content_in, redemption_content_in};
+ghost use Rattle.wire.specs.Contents.{operator_content_when, content_when, account_of};
+ghost use Rattle.wire.specs.Contents.{ContentsReadAgain, ReadsWritten, CreditsAreInOrder};
+ghost use Rattle.wire.specs.Contents.{RedemptionsAreInOrder};
 
 use crate::credits::{credit_in, credit_written};
 use crate::redeeming::{kept_redemption_in, redemption_written};
@@ -35,9 +39,11 @@ fn write_kept_request(alloc: Global, request: &Request) -> Result<String, AllocE
 }
 
 fn write_redemption(alloc: Global, redemption: &VoucherRedemption) -> Result<String, AllocError>
-    ensures text { IfOk result (λ s. string_bytes s ≡ content_text (Content.Redeem redemption.now)) }
+    ensures text { IfOk result
+        (λ s. string_bytes s ≡ content_text (Content.Redeem redemption.now)) }
     ensures read_again { IfOk result
-        (λ s. content_of redemption.now.account (string_bytes s) ≡ Ok (Content.Redeem redemption.now)) }
+        (λ s. content_of redemption.now.account (string_bytes s)
+        ≡ Ok (Content.Redeem redemption.now)) }
 {
     let text = redemption_written(alloc, redemption)?;
     Ok(text)
@@ -109,7 +115,8 @@ fn operator_content(
     parent: &Value,
 ) -> Result<Content, WireFault>
     ensures { Gives (λ c. c) result
-        (operator_content_when account (view parent.now) (get (name_of Avp.VoucherCode) (view parent.now))) }
+        (operator_content_when account (view parent.now)
+        (get (name_of Avp.VoucherCode) (view parent.now))) }
 {
     match parent.get(Avp::VoucherCode.name()) {
         Some(_) => redemption_content(alloc, account, parent),

@@ -3,7 +3,8 @@ ghost use Rattle.serde_json.specs.View.{view};
 ghost use Rattle.json_fields.specs.Gives.{Gives, Says};
 ghost use Rattle.json_fields.specs.Fields.{number_at, optional_at};
 ghost use Rattle.json_fields.specs.Tokens.{Adds, tokens_of};
-ghost use Rattle.wire.specs.Credits.{reference_at, credit_at, credit_of, credit_data, credit_text, IsCredit};
+ghost use Rattle.wire.specs.Credits.{reference_at, credit_at, credit_of, credit_data, credit_text};
+ghost use Rattle.wire.specs.Credits.{IsCredit};
 
 use commands::{Avp, Credit, CreditEnd, CreditStart, KeptCredit};
 use identifiers::{AccountNumber, Reference};

@@ -2,7 +2,9 @@ ghost use Rattle.std.specs.Prelude.{◌≡◌, IfOk, OnOk, string_bytes};
 ghost use Rattle.serde_json.specs.View.{view};
 ghost use Rattle.json_fields.specs.Gives.{Gives};
 ghost use Rattle.json_fields.specs.Tokens.{Adds, tokens_of};
-ghost use Rattle.wire.specs.Redeemed.{account_at, code_at, redemption_at, redemption_of, kept_redemption_at, redemption_data, redemption_text, IsRedemption};
+ghost use Rattle.wire.specs.Redeemed.{account_at, code_at, redemption_at, redemption_of};
+ghost use Rattle.wire.specs.Redeemed.{kept_redemption_at, redemption_data, redemption_text};
+ghost use Rattle.wire.specs.Redeemed.{IsRedemption};
 
 use crate::credits::reference;
 use commands::{Avp, VoucherRedemption};

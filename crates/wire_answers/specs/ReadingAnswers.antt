@@ -1,11 +1,15 @@
 -- Reading an answer that was written.
-use Rattle.std.specs.Prelude.{◌≡◌, ℕ, ◌==◌, ◌&&◌, List, [], ◌∷◌, Bool, true, Option, Some, None, Result, Ok, Err, nat_le, nat_eq, if◌then◌else◌}
+use Rattle.std.specs.Prelude.{◌≡◌, ℕ, ◌==◌, ◌&&◌, List, [], ◌∷◌, Bool, true, Option, Some, None}
+use Rattle.std.specs.Prelude.{Result, Ok, Err, nat_le, nat_eq, if◌then◌else◌}
 use Rattle.serde_json.specs.Data.{Data, Items}
 use Rattle.serde_json.specs.Find.{get}
 use Rattle.identifiers.specs.Texts.{is_redirect_address}
 use Rattle.units.specs.declared.blocks.UnitKind.{UnitKind}
 use Rattle.commands.specs.declared.avp.Avp.TheVariants as avp
-use Rattle.commands.specs.Names.{name_of, account, accounts, bucket, check_balance_result, cost_information, failed_avp, final_unit, final_unit_action, granted_unit, redirect_server, redirect_server_address, refusal, result_code, tariff_time_change, validity_time, avp_named}
+use Rattle.commands.specs.Names.{name_of, account, accounts, bucket, check_balance_result}
+use Rattle.commands.specs.Names.{cost_information, failed_avp, final_unit, final_unit_action}
+use Rattle.commands.specs.Names.{granted_unit, redirect_server, redirect_server_address, refusal}
+use Rattle.commands.specs.Names.{result_code, tariff_time_change, validity_time, avp_named}
 use Rattle.commands.specs.Codes.{service_failure_numbered, balance_numbered, refusal_named}
 use Rattle.commands.specs.Measured.{Measured}
 use Rattle.commands.specs.declared.request.RequestKind.{RequestKind}
@@ -19,7 +23,9 @@ use Rattle.commands.specs.declared.answer.ServiceAnswer.{ServiceAnswer}
 use Rattle.commands.specs.declared.answer.Balance.{Balance}
 use Rattle.commands.specs.declared.answer.Cost.{Cost}
 use Rattle.commands.specs.declared.answer.Failure.{Failure}
-use Rattle.commands.specs.declared.answer.Failure.TheVariants.{Denied, UnknownSessionId, InvalidAvpValue, UnableToComply, UserUnknown}
+use Rattle.commands.specs.declared.answer.Failure.TheVariants.{Denied, UnknownSessionId}
+use Rattle.commands.specs.declared.answer.Failure.TheVariants.{InvalidAvpValue, UnableToComply}
+use Rattle.commands.specs.declared.answer.Failure.TheVariants.{UserUnknown}
 use Rattle.commands.specs.declared.answer.Outcome.{Outcome}
 use Rattle.commands.specs.declared.answer.Outcome.TheVariants as outcome
 use Rattle.commands.specs.declared.answer.RequestAnswer.{RequestAnswer}

@@ -4,7 +4,8 @@ use Rattle.serde_json.specs.Data.{Data, Items}
 use Rattle.serde_json.specs.Find.{as_array, as_bool}
 use Rattle.identifiers.specs.Texts.{is_account_number}
 use Rattle.commands.specs.declared.avp.Avp.TheVariants as avp
-use Rattle.commands.specs.Names.{name_of, account, available, barred, buckets, charged, credited, expired, moment, reserved}
+use Rattle.commands.specs.Names.{name_of, account, available, barred, buckets, charged, credited}
+use Rattle.commands.specs.Names.{expired, moment, reserved}
 use Rattle.commands.specs.Names as names
 use Rattle.commands.specs.declared.balance.AccountBalance.{AccountBalance}
 use Rattle.commands.specs.declared.balance.BucketBalance.{BucketBalance}

@@ -1,11 +1,17 @@
 -- How an answer is spelled: compact JSON, with the members in the byte order of their names.
 use Rattle.std.specs.Prelude.{ℕ, negsuc, List, [], ◌∷◌, Option, Some, None, option_map}
-use Rattle.serde_json.specs.Data.{Data, negative, string, array, object, Items, no_items, item, Members, no_members, member}
+use Rattle.serde_json.specs.Data.{Data, negative, string, array, object, Items, no_items, item}
+use Rattle.serde_json.specs.Data.{Members, no_members, member}
 use Rattle.serde_json.specs.Written.{compact_text}
 use Rattle.commands.specs.declared.avp.Avp.TheVariants as avp
-use Rattle.commands.specs.Names.{name_of, cost_information, validity_time, final_unit, redirect_server_address, final_unit_action, refusal, tariff_time_change, granted_unit, failed_avp, redirect_address_type, check_balance_result, bucket, accounts, redirect_server, result_code}
+use Rattle.commands.specs.Names.{name_of, cost_information, validity_time, final_unit}
+use Rattle.commands.specs.Names.{redirect_server_address, final_unit_action, refusal}
+use Rattle.commands.specs.Names.{tariff_time_change, granted_unit, failed_avp}
+use Rattle.commands.specs.Names.{redirect_address_type, check_balance_result, bucket, accounts}
+use Rattle.commands.specs.Names.{redirect_server, result_code}
 use Rattle.commands.specs.Measured.{Measured}
-use Rattle.commands.specs.Codes.{kind_number, service_failure_number, failure_number, balance_number, refusal_name}
+use Rattle.commands.specs.Codes.{kind_number, service_failure_number, failure_number}
+use Rattle.commands.specs.Codes.{balance_number, refusal_name}
 use Rattle.commands.specs.declared.answer.FinalUnit.{FinalUnit}
 use Rattle.commands.specs.declared.answer.FinalUnit.TheVariants.{Terminate, Redirect}
 use Rattle.commands.specs.declared.answer.Granted.{Granted}
@@ -13,7 +19,9 @@ use Rattle.commands.specs.declared.answer.ServiceOutcome.{ServiceOutcome}
 use Rattle.commands.specs.declared.answer.ServiceOutcome.TheVariants as service
 use Rattle.commands.specs.declared.answer.ServiceAnswer.{ServiceAnswer}
 use Rattle.commands.specs.declared.answer.Failure.{Failure}
-use Rattle.commands.specs.declared.answer.Failure.TheVariants.{Denied, UnknownSessionId, InvalidAvpValue, UnableToComply, UserUnknown}
+use Rattle.commands.specs.declared.answer.Failure.TheVariants.{Denied, UnknownSessionId}
+use Rattle.commands.specs.declared.answer.Failure.TheVariants.{InvalidAvpValue, UnableToComply}
+use Rattle.commands.specs.declared.answer.Failure.TheVariants.{UserUnknown}
 use Rattle.commands.specs.declared.answer.Cost.{Cost}
 use Rattle.commands.specs.declared.answer.Outcome.{Outcome}
 use Rattle.commands.specs.declared.answer.Outcome.TheVariants as outcome
@@ -22,7 +30,8 @@ use Rattle.commands.specs.declared.answer.Answer.{Answer}
 use Rattle.commands.specs.declared.answer.Answer.TheVariants as answer
 use Rattle.wire_answers.specs.SpelledBalances.{balance_data}
 use Rattle.json_fields.specs.declared.fault.WireFault.{WireFault}
-use Rattle.json_fields.specs.declared.fault.WireFault.TheVariants.{NotRequest, Missing, Invalid, Memory}
+use Rattle.json_fields.specs.declared.fault.WireFault.TheVariants.{NotRequest, Missing, Invalid}
+use Rattle.json_fields.specs.declared.fault.WireFault.TheVariants.{Memory}
 use Rattle.json_fields.specs.Spelling.{whole, perhaps, with_members, money_data}
 use Rattle.json_fields.specs.Unit.{name_of_unit}
 

@@ -1,8 +1,10 @@
 -- How a balance is spelled: compact JSON, with the members in the byte order of their names.
 use Rattle.std.specs.Prelude.{ℕ, List, [], ◌∷◌, option_map}
-use Rattle.serde_json.specs.Data.{Data, boolean, string, array, object, Items, no_items, item, Members, no_members, member}
+use Rattle.serde_json.specs.Data.{Data, boolean, string, array, object, Items, no_items, item}
+use Rattle.serde_json.specs.Data.{Members, no_members, member}
 use Rattle.commands.specs.declared.avp.Avp.TheVariants as avp
-use Rattle.commands.specs.Names.{name_of, account, available, barred, buckets, charged, credited, expired, moment, reserved}
+use Rattle.commands.specs.Names.{name_of, account, available, barred, buckets, charged, credited}
+use Rattle.commands.specs.Names.{expired, moment, reserved}
 use Rattle.commands.specs.Names as names
 use Rattle.commands.specs.declared.balance.AccountBalance.{AccountBalance}
 use Rattle.commands.specs.declared.balance.BucketBalance.{BucketBalance}

@@ -4,7 +4,12 @@ ghost use Rattle.serde_json.specs.Find.{get};
 ghost use Rattle.commands.specs.Names.{name_of, account, cost_information, refusal};
 ghost use Rattle.json_fields.specs.Gives.{Gives, Says};
 ghost use Rattle.wire_answers.specs.Spelled.{answer_data, answer_text};
-ghost use Rattle.wire_answers.specs.ReadingAnswers.{failed_at, failure_told, cost_in, priced_when, checked_when, unserved_in, served_when, outcome_told, request_answer_at, refusal_at, done_at, answer_when, balance_when, refused_when, answer_of, AnswersReadAgain, ReadsWritten, AnswersAreInOrder};
+ghost use Rattle.wire_answers.specs.ReadingAnswers.{failed_at, failure_told, cost_in, priced_when};
+ghost use Rattle.wire_answers.specs.ReadingAnswers.{checked_when, unserved_in, served_when};
+ghost use Rattle.wire_answers.specs.ReadingAnswers.{outcome_told, request_answer_at, refusal_at};
+ghost use Rattle.wire_answers.specs.ReadingAnswers.{done_at, answer_when, balance_when};
+ghost use Rattle.wire_answers.specs.ReadingAnswers.{refused_when, answer_of, AnswersReadAgain};
+ghost use Rattle.wire_answers.specs.ReadingAnswers.{ReadsWritten, AnswersAreInOrder};
 
 use crate::members;
 use crate::reading_balances::balance;

@@ -1,7 +1,9 @@
 ghost use Rattle.std.specs.Prelude.{◌≡◌};
 ghost use Rattle.serde_json.specs.View.{view, items_view};
 ghost use Rattle.json_fields.specs.Gives.{Gives, Says};
-ghost use Rattle.wire_answers.specs.ReadingBalances.{account_in, amount_in, amounts_in, balance_at, bucket_at, bucket_with, buckets_from, buckets_in, flag_in, moment_in, scope_in};
+ghost use Rattle.wire_answers.specs.ReadingBalances.{account_in, amount_in, amounts_in, balance_at};
+ghost use Rattle.wire_answers.specs.ReadingBalances.{bucket_at, bucket_with, buckets_from};
+ghost use Rattle.wire_answers.specs.ReadingBalances.{buckets_in, flag_in, moment_in, scope_in};
 
 use crate::members;
 use commands::names::{

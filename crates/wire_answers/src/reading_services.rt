@@ -3,7 +3,10 @@ ghost use Rattle.serde_json.specs.Find.{get};
 ghost use Rattle.serde_json.specs.View.{view, items_view};
 ghost use Rattle.commands.specs.Names.{name_of, granted_unit};
 ghost use Rattle.json_fields.specs.Gives.{Gives, Says};
-ghost use Rattle.wire_answers.specs.ReadingAnswers.{redirect_at, final_told, final_in, final_at, quantity_in, switch_at, session_grant_in, granted_in, success_when, service_told, service_answer_at, services_from, services_in};
+ghost use Rattle.wire_answers.specs.ReadingAnswers.{redirect_at, final_told, final_in, final_at};
+ghost use Rattle.wire_answers.specs.ReadingAnswers.{quantity_in, switch_at, session_grant_in};
+ghost use Rattle.wire_answers.specs.ReadingAnswers.{granted_in, success_when, service_told};
+ghost use Rattle.wire_answers.specs.ReadingAnswers.{service_answer_at, services_from, services_in};
 
 use crate::members;
 use commands::names::{

@@ -3,8 +3,11 @@ ghost use Rattle.std.specs.List.{AllByRecursion};
 ghost use Rattle.identifiers.specs.Texts.{is_redirect_address};
 ghost use Rattle.commands.specs.Quantities.{is_quantity};
 ghost use Rattle.json_fields.specs.Spelling.{whole};
-ghost use Rattle.json_fields.specs.Tokens.{Adds, tokens_of, member_tokens, perhaps_tokens, item_tokens};
-ghost use Rattle.wire_answers.specs.Spelled.{granted_data, server_data, final_data, final_of, granted_of, validity_of, service_code, service_data, service_items};
+ghost use Rattle.json_fields.specs.Tokens.{Adds, tokens_of, member_tokens, perhaps_tokens};
+ghost use Rattle.json_fields.specs.Tokens.{item_tokens};
+ghost use Rattle.wire_answers.specs.Spelled.{granted_data, server_data, final_data, final_of};
+ghost use Rattle.wire_answers.specs.Spelled.{granted_of, validity_of, service_code, service_data};
+ghost use Rattle.wire_answers.specs.Spelled.{service_items};
 ghost use Rattle.commands.specs.Names.{final_unit, granted_unit};
 ghost use Rattle.wire_answers.specs.Rules.{IsFinal, IsGrant, IsServiceOutcome, IsServiceAnswer};
 

@@ -4,8 +4,11 @@ ghost use Rattle.serde_json.specs.Data.{string, object, array, member, no_member
 ghost use Rattle.commands.specs.Names.{name_of, cost_information, failed_avp, refusal};
 ghost use Rattle.json_fields.specs.Spelling.{whole, money_data};
 ghost use Rattle.json_fields.specs.Tokens.{Adds, tokens_of, member_tokens, named_tokens};
-ghost use Rattle.wire_answers.specs.Spelled.{service_items, failure_named, outcome_named, outcome_code, code_member, request_answer_data, answer_data, answer_text, fault_data, fault_text};
-ghost use Rattle.wire_answers.specs.Rules.{IsServiceAnswer, IsCost, IsOutcome, IsRequestAnswer, IsAnswer};
+ghost use Rattle.wire_answers.specs.Spelled.{service_items, failure_named, outcome_named};
+ghost use Rattle.wire_answers.specs.Spelled.{outcome_code, code_member, request_answer_data};
+ghost use Rattle.wire_answers.specs.Spelled.{answer_data, answer_text, fault_data, fault_text};
+ghost use Rattle.wire_answers.specs.Rules.{IsServiceAnswer, IsCost, IsOutcome, IsRequestAnswer};
+ghost use Rattle.wire_answers.specs.Rules.{IsAnswer};
 ghost use Rattle.wire_answers.specs.ReadingAnswers.{answer_of};
 
 use crate::balances::put_balance;

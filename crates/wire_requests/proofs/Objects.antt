@@ -7,7 +7,8 @@ use Rattle.serde_json.specs.Find.{as_object}
 use Rattle.wire_requests.specs.Phases.{are_objects}
 use Rattle.wire_requests.specs.Reading.{only_item}
 
-pub objects_are : (vs : List Value) → are_objects (items_view vs) ≡ list_all (λ v. is_some (as_object (view v))) vs
+pub objects_are : (vs : List Value) →
+    are_objects (items_view vs) ≡ list_all (λ v. is_some (as_object (view v))) vs
 objects_are [] = refl
 objects_are (v ∷ vs) = ap (λ b. is_some (as_object (view v)) && b) (objects_are vs)
 

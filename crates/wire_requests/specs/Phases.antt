@@ -1,5 +1,6 @@
 -- The services of a session's request, by where it stands in its session.
-use Rattle.std.specs.Prelude.{ℕ, ◌&&◌, ◌==◌, List, [], Bool, true, not, Option, Some, None, is_some, is_none, Result, Ok, Err, nat_le}
+use Rattle.std.specs.Prelude.{ℕ, ◌&&◌, ◌==◌, List, [], Bool, true, not, Option, Some, None, is_some}
+use Rattle.std.specs.Prelude.{is_none, Result, Ok, Err, nat_le}
 use Rattle.std.specs.List.{list_any}
 use Rattle.serde_json.specs.Data.{Data, Items, no_items, item}
 use Rattle.serde_json.specs.Events.{items_len}

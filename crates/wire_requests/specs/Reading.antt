@@ -1,5 +1,6 @@
 -- The fields of a request, read in their order: the first fault is the one told.
-use Rattle.std.specs.Prelude.{ℕ, ◌==◌, List, Option, Some, None, is_none, Result, Ok, Err, if◌then◌else◌}
+use Rattle.std.specs.Prelude.{ℕ, ◌==◌, List, Option, Some, None, is_none, Result, Ok, Err}
+use Rattle.std.specs.Prelude.{if◌then◌else◌}
 use Rattle.serde_json.specs.Data.{Data, Items, no_items, item}
 use Rattle.serde_json.specs.Find.{get, as_object}
 use Rattle.identifiers.specs.Texts.{is_session_id, is_account_number}
@@ -16,7 +17,8 @@ use Rattle.commands.specs.Codes.{kind_numbered, action_numbered}
 use Rattle.json_fields.specs.declared.fault.WireFault.{WireFault}
 use Rattle.json_fields.specs.declared.fault.WireFault.TheVariants.{Invalid}
 use Rattle.json_fields.specs.Gives.{◌>>=◌, or_fault, where_holds}
-use Rattle.json_fields.specs.Fields.{document_at, member_at, number_at, text_at, object_at, array_of}
+use Rattle.json_fields.specs.Fields.{document_at, member_at, number_at, text_at, object_at}
+use Rattle.json_fields.specs.Fields.{array_of}
 use Rattle.wire_requests.specs.declared.phase.Phase.TheVariants.{Initial, Update, Termination}
 use Rattle.wire_requests.specs.Reports.{required_at}
 use Rattle.wire_requests.specs.Phases.{services_at}

@@ -1,5 +1,6 @@
 -- The money of a refund.
-use Rattle.std.specs.Prelude.{ℕ, ◌&&◌, ℤ, pos, negsuc, unsigned_abs, int_le, Option, Some, None, Result, Ok, nat_le, option_and_then}
+use Rattle.std.specs.Prelude.{ℕ, ◌&&◌, ℤ, pos, negsuc, unsigned_abs, int_le, Option, Some, None}
+use Rattle.std.specs.Prelude.{Result, Ok, nat_le, option_and_then}
 use Rattle.serde_json.specs.Data.{Data}
 use Rattle.serde_json.specs.Find.{get, as_number, as_i64}
 use Rattle.units.specs.Amounts.{micros_of}

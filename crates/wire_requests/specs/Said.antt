@@ -1,5 +1,6 @@
 -- What a request says, member by member, whatever their order.
-use Rattle.std.specs.Prelude.{◌≡◌, ℕ, ℤ, pos, List, [], ◌∷◌, Option, Some, None, Ok, option_and_then, true, ⊤, ◌⊎◌}
+use Rattle.std.specs.Prelude.{◌≡◌, ℕ, ℤ, pos, List, [], ◌∷◌, Option, Some, None, Ok}
+use Rattle.std.specs.Prelude.{option_and_then, true, ⊤, ◌⊎◌}
 use Rattle.serde_json.specs.Data.{Data, Items, no_items, item}
 use Rattle.serde_json.specs.Find.{get, as_number, as_u64, as_i64, as_str, as_array}
 use Rattle.units.specs.declared.blocks.UnitKind.{UnitKind}

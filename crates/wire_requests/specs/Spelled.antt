@@ -1,7 +1,8 @@
 -- How a request is spelled where it is kept: compact JSON, with the members in the byte order of
 -- their names.
 use Rattle.std.specs.Prelude.{ℕ, List, [], ◌∷◌, Option, Some, None, option_map}
-use Rattle.serde_json.specs.Data.{Data, string, array, object, Items, no_items, item, Members, no_members, member}
+use Rattle.serde_json.specs.Data.{Data, string, array, object, Items, no_items, item, Members}
+use Rattle.serde_json.specs.Data.{no_members, member}
 use Rattle.serde_json.specs.Written.{compact_text}
 use Rattle.units.specs.declared.blocks.UnitKind.{UnitKind}
 use Rattle.commands.specs.declared.avp.Avp.TheVariants as avp

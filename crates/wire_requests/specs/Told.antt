@@ -1,6 +1,7 @@
 -- What a fault of a request tells: a member is missing only where an object that can hold it has
 -- none of that name, and invalid only where one has it.
-use Rattle.std.specs.Prelude.{◌≡◌, ℕ, ◌&&◌, List, [], ◌∷◌, Bool, true, Option, Some, None, is_some, is_none, Result, Ok, Err, nat_eq, option_and_then, if◌then◌else◌, ⊤}
+use Rattle.std.specs.Prelude.{◌≡◌, ℕ, ◌&&◌, List, [], ◌∷◌, Bool, true, Option, Some, None, is_some}
+use Rattle.std.specs.Prelude.{is_none, Result, Ok, Err, nat_eq, option_and_then, if◌then◌else◌, ⊤}
 use Rattle.std.specs.List.{list_any}
 use Rattle.std.specs.Option.{option_eq}
 use Rattle.serde_json.specs.Data.{Data, Items}
@@ -9,7 +10,8 @@ use Rattle.commands.specs.declared.avp.Avp.{Avp}
 use Rattle.commands.specs.declared.avp.Avp.TheVariants as avp
 use Rattle.commands.specs.Names.{name_of}
 use Rattle.json_fields.specs.declared.fault.WireFault.{WireFault}
-use Rattle.json_fields.specs.declared.fault.WireFault.TheVariants.{NotRequest, Missing, Invalid, Memory}
+use Rattle.json_fields.specs.declared.fault.WireFault.TheVariants.{NotRequest, Missing, Invalid}
+use Rattle.json_fields.specs.declared.fault.WireFault.TheVariants.{Memory}
 use Rattle.json_fields.specs.Gives.{item_list}
 use Rattle.wire_requests.specs.Reading.{request_in}
 

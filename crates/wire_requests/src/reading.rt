@@ -1,7 +1,8 @@
 ghost use Rattle.std.specs.Prelude.{◌≡◌, IfOk, IsTrue};
 ghost use Rattle.serde_json.specs.View.{view, items_view};
 ghost use Rattle.json_fields.specs.Gives.{Gives, Says, or_fault};
-ghost use Rattle.wire_requests.specs.Reading.{session_at, kind_at, account_at, only_item, event_of, event_at, action_at, ask_at, request_in, request_of};
+ghost use Rattle.wire_requests.specs.Reading.{session_at, kind_at, account_at, only_item, event_of};
+ghost use Rattle.wire_requests.specs.Reading.{event_at, action_at, ask_at, request_in, request_of};
 ghost use Rattle.wire_requests.specs.Said.{ReadsWhatIsSaid};
 ghost use Rattle.wire_requests.specs.Told.{FaultsAreTold};
 

@@ -1,7 +1,9 @@
 ghost use Rattle.std.specs.Prelude.{◌≡◌, ◌≤◌, []};
 ghost use Rattle.serde_json.specs.View.{view, items_view};
 ghost use Rattle.json_fields.specs.Gives.{Gives, Says};
-ghost use Rattle.wire_requests.specs.Reports.{wanted_in, requested_of, required_at, usage_at, tag_is_taken, part_at, kind_of_first, parts_from, used_of};
+ghost use Rattle.wire_requests.specs.Reports.{wanted_in, requested_of, required_at, usage_at};
+ghost use Rattle.wire_requests.specs.Reports.{tag_is_taken, part_at, kind_of_first, parts_from};
+ghost use Rattle.wire_requests.specs.Reports.{used_of};
 
 use commands::names::TARIFF_CHANGE_USAGE;
 use commands::{Avp, Quantity, Requested, UsedParts, usage_numbered};

@@ -3,7 +3,9 @@ ghost use Rattle.std.specs.List.{list_all};
 ghost use Rattle.serde_json.specs.Find.{as_object};
 ghost use Rattle.serde_json.specs.View.{view, items_view};
 ghost use Rattle.json_fields.specs.Gives.{Gives, Says};
-ghost use Rattle.wire_requests.specs.Phases.{requested_at, used_at, group_is_taken, service_at, are_objects, services_from, fewest, services_of, services_at};
+ghost use Rattle.wire_requests.specs.Phases.{requested_at, used_at, group_is_taken, service_at};
+ghost use Rattle.wire_requests.specs.Phases.{are_objects, services_from, fewest, services_of};
+ghost use Rattle.wire_requests.specs.Phases.{services_at};
 
 use crate::phase::Phase;
 use crate::reports::{requested_in, required, used_in};

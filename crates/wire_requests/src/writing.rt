@@ -4,7 +4,8 @@ ghost use Rattle.json_fields.specs.Tokens.{Adds, tokens_of, member_tokens, named
 ghost use Rattle.wire_requests.specs.Reading.{request_of};
 ghost use Rattle.wire_requests.specs.Spelled.{ask_named, event_data, refund_data};
 ghost use Rattle.wire_requests.specs.Spelled.{subscription_data, request_data, request_text};
-ghost use Rattle.wire_requests.specs.Rules.{IsEvent, IsAsk, IsRequest, RequestsReadAgain, RequestsAreInOrder};
+ghost use Rattle.wire_requests.specs.Rules.{IsEvent, IsAsk, IsRequest, RequestsReadAgain};
+ghost use Rattle.wire_requests.specs.Rules.{RequestsAreInOrder};
 ghost use Rattle.commands.specs.Refunds.{is_refund};
 ghost use Rattle.commands.specs.Names.{name_of};
 ghost use Rattle.identifiers.specs.Texts.{is_account_number};

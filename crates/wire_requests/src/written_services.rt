@@ -2,8 +2,10 @@ ghost use Rattle.std.specs.Prelude.{◌≡◌, ◌≤◌, IfSome, OnOk, option_m
 ghost use Rattle.std.specs.List.{AllByRecursion};
 ghost use Rattle.serde_json.specs.Data.{array};
 ghost use Rattle.commands.specs.Quantities.{is_quantity};
-ghost use Rattle.json_fields.specs.Tokens.{Adds, tokens_of, member_tokens, perhaps_tokens, item_tokens};
-ghost use Rattle.wire_requests.specs.Spelled.{requested_data, tag_of, part_data, part_items, used_data, service_data, service_items};
+ghost use Rattle.json_fields.specs.Tokens.{Adds, tokens_of, member_tokens, perhaps_tokens};
+ghost use Rattle.json_fields.specs.Tokens.{item_tokens};
+ghost use Rattle.wire_requests.specs.Spelled.{requested_data, tag_of, part_data, part_items};
+ghost use Rattle.wire_requests.specs.Spelled.{used_data, service_data, service_items};
 ghost use Rattle.commands.specs.Names.{name_of};
 ghost use Rattle.wire_requests.specs.Rules.{IsRequested, IsUsed, IsService};
 

@@ -1,9 +1,9 @@
 //! The tariff book of the worked sessions that the tests of the crates above tell: test data, once.
 #![tactic(auto)]
 
-/// Two periods by weekday and hour. Group 10: seconds in blocks of 60 at 100000 micro-units on weekdays from 08:00 to
-/// 20:00, else at 50000. Group 20: octets in blocks of 1048576, of which the first 100 of a month are free and the
-/// others cost 10000. Group 30: events at 90000.
+/// Two periods by weekday and hour. Group 10: seconds in blocks of 60 at 100000 micro-units on
+/// weekdays from 08:00 to 20:00, else at 50000. Group 20: octets in blocks of 1048576, of which the
+/// first 100 of a month are free and the others cost 10000. Group 30: events at 90000.
 pub const BOOK: &str = r#"zone = "+00:00"
 currency = 978
 validity = 3600

@@ -1,6 +1,7 @@
 -- Civil months as they are written: four digits of the year, two of the month.
 -- Source: profile.
-use Rattle.std.specs.Prelude.{ℕ, ◌&&◌, ◌==◌, ◌%◌, Bool, List, length, Option, Some, None, nat_le, if◌then◌else◌, option_and_then}
+use Rattle.std.specs.Prelude.{ℕ, ◌&&◌, ◌==◌, ◌%◌, Bool, List, length, Option, Some, None, nat_le}
+use Rattle.std.specs.Prelude.{if◌then◌else◌, option_and_then}
 use Rattle.written_numbers.specs.Numbers.{number_of}
 
 -- the number YYYYMM of a month from January 1970 to December 2099

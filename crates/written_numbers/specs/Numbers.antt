@@ -7,4 +7,6 @@ use Rattle.std.specs.Str.Parse.{digits_value}
 
 -- 1 to 16 digits say a number
 abbrev pub number_of : List ℕ → Option ℕ
-number_of text = if nat_le 1 (length text) && (nat_le (length text) 16 && list_all is_ascii_digit text) then Some (digits_value 10 text) else None
+number_of text =
+    if nat_le 1 (length text) && (nat_le (length text) 16 && list_all is_ascii_digit text)
+    then Some (digits_value 10 text) else None

@@ -22,7 +22,8 @@ fn columns(bucket: &Bucket) -> [u64; 5] {
     ]
 }
 
-/// Two buckets, the first of which ends at 10:10; 300,000 are held at 10:00, 100,000 charged at 10:15.
+/// Two buckets, the first of which ends at 10:10; 300,000 are held at 10:00, 100,000 charged at
+/// 10:15.
 #[test]
 fn held_money_is_charged_after_the_end_of_its_bucket(rt: HostRuntime) -> Result<(), Fail> {
     let alloc = rt.alloc();

@@ -4,4 +4,5 @@ use Rattle.byte_streams.proofs.take_piece.Given as goal
 
 -- nothing is taken
 abbrev pub invariant-loop-attempt : goal.invariant-loop-attempt
-invariant-loop-attempt g l = Keeps (g.R.Read.remaining l.fn.reader) (g.R.Read.remaining l.reader) × (l.part.items ≡ l.fn.part.items)
+invariant-loop-attempt g l = Keeps (g.R.Read.remaining l.fn.reader) (g.R.Read.remaining l.reader)
+    × (l.part.items ≡ l.fn.part.items)

@@ -4,4 +4,5 @@ use Rattle.byte_streams.proofs.write_whole.Given as goal
 
 -- so much of the text is written
 abbrev pub invariant-loop-turn : goal.invariant-loop-turn
-invariant-loop-turn g l = (l._turn ≤ l.at) × (l.at ≤ length l.text) × Appends (g.W.Write.contents l.fn.writer) (g.W.Write.contents l.writer) (take l.at l.text)
+invariant-loop-turn g l = (l._turn ≤ l.at) × (l.at ≤ length l.text)
+    × Appends (g.W.Write.contents l.fn.writer) (g.W.Write.contents l.writer) (take l.at l.text)

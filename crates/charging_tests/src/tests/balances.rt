@@ -1,31 +1,22 @@
 //! Balances: what became of an account's money at a moment.
 
-use crate::tests::scenarios::try_all;
+use crate::tests::ends::HELD_BY_TWO;
+use crate::tests::scenarios::try_in_turn;
 use std::test::Fail;
 
-/// Of an account that isn't there none is told. Each bucket is told as of the moment, whatever the
-/// account's last command was: what a live session holds past its bucket's end is reserved, what a
-/// settlement leaves of it is expired, and what is available until a bucket's end is expired from
-/// it on. Buckets stand by number, used up or not. Nothing of the account changes.
-const BALANCES: &str = r##"1767571200 balance 49151
+/// Of an account that isn't there none is told.
+const NO_BUCKETS: &str = r##"1767571200 balance 49151
 = {"Refusal":"O2"}
 1767571200 open 49151
 = {"Result-Code":2001}
 1767571200 balance 49151
-= {"Account":"49151","Barred":false,"Buckets":[],"Moment":1767571200}
-1767571200 credit 49151 {"Amount":150000,"Reference":"c1","Until":1767607800}
-= {"Bucket":1,"Result-Code":2001}
-1767571200 credit 49151 {"Amount":300000,"Reference":"c2"}
-= {"Bucket":2,"Result-Code":2001}
-1767607200 {"Session-Id":"s6","CC-Request-Type":1,"CC-Request-Number":0,
-  "Subscription-Id":{"Subscription-Id-Type":0,"Subscription-Id-Data":"49151"},
-  "Multiple-Services-Credit-Control":[{"Rating-Group":10,"Requested-Service-Unit":{"CC-Time":180}}]}
-= {"CC-Request-Number":0,"CC-Request-Type":1,
-  "Multiple-Services-Credit-Control":[{"Granted-Service-Unit":{"CC-Time":180},"Rating-Group":10,
-  "Result-Code":2001,"Validity-Time":3600}],"Result-Code":2001,"Session-Id":"s6"}
-buckets: (150000; 0, 150000, 0, 0) (300000; 150000, 150000, 0, 0)
+= {"Account":"49151","Barred":false,"Buckets":[],"Moment":1767571200}"##;
 
-1767608040 balance 49151
+/// Of a grant that two buckets hold, each bucket is told as of the moment, whatever the
+/// account's last command was: what a live session holds past its bucket's end is reserved, what a
+/// settlement leaves of it is expired, and what is available until a bucket's end is expired from
+/// it on. Buckets stand by number, used up or not. Nothing of the account changes.
+const BALANCES: &str = r##"1767608040 balance 49151
 = {"Account":"49151","Barred":false,"Buckets":[{"Available":0,"Charged":0,"Credited":150000,
   "Expired":0,"From":1767571200,"Number":1,"Reserved":150000,"Until":1767607800},
   {"Available":150000,"Charged":0,"Credited":300000,"Expired":0,"From":1767571200,"Number":2,
@@ -71,5 +62,5 @@ unchanged"##;
 
 #[test]
 fn balances(rt: HostRuntime) -> Result<(), Fail> {
-    try_all(&rt, rt.alloc(), BALANCES)
+    try_in_turn(&rt, rt.alloc(), &[NO_BUCKETS, HELD_BY_TWO, BALANCES])
 }

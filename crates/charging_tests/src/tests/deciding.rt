@@ -1,6 +1,7 @@
-//! Scenarios of requests on an account alone, over a tariff book: what each is answered, its charges, and
-//! the account's buckets after it. They are reckoned by hand from the book's prices: seconds in
-//! blocks of 60 at 100000 micro-units on weekdays from 08:00 to 20:00, else at 50000; events at
+//! Scenarios of requests on an account alone, over a tariff book: what each is answered, its
+//! charges, and the account's buckets after it. They are reckoned by hand from the book's prices:
+//! seconds in blocks of 60 at 100000 micro-units on weekdays from 08:00 to 20:00, else at 50000;
+//! events at
 //! 90000. 1767607200 is 10:00 of a Monday.
 //!
 //! A line is a moment, a call with its words, what it gives, and the buckets, each as its credited

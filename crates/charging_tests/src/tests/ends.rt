@@ -3,10 +3,12 @@
 use crate::tests::scenarios::{try_all, try_in_turn};
 use std::test::Fail;
 
+const OPENED: &str = r##"1767571200 open 49151
+= {"Result-Code":2001}"##;
+
 /// A grant is held by two buckets.
-const HELD_BY_TWO: &str = r##"1767571200 open 49151
-= {"Result-Code":2001}
-1767571200 credit 49151 {"Amount":150000,"Reference":"c1","Until":1767607800}
+pub(crate) const HELD_BY_TWO: &str =
+    r##"1767571200 credit 49151 {"Amount":150000,"Reference":"c1","Until":1767607800}
 = {"Bucket":1,"Result-Code":2001}
 1767571200 credit 49151 {"Amount":300000,"Reference":"c2"}
 = {"Bucket":2,"Result-Code":2001}
@@ -29,7 +31,7 @@ charges: 1 at 1767608100 of s6 10 1 100000 100000 0;"##;
 
 #[test]
 fn a_bucket_that_ends_within_a_grant(rt: HostRuntime) -> Result<(), Fail> {
-    try_in_turn(&rt, rt.alloc(), &[HELD_BY_TWO, ENDED])
+    try_in_turn(&rt, rt.alloc(), &[OPENED, HELD_BY_TWO, ENDED])
 }
 
 /// A sweep at every minute before it: nobody sees them.
@@ -69,7 +71,7 @@ buckets: (150000; 0, 150000, 0, 0) (300000; 150000, 150000, 0, 0)
 
 #[test]
 fn sweeps_that_nobody_sees(rt: HostRuntime) -> Result<(), Fail> {
-    try_in_turn(&rt, rt.alloc(), &[HELD_BY_TWO, SWEPT, ENDED])
+    try_in_turn(&rt, rt.alloc(), &[OPENED, HELD_BY_TWO, SWEPT, ENDED])
 }
 
 /// A session holds ten minutes.

@@ -10,8 +10,18 @@ use std::alloc::Global;
 use std::test::Fail;
 use tariffs::TariffBook;
 
+/// A report, and its answer.
+const UPDATE: &str = r##"{"Session-Id":"s1","CC-Request-Type":2,"CC-Request-Number":1,
+  "Subscription-Id":{"Subscription-Id-Type":0,"Subscription-Id-Data":"49151"},
+  "Multiple-Services-Credit-Control":[{"Rating-Group":10,"Requested-Service-Unit":{"CC-Time":60},
+  "Used-Service-Unit":[{"CC-Time":60}]}]}
+= {"CC-Request-Number":1,"CC-Request-Type":2,
+  "Multiple-Services-Credit-Control":[{"Granted-Service-Unit":{"CC-Time":60},"Rating-Group":10,
+  "Result-Code":2001,"Validity-Time":3600}],"Result-Code":2001,"Session-Id":"s1"}"##;
+
 /// Ten commands: an account is opened and credited; a session begins, reports, and sends its report
-/// again; the account is barred and gets money back; a voucher is added, and the account redeems it;
+/// again; the account is barred and gets money back; a voucher is added, and the account redeems
+/// it;
 /// and a sweep ends the session.
 const TEN: &str = r##"1767571200 open 49151
 = {"Result-Code":2001}
@@ -23,20 +33,8 @@ const TEN: &str = r##"1767571200 open 49151
 = {"CC-Request-Number":0,"CC-Request-Type":1,
   "Multiple-Services-Credit-Control":[{"Granted-Service-Unit":{"CC-Time":600},"Rating-Group":10,
   "Result-Code":2001,"Validity-Time":3600}],"Result-Code":2001,"Session-Id":"s1"}
-1767607500 {"Session-Id":"s1","CC-Request-Type":2,"CC-Request-Number":1,
-  "Subscription-Id":{"Subscription-Id-Type":0,"Subscription-Id-Data":"49151"},
-  "Multiple-Services-Credit-Control":[{"Rating-Group":10,"Requested-Service-Unit":{"CC-Time":60},
-  "Used-Service-Unit":[{"CC-Time":60}]}]}
-= {"CC-Request-Number":1,"CC-Request-Type":2,
-  "Multiple-Services-Credit-Control":[{"Granted-Service-Unit":{"CC-Time":60},"Rating-Group":10,
-  "Result-Code":2001,"Validity-Time":3600}],"Result-Code":2001,"Session-Id":"s1"}
-1767607560 {"Session-Id":"s1","CC-Request-Type":2,"CC-Request-Number":1,
-  "Subscription-Id":{"Subscription-Id-Type":0,"Subscription-Id-Data":"49151"},
-  "Multiple-Services-Credit-Control":[{"Rating-Group":10,"Requested-Service-Unit":{"CC-Time":60},
-  "Used-Service-Unit":[{"CC-Time":60}]}]}
-= {"CC-Request-Number":1,"CC-Request-Type":2,
-  "Multiple-Services-Credit-Control":[{"Granted-Service-Unit":{"CC-Time":60},"Rating-Group":10,
-  "Result-Code":2001,"Validity-Time":3600}],"Result-Code":2001,"Session-Id":"s1"}
+1767607500 UPDATE
+1767607560 UPDATE
 1767607560 bar 49151
 = {"Result-Code":2001}
 1767607620 {"Session-Id":"r1","CC-Request-Type":4,"CC-Request-Number":0,
@@ -59,9 +57,16 @@ sessions: r1 0 1767607620 NeverOpened; s1 1 1767607500 Ended;
 groups: s1 10 used 60 not reserved;
 charges: 1 at 1767607500 of s1 10 1 100000 100000 0;"##;
 
+/// Their text, a line a command or an answer.
+fn ten(alloc: Global) -> Result<String, Fail> {
+    let ten = TEN.replace(alloc, "UPDATE", UPDATE)?;
+    Ok(whole_lines(alloc, ten.as_str())?)
+}
+
 #[test]
 fn ten_commands(rt: HostRuntime) -> Result<(), Fail> {
-    try_all(&rt, rt.alloc(), TEN)
+    let ten = ten(rt.alloc())?;
+    try_all(&rt, rt.alloc(), ten.as_str())
 }
 
 /// What the ten commands come to over a store that fails at the call after so many: how many are
@@ -69,7 +74,7 @@ fn ten_commands(rt: HostRuntime) -> Result<(), Fail> {
 /// the count of failures, and the rows.
 fn failing_after(alloc: Global, book: &TariffBook, calls: u64) -> Result<(usize, String), Fail> {
     let mut keeper = Failing::new(MemoryKeeper::new(alloc), calls);
-    let ten = whole_lines(alloc, TEN)?;
+    let ten = ten(alloc)?;
     let commands = dated_commands(alloc, ten.as_str(), 10)?;
     let run = run(alloc, &mut keeper, book, commands);
     let failures = keeper.failures();
@@ -94,7 +99,7 @@ fn fault_number(fault: Option<StoreFault>) -> u8 {
 /// run: the rows are those that these commands leave over a store that doesn't fail.
 fn stopped_after(alloc: Global, book: &TariffBook, most: usize) -> Result<String, Fail> {
     let mut keeper = MemoryKeeper::new(alloc);
-    let ten = whole_lines(alloc, TEN)?;
+    let ten = ten(alloc)?;
     let commands = dated_commands(alloc, ten.as_str(), most)?;
     let _answers = run(alloc, &mut keeper, book, commands);
     let rows = rows(alloc, &mut keeper, book)?;

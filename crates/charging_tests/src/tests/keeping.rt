@@ -1,5 +1,5 @@
-//! Scenarios of a keeper alone: what each call gives, a line a call. An account has a credit of 150,000
-//! micro-units until 1767607800, 10:10 on a day in January 2026.
+//! Scenarios of a keeper alone: what each call gives, a line a call. An account has a credit of
+//! 150,000 micro-units until 1767607800, 10:10 on a day in January 2026.
 
 use crate::tests::book::book;
 use crate::tests::lines::account;
@@ -220,17 +220,22 @@ fn counted(alloc: Global, swept: Result<u64, StoreFault>) -> Result<String, Fail
     }
 }
 
-/// `open ACCOUNT MOMENT`.
-fn opened<K: Keeper>(
+/// `open ACCOUNT MOMENT`, or `bar ACCOUNT MOMENT`.
+fn opened_or_barred<K: Keeper>(
     alloc: Global,
     keeper: &mut K,
     book: &TariffBook,
+    is_bar: bool,
     words: &str,
 ) -> Result<String, Fail> {
     let (number, at) = words.split_once(" ").ok_or("an account and a moment")?;
     let number = account(alloc, number)?;
     let at = moment(at.parse::<u64>()?)?;
-    done(alloc, open(alloc, keeper, book, &number, at))
+    if is_bar {
+        done(alloc, bar(alloc, keeper, book, &number, at))
+    } else {
+        done(alloc, open(alloc, keeper, book, &number, at))
+    }
 }
 
 /// `give REFERENCE MOMENT`.
@@ -244,19 +249,6 @@ fn given<K: Keeper>(
     let credit = credit(alloc, name)?;
     let at = moment(at.parse::<u64>()?)?;
     done(alloc, give(alloc, keeper, book, &credit, at))
-}
-
-/// `bar ACCOUNT MOMENT`.
-fn barred<K: Keeper>(
-    alloc: Global,
-    keeper: &mut K,
-    book: &TariffBook,
-    words: &str,
-) -> Result<String, Fail> {
-    let (number, at) = words.split_once(" ").ok_or("an account and a moment")?;
-    let number = account(alloc, number)?;
-    let at = moment(at.parse::<u64>()?)?;
-    done(alloc, bar(alloc, keeper, book, &number, at))
 }
 
 /// `charge ACCOUNT MOMENT NUMBER`: two minutes in one change, numbered from this number on.
@@ -339,9 +331,9 @@ fn outcome<K: Keeper>(
     words: &str,
 ) -> Result<String, Fail> {
     match call {
-        "open" => opened(alloc, keeper, book, words),
+        "open" => opened_or_barred(alloc, keeper, book, false, words),
         "give" => given(alloc, keeper, book, words),
-        "bar" => barred(alloc, keeper, book, words),
+        "bar" => opened_or_barred(alloc, keeper, book, true, words),
         "charge" => charged(alloc, keeper, book, words),
         "see" => told(alloc, keeper, book, words),
         "kept" => kept(alloc, keeper, words),

@@ -1,7 +1,7 @@
 //! Commands as lines of text: `MOMENT open ACCOUNT`, `MOMENT credit ACCOUNT BODY`, `MOMENT
-//! credit-nothing ACCOUNT REFERENCE`, `MOMENT bar ACCOUNT`, `MOMENT unbar ACCOUNT`, `MOMENT add CODE
-//! AMOUNT DAYS SCOPE` with `-` for no days and no scope, `MOMENT redeem ACCOUNT CODE REFERENCE`,
-//! `MOMENT sweep`, `MOMENT balance ACCOUNT`, and a request as `MOMENT BODY`.
+//! credit-nothing ACCOUNT REFERENCE`, `MOMENT bar ACCOUNT`, `MOMENT unbar ACCOUNT`, `MOMENT add
+//! CODE AMOUNT DAYS SCOPE` with `-` for no days and no scope, `MOMENT redeem ACCOUNT CODE
+//! REFERENCE`, `MOMENT sweep`, `MOMENT balance ACCOUNT`, and a request as `MOMENT BODY`.
 
 use charging::DatedCommand;
 use commands::{Command, Credit, VoucherAddition, VoucherRedemption};

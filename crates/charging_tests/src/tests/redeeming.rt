@@ -3,8 +3,9 @@
 use crate::tests::scenarios::try_all;
 use std::test::Fail;
 
-/// Three vouchers; the first, of 30 days, is redeemed on 2026-01-05 at 10:00, so that its bucket ends
-/// with 2026-02-04. The same redemption again gets its first answer, and nobody else the voucher.
+/// Three vouchers; the first, of 30 days, is redeemed on 2026-01-05 at 10:00, so that its bucket
+/// ends with 2026-02-04. The same redemption again gets its first answer, and nobody else the
+/// voucher.
 const REDEEMED: &str = r##"1767571200 add 000000000001 5000000 30 -
 = {"Result-Code":2001}
 1767571200 add 000000000002 10000000 90 -
@@ -89,8 +90,8 @@ fn redemptions_are_refused(rt: HostRuntime) -> Result<(), Fail> {
     try_all(&rt, rt.alloc(), REFUSED)
 }
 
-/// A voucher that is added again with the same terms changes nothing, spent or not, and one of other
-/// terms is refused. Adding a voucher moves no account, and the next command has its moment.
+/// A voucher that is added again with the same terms changes nothing, spent or not, and one of
+/// other terms is refused. Adding a voucher moves no account, and the next command has its moment.
 const ADDED: &str = r##"1767571200 open 49151
 = {"Result-Code":2001}
 1767571260 add 000000000001 5 30 -
@@ -128,8 +129,8 @@ fn vouchers_are_added_again(rt: HostRuntime) -> Result<(), Fail> {
     try_all(&rt, rt.alloc(), ADDED)
 }
 
-/// Days that end at 4,102,444,800 or later are past the last moment, and the voucher isn't spent; one
-/// without days has no end.
+/// Days that end at 4,102,444,800 or later are past the last moment, and the voucher isn't spent;
+/// one without days has no end.
 const LATE: &str = r##"1767571200 open 49151
 = {"Result-Code":2001}
 1767571200 add 000000000001 5 1 -

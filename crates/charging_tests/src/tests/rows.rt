@@ -184,8 +184,8 @@ fn vouchers(alloc: Global, keeper: &mut MemoryKeeper) -> Result<String, Fail> {
     Ok(format!(in alloc; "{}{}{}", first.as_str(), second.as_str(), third.as_str())?)
 }
 
-/// The moment of the last accepted command, the vouchers, the rows of account 49151, and those of account 49152
-/// after its number.
+/// The moment of the last accepted command, the vouchers, the rows of account 49151, and those of
+/// account 49152 after its number.
 pub(crate) fn rows(
     alloc: Global,
     keeper: &mut MemoryKeeper,

@@ -1,4 +1,5 @@
-//! Credits that are used up: what a further command loads and writes is no more than after the first.
+//! Credits that are used up: what a further command loads and writes is no more than after the
+//! first.
 
 use crate::tests::book::book;
 use crate::tests::lines::{account, dated_commands};
@@ -113,8 +114,8 @@ fn new_groups(before: &StoredAccount, after: &StoredAccount) -> usize {
     count
 }
 
-/// How many rows of each kind a change names after a command at this moment: of the moment, the account, buckets,
-/// counters, sessions, groups, answers and charges.
+/// How many rows of each kind a change names after a command at this moment: of the moment, the
+/// account, buckets, counters, sessions, groups, answers and charges.
 fn rows_named(alloc: Global, change: &Change, last: Moment) -> Result<String, AllocError> {
     let (before, after) = (&change.before, &change.after);
     let account = before.as_of() != after.as_of() || before.next_charge() != after.next_charge();
@@ -182,8 +183,8 @@ fn told(
     Ok(format!(in alloc; "{}; rows: {}", text.as_str(), named.as_str())?)
 }
 
-/// After so many credits that were used up and one that wasn't, how many commands were answered, and what a debit loads
-/// and writes.
+/// After so many credits that were used up and one that wasn't, how many commands were answered,
+/// and what a debit loads and writes.
 fn after_turns(alloc: Global, count: u64) -> Result<String, Fail> {
     let book = book(alloc)?;
     let number = account(alloc, "49151")?;
@@ -196,8 +197,8 @@ fn after_turns(alloc: Global, count: u64) -> Result<String, Fail> {
     Ok(format!(in alloc; "answers: {}; {}", run.answers.len(), told.as_str())?)
 }
 
-/// One bucket is loaded, and eight rows are written: the moment, the account, its bucket, counter, session and group,
-/// the answer and the charge.
+/// One bucket is loaded, and eight rows are written: the moment, the account, its bucket, counter,
+/// session and group, the answer and the charge.
 #[test]
 fn a_debit_after_a_hundred_that_are_used_up(rt: HostRuntime) -> Result<(), Fail> {
     let alloc = rt.alloc();

@@ -1,6 +1,7 @@
 //! An operator's commands and statements over a database in a file, a line of words each; the file
 //! is opened anew for each.
 
+use crate::tests::lines::{Line, told_all};
 use database_office::{DatabaseFault, command_office, make_database, state_office};
 use operator::{ProgramWords, program_words};
 use std::fs;
@@ -30,7 +31,7 @@ fn done(rt: &HostRuntime, line: &str, written: &mut Vec<u8>) -> Result<u8, Datab
 }
 
 /// What a line of words is told: its status and its answer, or its fault.
-fn told(rt: &HostRuntime, line: &str) -> Result<String, Fail> {
+pub(crate) fn told(rt: &HostRuntime, line: &str) -> Result<String, Fail> {
     let alloc = rt.alloc();
     let mut written = Vec::new(alloc);
     match done(rt, line, &mut written) {
@@ -40,16 +41,6 @@ fn told(rt: &HostRuntime, line: &str) -> Result<String, Fail> {
         }
         Err(fault) => Ok(format!(in alloc; "{}\n", fault.line())?),
     }
-}
-
-/// What the lines are told, one after another.
-fn told_all(rt: &HostRuntime, lines: &str) -> Result<String, Fail> {
-    let mut all = String::new(rt.alloc());
-    for line in lines.lines() {
-        let told = told(rt, line)?;
-        all.push_str(told.as_str())?;
-    }
-    Ok(all)
 }
 
 const WORDS: &str = "\
@@ -108,7 +99,7 @@ fn an_office_from_its_book(rt: HostRuntime) -> Result<(), Fail> {
     fs::create_dir(&rt, FOLDER)?;
     fs::write(&rt, BOOK, worked_book::BOOK)?;
     fs::write(&rt, EMPTY, "")?;
-    let told = told_all(&rt, WORDS)?;
+    let told = told_all(&rt, Line::Office, WORDS)?;
     let left = fs::metadata(&rt, EMPTY)?.len();
     fs::remove_dir_all(&rt, FOLDER)?;
     assert_eq!(rt; told.as_str(), TOLD);

@@ -1,6 +1,7 @@
 //! Files of vouchers that are imported over a database in a file, a line of words each; the file is
 //! opened anew for each.
 
+use crate::tests::lines::{Line, told_all};
 use database_office::{DatabaseFault, ImportFault, import_office, make_database};
 use operator::{ProgramWords, program_words};
 use std::fs;
@@ -46,7 +47,7 @@ fn done(rt: &HostRuntime, line: &str, written: &mut Vec<u8>) -> Result<(), Impor
 }
 
 /// What a line of words is told.
-fn told(rt: &HostRuntime, line: &str) -> Result<String, Fail> {
+pub(crate) fn told(rt: &HostRuntime, line: &str) -> Result<String, Fail> {
     let alloc = rt.alloc();
     let mut written = Vec::new(alloc);
     match done(rt, line, &mut written) {
@@ -56,16 +57,6 @@ fn told(rt: &HostRuntime, line: &str) -> Result<String, Fail> {
         }
         Err(fault) => Ok(format!(in alloc; "{fault}\n")?),
     }
-}
-
-/// What the lines are told, one after another.
-fn told_all(rt: &HostRuntime, lines: &str) -> Result<String, Fail> {
-    let mut all = String::new(rt.alloc());
-    for line in lines.lines() {
-        let told = told(rt, line)?;
-        all.push_str(told.as_str())?;
-    }
-    Ok(all)
 }
 
 const WORDS: &str = "\
@@ -100,7 +91,7 @@ fn files_of_vouchers(rt: HostRuntime) -> Result<(), Fail> {
     for (path, text) in FILES {
         fs::write(&rt, path, text)?;
     }
-    let told = told_all(&rt, WORDS)?;
+    let told = told_all(&rt, Line::Import, WORDS)?;
     fs::remove_dir_all(&rt, FOLDER)?;
     assert_eq!(rt; told.as_str(), TOLD);
     Ok(())

@@ -16,6 +16,23 @@ pub(crate) struct Calls {
     pub(crate) db: u64,
 }
 
+impl Calls {
+    /// So many calls of the log, or else of the file, and no stop of the other.
+    pub(crate) fn of_one(is_log: bool, calls: u64) -> Calls {
+        if is_log {
+            Calls {
+                log: calls,
+                db: u64::MAX,
+            }
+        } else {
+            Calls {
+                log: u64::MAX,
+                db: calls,
+            }
+        }
+    }
+}
+
 /// Files that don't stop.
 pub(crate) const NO_STOP: Calls = Calls {
     log: u64::MAX,

@@ -82,17 +82,7 @@ fn making(alloc: Global, calls: Calls) -> Result<(bool, bool), Fail> {
 /// Tries a stop after each number of calls, until a database is made.
 fn try_each(rt: &impl Abort, alloc: Global, is_log: bool) -> Result<(), Fail> {
     for calls in 0..1_000 {
-        let calls = if is_log {
-            Calls {
-                log: calls,
-                db: u64::MAX,
-            }
-        } else {
-            Calls {
-                log: u64::MAX,
-                db: calls,
-            }
-        };
+        let calls = Calls::of_one(is_log, calls);
         let (is_made, is_well) = making(alloc, calls)?;
         assert!(rt; is_well);
         if is_made {

@@ -90,17 +90,7 @@ fn try_each(rt: &impl Abort, alloc: Global, is_log: bool) -> Result<(), Fail> {
     let base = made(alloc)?;
     let beginnings = beginnings(alloc)?;
     for calls in 0..1_000 {
-        let calls = if is_log {
-            Calls {
-                log: calls,
-                db: u64::MAX,
-            }
-        } else {
-            Calls {
-                log: u64::MAX,
-                db: calls,
-            }
-        };
+        let calls = Calls::of_one(is_log, calls);
         let (answered, is_well) = stopped(alloc, &base, &beginnings, calls)?;
         assert!(rt; is_well);
         if answered == ALL {

@@ -11,8 +11,8 @@ use wire::{read_credit, read_redeem, read_request, write_answer};
 
 /// The account is opened and credited; a session begins and reports; an event is debited, money is
 /// paid back, the session ends, and all accounts are swept; a voucher is added, and the account
-/// redeems it. A line that begins with two spaces goes on with the one before it, and the line after a
-/// command is its answer.
+/// redeems it. A line that begins with two spaces goes on with the one before it, and the line
+/// after a command is its answer.
 const TEN: &str = r##"1767571200 open
 = {"Result-Code":2001}
 1767571200 credit {"Amount":1000000,"Reference":"c1"}

@@ -1,10 +1,10 @@
-//! A writer that fails at a call, and a store that does.
+//! A writer that fails at a call.
 
 use crate::tests::connections::{book, ending, ten, told};
-use crate::tests::streams::{EXISTS, OPEN, OPENED, UNABLE};
+use crate::tests::streams::{EXISTS, OPEN, OPENED};
 use charge_sources::ChargeSource;
 use http_api::serve;
-use keepers::{Failing, MemoryKeeper};
+use keepers::MemoryKeeper;
 use std::alloc::{AllocError, Global};
 use std::io;
 use std::io::{ErrorKind, Write};
@@ -81,57 +81,5 @@ fn fails_at_each_write(rt: HostRuntime) -> Result<(), Fail> {
     let told = told_of_slow(alloc, 178)?;
     let expected = expected_of_slow(alloc, 178, "served 2")?;
     assert_eq!(rt; told.as_str(), expected.as_str());
-    Ok(())
-}
-
-/// What is written where an account is opened twice over a store that fails at the call after so
-/// many.
-fn told_of_store(alloc: Global, calls: u64) -> Result<String, Fail> {
-    let stream = OPEN.repeat(alloc, 2)?;
-    let mut bytes = stream.as_bytes();
-    told(
-        alloc,
-        &mut bytes,
-        &mut Failing::new(MemoryKeeper::new(alloc), calls),
-    )
-}
-
-/// What it is: the first request isn't served, the second isn't, or both are.
-fn served_of(alloc: Global, told: &str) -> Result<&'static str, Fail> {
-    let first = format!(in alloc; "{UNABLE}{OPENED}\nserved 2")?;
-    let second = format!(in alloc; "{OPENED}{UNABLE}\nserved 2")?;
-    let both = format!(in alloc; "{OPENED}{EXISTS}\nserved 2")?;
-    if told == first.as_str() {
-        Ok("second ")
-    } else if told == second.as_str() {
-        Ok("first ")
-    } else if told == both.as_str() {
-        Ok("both ")
-    } else {
-        Ok("none ")
-    }
-}
-
-/// What is served where the store fails at its first call, then at its second, and so on.
-fn served_in_turn(alloc: Global) -> Result<String, Fail> {
-    let mut text = String::new(alloc);
-    for calls in 0..16 {
-        let told = told_of_store(alloc, calls)?;
-        text.push_str(served_of(alloc, told.as_str())?)?;
-    }
-    Ok(text)
-}
-
-/// The store fails at a call of the first request, then of the second, then no more: the other is
-/// served.
-#[test]
-fn fails_at_each_call_of_the_store(rt: HostRuntime) -> Result<(), Fail> {
-    let text = served_in_turn(rt.alloc())?;
-    let rest = text.as_str().trim_start_matches("second ");
-    assert!(rt; rest.starts_with("first "), "{text}");
-    assert!(rt; rest.len() < text.len(), "{text}");
-    let rest = rest.trim_start_matches("first ");
-    assert!(rt; rest.starts_with("both "), "{text}");
-    assert_eq!(rt; rest.trim_start_matches("both "), "", "{text}");
     Ok(())
 }

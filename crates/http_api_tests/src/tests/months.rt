@@ -81,16 +81,34 @@ fn told_of_lines(
     told_at(alloc, keeper, seconds, stream.as_str())
 }
 
+/// What the first three connections write.
+fn told_of_session(alloc: Global, keeper: &mut MemoryKeeper) -> Result<String, Fail> {
+    let first = told_of_lines(alloc, keeper, 1_767_571_200, MIDNIGHT)?;
+    let second = told_of_lines(alloc, keeper, 1_767_607_200, TEN)?;
+    let third = told_of_lines(alloc, keeper, 1_767_607_500, FIVE_PAST)?;
+    let (first, second, third) = (first.as_str(), second.as_str(), third.as_str());
+    Ok(format!(in alloc; "{first}|{second}|{third}")?)
+}
+
 /// What the four connections write.
 fn told_of_day(alloc: Global) -> Result<String, Fail> {
     let mut keeper = MemoryKeeper::new(alloc);
-    let first = told_of_lines(alloc, &mut keeper, 1_767_571_200, MIDNIGHT)?;
-    let second = told_of_lines(alloc, &mut keeper, 1_767_607_200, TEN)?;
-    let third = told_of_lines(alloc, &mut keeper, 1_767_607_500, FIVE_PAST)?;
-    let fourth = told_at(alloc, &mut keeper, 1_767_607_500, ASKED)?;
-    let (first, second) = (first.as_str(), second.as_str());
-    let (third, fourth) = (third.as_str(), fourth.as_str());
-    Ok(format!(in alloc; "{first}|{second}|{third}|{fourth}")?)
+    let session = told_of_session(alloc, &mut keeper)?;
+    let asked = told_at(alloc, &mut keeper, 1_767_607_500, ASKED)?;
+    let (session, asked) = (session.as_str(), asked.as_str());
+    Ok(format!(in alloc; "{session}|{asked}")?)
+}
+
+/// A keeper with the charge of that session.
+pub(crate) fn keeper_of_month(alloc: Global) -> Result<MemoryKeeper, Fail> {
+    let mut keeper = MemoryKeeper::new(alloc);
+    told_of_session(alloc, &mut keeper)?;
+    Ok(keeper)
+}
+
+/// The answer with the session's month.
+pub(crate) fn month(alloc: Global) -> Result<String, Fail> {
+    Ok(format!(in alloc; "{HEAD}{MONTH}")?)
 }
 
 /// What is expected of them.

@@ -23,6 +23,9 @@ POST /vouchers/000000000001/redeem {"Subscription-Id-Data":"49153","Reference":"
 POST /vouchers/000000000002/redeem {"Reference":"v2","Subscription-Id-Data":"49152"} => 200 OK: {"Bucket":1,"Result-Code":2001}
 GET /accounts/49151  => 200 OK: {"Account":"49151","Barred":false,"Buckets":[{"Available":5000000,"Charged":0,"Credited":5000000,"Expired":0,"From":1767607200,"Number":1,"Reserved":0,"Until":1770249600}],"Moment":1767607200}"##;
 
+/// An account is opened.
+const OPENING: &str = r##"PUT /accounts/49151  => 200 OK: {"Result-Code":2001}"##;
+
 /// Adds a voucher of so many days at midnight before.
 fn add(
     alloc: Global,
@@ -47,6 +50,16 @@ fn told_of_vouchers(alloc: Global) -> Result<String, Fail> {
     let stream = requests(alloc, REDEMPTIONS)?;
     let mut bytes = stream.as_bytes();
     told(alloc, &mut bytes, &mut keeper)
+}
+
+/// A keeper with an account and a voucher.
+pub(crate) fn keeper_of_voucher(alloc: Global) -> Result<MemoryKeeper, Fail> {
+    let mut keeper = MemoryKeeper::new(alloc);
+    add(alloc, &mut keeper, "000000000001", 5_000_000, 30)?;
+    let stream = requests(alloc, OPENING)?;
+    let mut bytes = stream.as_bytes();
+    told(alloc, &mut bytes, &mut keeper)?;
+    Ok(keeper)
 }
 
 #[test]

@@ -28,7 +28,7 @@ POST /accounts/49151/credits {"Amount":1000000000000001,"Reference":"c1"} => 400
 POST /accounts/49151/credits {"Amount":1000000000000000,"Reference":"c1"} => 200 OK: {"Bucket":1,"Result-Code":2001}"##;
 
 /// The request of a line, with the length of its body.
-fn request(alloc: Global, line: &str) -> Result<String, Fail> {
+pub(crate) fn request(alloc: Global, line: &str) -> Result<String, Fail> {
     let (method, rest) = line.split_once(" ").ok_or("a method")?;
     let (path, body) = rest.split_once(" ").ok_or("a path")?;
     let length = body.len();

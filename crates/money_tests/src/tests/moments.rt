@@ -1,5 +1,7 @@
-//! Moments at the edges of minutes, days, months and years. The expected values are those of Python's `datetime`
-//! with a fixed offset: the date's ordinal, its year and month, its weekday and hour, and the timestamp of a midnight;
+//! Moments at the edges of minutes, days, months and years. The expected values are those of
+//! Python's `datetime`
+//! with a fixed offset: the date's ordinal, its year and month, its weekday and hour, and the
+//! timestamp of a midnight;
 //! switches and validity times are those of a search over each second.
 
 use calendar::{Calendar, Cycle, Entry, Period, Zone};
@@ -199,7 +201,8 @@ fn weeks_and_zones(rt: HostRuntime) -> Result<(), Fail> {
     Ok(())
 }
 
-/// Each minute of the week stands in one entry, and each day's minutes in so many, of equal length but for the last.
+/// Each minute of the week stands in one entry, and each day's minutes in so many, of equal length
+/// but for the last.
 fn minutes(alloc: Global, count: u16, to: u16) -> Result<Vec<Entry>, AllocError> {
     let mut entries = Vec::new(alloc);
     for minute in 0..count {

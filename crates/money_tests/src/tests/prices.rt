@@ -1,6 +1,7 @@
-//! Prices and grants of worked sessions. The expected values are reckoned by hand from the book's prices: seconds in
-//! blocks of 60 at 50000 or 100000 micro-units a block; octets in blocks of 1048576, of which the first 100 of a
-//! month are free and the others cost 10000; and events at 90000. What tiers give is compared with a sum over blocks.
+//! Prices and grants of worked sessions. The expected values are reckoned by hand from the book's
+//! prices: seconds in blocks of 60 at 50000 or 100000 micro-units a block; octets in blocks of
+//! 1048576, of which the first 100 of a month are free and the others cost 10000; and events at
+//! 90000. What tiers give is compared with a sum over blocks.
 
 use calendar::Period;
 use rating::{Grant, Part, Rated, greatest_grant, rate, rate_report};
@@ -31,8 +32,9 @@ from = "12:00"
 to = "24:00"
 "#;
 
-/// Groups in blocks of one: each one's number, unit and greatest grant, and its tiers in both periods. Group 40: the
-/// first 400000000 at 2 and the others at 3, or in the dearer period the first 600000000 at 1 and the others at 7.
+/// Groups in blocks of one: each one's number, unit and greatest grant, and its tiers in both
+/// periods. Group 40: the first 400000000 at 2 and the others at 3, or in the dearer period the
+/// first 600000000 at 1 and the others at 7.
 /// Groups 1 to 3: up to eight tiers with low bounds.
 const GROUPS: [[&str; 3]; 4] = [
     [

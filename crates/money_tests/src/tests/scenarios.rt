@@ -1,10 +1,11 @@
-//! Scenarios of an account over a tariff book: what each call gives, and the account's buckets after it. They are
-//! reckoned by hand from the book's prices: seconds in blocks of 60 at 100000 micro-units on weekdays from 08:00 to
-//! 20:00, else at 50000; octets in blocks of 1048576, of which the first 100 of a month are free and the others cost
-//! 10000; events at 90000. 1767607200 is 10:00 of a Monday.
+//! Scenarios of an account over a tariff book: what each call gives, and the account's buckets
+//! after it. They are reckoned by hand from the book's prices: seconds in blocks of 60 at 100000
+//! micro-units on weekdays from 08:00 to 20:00, else at 50000; octets in blocks of 1048576, of
+//! which the first 100 of a month are free and the others cost 10000; events at 90000. 1767607200
+//! is 10:00 of a Monday.
 //!
-//! A line is a moment, a call with its words, what it gives, and the buckets, each as its credited amount and what of it
-//! is available, reserved, charged and expired.
+//! A line is a moment, a call with its words, what it gives, and the buckets, each as its credited
+//! amount and what of it is available, reserved, charged and expired.
 
 ghost use Rattle.std.specs.Prelude.{◌≡◌, true, false, None};
 ghost use Rattle.reserving.specs.Sessions.{session_in};
@@ -142,7 +143,8 @@ fn described(alloc: Global, granted: Granted) -> Told {
     }
 }
 
-/// `reserve SESSION GROUP UNITS`: the units granted, the switch, the validity, and whether they are fewer than wanted.
+/// `reserve SESSION GROUP UNITS`: the units granted, the switch, the validity, and whether they are
+/// fewer than wanted.
 fn reserve(rt: &impl Abort, alloc: Global, account: &mut Account, words: &str, at: Moment) -> Told {
     let (id, words) = words.split_once(" ").ok_or("a session")?;
     let (group, units) = words.split_once(" ").ok_or("a group and units")?;
@@ -312,7 +314,8 @@ fn try_all(rt: &impl Abort, alloc: Global, lines: &str) -> Result<(), Fail> {
     Ok(())
 }
 
-/// At 07:30 a grant is held at the price from 08:00 on. Five minutes are used before the switch, and two begun after it.
+/// At 07:30 a grant is held at the price from 08:00 on. Five minutes are used before the switch,
+/// and two begun after it.
 const SWITCH: &str = "1767598200 credit 4102444800 1000000 -> 1 (1000000; 1000000, 0, 0, 0)
 1767598200 open s1 -> opened (1000000; 1000000, 0, 0, 0)
 1767598200 reserve s1 10 600 -> 600 Some(1767600000) 3600 all (1000000; 0, 1000000, 0, 0)
@@ -323,7 +326,8 @@ fn a_switch_within_the_validity(rt: HostRuntime) -> Result<(), Fail> {
     try_all(&rt, rt.alloc(), SWITCH)
 }
 
-/// 250,000 micro-units cover two minutes of ten. Five are used, and half their price isn't collected.
+/// 250,000 micro-units cover two minutes of ten. Five are used, and half their price isn't
+/// collected.
 const SHORT: &str = "1767571200 credit 4102444800 250000 -> 1 (250000; 250000, 0, 0, 0)
 1767607200 open s3 -> opened (250000; 250000, 0, 0, 0)
 1767607200 funds 10 -> 250000 true (250000; 250000, 0, 0, 0)
@@ -351,7 +355,8 @@ fn a_started_minute_runs_on(rt: HostRuntime) -> Result<(), Fail> {
     try_all(&rt, rt.alloc(), STARTED)
 }
 
-/// Two buckets are held in the order of their ends. What is given up after the first one's end is expired.
+/// Two buckets are held in the order of their ends. What is given up after the first one's end is
+/// expired.
 const BUCKETS: &str = "1767607200 credit 1767607800 150000 -> 1 (150000; 150000, 0, 0, 0)
 1767607200 credit 4102444800 300000 -> 2 (150000; 150000, 0, 0, 0) (300000; 300000, 0, 0, 0)
 1767607200 open s6 -> opened (150000; 150000, 0, 0, 0) (300000; 300000, 0, 0, 0)
@@ -363,8 +368,8 @@ fn two_buckets_of_one_reservation(rt: HostRuntime) -> Result<(), Fail> {
     try_all(&rt, rt.alloc(), BUCKETS)
 }
 
-/// The first 100 blocks of the month are free: 99 are granted and used, and then two more. January 2026 is the 684th
-/// month after January 1969.
+/// The first 100 blocks of the month are free: 99 are granted and used, and then two more. January
+/// 2026 is the 684th month after January 1969.
 const MONTH: &str = "1767607200 credit 4102444800 50000 -> 1 (50000; 50000, 0, 0, 0)
 1767607200 open s7 -> opened (50000; 50000, 0, 0, 0)
 1767607200 reserve s7 20 103809024 -> 103809024 None 3600 all (50000; 50000, 0, 0, 0)
@@ -378,8 +383,8 @@ fn free_blocks_of_a_month(rt: HostRuntime) -> Result<(), Fail> {
     try_all(&rt, rt.alloc(), MONTH)
 }
 
-/// 40,000 micro-units cover no minute: the request is recorded, and no session lives that could be ended. Two
-/// validity times after a session's last request what it holds is given up.
+/// 40,000 micro-units cover no minute: the request is recorded, and no session lives that could be
+/// ended. Two validity times after a session's last request what it holds is given up.
 const FORGOTTEN: &str = "1767607200 credit 4102444800 40000 -> 1 (40000; 40000, 0, 0, 0)
 1767607200 funds 10 -> 40000 false (40000; 40000, 0, 0, 0)
 1767607200 deny s12 -> denied (40000; 40000, 0, 0, 0)
@@ -425,8 +430,8 @@ fn an_account_that_is_barred(rt: HostRuntime) -> Result<(), Fail> {
     try_all(&rt, rt.alloc(), BARRED)
 }
 
-/// An event of 90,000 micro-units isn't charged where 89,999 are there. With one more it is, and with no more, to both
-/// buckets in their order.
+/// An event of 90,000 micro-units isn't charged where 89,999 are there. With one more it is, and
+/// with no more, to both buckets in their order.
 const EVENTS: &str = "1767571200 credit 4102444800 89999 -> 1 (89999; 89999, 0, 0, 0)
 1767607200 quote 30 1 -> 90000 (89999; 89999, 0, 0, 0)
 1767607200 debit e8 30 1 -> not covered (89999; 89999, 0, 0, 0)
@@ -449,8 +454,8 @@ fn an_event_of_one_bucket(rt: HostRuntime) -> Result<(), Fail> {
     try_all(&rt, rt.alloc(), EVENT)
 }
 
-/// What is held isn't there for an event, and its charge leaves what is held. Each event starts a block of its own,
-/// whatever was used before.
+/// What is held isn't there for an event, and its charge leaves what is held. Each event starts a
+/// block of its own, whatever was used before.
 const BESIDE: &str = "1767607200 credit 4102444800 350000 -> 1 (350000; 350000, 0, 0, 0)
 1767607200 open s21 -> opened (350000; 350000, 0, 0, 0)
 1767607200 reserve s21 10 60 -> 60 None 3600 all (350000; 250000, 100000, 0, 0)
@@ -465,7 +470,8 @@ fn events_beside_a_reservation(rt: HostRuntime) -> Result<(), Fail> {
     try_all(&rt, rt.alloc(), BESIDE)
 }
 
-/// A session uses at most 10^18 units of a group, and the greatest number of a charge is 4,294,967,295.
+/// A session uses at most 10^18 units of a group, and the greatest number of a charge is
+/// 4,294,967,295.
 const LIMITS: &str = "1767607200 open s22 -> opened
 1767607200 limit s22 10 0 1000000000000000000 -> false
 1767607200 limit s22 10 0 1000000000000000001 -> true

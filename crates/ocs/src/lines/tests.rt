@@ -7,8 +7,8 @@ use std::io::{self, ErrorKind};
 use std::test::Fail;
 use units::Moment;
 
-// A scenario has the lines that are handed in (`> `), each with its answer below it (`< `). An indented line goes on
-// with the one above.
+// A scenario has the lines that are handed in (`> `), each with its answer below it (`< `). An
+// indented line goes on with the one above.
 
 /// The text of a scenario's lines and that of the answers that are wanted.
 struct Scenario {
@@ -59,7 +59,7 @@ struct Played {
 /// Answers a scenario's lines, at 100,000 micro-units a minute.
 fn play(alloc: Global, credit: u64, text: &str) -> Result<Played, Fail> {
     let book = once_book(alloc, 100_000, 60)?;
-    let credit = Money::new(credit).ok_or("an amount")?;
+    let credit = Some(Money::new(credit).ok_or("an amount")?);
     let Scenario {
         lines: asked,
         answers: wanted,
@@ -67,14 +67,7 @@ fn play(alloc: Global, credit: u64, text: &str) -> Result<Played, Fail> {
     let mut input = asked.as_bytes();
     let mut keeper = MemoryKeeper::new(alloc);
     let mut written = Vec::new(alloc);
-    lines(
-        alloc,
-        &mut keeper,
-        &book,
-        Some(credit),
-        &mut input,
-        &mut written,
-    )?;
+    lines(alloc, &mut keeper, &book, credit, &mut input, &mut written)?;
     Ok(Played {
         keeper,
         written,
@@ -82,8 +75,15 @@ fn play(alloc: Global, credit: u64, text: &str) -> Result<Played, Fail> {
     })
 }
 
-/// The last bucket of account 49151 in the order of use, with its number: credited, available, reserved, charged,
-/// expired. All are 0 where there is none.
+/// The same of a scenario that is told by two texts.
+fn play_in_turn(alloc: Global, credit: u64, first: &str, then: &str) -> Result<Played, Fail> {
+    let mut text = String::from_str(alloc, first)?;
+    text.push_str(then)?;
+    play(alloc, credit, text.as_str())
+}
+
+/// The last bucket of account 49151 in the order of use, with its number: credited, available,
+/// reserved, charged, expired. All are 0 where there is none.
 fn last_bucket(alloc: Global, keeper: &MemoryKeeper) -> Result<[u64; 6], Fail> {
     let number = AccountNumber::new(alloc, "49151")?.ok_or("an account number")?;
     let mut buckets = keeper.whole(&number)?.buckets;
@@ -130,6 +130,15 @@ fn a_session_from_line_to_line(rt: HostRuntime) -> Result<(), Fail> {
     Ok(())
 }
 
+/// An update, and its answer.
+const UPDATE: &str = r#"{"Session-Id":"s11","CC-Request-Type":2,"CC-Request-Number":1,
+  "Subscription-Id":{"Subscription-Id-Type":0,"Subscription-Id-Data":"49151"},
+  "Multiple-Services-Credit-Control":[{"Rating-Group":10,
+  "Requested-Service-Unit":{"CC-Time":60},"Used-Service-Unit":[{"CC-Time":60}]}]}
+< {"CC-Request-Number":1,"CC-Request-Type":2,
+  "Multiple-Services-Credit-Control":[{"Granted-Service-Unit":{"CC-Time":60},"Rating-Group":10,
+  "Result-Code":2001,"Validity-Time":3600}],"Result-Code":2001,"Session-Id":"s11"}"#;
+
 /// An update, a repeat of it, and another content under its number.
 const REPEATS: &str = r#"> 1767607200 {"Session-Id":"s11","CC-Request-Type":1,"CC-Request-Number":0,
   "Subscription-Id":{"Subscription-Id-Type":0,"Subscription-Id-Data":"49151"},
@@ -138,20 +147,8 @@ const REPEATS: &str = r#"> 1767607200 {"Session-Id":"s11","CC-Request-Type":1,"C
 < {"CC-Request-Number":0,"CC-Request-Type":1,
   "Multiple-Services-Credit-Control":[{"Granted-Service-Unit":{"CC-Time":600},"Rating-Group":10,
   "Result-Code":2001,"Validity-Time":3600}],"Result-Code":2001,"Session-Id":"s11"}
-> 1767607500 {"Session-Id":"s11","CC-Request-Type":2,"CC-Request-Number":1,
-  "Subscription-Id":{"Subscription-Id-Type":0,"Subscription-Id-Data":"49151"},
-  "Multiple-Services-Credit-Control":[{"Rating-Group":10,
-  "Requested-Service-Unit":{"CC-Time":60},"Used-Service-Unit":[{"CC-Time":60}]}]}
-< {"CC-Request-Number":1,"CC-Request-Type":2,
-  "Multiple-Services-Credit-Control":[{"Granted-Service-Unit":{"CC-Time":60},"Rating-Group":10,
-  "Result-Code":2001,"Validity-Time":3600}],"Result-Code":2001,"Session-Id":"s11"}
-> 1767607560 {"Session-Id":"s11","CC-Request-Type":2,"CC-Request-Number":1,
-  "Subscription-Id":{"Subscription-Id-Type":0,"Subscription-Id-Data":"49151"},
-  "Multiple-Services-Credit-Control":[{"Rating-Group":10,
-  "Requested-Service-Unit":{"CC-Time":60},"Used-Service-Unit":[{"CC-Time":60}]}]}
-< {"CC-Request-Number":1,"CC-Request-Type":2,
-  "Multiple-Services-Credit-Control":[{"Granted-Service-Unit":{"CC-Time":60},"Rating-Group":10,
-  "Result-Code":2001,"Validity-Time":3600}],"Result-Code":2001,"Session-Id":"s11"}
+> 1767607500 UPDATE
+> 1767607560 UPDATE
 > 1767607560 {"Session-Id":"s11","CC-Request-Type":2,"CC-Request-Number":1,
   "Subscription-Id":{"Subscription-Id-Type":0,"Subscription-Id-Data":"49151"},
   "Multiple-Services-Credit-Control":[{"Rating-Group":10,
@@ -164,22 +161,26 @@ const REPEATS: &str = r#"> 1767607200 {"Session-Id":"s11","CC-Request-Type":1,"C
 #[test]
 fn a_repeat_has_the_first_answer(rt: HostRuntime) -> Result<(), Fail> {
     let alloc = rt.alloc();
-    let mut played = play(alloc, 1_000_000, REPEATS)?;
+    let text = REPEATS.replace(alloc, "UPDATE", UPDATE)?;
+    let mut played = play(alloc, 1_000_000, text.as_str())?;
     assert_eq!(rt; played.written.as_slice(), played.wanted.as_bytes());
     let seen = last_bucket(alloc, &played.keeper)?;
     assert_eq!(rt; seen, [1, 1_000_000, 800_000, 100_000, 100_000, 0]);
     Ok(())
 }
 
-/// An update in the last second of a session.
-const IN_TIME: &str = r#"> 1767607200 {"Session-Id":"s13","CC-Request-Type":1,"CC-Request-Number":0,
+/// A session begins.
+const BEGUN: &str = r#"> 1767607200 {"Session-Id":"s13","CC-Request-Type":1,"CC-Request-Number":0,
   "Subscription-Id":{"Subscription-Id-Type":0,"Subscription-Id-Data":"49151"},
   "Multiple-Services-Credit-Control":[{"Rating-Group":10,
   "Requested-Service-Unit":{"CC-Time":600}}]}
 < {"CC-Request-Number":0,"CC-Request-Type":1,
   "Multiple-Services-Credit-Control":[{"Granted-Service-Unit":{"CC-Time":600},"Rating-Group":10,
   "Result-Code":2001,"Validity-Time":3600}],"Result-Code":2001,"Session-Id":"s13"}
-> 1767614399 {"Session-Id":"s13","CC-Request-Type":2,"CC-Request-Number":1,
+"#;
+
+/// An update in its last second.
+const IN_TIME: &str = r#"> 1767614399 {"Session-Id":"s13","CC-Request-Type":2,"CC-Request-Number":1,
   "Subscription-Id":{"Subscription-Id-Type":0,"Subscription-Id-Data":"49151"},
   "Multiple-Services-Credit-Control":[{"Rating-Group":10,
   "Requested-Service-Unit":{"CC-Time":600}}]}
@@ -192,21 +193,14 @@ const IN_TIME: &str = r#"> 1767607200 {"Session-Id":"s13","CC-Request-Type":1,"C
 #[test]
 fn a_session_in_time(rt: HostRuntime) -> Result<(), Fail> {
     let alloc = rt.alloc();
-    let played = play(alloc, 1_000_000, IN_TIME)?;
+    let played = play_in_turn(alloc, 1_000_000, BEGUN, IN_TIME)?;
     assert_eq!(rt; played.written.as_slice(), played.wanted.as_bytes());
     Ok(())
 }
 
 /// An update in the second after it.
 const TOO_LATE: &str =
-    r#"> 1767607200 {"Session-Id":"s13","CC-Request-Type":1,"CC-Request-Number":0,
-  "Subscription-Id":{"Subscription-Id-Type":0,"Subscription-Id-Data":"49151"},
-  "Multiple-Services-Credit-Control":[{"Rating-Group":10,
-  "Requested-Service-Unit":{"CC-Time":600}}]}
-< {"CC-Request-Number":0,"CC-Request-Type":1,
-  "Multiple-Services-Credit-Control":[{"Granted-Service-Unit":{"CC-Time":600},"Rating-Group":10,
-  "Result-Code":2001,"Validity-Time":3600}],"Result-Code":2001,"Session-Id":"s13"}
-> 1767614400 {"Session-Id":"s13","CC-Request-Type":2,"CC-Request-Number":1,
+    r#"> 1767614400 {"Session-Id":"s13","CC-Request-Type":2,"CC-Request-Number":1,
   "Subscription-Id":{"Subscription-Id-Type":0,"Subscription-Id-Data":"49151"},
   "Multiple-Services-Credit-Control":[{"Rating-Group":10,
   "Requested-Service-Unit":{"CC-Time":600}}]}
@@ -217,7 +211,7 @@ const TOO_LATE: &str =
 #[test]
 fn a_session_that_ended_by_itself(rt: HostRuntime) -> Result<(), Fail> {
     let alloc = rt.alloc();
-    let mut played = play(alloc, 1_000_000, TOO_LATE)?;
+    let mut played = play_in_turn(alloc, 1_000_000, BEGUN, TOO_LATE)?;
     assert_eq!(rt; played.written.as_slice(), played.wanted.as_bytes());
     let seen = last_bucket(alloc, &played.keeper)?;
     assert_eq!(rt; seen, [1, 1_000_000, 0, 1_000_000, 0, 0]);
@@ -239,7 +233,8 @@ const UNREAD: &str = r#"> 0 {}
 < {"Result-Code":5012}
 "#;
 
-/// An event is read by the table of fields; a line without a moment isn't read. None of them opens an account.
+/// An event is read by the table of fields; a line without a moment isn't read. None of them opens
+/// an account.
 #[test]
 fn lines_that_are_no_requests(rt: HostRuntime) -> Result<(), Fail> {
     let alloc = rt.alloc();
@@ -372,8 +367,9 @@ fn checks_and_enquiries(rt: HostRuntime) -> Result<(), Fail> {
     Ok(())
 }
 
-/// Two debits, of which one is covered.
-const DEBITS: &str = r#"> 1767607200 {"Session-Id":"d8","CC-Request-Type":4,"CC-Request-Number":0,
+/// Two debits, and the answer to the first.
+const ONE_DEBIT: &str =
+    r#"> 1767607200 {"Session-Id":"d8","CC-Request-Type":4,"CC-Request-Number":0,
   "Subscription-Id":{"Subscription-Id-Type":0,"Subscription-Id-Data":"49151"},
   "Requested-Action":0,"Multiple-Services-Credit-Control":[{"Rating-Group":10,
   "Requested-Service-Unit":{"CC-Time":60}}]}
@@ -384,14 +380,17 @@ const DEBITS: &str = r#"> 1767607200 {"Session-Id":"d8","CC-Request-Type":4,"CC-
   "Subscription-Id":{"Subscription-Id-Type":0,"Subscription-Id-Data":"49151"},
   "Requested-Action":0,"Multiple-Services-Credit-Control":[{"Rating-Group":10,
   "Requested-Service-Unit":{"CC-Time":60}}]}
-< {"CC-Request-Number":0,"CC-Request-Type":4,"Result-Code":4012,"Session-Id":"d8b"}
 "#;
+
+/// The answer to the second where the first took all there was.
+const NOT_COVERED: &str =
+    "< {\"CC-Request-Number\":0,\"CC-Request-Type\":4,\"Result-Code\":4012,\"Session-Id\":\"d8b\"}\n";
 
 /// A debit takes the price at once; one that isn't covered takes nothing.
 #[test]
 fn debits(rt: HostRuntime) -> Result<(), Fail> {
     let alloc = rt.alloc();
-    let mut played = play(alloc, 100_000, DEBITS)?;
+    let mut played = play_in_turn(alloc, 100_000, ONE_DEBIT, NOT_COVERED)?;
     assert_eq!(rt; played.written.as_slice(), played.wanted.as_bytes());
     let seen = last_bucket(alloc, &played.keeper)?;
     assert_eq!(rt; seen, [1, 100_000, 0, 0, 100_000, 0]);
@@ -430,27 +429,12 @@ fn no_opening(rt: HostRuntime) -> Result<(), Fail> {
 /// The calls of a keeper by which an account is opened and credited, and one debit is charged.
 const CALLS_OF_ONE_DEBIT: u64 = 12;
 
-/// The same where the store fails after the first one.
-const ONE_DEBIT: &str =
-    r#"> 1767607200 {"Session-Id":"d8","CC-Request-Type":4,"CC-Request-Number":0,
-  "Subscription-Id":{"Subscription-Id-Type":0,"Subscription-Id-Data":"49151"},
-  "Requested-Action":0,"Multiple-Services-Credit-Control":[{"Rating-Group":10,
-  "Requested-Service-Unit":{"CC-Time":60}}]}
-< {"CC-Request-Number":0,"CC-Request-Type":4,
-  "Multiple-Services-Credit-Control":[{"Granted-Service-Unit":{"CC-Time":60},"Rating-Group":10,
-  "Result-Code":2001}],"Result-Code":2001,"Session-Id":"d8"}
-> 1767607200 {"Session-Id":"d8b","CC-Request-Type":4,"CC-Request-Number":0,
-  "Subscription-Id":{"Subscription-Id-Type":0,"Subscription-Id-Data":"49151"},
-  "Requested-Action":0,"Multiple-Services-Credit-Control":[{"Rating-Group":10,
-  "Requested-Service-Unit":{"CC-Time":60}}]}
-"#;
-
-/// At a store fault the answers before it are written.
+/// At a store fault after the first debit, the answers before it are written.
 #[test]
 fn a_store_fault(rt: HostRuntime) -> Result<(), Fail> {
     let alloc = rt.alloc();
     let book = once_book(alloc, 100_000, 60)?;
-    let credit = Money::new(100_000).ok_or("an amount")?;
+    let credit = Some(Money::new(100_000).ok_or("an amount")?);
     let Scenario {
         lines: asked,
         answers: wanted,
@@ -458,14 +442,7 @@ fn a_store_fault(rt: HostRuntime) -> Result<(), Fail> {
     let mut input = asked.as_bytes();
     let mut written = Vec::new(alloc);
     let mut keeper = Failing::new(MemoryKeeper::new(alloc), CALLS_OF_ONE_DEBIT);
-    let ended = lines(
-        alloc,
-        &mut keeper,
-        &book,
-        Some(credit),
-        &mut input,
-        &mut written,
-    );
+    let ended = lines(alloc, &mut keeper, &book, credit, &mut input, &mut written);
     assert_eq!(rt; ended, Err(LinesFault::Store(StoreFault::Store)));
     assert_eq!(rt; written.as_slice(), wanted.as_bytes());
     Ok(())
@@ -523,7 +500,8 @@ fn answer<R: Read, W: Write>(
     Ok(lines(alloc, &mut keeper, &book, None, reader, writer))
 }
 
-/// A reader that fails at any of its calls, one a byte and one for the end, is told as such; nothing is written.
+/// A reader that fails at any of its calls, one a byte and one for the end, is told as such;
+/// nothing is written.
 #[test]
 fn a_reader_that_fails(rt: HostRuntime) -> Result<(), Fail> {
     let alloc = rt.alloc();
@@ -544,8 +522,8 @@ fn a_reader_that_fails(rt: HostRuntime) -> Result<(), Fail> {
     Ok(())
 }
 
-/// A writer that fails at any of its calls is told as such; a beginning of the answers is written. The answers are 47
-/// and 21 bytes: 6 and 3 calls.
+/// A writer that fails at any of its calls is told as such; a beginning of the answers is written.
+/// The answers are 47 and 21 bytes: 6 and 3 calls.
 #[test]
 fn a_writer_that_fails(rt: HostRuntime) -> Result<(), Fail> {
     let alloc = rt.alloc();

@@ -1,6 +1,7 @@
 //! An operator's commands over the keeper in memory, a line each, and what they are told.
 
-use keepers::{Keeper, MemoryKeeper};
+use crate::tests::lines::{Line, told_all};
+use keepers::Keeper;
 use office::serve_office;
 use operator::{ProgramWords, program_words};
 use std::alloc::Global;
@@ -8,7 +9,7 @@ use std::test::Fail;
 use tariffs::TariffBook;
 
 /// What a line of words is told, with its exit status before it.
-fn told<K: Keeper>(
+pub(crate) fn told_of_words<K: Keeper>(
     alloc: Global,
     keeper: &mut K,
     book: &TariffBook,
@@ -23,18 +24,6 @@ fn told<K: Keeper>(
     let status = serve_office(alloc, keeper, book, words.command, moment, &mut written)?;
     let text = str::from_utf8(written.as_slice())?;
     Ok(format!(in alloc; "{} {}", status.number(), text)?)
-}
-
-/// What the lines are told, one after another, over a new keeper.
-fn told_all(alloc: Global, lines: &str) -> Result<String, Fail> {
-    let book = TariffBook::read(alloc, worked_book::BOOK.as_bytes())?;
-    let mut keeper = MemoryKeeper::new(alloc);
-    let mut all = String::new(alloc);
-    for line in lines.lines() {
-        let told = told(alloc, &mut keeper, &book, line)?;
-        all.push_str(told.as_str())?;
-    }
-    Ok(all)
 }
 
 const WORDS: &str = "\
@@ -76,7 +65,7 @@ const TOLD: &str = r#"0 {"Result-Code":2001}
 /// Three accounts are opened and credited; one is barred for a while; refusals and a repeat.
 #[test]
 fn three_accounts(rt: HostRuntime) -> Result<(), Fail> {
-    let told = told_all(rt.alloc(), WORDS)?;
+    let told = told_all(rt.alloc(), Line::Words, WORDS)?;
     assert_eq!(rt; told.as_str(), TOLD);
     Ok(())
 }

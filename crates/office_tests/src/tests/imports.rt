@@ -1,9 +1,10 @@
 //! Vouchers that are imported over the keeper in memory, a line a file: `CODE AMOUNT` pairs with a
 //! comma between them, and what is told of them.
 
+use crate::tests::lines::{Line, told_all};
 use commands::VoucherAddition;
 use identifiers::VoucherCode;
-use keepers::{Keeper, MemoryKeeper};
+use keepers::Keeper;
 use office::serve_import;
 use operator::number;
 use redemptions::VoucherTerms;
@@ -34,8 +35,8 @@ fn rows(alloc: Global, line: &str) -> Result<Vec<VoucherAddition>, Fail> {
     Ok(rows)
 }
 
-/// What a line is told.
-fn told<K: Keeper>(
+/// What a line of vouchers is told.
+pub(crate) fn told_of_vouchers<K: Keeper>(
     alloc: Global,
     keeper: &mut K,
     book: &TariffBook,
@@ -47,18 +48,6 @@ fn told<K: Keeper>(
     serve_import(alloc, keeper, book, rows, moment, &mut written)?;
     let text = str::from_utf8(written.as_slice())?;
     Ok(String::from_str(alloc, text)?)
-}
-
-/// What the lines are told, one after another, over a new keeper.
-fn told_all(alloc: Global, lines: &str) -> Result<String, Fail> {
-    let book = TariffBook::read(alloc, worked_book::BOOK.as_bytes())?;
-    let mut keeper = MemoryKeeper::new(alloc);
-    let mut all = String::new(alloc);
-    for line in lines.lines() {
-        let told = told(alloc, &mut keeper, &book, line)?;
-        all.push_str(told.as_str())?;
-    }
-    Ok(all)
 }
 
 const FILES: &str = "
@@ -79,7 +68,7 @@ new 2 present 1 conflicting 1
 /// twice in its file, and once more with other terms.
 #[test]
 fn vouchers(rt: HostRuntime) -> Result<(), Fail> {
-    let told = told_all(rt.alloc(), FILES)?;
+    let told = told_all(rt.alloc(), Line::Vouchers, FILES)?;
     assert_eq!(rt; told.as_str(), TOLD);
     Ok(())
 }

@@ -1,8 +1,9 @@
 //! An account's month over the keeper in memory, by lines of words and of dated requests.
 
+use crate::tests::lines::{Line, told_all};
 use charge_sources::ChargeSource;
 use charging::step;
-use keepers::{Keeper, MemoryKeeper};
+use keepers::Keeper;
 use office::{MonthQuery, serve_office, serve_statement};
 use operator::{DatedLine, OfficeWords, ProgramWords, StatementWords, dated_line, program_words};
 use std::alloc::Global;
@@ -62,7 +63,7 @@ fn month<K: ChargeSource>(
 }
 
 /// What a line tells of a month; nothing of a request or an operator's command.
-fn told<K: ChargeSource>(
+pub(crate) fn told_of_month<K: ChargeSource>(
     alloc: Global,
     keeper: &mut K,
     book: &TariffBook,
@@ -81,18 +82,6 @@ fn told<K: ChargeSource>(
         ProgramWords::Statement(words) => month(alloc, keeper, book, words),
         _ => Ok(format!(in alloc; "other words\n")?),
     }
-}
-
-/// What the lines tell, one after another, over a new keeper.
-fn told_all(alloc: Global, lines: &str) -> Result<String, Fail> {
-    let book = TariffBook::read(alloc, worked_book::BOOK.as_bytes())?;
-    let mut keeper = MemoryKeeper::new(alloc);
-    let mut all = String::new(alloc);
-    for line in lines.lines() {
-        let told = told(alloc, &mut keeper, &book, line)?;
-        all.push_str(told.as_str())?;
-    }
-    Ok(all)
 }
 
 const LINES: &str = r#"ocs open db 49151 --at 1767571200
@@ -143,7 +132,7 @@ COLLECTED TO DATE 250000
 /// doesn't; the next month; an account that isn't there.
 #[test]
 fn a_month_of_an_account(rt: HostRuntime) -> Result<(), Fail> {
-    let told = told_all(rt.alloc(), LINES)?;
+    let told = told_all(rt.alloc(), Line::Month, LINES)?;
     assert_eq!(rt; told.as_str(), TOLD);
     Ok(())
 }

@@ -1,5 +1,6 @@
 -- A debit's call, from any ledger whose rows the account is before it.
-use Rattle.std.proofs.Common.{◌≡◌, ℕ, ◌+◌, ◌-◌, ◌<◌, ◌≤◌, Bool, true, false, List, [], map, refl, sym, ap, subst, ◌∙◌, arith, None}
+use Rattle.std.proofs.Common.{◌≡◌, ℕ, ◌+◌, ◌-◌, ◌<◌, ◌≤◌, Bool, true, false, List, [], map, refl}
+use Rattle.std.proofs.Common.{sym, ap, subst, ◌∙◌, arith, None}
 use Rattle.std.specs.Prelude.{nat_le, not}
 use Rattle.std.specs.Ordering.{is_lt, nat_cmp}
 use Rattle.std.proofs.lemmas.Cmp.{ranked, by_ranked}
@@ -18,15 +19,19 @@ use Rattle.reserving.specs.Balance.{buckets_at}
 use Rattle.reserving.specs.Keyed.{put}
 use Rattle.reserving.specs.Sessions.{is_of, is_live_in}
 use Rattle.reserving.specs.Settlement.{price_of, passes}
-use Rattle.reserving.specs.Debiting.{untagged, event_price, is_covered, debit_passes, charged_use, debited}
-use Rattle.reserving.specs.Changes.{lapse_group, lapsed_in, advanced, group_or_new, used_in, count_in, with_event, with_count, event_price_in, debited_account}
+use Rattle.reserving.specs.Debiting.{untagged, event_price, is_covered, debit_passes, charged_use}
+use Rattle.reserving.specs.Debiting.{debited}
+use Rattle.reserving.specs.Changes.{lapse_group, lapsed_in, advanced, group_or_new, used_in}
+use Rattle.reserving.specs.Changes.{count_in, with_event, with_count, event_price_in}
+use Rattle.reserving.specs.Changes.{debited_account}
 use Rattle.reserving.specs.Prepared.{with_group, with_rows}
 use Rattle.reserving.specs.Rows.{AccountRows, IsAccount, IsRowsOf}
 use Rattle.reserving.specs.Results.{IsDebitOf}
 use Rattle.reserving.proofs.Advancing.{IsRowsOf-advanced}
 use Rattle.reserving.proofs.Advanced.{IsAccount-advanced}
 use Rattle.reserving.proofs.SettledRows.{used_in_is, count_in_is}
-use Rattle.reserving.proofs.calls.RowParts.{charged_parts, put_later, or_new_later, held_by-with_group, counted_later}
+use Rattle.reserving.proofs.calls.RowParts.{charged_parts, put_later, or_new_later}
+use Rattle.reserving.proofs.calls.RowParts.{held_by-with_group, counted_later}
 use Rattle.reserving.proofs.rows.Debited.{IsRowsOf-debited}
 
 -- ---- an event's price

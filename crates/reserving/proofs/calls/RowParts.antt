@@ -1,5 +1,6 @@
 -- The rows as a call leaves them, part by part; and time going on in rows without facts.
-use Rattle.std.proofs.Common.{◌≡◌, ℕ, ◌+◌, Bool, true, false, List, [], ◌∷◌, ◌++◌, map, refl, sym, ap, ◌∙◌, arith, Option, Some, None}
+use Rattle.std.proofs.Common.{◌≡◌, ℕ, ◌+◌, Bool, true, false, List, [], ◌∷◌, ◌++◌, map, refl, sym}
+use Rattle.std.proofs.Common.{ap, ◌∙◌, arith, Option, Some, None}
 use Rattle.std.specs.Prelude.{if◌then◌else◌, unwrap_or, option_map, not}
 use Rattle.buckets.specs.declared.holds.Hold.{Hold}
 use Rattle.buckets.specs.Row.{Row, with_release, with_end}
@@ -9,8 +10,11 @@ use Rattle.reserving.specs.declared.session.Reservation.{Reservation}
 use Rattle.reserving.specs.declared.session.Counter.{Counter}
 use Rattle.reserving.specs.Pricing.{cycle_at}
 use Rattle.reserving.specs.Keyed.{put}
-use Rattle.reserving.specs.Sessions.{is_of, group_in, is_counter, counter_in, holds_in, held_by, is_live_in}
-use Rattle.reserving.specs.Changes.{lapse_group, lapsed_in, advanced, new_group, group_or_new, used_in, reserved_in, periods_in, count_in, with_use, with_count, ended_group, ended_rows, settled_account}
+use Rattle.reserving.specs.Sessions.{is_of, group_in, is_counter, counter_in, holds_in, held_by}
+use Rattle.reserving.specs.Sessions.{is_live_in}
+use Rattle.reserving.specs.Changes.{lapse_group, lapsed_in, advanced, new_group, group_or_new}
+use Rattle.reserving.specs.Changes.{used_in, reserved_in, periods_in, count_in, with_use}
+use Rattle.reserving.specs.Changes.{with_count, ended_group, ended_rows, settled_account}
 use Rattle.reserving.specs.Prepared.{with_group, counter_or_new, with_counter, with_rows}
 use Rattle.reserving.specs.Rows.{AccountRows}
 use Rattle.reserving.proofs.Lists.{find-map, find-put}

@@ -1,5 +1,6 @@
 -- A settlement's call, from any ledger whose rows the account is before it.
-use Rattle.std.proofs.Common.{◌≡◌, ℕ, ◌+◌, ◌≤◌, Bool, true, false, List, [], ◌∷◌, map, refl, sym, ap, subst, ◌∙◌, arith, Option, Some, None}
+use Rattle.std.proofs.Common.{◌≡◌, ℕ, ◌+◌, ◌≤◌, Bool, true, false, List, [], ◌∷◌, map, refl, sym}
+use Rattle.std.proofs.Common.{ap, subst, ◌∙◌, arith, Option, Some, None}
 use Rattle.std.specs.Prelude.{is_some, not}
 use Rattle.std.proofs.lemmas.Bool.Decides.{nat_tests}
 use Rattle.units.specs.declared.blocks.UsedPart.{UsedPart}
@@ -16,8 +17,10 @@ use Rattle.rating.specs.declared.grant.Periods.{Periods}
 use Rattle.rating.specs.declared.report.Rated.{Rated}
 use Rattle.rating.specs.Rated.{rated_amount, report_blocks, report_amount}
 use Rattle.reserving.specs.Pricing.{tariff_of, rated_with}
-use Rattle.reserving.specs.Settlement.{settled_by, reported, price_of, report_price, passes, passes_limit, passes_after}
-use Rattle.reserving.specs.Changes.{lapsed_in, advanced, used_in, reserved_in, count_in, price_in, ended_rows, settled_account, settled_by_rows}
+use Rattle.reserving.specs.Settlement.{settled_by, reported, price_of, report_price, passes}
+use Rattle.reserving.specs.Settlement.{passes_limit, passes_after}
+use Rattle.reserving.specs.Changes.{lapsed_in, advanced, used_in, reserved_in, count_in, price_in}
+use Rattle.reserving.specs.Changes.{ended_rows, settled_account, settled_by_rows}
 use Rattle.reserving.specs.Prepared.{with_group, with_rows, counter_or_new}
 use Rattle.reserving.specs.Rows.{AccountRows, IsAccount, IsRowsOf}
 use Rattle.reserving.specs.Results.{IsSettlementOf}
@@ -28,7 +31,8 @@ use Rattle.reserving.proofs.rows.Complete.{reserved_in_is}
 use Rattle.reserving.proofs.PassedLimits.{passes_after-none}
 use Rattle.reserving.proofs.kept.Settled.{or_new_cycle}
 use Rattle.reserving.proofs.SettledRows.{used_in_is, count_in_is, price_in_is, IsRowsOf-settled_by}
-use Rattle.reserving.proofs.calls.RowParts.{or_new_later, group_later, used_later, periods_later, count_later, held_by-with_group, settled_later}
+use Rattle.reserving.proofs.calls.RowParts.{or_new_later, group_later, used_later, periods_later}
+use Rattle.reserving.proofs.calls.RowParts.{count_later, held_by-with_group, settled_later}
 
 -- ---- a report without parts
 
@@ -259,6 +263,7 @@ settlement_is ledger a middle s g c t used_parts x account rows le live_in told 
       uncollected =
           told.missing
           ∙ (λ i. uncollected (reserved_in s g (told.brought i).groups) g (told.brought i).as_of
-          x.rated.0 (told.brought i).buckets) ∙ (λ i. uncollected (held i) g t (rated i) (buckets i));
+          x.rated.0 (told.brought i).buckets)
+          ∙ (λ i. uncollected (held i) g t (rated i) (buckets i));
       collected = told.all;
     }

@@ -7,12 +7,15 @@ use Rattle.reserving.specs.declared.session.SessionGroup.{SessionGroup}
 use Rattle.reserving.specs.declared.session.Counter.{Counter}
 use Rattle.reserving.specs.Pricing.{cycle_at}
 use Rattle.reserving.specs.Sessions.{is_of, is_counter, held_by}
-use Rattle.reserving.specs.Changes.{group_or_new, used_in, reserved_in, count_in, with_event, debited_account}
+use Rattle.reserving.specs.Changes.{group_or_new, used_in, reserved_in, count_in, with_event}
+use Rattle.reserving.specs.Changes.{debited_account}
 use Rattle.reserving.specs.Rows.{AccountRows, IsAccount}
 use Rattle.reserving.proofs.InOrder.{order_map, order_or_new}
 use Rattle.reserving.proofs.Lists.{EachIn-put}
 use Rattle.reserving.proofs.Keys.{own_key, own_cycle}
-use Rattle.reserving.proofs.kept.Settled.{IsSound-settled, IsBelow-map, settled_reserved, settled_number, held_by_number, held_by-put, AreApart-put, AreApart-put_counter}
+use Rattle.reserving.proofs.kept.Settled.{IsSound-settled, IsBelow-map, settled_reserved}
+use Rattle.reserving.proofs.kept.Settled.{settled_number, held_by_number, held_by-put, AreApart-put}
+use Rattle.reserving.proofs.kept.Settled.{AreApart-put_counter}
 
 pub within_none : (rows : List Row) → IsWithin [] rows
 within_none [] = tt

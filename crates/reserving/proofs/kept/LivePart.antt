@@ -1,5 +1,6 @@
 -- What may still change of an account's rows is an account's rows.
-use Rattle.std.proofs.Common.{◌≡◌, ℕ, ◌+◌, ◌≤◌, Bool, true, false, cond, List, [], ◌∷◌, ◌++◌, refl, ap, ◌∙◌, arith, Option, Some, None}
+use Rattle.std.proofs.Common.{◌≡◌, ℕ, ◌+◌, ◌≤◌, Bool, true, false, cond, List, [], ◌∷◌, ◌++◌, refl}
+use Rattle.std.proofs.Common.{ap, ◌∙◌, arith, Option, Some, None}
 use Rattle.std.specs.Prelude.{◌==◌, not, filter, is_some}
 use Rattle.buckets.specs.Row.{Row}
 use Rattle.buckets.specs.Spend.{Each, IsBelow}
@@ -12,7 +13,8 @@ use Rattle.reserving.specs.declared.session.SessionGroup.{SessionGroup}
 use Rattle.reserving.specs.declared.session.Reservation.{Reservation}
 use Rattle.reserving.specs.declared.session.Counter.{Counter}
 use Rattle.reserving.specs.Pricing.{cycle_at}
-use Rattle.reserving.specs.Sessions.{is_session, is_of, is_counter, is_open, session_in, holds_in, held_by}
+use Rattle.reserving.specs.Sessions.{is_session, is_of, is_counter, is_open, session_in, holds_in}
+use Rattle.reserving.specs.Sessions.{held_by}
 use Rattle.reserving.specs.Rows.{AccountRows, EachIn, AreApart, IsInOrderOf, IsAccount}
 use Rattle.reserving.specs.Stored.{StoredRows, IsStored}
 use Rattle.reserving.specs.Left.{is_dead, is_open_row}

@@ -1,5 +1,6 @@
 -- The periods of each reservation stay the book's, whatever a call makes of the rows.
-use Rattle.std.proofs.Common.{◌≡◌, ℕ, ◌+◌, ◌≤◌, ◌<◌, Bool, true, false, cond, List, [], ◌∷◌, ◌++◌, map, refl, sym, ap, subst, ◌∙◌, arith, Option, Some, None}
+use Rattle.std.proofs.Common.{◌≡◌, ℕ, ◌+◌, ◌≤◌, ◌<◌, Bool, true, false, cond, List, [], ◌∷◌, ◌++◌}
+use Rattle.std.proofs.Common.{map, refl, sym, ap, subst, ◌∙◌, arith, Option, Some, None}
 use Rattle.std.specs.Prelude.{if◌then◌else◌, ◌&&◌, is_some, length, nat_lt, option_map, unwrap_or}
 use Rattle.std.specs.List.{list_all}
 use Rattle.std.proofs.lemmas.Bool.{false≢true}
@@ -17,7 +18,10 @@ use Rattle.reserving.specs.Pricing.{tariff_of, cycle_at, periods_at}
 use Rattle.reserving.specs.Sessions.{session_in, is_of, group_in, is_counter, is_live_in}
 use Rattle.buckets.specs.Holding.{holds_of}
 use Rattle.reserving.specs.Keyed.{put}
-use Rattle.reserving.specs.Changes.{advanced, with_session, touched_account, closed_account, lapse_group, is_other, new_group, group_or_new, ended_group, ended_rows, settled_account, debited_account, reserved_account, credited_account, used_in, count_in, periods_in}
+use Rattle.reserving.specs.Changes.{advanced, with_session, touched_account, closed_account}
+use Rattle.reserving.specs.Changes.{lapse_group, is_other, new_group, group_or_new, ended_group}
+use Rattle.reserving.specs.Changes.{ended_rows, settled_account, debited_account, reserved_account}
+use Rattle.reserving.specs.Changes.{credited_account, used_in, count_in, periods_in}
 use Rattle.reserving.specs.Prepared.{with_group_row, with_rows, reservation_in}
 use Rattle.reserving.specs.Rows.{AccountRows, EachIn, AreApart}
 use Rattle.reserving.specs.Placed.{AreOfBook, is_placed, ArePlaced, IsPriced}
@@ -29,8 +33,10 @@ use Rattle.reserving.proofs.Keys.{key_group}
 use Rattle.reserving.proofs.StoredRows.{IsAccount-priced}
 use Rattle.reserving.proofs.Advanced.{IsAccount-advanced}
 use Rattle.reserving.proofs.Crediting.{IsAccount-credited}
-use Rattle.reserving.proofs.kept.Sessions.{IsAccount-with_session, IsAccount-touched, IsAccount-closed}
-use Rattle.reserving.proofs.kept.Settled.{IsAccount-settled, IsAccount-ended, IsAccount-with_group_row, IsAccount-with_rows}
+use Rattle.reserving.proofs.kept.Sessions.{IsAccount-with_session, IsAccount-touched}
+use Rattle.reserving.proofs.kept.Sessions.{IsAccount-closed}
+use Rattle.reserving.proofs.kept.Settled.{IsAccount-settled, IsAccount-ended}
+use Rattle.reserving.proofs.kept.Settled.{IsAccount-with_group_row, IsAccount-with_rows}
 use Rattle.reserving.proofs.kept.Debited.{IsAccount-debited}
 use Rattle.reserving.proofs.kept.LivePart.{IsAccount-live}
 use Rattle.reserving.proofs.rows.Reserved.{IsAccount-reserved}
@@ -40,12 +46,14 @@ use Rattle.reserving.proofs.rows.Reserved.{IsAccount-reserved}
 prices_known : (b : Book) (g : ℕ) (p : Periods) →
     is_some (prices_at b g p.before.0 p.after.0) ≡ true → AreOfBook b p
 prices_known b g p h =
-    by_tests (nat_lt p.before.0 (length b.periods)) (nat_lt p.after.0 (length b.periods)) refl refl h
+    by_tests (nat_lt p.before.0 (length b.periods))
+    (nat_lt p.after.0 (length b.periods)) refl refl h
   where
     by_tests : (x y : Bool) → nat_lt p.before.0 (length b.periods) ≡ x →
         nat_lt p.after.0 (length b.periods) ≡ y →
         is_some
-        (if x && y then option_map (λ t. prices_in t p.before.0 p.after.0) (tariff_of b g) else None)
+        (if x && y then option_map (λ t. prices_in t p.before.0 p.after.0) (tariff_of b g)
+        else None)
         ≡ true → AreOfBook b p
     by_tests true true ex ey h =
         record { before = grind (arith, nat_tests); after = grind (arith, nat_tests) }
@@ -60,7 +68,8 @@ prices_there b g p of some =
     let x : nat_lt p.before.0 (length b.periods) ≡ true = grind (arith, nat_tests) in
     let y : nat_lt p.after.0 (length b.periods) ≡ true = grind (arith, nat_tests) in
     (λ i. is_some
-    (if x i && y i then option_map (λ t. prices_in t p.before.0 p.after.0) (tariff_of b g) else None))
+    (if x i && y i
+    then option_map (λ t. prices_in t p.before.0 p.after.0) (tariff_of b g) else None))
     ∙ by_tariff (tariff_of b g) some
   where
     by_tariff : (o : Option GroupTariff) → is_some o ≡ true →

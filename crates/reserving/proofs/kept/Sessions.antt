@@ -1,10 +1,12 @@
 -- What each account keeps is kept when its sessions change, and when one is closed.
-use Rattle.std.proofs.Common.{◌≡◌, ℕ, ◌≤◌, Bool, true, false, cond, List, [], ◌∷◌, ◌++◌, map, refl, sym, ap, ◌∙◌, arith, Some, None}
+use Rattle.std.proofs.Common.{◌≡◌, ℕ, ◌≤◌, Bool, true, false, cond, List, [], ◌∷◌, ◌++◌, map, refl}
+use Rattle.std.proofs.Common.{sym, ap, ◌∙◌, arith, Some, None}
 use Rattle.std.specs.Prelude.{if◌then◌else◌, not}
 use Rattle.std.specs.List.{find}
 use Rattle.buckets.specs.Row.{Row, IsBalanced, with_release}
 use Rattle.buckets.specs.Spend.{Each, IsSound}
-use Rattle.buckets.proofs.SharesAlong.{KeepsPlace, with_release_number, with_release_until, IsInOrder-map}
+use Rattle.buckets.proofs.SharesAlong.{KeepsPlace, with_release_number, with_release_until}
+use Rattle.buckets.proofs.SharesAlong.{IsInOrder-map}
 use Rattle.buckets.proofs.Kept.{AreDistinct-map, balanced_release}
 use Rattle.reserving.specs.declared.session.Session.{Session}
 use Rattle.reserving.specs.declared.session.SessionState.{SessionState}
@@ -13,11 +15,13 @@ use Rattle.reserving.specs.declared.session.SessionGroup.{SessionGroup}
 use Rattle.reserving.specs.Sessions.{is_session, session_in, is_of, held_by}
 use Rattle.reserving.specs.Keyed.{put}
 use Rattle.reserving.specs.Rows.{AccountRows, EachIn, AreApart, IsAccount}
-use Rattle.reserving.specs.Changes.{with_session, touched_account, touched_session, closed_account, closed_session, is_other, lapse_group, lapsed_in, lapsed_rows}
+use Rattle.reserving.specs.Changes.{with_session, touched_account, touched_session, closed_account}
+use Rattle.reserving.specs.Changes.{closed_session, is_other, lapse_group, lapsed_in, lapsed_rows}
 use Rattle.reserving.proofs.InOrder.{order_lapsed}
 use Rattle.reserving.proofs.kept.Parts.{IsAccount-with_sessions}
 use Rattle.reserving.proofs.Lists.{no_some, EachIn-map, AreApart-map}
-use Rattle.reserving.proofs.rows.Lapsing.{named_lapsed, lapsable_of, lapsed_rows-is, IsBelow-map, held_by-lapsed, held_by_number, released_reserved}
+use Rattle.reserving.proofs.rows.Lapsing.{named_lapsed, lapsable_of, lapsed_rows-is, IsBelow-map}
+use Rattle.reserving.proofs.rows.Lapsing.{held_by-lapsed, held_by_number, released_reserved}
 use Rattle.reserving.proofs.Advanced.{lapse_group-keys, lapse_group-used}
 use Rattle.reserving.proofs.Advancing.{held_by-split}
 use Rattle.reserving.proofs.rows.Touching.{same_back}

@@ -1,11 +1,13 @@
 -- What each account keeps is kept by a settlement, by the end of a reservation, and by rows without
 -- facts.
-use Rattle.std.proofs.Common.{◌≡◌, ℕ, ◌+◌, ◌-◌, ◌<◌, ◌≤◌, Bool, true, false, cond, List, [], ◌∷◌, map, refl, sym, ap, subst, ◌∙◌, arith, Option, Some, None}
+use Rattle.std.proofs.Common.{◌≡◌, ℕ, ◌+◌, ◌-◌, ◌<◌, ◌≤◌, Bool, true, false, cond, List, [], ◌∷◌}
+use Rattle.std.proofs.Common.{map, refl, sym, ap, subst, ◌∙◌, arith, Option, Some, None}
 use Rattle.std.specs.Prelude.{if◌then◌else◌, unwrap_or, sum_by, ◌==◌}
 use Rattle.buckets.specs.declared.holds.Hold.{Hold}
 use Rattle.buckets.specs.Row.{Row, with_charge, with_charge_of_hold, with_release}
 use Rattle.buckets.specs.Spend.{Each, IsSound}
-use Rattle.buckets.specs.Holding.{held_in, held_sum, IsWithin, paid_of_hold, paid_of_rest, settled_row, settled_rows}
+use Rattle.buckets.specs.Holding.{held_in, held_sum, IsWithin, paid_of_hold, paid_of_rest}
+use Rattle.buckets.specs.Holding.{settled_row, settled_rows}
 use Rattle.buckets.proofs.SharesAlong.{with_release_number}
 use Rattle.buckets.proofs.Kept.{IsSound-charge, IsSound-charge_of_hold, IsSound-release}
 use Rattle.buckets.proofs.Settling.{left_within, settled_rows-along, IsSound-release_rest}
@@ -14,11 +16,14 @@ use Rattle.reserving.specs.declared.session.Counter.{Counter}
 use Rattle.reserving.specs.Pricing.{cycle_at}
 use Rattle.reserving.specs.Keyed.{put}
 use Rattle.reserving.specs.Sessions.{is_of, group_in, is_counter, counter_in, holds_in, held_by}
-use Rattle.reserving.specs.Changes.{new_group, group_or_new, used_in, reserved_in, count_in, with_use, ended_group, ended_rows, settled_account}
-use Rattle.reserving.specs.Prepared.{with_group, with_counter, counter_or_new, with_rows, with_group_row}
+use Rattle.reserving.specs.Changes.{new_group, group_or_new, used_in, reserved_in, count_in}
+use Rattle.reserving.specs.Changes.{with_use, ended_group, ended_rows, settled_account}
+use Rattle.reserving.specs.Prepared.{with_group, with_counter, counter_or_new, with_rows}
+use Rattle.reserving.specs.Prepared.{with_group_row}
 use Rattle.reserving.specs.Rows.{EachIn, AreApart, AccountRows, IsAccount}
 use Rattle.reserving.proofs.Lists.{EachIn-put, EachIn-map, AreApart-map, find-passes}
-use Rattle.reserving.proofs.Keys.{is_key, is_key-sym, own_key, key_session, key_group, is_cycle, own_cycle, cycle_group, cycle_cycle, same_tests}
+use Rattle.reserving.proofs.Keys.{is_key, is_key-sym, own_key, key_session, key_group, is_cycle}
+use Rattle.reserving.proofs.Keys.{own_cycle, cycle_group, cycle_cycle, same_tests}
 use Rattle.reserving.proofs.KeysFound.{ended_put, ended_unnamed}
 use Rattle.reserving.proofs.kept.Parts.{IsAccount-with}
 use Rattle.reserving.proofs.InOrder.{order_map, order_none, order_either, order_or_new}

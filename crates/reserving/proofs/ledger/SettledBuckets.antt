@@ -1,11 +1,13 @@
 -- What the end of a reservation, and a settlement, make of each bucket of a ledger.
-use Rattle.std.proofs.Common.{◌≡◌, ℕ, ◌+◌, ◌-◌, ◌≤◌, Bool, true, false, List, [], ◌∷◌, ◌++◌, map, refl, sym, ap, ◌∙◌, arith}
+use Rattle.std.proofs.Common.{◌≡◌, ℕ, ◌+◌, ◌-◌, ◌≤◌, Bool, true, false, List, [], ◌∷◌, ◌++◌, map}
+use Rattle.std.proofs.Common.{refl, sym, ap, ◌∙◌, arith}
 use Rattle.std.specs.Prelude.{if◌then◌else◌, ◌==◌, ◌&&◌, not, nat_lt, min}
 use Rattle.buckets.specs.declared.holds.Hold.{Hold}
 use Rattle.buckets.specs.Row.{Row, IsBalanced, with_charge, with_charge_of_hold, with_release}
 use Rattle.buckets.specs.Share.{parts}
 use Rattle.buckets.specs.Spend.{Each, AreDistinct}
-use Rattle.buckets.specs.Holding.{held_in, paid_of_hold, paid_of_rest, paid, settled_row, settled_rows, released_rows}
+use Rattle.buckets.specs.Holding.{held_in, paid_of_hold, paid_of_rest, paid, settled_row}
+use Rattle.buckets.specs.Holding.{settled_rows, released_rows}
 use Rattle.buckets.proofs.Parts.{sum_at, sum_at-parts, held_in-sum_at}
 use Rattle.reserving.specs.Ledger.{Ledger, charged, held, only, is_live, is_same}
 use Rattle.reserving.specs.Ledger.Fact.{End}
@@ -14,7 +16,9 @@ use Rattle.reserving.specs.Sessions.{holds_at}
 use Rattle.reserving.specs.Settlement.{charge_facts, settled}
 use Rattle.reserving.proofs.ledger.Columns.{balance_by, release_by, with_columns, balanced_le}
 use Rattle.reserving.proofs.Holds.{held_split, one_split}
-use Rattle.reserving.proofs.SettledFacts.{SameSessions, same_live, newest-front, any-front, each_charge, held-charge_facts, credits-charge_facts, charged-charge_facts}
+use Rattle.reserving.proofs.SettledFacts.{SameSessions, same_live, newest-front, any-front}
+use Rattle.reserving.proofs.SettledFacts.{each_charge, held-charge_facts, credits-charge_facts}
+use Rattle.reserving.proofs.SettledFacts.{charged-charge_facts}
 
 -- ---- one bucket's columns
 

@@ -1,5 +1,6 @@
 -- A bucket is made beside the rows that were left.
-use Rattle.std.proofs.Common.{◌≡◌, ℕ, ◌+◌, ◌<◌, ◌≤◌, Bool, true, false, List, [], ◌∷◌, ap, subst, ◌∙◌, Option}
+use Rattle.std.proofs.Common.{◌≡◌, ℕ, ◌+◌, ◌<◌, ◌≤◌, Bool, true, false, List, [], ◌∷◌, ap, subst}
+use Rattle.std.proofs.Common.{◌∙◌, Option}
 use Rattle.std.specs.Prelude.{if◌then◌else◌}
 use Rattle.buckets.specs.Row.{Row, new_row, precedes}
 use Rattle.buckets.specs.Spend.{IsBelow}

@@ -1,5 +1,6 @@
 -- A debit's call, from a ledger whose rows the account's are together with those left.
-use Rattle.std.proofs.Common.{◌≡◌, ℕ, ◌+◌, ◌≤◌, Bool, false, List, [], ◌++◌, refl, sym, ap, subst, ◌∙◌, arith, None}
+use Rattle.std.proofs.Common.{◌≡◌, ℕ, ◌+◌, ◌≤◌, Bool, false, List, [], ◌++◌, refl, sym, ap, subst}
+use Rattle.std.proofs.Common.{◌∙◌, arith, None}
 use Rattle.std.specs.Prelude.{not}
 use Rattle.std.specs.Ordering.{is_lt, nat_cmp}
 use Rattle.buckets.specs.Row.{Row}
@@ -15,13 +16,16 @@ use Rattle.reserving.specs.Pricing.{cycle_at}
 use Rattle.reserving.specs.Sessions.{is_of, group_in, is_live_in}
 use Rattle.reserving.specs.Settlement.{passes}
 use Rattle.reserving.specs.Debiting.{is_covered}
-use Rattle.reserving.specs.Changes.{advanced, group_or_new, used_in, count_in, with_event, event_price_in, debited_account}
+use Rattle.reserving.specs.Changes.{advanced, group_or_new, used_in, count_in, with_event}
+use Rattle.reserving.specs.Changes.{event_price_in, debited_account}
 use Rattle.reserving.specs.Prepared.{with_rows}
 use Rattle.reserving.specs.Rows.{AccountRows, EachIn, IsAccount}
 use Rattle.reserving.specs.Results.{IsDebitOf}
-use Rattle.reserving.specs.Left.{LeftRows, merged, joined, IsDead, IsLeft, AreOfOtherCycles, IsBeside, IsWith}
+use Rattle.reserving.specs.Left.{LeftRows, merged, joined, IsDead, IsLeft, AreOfOtherCycles}
+use Rattle.reserving.specs.Left.{IsBeside, IsWith}
 use Rattle.reserving.proofs.kept.Debited.{IsAccount-debited}
-use Rattle.reserving.proofs.calls.Debited.{IsDebitMade, covered_is, debit_is, debited_is, debited_later, buckets_later}
+use Rattle.reserving.proofs.calls.Debited.{IsDebitMade, covered_is, debit_is, debited_is}
+use Rattle.reserving.proofs.calls.Debited.{debited_later, buckets_later}
 use Rattle.reserving.proofs.calls.Settled.{within_used, within_counted}
 use Rattle.reserving.proofs.calls.RowParts.{used_later}
 use Rattle.reserving.proofs.LeftMerged.{each_map, settled_merged}

@@ -3,8 +3,10 @@ use Rattle.std.proofs.Common.{◌≡◌, ℕ, Bool, true, false, List, refl, sym
 use Rattle.std.specs.Prelude.{if◌then◌else◌, is_some}
 use Rattle.rating.specs.declared.grant.Periods.{Periods}
 use Rattle.reserving.specs.declared.session.SessionState.TheVariants.{Open, Ended, NeverOpened}
-use Rattle.reserving.specs.Ledger.{Ledger, Recording, is_live, last_touch, last_recording, open_grant}
-use Rattle.reserving.specs.Sessions.{session_row, state_at, is_open, holds_at, reservation_of, reservation_at}
+use Rattle.reserving.specs.Ledger.{Ledger, Recording, is_live, last_touch, last_recording}
+use Rattle.reserving.specs.Ledger.{open_grant}
+use Rattle.reserving.specs.Sessions.{session_row, state_at, is_open, holds_at, reservation_of}
+use Rattle.reserving.specs.Sessions.{reservation_at}
 use Rattle.reserving.specs.Rows.{AccountRows, IsRowsOf}
 use Rattle.reserving.specs.Left.{is_open_row}
 use Rattle.reserving.proofs.Lists.{not_both}

@@ -1,5 +1,6 @@
 -- A grant's call, from a ledger whose rows the account's are together with those left.
-use Rattle.std.proofs.Common.{◌≡◌, ℕ, ◌<◌, ◌≤◌, Bool, true, false, List, refl, sym, ap, subst, ◌∙◌, Option, None}
+use Rattle.std.proofs.Common.{◌≡◌, ℕ, ◌<◌, ◌≤◌, Bool, true, false, List, refl, sym, ap, subst, ◌∙◌}
+use Rattle.std.proofs.Common.{Option, None}
 use Rattle.std.specs.Prelude.{nat_lt}
 use Rattle.rating.specs.declared.grant.Grant.{Grant}
 use Rattle.reserving.specs.declared.session.SessionGroup.{SessionGroup}

@@ -1,12 +1,14 @@
 -- What may still change is loaded, and the rest is left: together they are the ledger's rows.
-use Rattle.std.proofs.Common.{◌≡◌, ℕ, ◌≤◌, Bool, true, false, List, ◌++◌, refl, sym, ap, ◌∙◌, Option, Some, None}
+use Rattle.std.proofs.Common.{◌≡◌, ℕ, ◌≤◌, Bool, true, false, List, ◌++◌, refl, sym, ap, ◌∙◌}
+use Rattle.std.proofs.Common.{Option, Some, None}
 use Rattle.std.specs.Prelude.{if◌then◌else◌, ◌==◌, ◌||◌, is_some}
 use Rattle.tariffs.specs.Books.{Book, IsBook}
 use Rattle.reserving.specs.declared.session.SessionGroup.{SessionGroup}
 use Rattle.reserving.specs.declared.session.Counter.{Counter}
 use Rattle.reserving.specs.Ledger.{Ledger, is_same, last_recording, has_group, used}
 use Rattle.reserving.specs.Pricing.{cycle_at}
-use Rattle.reserving.specs.Sessions.{is_session, session_in, is_of, group_in, is_counter, counter_in, is_open, reservation_at}
+use Rattle.reserving.specs.Sessions.{is_session, session_in, is_of, group_in, is_counter}
+use Rattle.reserving.specs.Sessions.{counter_in, is_open, reservation_at}
 use Rattle.reserving.specs.Rows.{AccountRows, EachIn, AreApart, IsAccount, IsRowsOf}
 use Rattle.reserving.specs.Stored.{StoredRows, IsStored, priced}
 use Rattle.reserving.specs.Left.{is_open_row, only, left_of, IsPartOf, IsWith, IsLoadedWith}

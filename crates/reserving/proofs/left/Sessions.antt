@@ -1,6 +1,7 @@
 -- Sessions are opened, recorded, touched and closed beside the rows that were left, and the account
 -- is barred.
-use Rattle.std.proofs.Common.{◌≡◌, ℕ, ◌<◌, ◌≤◌, Bool, true, false, List, [], ◌∷◌, ◌++◌, map, refl, sym, ap, subst, ◌∙◌, arith, Some, None}
+use Rattle.std.proofs.Common.{◌≡◌, ℕ, ◌<◌, ◌≤◌, Bool, true, false, List, [], ◌∷◌, ◌++◌, map, refl}
+use Rattle.std.proofs.Common.{sym, ap, subst, ◌∙◌, arith, Some, None}
 use Rattle.std.specs.Prelude.{if◌then◌else◌, ◌==◌, ◌&&◌, not, option_map, cond}
 use Rattle.std.specs.List.{find}
 use Rattle.buckets.specs.Row.{Row, with_release}
@@ -12,7 +13,9 @@ use Rattle.reserving.specs.declared.session.SessionGroup.{SessionGroup}
 use Rattle.reserving.specs.Ledger.{Ledger, is_same}
 use Rattle.reserving.specs.Sessions.{is_session, session_in, is_of, group_in, is_live_in, held_by}
 use Rattle.reserving.specs.Requests.{recorded, touched, closed, with_bar}
-use Rattle.reserving.specs.Changes.{lapse_group, lapsed_in, session_put, with_session, touched_session, touched_account, is_other, closed_session, closed_account}
+use Rattle.reserving.specs.Changes.{lapse_group, lapsed_in, session_put, with_session}
+use Rattle.reserving.specs.Changes.{touched_session, touched_account, is_other, closed_session}
+use Rattle.reserving.specs.Changes.{closed_account}
 use Rattle.reserving.specs.Rows.{AccountRows, EachIn, IsAccount, IsRowsOf}
 use Rattle.reserving.specs.Left.{LeftRows, merged, joined, IsLeft, NotLeft, IsWith}
 use Rattle.reserving.proofs.Lists.{find-map, find-put_other, no_some, not_both}
@@ -23,9 +26,11 @@ use Rattle.reserving.proofs.rows.Touching.{IsRowsOf-denied, IsRowsOf-opened}
 use Rattle.reserving.proofs.rows.Closing.{IsRowsOf-touched, IsRowsOf-closed}
 use Rattle.reserving.proofs.rows.Barring.{IsRowsOf-barred, IsAccount-barred}
 use Rattle.reserving.proofs.LeftMore.{with_facts}
-use Rattle.reserving.proofs.kept.Sessions.{IsAccount-with_session, IsAccount-touched, IsAccount-closed}
+use Rattle.reserving.proofs.kept.Sessions.{IsAccount-with_session, IsAccount-touched}
+use Rattle.reserving.proofs.kept.Sessions.{IsAccount-closed}
 use Rattle.reserving.proofs.LeftMerged.{map_merged, each_map, release_none}
-use Rattle.reserving.proofs.LeftJoined.{find_behind, put_behind, map_behind, each_in_map, held_behind}
+use Rattle.reserving.proofs.LeftJoined.{find_behind, put_behind, map_behind, each_in_map}
+use Rattle.reserving.proofs.LeftJoined.{held_behind}
 use Rattle.reserving.proofs.LeftTests.{none_each, each_with}
 use Rattle.reserving.proofs.LeftFrames.{unheld, lapse_free, differs_from}
 use Rattle.reserving.proofs.LeftReadings.{live_told}

@@ -1,5 +1,6 @@
 -- A settlement's call, from a ledger whose rows the account's are together with those left.
-use Rattle.std.proofs.Common.{◌≡◌, ℕ, ◌+◌, ◌<◌, ◌≤◌, true, false, List, [], ◌∷◌, refl, sym, ap, subst, ◌∙◌, arith}
+use Rattle.std.proofs.Common.{◌≡◌, ℕ, ◌+◌, ◌<◌, ◌≤◌, true, false, List, [], ◌∷◌, refl, sym, ap}
+use Rattle.std.proofs.Common.{subst, ◌∙◌, arith}
 use Rattle.std.proofs.lemmas.Bool.Decides.{nat_tests}
 use Rattle.units.specs.declared.blocks.UsedPart.{UsedPart}
 use Rattle.rating.specs.declared.report.Rated.{Rated}
@@ -8,7 +9,8 @@ use Rattle.reserving.specs.Ledger.{Ledger, is_live}
 use Rattle.reserving.specs.Pricing.{cycle_at}
 use Rattle.reserving.specs.Sessions.{is_of, is_live_in}
 use Rattle.reserving.specs.Settlement.{reported, passes, settled_by}
-use Rattle.reserving.specs.Changes.{advanced, used_in, count_in, price_in, ended_rows, settled_account, settled_by_rows}
+use Rattle.reserving.specs.Changes.{advanced, used_in, count_in, price_in, ended_rows}
+use Rattle.reserving.specs.Changes.{settled_account, settled_by_rows}
 use Rattle.reserving.specs.Prepared.{with_rows}
 use Rattle.reserving.specs.Rows.{AccountRows, EachIn, IsAccount, IsRowsOf}
 use Rattle.reserving.specs.Left.{LeftRows, joined, IsWith}
@@ -16,7 +18,8 @@ use Rattle.reserving.proofs.Advancing.{is_live_in-is}
 use Rattle.reserving.proofs.kept.Settled.{IsAccount-settled}
 use Rattle.reserving.proofs.calls.RowParts.{used_later}
 use Rattle.reserving.proofs.calls.Settled.{price_later, within_used, within_counted, settled_is}
-use Rattle.reserving.proofs.LeftFrames.{live, not_of_live, row_same, count_same, settled_joined, settled_with_left}
+use Rattle.reserving.proofs.LeftFrames.{live, not_of_live, row_same, count_same, settled_joined}
+use Rattle.reserving.proofs.LeftFrames.{settled_with_left}
 use Rattle.reserving.proofs.LeftMore.{with_advanced, with_ended, with_facts}
 
 -- the limits hold
@@ -81,7 +84,8 @@ pub record IsLiveBeside (ledger : Ledger) (left : LeftRows) (a : AccountRows) (s
   pub rows : IsWith ledger left t (advanced t a)
   pub live : is_live_in a.book.validity t (advanced t a).sessions s ≡ true
 
-pub live_beside : (ledger : Ledger) (left : LeftRows) (a middle : AccountRows) (s : List ℕ) (t : ℕ) →
+pub live_beside : (ledger : Ledger) (left : LeftRows) (a middle : AccountRows)
+    (s : List ℕ) (t : ℕ) →
     middle ≡ advanced t a → IsWith ledger left t a → IsWith ledger left t middle → a.as_of ≤ t →
     is_live_in a.book.validity t a.sessions s ≡ true → IsLiveBeside ledger left a s t
 live_beside ledger left a middle s t m h k le alive =

@@ -5,7 +5,8 @@ use Rattle.reserving.specs.Pricing.{cycle_at}
 use Rattle.reserving.specs.Rows.{AccountRows, IsAccount, IsRowsOf}
 use Rattle.reserving.specs.Requests.{with_bar}
 use Rattle.reserving.proofs.kept.Parts.{IsAccount-with}
-use Rattle.reserving.proofs.rows.Touching.{SameMoney, same_more, buckets_at-same, group_at-same, reservation_at-same, counter_at-same, unknown-same}
+use Rattle.reserving.proofs.rows.Touching.{SameMoney, same_more, buckets_at-same, group_at-same}
+use Rattle.reserving.proofs.rows.Touching.{reservation_at-same, counter_at-same, unknown-same}
 
 pub same_barred : (t : ℕ) (barred : Bool) (ledger : Ledger) →
     SameMoney (with_bar t barred ledger) ledger

@@ -1,17 +1,23 @@
--- Calls that leave an account calm, and that such an account is as if it were brought to its moment.
-use Rattle.std.proofs.Common.{◌≡◌, ℕ, ◌+◌, ◌*◌, ◌-◌, ◌≤◌, Bool, true, false, List, [], ◌∷◌, cond, map, refl, sym, ap, ◌∙◌, subst, arith, Option, Some, None}
+-- Calls that leave an account calm, and that such an account is as if it were brought to its
+-- moment.
+use Rattle.std.proofs.Common.{◌≡◌, ℕ, ◌+◌, ◌*◌, ◌-◌, ◌≤◌, Bool, true, false, List, [], ◌∷◌, cond}
+use Rattle.std.proofs.Common.{map, refl, sym, ap, ◌∙◌, subst, arith, Option, Some, None}
 use Rattle.std.specs.Prelude.{if◌then◌else◌, not, nat_lt, unwrap_or, option_map}
 use Rattle.std.specs.List.{find}
 use Rattle.std.proofs.lemmas.Bool.Decides.{nat_tests}
-use Rattle.buckets.specs.Row.{Row, eligible_amount, with_hold, with_charge, with_charge_of_hold, with_release, with_end}
+use Rattle.buckets.specs.Row.{Row, eligible_amount, with_hold, with_charge, with_charge_of_hold}
+use Rattle.buckets.specs.Row.{with_release, with_end}
 use Rattle.buckets.specs.Share.{share}
 use Rattle.buckets.specs.Spend.{Each}
 use Rattle.buckets.specs.Holding.{held_in, settled_row, paid_of_hold, paid_of_rest}
 use Rattle.reserving.specs.declared.session.Session.{Session}
 use Rattle.reserving.specs.declared.session.SessionGroup.{SessionGroup}
 use Rattle.reserving.specs.declared.session.SessionState.TheVariants.{Open, Ended}
-use Rattle.reserving.specs.Sessions.{is_session, session_in, is_of, group_in, holds_in, is_live_in, is_live_row}
-use Rattle.reserving.specs.Changes.{lapse, lapse_group, lapsed_in, advanced, new_group, group_or_new, ended_group, ended_rows, settled_account, reserved_account, touched_session, touched_account}
+use Rattle.reserving.specs.Sessions.{is_session, session_in, is_of, group_in, holds_in, is_live_in}
+use Rattle.reserving.specs.Sessions.{is_live_row}
+use Rattle.reserving.specs.Changes.{lapse, lapse_group, lapsed_in, advanced, new_group}
+use Rattle.reserving.specs.Changes.{group_or_new, ended_group, ended_rows, settled_account}
+use Rattle.reserving.specs.Changes.{reserved_account, touched_session, touched_account}
 use Rattle.reserving.specs.Prepared.{with_group, with_rows, with_group_row}
 use Rattle.reserving.specs.Rows.{AccountRows, EachIn}
 use Rattle.reserving.specs.Calm.{IsCalm}
@@ -31,7 +37,8 @@ each_made : {A : Type 0} (Q : A → Type 0) (f : A → A) (xs : List A) → ((x 
 each_made Q f [] h = tt
 each_made Q f (x ∷ xs) h = (h x, each_made Q f xs h)
 
-pub rows_map : (P Q : Row → Type 0) (f : Row → Row) (rows : List Row) → ((b : Row) → P b → Q (f b)) →
+pub rows_map : (P Q : Row → Type 0) (f : Row → Row) (rows : List Row) →
+    ((b : Row) → P b → Q (f b)) →
     Each P rows → Each Q (map f rows)
 rows_map P Q f [] h e = tt
 rows_map P Q f (b ∷ bs) h e = (h b e.0, rows_map P Q f bs h e.1)
@@ -61,7 +68,8 @@ kept_group keeps r h = at (keeps r.session) refl
     at false e = λ i. record r { reservation = sym (h e) i }
 
 groups_same : (keeps : List ℕ → Bool) (rs : List SessionGroup) →
-    EachIn (λ r. keeps r.session ≡ false → r.reservation ≡ None) rs → map (lapse_group keeps) rs ≡ rs
+    EachIn (λ r. keeps r.session ≡ false → r.reservation ≡ None) rs →
+    map (lapse_group keeps) rs ≡ rs
 groups_same keeps [] h = refl
 groups_same keeps (r ∷ rs) h = λ i. kept_group keeps r h.0 i ∷ groups_same keeps rs h.1 i
 
@@ -131,7 +139,8 @@ ended_bucket : (t : ℕ) (b : Row) → nat_lt t (with_end t b).until ≡ false �
 ended_bucket t b = at (nat_lt t b.until) refl
   where
     at : (p : Bool) → nat_lt t b.until ≡ p →
-        nat_lt t (if p then b else record b { available = 0; expired = b.expired + b.available }).until
+        nat_lt t (if p then b
+        else record b { available = 0; expired = b.expired + b.available }).until
         ≡ false →
         (if p then b else record b { available = 0; expired = b.expired + b.available }).available
         ≡ 0

@@ -1,5 +1,6 @@
 -- Events and recorded requests leave an account calm.
-use Rattle.std.proofs.Common.{◌≡◌, ℕ, ◌+◌, ◌*◌, ◌-◌, ◌≤◌, Bool, true, false, List, refl, sym, ap, ◌∙◌, arith, Option, Some, None, []}
+use Rattle.std.proofs.Common.{◌≡◌, ℕ, ◌+◌, ◌*◌, ◌-◌, ◌≤◌, Bool, true, false, List, refl, sym, ap}
+use Rattle.std.proofs.Common.{◌∙◌, arith, Option, Some, None, []}
 use Rattle.std.specs.Prelude.{not, nat_lt, unwrap_or, if◌then◌else◌}
 use Rattle.std.proofs.lemmas.Bool.Decides.{nat_tests}
 use Rattle.identifiers.proofs.Equality.{equal_names}
@@ -10,8 +11,10 @@ use Rattle.reserving.specs.declared.session.SessionState.{SessionState}
 use Rattle.reserving.specs.declared.session.SessionState.TheVariants.{Open, Ended, NeverOpened}
 use Rattle.reserving.specs.Ledger.{is_same}
 use Rattle.reserving.specs.Keyed.{put}
-use Rattle.reserving.specs.Sessions.{is_session, session_in, is_of, group_in, is_live_in, is_live_row}
-use Rattle.reserving.specs.Changes.{lapse, new_group, group_or_new, debited_account, session_put, with_session}
+use Rattle.reserving.specs.Sessions.{is_session, session_in, is_of, group_in, is_live_in}
+use Rattle.reserving.specs.Sessions.{is_live_row}
+use Rattle.reserving.specs.Changes.{lapse, new_group, group_or_new, debited_account, session_put}
+use Rattle.reserving.specs.Changes.{with_session}
 use Rattle.reserving.specs.Rows.{AccountRows, EachIn}
 use Rattle.reserving.specs.Calm.{IsCalm}
 use Rattle.reserving.proofs.Lists.{EachIn-put, find-put_other}

@@ -1,5 +1,6 @@
 -- A live session is touched, or closed.
-use Rattle.std.proofs.Common.{◌≡◌, ℕ, ◌+◌, ◌-◌, ◌*◌, ◌<◌, ◌≤◌, Bool, true, false, List, [], ◌∷◌, map, refl, sym, ap, ◌∙◌, subst, arith, Option, Some, None}
+use Rattle.std.proofs.Common.{◌≡◌, ℕ, ◌+◌, ◌-◌, ◌*◌, ◌<◌, ◌≤◌, Bool, true, false, List, [], ◌∷◌}
+use Rattle.std.proofs.Common.{map, refl, sym, ap, ◌∙◌, subst, arith, Option, Some, None}
 use Rattle.std.specs.Prelude.{if◌then◌else◌, ◌&&◌, not, nat_lt, option_map, is_some}
 use Rattle.std.proofs.lemmas.Bool.Decides.{nat_tests}
 use Rattle.buckets.specs.Row.{Row, IsBalanced, with_release}
@@ -10,18 +11,23 @@ use Rattle.reserving.specs.declared.session.SessionState.{SessionState}
 use Rattle.reserving.specs.declared.session.SessionState.TheVariants.{Open, Ended, NeverOpened}
 use Rattle.reserving.specs.declared.session.SessionGroup.{SessionGroup}
 use Rattle.reserving.specs.declared.session.Reservation.{Reservation}
-use Rattle.reserving.specs.Ledger.{Ledger, Recording, is_same, is_live, is_within, is_closed, last_touch, last_recording, charged, held, only, used, has_group}
+use Rattle.reserving.specs.Ledger.{Ledger, Recording, is_same, is_live, is_within, is_closed}
+use Rattle.reserving.specs.Ledger.{last_touch, last_recording, charged, held, only, used, has_group}
 use Rattle.reserving.specs.Balance.{credits, bucket_at, buckets_at}
-use Rattle.reserving.specs.Sessions.{is_session, session_at, session_row, state_at, is_of, group_at, reservation_at, holds_at, held_by}
+use Rattle.reserving.specs.Sessions.{is_session, session_at, session_row, state_at, is_of, group_at}
+use Rattle.reserving.specs.Sessions.{reservation_at, holds_at, held_by}
 use Rattle.reserving.specs.Pricing.{cycle_at}
 use Rattle.reserving.specs.Rows.{AccountRows, EachIn, AreApart, IsAccount, IsRowsOf, IsUnknown}
 use Rattle.reserving.specs.Requests.{touched, closed}
-use Rattle.reserving.specs.Changes.{touched_account, touched_session, closed_account, closed_session, is_other, lapse_group, lapsed_in}
+use Rattle.reserving.specs.Changes.{touched_account, touched_session, closed_account}
+use Rattle.reserving.specs.Changes.{closed_session, is_other, lapse_group, lapsed_in}
 use Rattle.reserving.proofs.Lists.{find-map, no_some}
 use Rattle.reserving.proofs.Holds.{one_if, IsSplit, held_split, held_same, same_itself, same_from}
 use Rattle.reserving.proofs.ledger.Columns.{balanced_le, balance_by, release_by}
 use Rattle.reserving.proofs.Advancing.{held_by-is, groups_each, found_each, IsGroupsOf}
-use Rattle.reserving.proofs.rows.Touching.{IsRowsOf-leaves, SameMoney, same_touched, same_closed, reservation_at-same, counter_at-same, unknown-same, same_back, touch-recorded, touch-known}
+use Rattle.reserving.proofs.rows.Touching.{IsRowsOf-leaves, SameMoney, same_touched, same_closed}
+use Rattle.reserving.proofs.rows.Touching.{reservation_at-same, counter_at-same, unknown-same}
+use Rattle.reserving.proofs.rows.Touching.{same_back, touch-recorded, touch-known}
 
 -- ---- a live session
 

@@ -1,6 +1,7 @@
 -- The rows are complete: where no row has a reservation, the ledger holds nothing.
 use Rattle.std.proofs.lemmas.Bool.{and_right}
-use Rattle.std.proofs.Common.{◌≡◌, ℕ, ◌+◌, Bool, true, false, List, [], ◌∷◌, map, refl, sym, ap, subst, ◌∙◌, arith, Option, Some, None}
+use Rattle.std.proofs.Common.{◌≡◌, ℕ, ◌+◌, Bool, true, false, List, [], ◌∷◌, map, refl, sym, ap}
+use Rattle.std.proofs.Common.{subst, ◌∙◌, arith, Option, Some, None}
 use Rattle.std.specs.Prelude.{if◌then◌else◌, ◌&&◌, ◌||◌, not, is_some, unwrap_or}
 use Rattle.std.specs.List.{find}
 use Rattle.buckets.specs.declared.holds.Hold.{Hold}
@@ -14,12 +15,14 @@ use Rattle.reserving.specs.declared.session.Reservation.{Reservation}
 use Rattle.rating.specs.declared.grant.Periods.{Periods}
 use Rattle.reserving.specs.Ledger.{Ledger, held, only, is_live, has_group, open_grant}
 use Rattle.reserving.specs.Balance.{credits, bucket_at, buckets_at}
-use Rattle.reserving.specs.Sessions.{is_of, group_in, group_at, holds_in, holds_at, held_by, reservation_of, reservation_at}
+use Rattle.reserving.specs.Sessions.{is_of, group_in, group_at, holds_in, holds_at, held_by}
+use Rattle.reserving.specs.Sessions.{reservation_of, reservation_at}
 use Rattle.reserving.specs.Changes.{new_group, reserved_in}
 use Rattle.reserving.specs.Prepared.{reservation_in}
 use Rattle.reserving.specs.Rows.{EachIn, AreApart, AccountRows, IsAccount, IsRowsOf}
 use Rattle.reserving.proofs.Lists.{some_of, no_some}
-use Rattle.reserving.proofs.Keys.{is_key, key_session, key_group, is_key-sym, found_own, not_true, first_true, second_true}
+use Rattle.reserving.proofs.Keys.{is_key, key_session, key_group, is_key-sym, found_own, not_true}
+use Rattle.reserving.proofs.Keys.{first_true, second_true}
 use Rattle.reserving.proofs.Holds.{one_if, split_less, IsSplit, held_split, held_none, held_same}
 
 -- ---- the reservations that rows have

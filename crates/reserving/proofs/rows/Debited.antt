@@ -1,31 +1,43 @@
 -- What a debit makes of an account's rows: those of the ledger with its use and its charges.
-use Rattle.std.proofs.Common.{◌≡◌, ℕ, ◌+◌, ◌-◌, ◌≤◌, Bool, true, false, List, [], ◌∷◌, ◌++◌, map, refl, sym, ap, subst, ◌∙◌, arith, Option, Some, None}
+use Rattle.std.proofs.Common.{◌≡◌, ℕ, ◌+◌, ◌-◌, ◌≤◌, Bool, true, false, List, [], ◌∷◌, ◌++◌, map}
+use Rattle.std.proofs.Common.{refl, sym, ap, subst, ◌∙◌, arith, Option, Some, None}
 use Rattle.std.specs.Prelude.{if◌then◌else◌, ◌==◌, ◌&&◌, ◌||◌, nat_lt, unwrap_or}
 use Rattle.buckets.specs.declared.holds.Hold.{Hold}
 use Rattle.buckets.specs.Row.{Row, IsBalanced, with_charge, with_charge_of_hold, with_release}
 use Rattle.buckets.specs.Share.{parts}
 use Rattle.buckets.specs.Spend.{Each, AreDistinct, IsSound, IsBelow}
-use Rattle.buckets.specs.Holding.{held_in, paid, paid_of_hold, paid_of_rest, settled_row, settled_rows}
+use Rattle.buckets.specs.Holding.{held_in, paid, paid_of_hold, paid_of_rest, settled_row}
+use Rattle.buckets.specs.Holding.{settled_rows}
 use Rattle.buckets.proofs.Parts.{sum_at, sum_at-parts}
 use Rattle.reserving.specs.declared.session.SessionGroup.{SessionGroup}
 use Rattle.rating.specs.declared.grant.Periods.{Periods}
-use Rattle.reserving.specs.Ledger.{Ledger, charged, open_grant, held, only, used, counter, has_group, has_counter, inner, is_live, is_same, grant_in, counts_group, blocks_in}
+use Rattle.reserving.specs.Ledger.{Ledger, charged, open_grant, held, only, used, counter}
+use Rattle.reserving.specs.Ledger.{has_group, has_counter, inner, is_live, is_same, grant_in}
+use Rattle.reserving.specs.Ledger.{counts_group, blocks_in}
 use Rattle.reserving.specs.Pricing.{cycle_at}
 use Rattle.reserving.specs.Keyed.{put}
 use Rattle.reserving.specs.Balance.{credits, balance_of, bucket_at, buckets_at}
-use Rattle.reserving.specs.Sessions.{is_of, group_in, group_at, holds_at, reservation_of, reservation_at}
+use Rattle.reserving.specs.Sessions.{is_of, group_in, group_at, holds_at, reservation_of}
+use Rattle.reserving.specs.Sessions.{reservation_at}
 use Rattle.reserving.specs.Settlement.{charge_facts}
 use Rattle.reserving.specs.Debiting.{charged_use}
 use Rattle.reserving.specs.Changes.{new_group, group_or_new, used_in, with_event, debited_account}
 use Rattle.reserving.specs.Rows.{AccountRows, IsAccount, IsRowsOf, IsUnknown}
 use Rattle.reserving.proofs.Lists.{find-put, find-put_other}
 use Rattle.reserving.proofs.Keys.{is_key, own_key, key_session, key_group, other_row}
-use Rattle.reserving.proofs.SettledFacts.{is_barred-front, total-front, newest-front, any-front, any_dated-front, each_charge, held-charge_facts, credits-charge_facts, charged-charge_facts, IsMoved, SameSessions, SameGroup, same_live, same_session, same_touched, same_reservation, same_group}
+use Rattle.reserving.proofs.SettledFacts.{is_barred-front, total-front, newest-front, any-front}
+use Rattle.reserving.proofs.SettledFacts.{any_dated-front, each_charge, held-charge_facts}
+use Rattle.reserving.proofs.SettledFacts.{credits-charge_facts, charged-charge_facts, IsMoved}
+use Rattle.reserving.proofs.SettledFacts.{SameSessions, SameGroup, same_live, same_session}
+use Rattle.reserving.proofs.SettledFacts.{same_touched, same_reservation, same_group}
 use Rattle.reserving.proofs.ledger.Columns.{balanced_le}
 use Rattle.reserving.proofs.ledger.SettledBuckets.{balance_by-settled, eligible_le}
 use Rattle.reserving.proofs.kept.Settled.{settled_number}
 use Rattle.reserving.proofs.rows.Complete.{row_with}
-use Rattle.reserving.proofs.SettledRows.{own_row, own_named, own_used, other_named, other_used, next_bucket-charges, next_charge-charges, used_in_is, count_in_is, open_none, if_none, counters_used, differs_above, sum_at_none}
+use Rattle.reserving.proofs.SettledRows.{own_row, own_named, own_used, other_named, other_used}
+use Rattle.reserving.proofs.SettledRows.{next_bucket-charges, next_charge-charges, used_in_is}
+use Rattle.reserving.proofs.SettledRows.{count_in_is, open_none, if_none, counters_used}
+use Rattle.reserving.proofs.SettledRows.{differs_above, sum_at_none}
 
 -- what each bucket pays of an event's price
 abbrev shares : ℕ → ℕ → ℕ → ℕ → Ledger → List Hold

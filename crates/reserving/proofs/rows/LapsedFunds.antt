@@ -1,5 +1,6 @@
 -- The funds at a later moment: what is available, and what ended sessions held.
-use Rattle.std.proofs.Common.{◌≡◌, ℕ, ◌+◌, ◌*◌, ◌<◌, ◌≤◌, ◌^◌, Bool, true, false, List, [], ◌∷◌, length, drop, get_or, map, refl, sym, ap, ◌∙◌, arith, None}
+use Rattle.std.proofs.Common.{◌≡◌, ℕ, ◌+◌, ◌*◌, ◌<◌, ◌≤◌, ◌^◌, Bool, true, false, List, [], ◌∷◌}
+use Rattle.std.proofs.Common.{length, drop, get_or, map, refl, sym, ap, ◌∙◌, arith, None}
 use Rattle.std.specs.Prelude.{if◌then◌else◌, not, sum_by}
 use Rattle.std.proofs.lemmas.List.{drop_more}
 use Rattle.std.proofs.lemmas.List.Sums.{sum_by-cons}
@@ -89,7 +90,8 @@ lapsed_sum keeps group t (r ∷ rs) rows =
     (λ b. if keeps r.session then 0
     else (if is_eligible group t b then held_in (holds_in r.reservation) b else 0))
     (lapsed_amount keeps group t rs) (lapsed_amount keeps group t (r ∷ rs)) rows
-    (λ b. first_amount (keeps r.session) (is_eligible group t b) (held_in (holds_in r.reservation) b)
+    (λ b.
+    first_amount (keeps r.session) (is_eligible group t b) (held_in (holds_in r.reservation) b)
     (lapsed_in keeps rs b))
 
 -- what is available and what ended sessions held are what is available later

@@ -1,6 +1,8 @@
 -- What a grant makes of a ledger's buckets, groups and counters, and of an account's rows.
-use Rattle.std.proofs.Common.{◌≡◌, ℕ, ◌+◌, ◌-◌, ◌≤◌, Bool, true, false, List, [], ◌∷◌, ◌++◌, map, refl, sym, ap, subst, ◌∙◌, arith, Option, Some, None}
-use Rattle.std.specs.Prelude.{if◌then◌else◌, ◌==◌, ◌&&◌, ◌||◌, not, nat_lt, min, is_some, option_map}
+use Rattle.std.proofs.Common.{◌≡◌, ℕ, ◌+◌, ◌-◌, ◌≤◌, Bool, true, false, List, [], ◌∷◌, ◌++◌, map}
+use Rattle.std.proofs.Common.{refl, sym, ap, subst, ◌∙◌, arith, Option, Some, None}
+use Rattle.std.specs.Prelude.{if◌then◌else◌, ◌==◌, ◌&&◌, ◌||◌, not, nat_lt, min, is_some}
+use Rattle.std.specs.Prelude.{option_map}
 use Rattle.std.proofs.lemmas.Bool.Decides.{nat_tests}
 use Rattle.buckets.specs.declared.holds.Hold.{Hold}
 use Rattle.buckets.specs.Row.{Row, eligible_amount, is_eligible, with_hold}
@@ -13,26 +15,37 @@ use Rattle.buckets.proofs.Kept.{IsSound-hold}
 use Rattle.reserving.specs.declared.session.SessionGroup.{SessionGroup}
 use Rattle.reserving.specs.declared.session.Reservation.{Reservation}
 use Rattle.reserving.specs.declared.session.Counter.{Counter}
-use Rattle.reserving.specs.Ledger.{Ledger, or_else, charged, held, only, used, counter, has_group, has_counter, open_grant, inner, is_live, is_within, is_same, is_closed, units_in, names_group, grant_in, counts_group, blocks_in, uses_in, credits_in, newest, last_touch, last_recording}
+use Rattle.reserving.specs.Ledger.{Ledger, or_else, charged, held, only, used, counter, has_group}
+use Rattle.reserving.specs.Ledger.{has_counter, open_grant, inner, is_live, is_within, is_same}
+use Rattle.reserving.specs.Ledger.{is_closed, units_in, names_group, grant_in, counts_group}
+use Rattle.reserving.specs.Ledger.{blocks_in, uses_in, credits_in, newest, last_touch}
+use Rattle.reserving.specs.Ledger.{last_recording}
 use Rattle.reserving.specs.Ledger.Fact.{Grant}
 use Rattle.tariffs.specs.Books.{Book}
 use Rattle.rating.specs.declared.grant.Periods.{Periods}
 use Rattle.reserving.specs.Pricing.{periods_at, cycle_at}
 use Rattle.reserving.specs.Keyed.{put}
 use Rattle.reserving.specs.Balance.{credits, balance_of, bucket_at, buckets_at}
-use Rattle.reserving.specs.Sessions.{is_of, group_in, group_at, counter_at, holds_at, holds_in, held_by, reservation_of, reservation_at}
+use Rattle.reserving.specs.Sessions.{is_of, group_in, group_at, counter_at, holds_at, holds_in}
+use Rattle.reserving.specs.Sessions.{held_by, reservation_of, reservation_at}
 use Rattle.reserving.specs.Reservation.{hold_facts, reserved}
 use Rattle.reserving.specs.Changes.{used_in, reserved_in, with_reservation, reserved_account}
 use Rattle.reserving.specs.Prepared.{reservation_in}
 use Rattle.reserving.specs.Rows.{AccountRows, IsAccount, IsRowsOf, IsUnknown}
 use Rattle.reserving.proofs.InOrder.{order_map, order_held}
 use Rattle.reserving.proofs.Lists.{find-put, find-put_other, EachIn-put, no_some}
-use Rattle.reserving.proofs.Keys.{is_key, own_key, key_session, key_group, other_row, not_true, first_true}
-use Rattle.reserving.proofs.SettledFacts.{is_barred-front, total-front, newest-front, any-front, any_dated-front, each_hold, held-hold_facts, held-hold_facts_other, credits-hold_facts, charged-hold_facts, IsMoved, SameSessions, SameGroup, same_session, same_live, same_touched, same_group}
+use Rattle.reserving.proofs.Keys.{is_key, own_key, key_session, key_group, other_row, not_true}
+use Rattle.reserving.proofs.Keys.{first_true}
+use Rattle.reserving.proofs.SettledFacts.{is_barred-front, total-front, newest-front, any-front}
+use Rattle.reserving.proofs.SettledFacts.{any_dated-front, each_hold, held-hold_facts}
+use Rattle.reserving.proofs.SettledFacts.{held-hold_facts_other, credits-hold_facts}
+use Rattle.reserving.proofs.SettledFacts.{charged-hold_facts, IsMoved, SameSessions, SameGroup}
+use Rattle.reserving.proofs.SettledFacts.{same_session, same_live, same_touched, same_group}
 use Rattle.reserving.proofs.ledger.Columns.{balance_by, with_columns}
 use Rattle.reserving.proofs.rows.Complete.{held_free}
 use Rattle.reserving.proofs.SettledRows.{own_row, used_in_is, if_none, differs_above, sum_at_none}
-use Rattle.reserving.proofs.kept.Settled.{held_by-put, held_by_number, AreApart-put, used_le, IsBelow-map}
+use Rattle.reserving.proofs.kept.Settled.{held_by-put, held_by_number, AreApart-put, used_le}
+use Rattle.reserving.proofs.kept.Settled.{IsBelow-map}
 
 -- ---- the buckets
 

@@ -1,5 +1,6 @@
 -- Requests are recorded, sessions touched: what that leaves of the rows.
-use Rattle.std.proofs.Common.{◌≡◌, ℕ, ◌+◌, ◌*◌, ◌<◌, ◌≤◌, Bool, true, false, List, [], ◌∷◌, map, refl, sym, ap, ◌∙◌, subst, arith, Option, Some, None}
+use Rattle.std.proofs.Common.{◌≡◌, ℕ, ◌+◌, ◌*◌, ◌<◌, ◌≤◌, Bool, true, false, List, [], ◌∷◌, map}
+use Rattle.std.proofs.Common.{refl, sym, ap, ◌∙◌, subst, arith, Option, Some, None}
 use Rattle.std.specs.Prelude.{if◌then◌else◌, ◌==◌, nat_lt, option_map}
 use Rattle.std.proofs.lemmas.Bool.Decides.{nat_tests}
 use Rattle.buckets.specs.Row.{Row}
@@ -7,10 +8,14 @@ use Rattle.buckets.specs.Share.{parts}
 use Rattle.reserving.specs.declared.session.Session.{Session}
 use Rattle.reserving.specs.declared.session.SessionState.{SessionState}
 use Rattle.reserving.specs.declared.session.SessionState.TheVariants.{Open, NeverOpened}
-use Rattle.reserving.specs.Ledger.{Ledger, Recording, is_barred, is_same, is_live, is_closed, last_touch, last_recording, or_else, charged, held, only, used, counter, has_group, has_counter, open_grant, next_bucket, next_charge, total, credits_in, uses_in}
+use Rattle.reserving.specs.Ledger.{Ledger, Recording, is_barred, is_same, is_live, is_closed}
+use Rattle.reserving.specs.Ledger.{last_touch, last_recording, or_else, charged, held, only, used}
+use Rattle.reserving.specs.Ledger.{counter, has_group, has_counter, open_grant, next_bucket}
+use Rattle.reserving.specs.Ledger.{next_charge, total, credits_in, uses_in}
 use Rattle.reserving.specs.Ledger.Fact.{Touch}
 use Rattle.reserving.specs.Balance.{credits, bucket_at, buckets_at, balance_of}
-use Rattle.reserving.specs.Sessions.{is_session, session_in, session_at, session_row, state_at, group_at, reservation_at, reservation_of, holds_at, counter_at}
+use Rattle.reserving.specs.Sessions.{is_session, session_in, session_at, session_row, state_at}
+use Rattle.reserving.specs.Sessions.{group_at, reservation_at, reservation_of, holds_at, counter_at}
 use Rattle.reserving.specs.Pricing.{cycle_at}
 use Rattle.reserving.specs.Rows.{AccountRows, IsRowsOf, IsUnknown}
 use Rattle.reserving.specs.Requests.{recorded, touched, closed}

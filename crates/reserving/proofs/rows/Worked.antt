@@ -9,7 +9,8 @@ use Rattle.calendar.specs.declared.cycle.Cycle.TheVariants as cycle
 use Rattle.units.specs.declared.blocks.UsedPart.{UsedPart}
 use Rattle.units.specs.declared.blocks.UnitKind.TheVariants.{Time, TotalOctets}
 use Rattle.units.specs.declared.blocks.TariffChangeUsage.{TariffChangeUsage}
-use Rattle.units.specs.declared.blocks.TariffChangeUsage.TheVariants.{UnitBeforeTariffChange, UnitAfterTariffChange}
+use Rattle.units.specs.declared.blocks.TariffChangeUsage.TheVariants.{UnitBeforeTariffChange}
+use Rattle.units.specs.declared.blocks.TariffChangeUsage.TheVariants.{UnitAfterTariffChange}
 use Rattle.tariffs.specs.Books.{Book}
 use Rattle.tariffs.specs.Tariffs.{GroupTariff}
 use Rattle.tariffs.specs.declared.final_action.FinalAction.TheVariants.{Terminate}

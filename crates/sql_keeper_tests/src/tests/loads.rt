@@ -1,32 +1,23 @@
 //! What is loaded of an account that was written, as one text.
 
+use crate::tests::making::{made, moment, number, write};
 use buckets::{Bucket, Columns, Hold, Holds, Purse};
 use calendar::Period;
 use identifiers::{AccountNumber, SessionId};
-use keepers::Change;
 use rating::Periods;
 use reserving::{
     Account, Counter, GivenRows, Reservation, Session, SessionGroup, SessionState, StoredAccount,
 };
 use sql_keeper::SqlKeeper;
-use sqlite::{Connection, MemStore};
+use sqlite::MemStore;
 use std::alloc::Global;
 use std::test::Fail;
 use tariffs::TariffBook;
-use units::Moment;
 
 /// Monday, 2026-01-05, 10:00: the month has number 684.
 const AT: u64 = 1_767_607_200;
 
 const END: u64 = 1_767_700_000;
-
-fn moment(seconds: u64) -> Result<Moment, Fail> {
-    Ok(Moment::new(seconds).ok_or("a moment")?)
-}
-
-fn number(alloc: Global, text: &str) -> Result<AccountNumber, Fail> {
-    Ok(AccountNumber::new(alloc, text)?.ok_or("an account")?)
-}
 
 fn session_id(alloc: Global, name: &str) -> Result<SessionId, Fail> {
     Ok(SessionId::new(alloc, name)?.ok_or("a session")?)
@@ -116,8 +107,8 @@ fn groups(alloc: Global) -> Result<Vec<SessionGroup>, Fail> {
     Ok(rows)
 }
 
-/// An account with two buckets, the first of them dead, two sessions, one of them over, and counters
-/// of two months.
+/// An account with two buckets, the first of them dead, two sessions, one of them over, and
+/// counters of two months.
 fn account(alloc: Global) -> Result<StoredAccount, Fail> {
     let rows = GivenRows {
         as_of: moment(AT)?,
@@ -187,25 +178,6 @@ fn told(alloc: Global, account: &Account) -> Result<String, Fail> {
     Ok(text)
 }
 
-fn write(
-    alloc: Global,
-    keeper: &mut SqlKeeper<MemStore>,
-    book: &TariffBook,
-    account: &AccountNumber,
-    after: StoredAccount,
-) -> Result<(), Fail> {
-    keeper.commit(Change {
-        moment: moment(AT)?,
-        number: account.clone()?,
-        after,
-        before: Account::new(alloc, book).into_stored(),
-        charges: Vec::new(alloc),
-        kept: None,
-        redeemed: None,
-    })?;
-    Ok(())
-}
-
 fn viewed(
     alloc: Global,
     keeper: &mut SqlKeeper<MemStore>,
@@ -226,7 +198,8 @@ fn seen(
 ) -> Result<String, Fail> {
     let account_number = number(alloc, "49151")?;
     let mut text = viewed(alloc, keeper, book, &account_number)?;
-    write(alloc, keeper, book, &account_number, account(alloc)?)?;
+    let (written, at) = (account_number.clone()?, moment(AT)?);
+    write(alloc, keeper, book, written, account(alloc)?, at)?;
     text.push_str(viewed(alloc, keeper, book, &account_number)?.as_str())?;
     Ok(text)
 }
@@ -242,9 +215,7 @@ counter 20 684 4
 #[test]
 fn what_may_still_change_is_loaded(rt: HostRuntime) -> Result<(), Fail> {
     let alloc = rt.alloc();
-    let conn = Connection::open_in_memory(alloc)?;
-    let made = SqlKeeper::create(alloc, conn, worked_book::BOOK);
-    let (mut keeper, book) = made.ok().ok_or("a keeper")?;
+    let (mut keeper, book) = made(alloc)?;
     let text = seen(alloc, &mut keeper, &book)?;
     assert_eq!(rt; text.as_str(), SEEN);
     Ok(())

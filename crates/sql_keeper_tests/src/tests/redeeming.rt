@@ -1,15 +1,16 @@
 //! A voucher that is added, redeemed by a change, and added once more.
 
+use crate::tests::making::{made, moment, number};
 use identifiers::{AccountNumber, VoucherCode};
 use keepers::{Change, Redeemed};
 use redemptions::{Voucher, VoucherTerms};
 use reserving::Account;
 use sql_keeper::SqlKeeper;
-use sqlite::{Connection, MemStore};
+use sqlite::MemStore;
 use std::alloc::Global;
 use std::test::Fail;
 use tariffs::TariffBook;
-use units::{Moment, Money};
+use units::Money;
 
 /// Monday, 2026-01-05, 10:00.
 const ADDED: u64 = 1_767_607_200;
@@ -19,14 +20,6 @@ const REDEEMED: u64 = 1_767_610_800;
 
 /// And an hour more.
 const ADDED_AGAIN: u64 = 1_767_614_400;
-
-fn moment(seconds: u64) -> Result<Moment, Fail> {
-    Ok(Moment::new(seconds).ok_or("a moment")?)
-}
-
-fn number(alloc: Global) -> Result<AccountNumber, Fail> {
-    Ok(AccountNumber::new(alloc, "49151")?.ok_or("an account")?)
-}
 
 fn code(alloc: Global, digits: &str) -> Result<VoucherCode, Fail> {
     Ok(VoucherCode::new(alloc, digits)?.ok_or("a code")?)
@@ -105,11 +98,11 @@ fn push_all(
 fn redeem(alloc: Global, keeper: &mut SqlKeeper<MemStore>, book: &TariffBook) -> Result<(), Fail> {
     let voucher = Voucher {
         terms: terms()?,
-        redeemer: Some(number(alloc)?),
+        redeemer: Some(number(alloc, "49151")?),
     };
     keeper.commit(Change {
         moment: moment(REDEEMED)?,
-        number: number(alloc)?,
+        number: number(alloc, "49151")?,
         after: Account::new(alloc, book).into_stored(),
         before: Account::new(alloc, book).into_stored(),
         charges: Vec::new(alloc),
@@ -158,9 +151,7 @@ last 1767614400
 #[test]
 fn a_voucher_is_added_and_redeemed(rt: HostRuntime) -> Result<(), Fail> {
     let alloc = rt.alloc();
-    let conn = Connection::open_in_memory(alloc)?;
-    let made = SqlKeeper::create(alloc, conn, worked_book::BOOK);
-    let (mut keeper, book) = made.ok().ok_or("a keeper")?;
+    let (mut keeper, book) = made(alloc)?;
     let text = seen(alloc, &mut keeper, &book)?;
     assert_eq!(rt; text.as_str(), SEEN);
     Ok(())

@@ -102,7 +102,8 @@ fn try_buckets<S: Alter>(
     page.note_all(account)
 }
 
-/// The second bucket ends first. A debit of 40 takes all of it and 10 of the first; a grant holds 5 of the first.
+/// The second bucket ends first. A debit of 40 takes all of it and 10 of the first; a grant holds 5
+/// of the first.
 const WANTED: &str = "
 2 10..500 Some(10): 30 30 0 0 0; 1 0..4102444800 None: 100 100 0 0 0; 
 

@@ -165,7 +165,8 @@ fn try_charges<S: Alter>(
     page.note_charges(account, 1, 2)
 }
 
-/// They stand in the order of their numbers; the first is put again, and read alone, then the other.
+/// They stand in the order of their numbers; the first is put again, and read alone, then the
+/// other.
 const WANTED: &str = "1 1767607200 s1 10: 3 60 60 0; 2 1767607200 s1 10: 3 60 50 10; 
 1 1767607200 s1 10: 3 75 0 75; 
 2 1767607200 s1 10: 3 60 50 10; 

@@ -11,8 +11,8 @@ use sql_tables::create_in_memory;
 use sqlite::{Alter, Connection, Error, MemStore};
 use std::alloc::{AllocError, Global};
 
-/// The tables, and what was read of them so far. A `keep_` puts rows in one transaction, a `note_` writes what it
-/// reads.
+/// The tables, and what was read of them so far. A `keep_` puts rows in one transaction, a `note_`
+/// writes what it reads.
 #[derive(Drop)]
 pub(crate) struct Page<S: Alter> {
     pub(crate) alloc: Global,

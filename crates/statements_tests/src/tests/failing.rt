@@ -38,7 +38,8 @@ impl Write for Slow {
     }
 }
 
-/// How a statement or an export ends over a writer that fails after so many bytes, and what it took.
+/// How a statement or an export ends over a writer that fails after so many bytes, and what it
+/// took.
 fn taken(
     alloc: Global,
     keeper: &mut MemoryKeeper,
@@ -72,7 +73,8 @@ fn taken(
     Ok((end, String::from_utf8(taken)?))
 }
 
-/// After which number of bytes a failing writer hasn't taken exactly these of the text, or isn't told.
+/// After which number of bytes a failing writer hasn't taken exactly these of the text, or isn't
+/// told.
 fn stops(alloc: Global, is_export: bool) -> Result<String, Fail> {
     let mut keeper = keeper(alloc, HALF_PAID)?;
     let text = if is_export {

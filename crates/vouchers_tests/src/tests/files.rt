@@ -1,6 +1,6 @@
 //! Files of vouchers: each field at and past its limits, in the first record and in later ones, as
-//! CSV writes them; and readers that fail. What the files say was reckoned by Python's `csv` and the
-//! rules of the fields.
+//! CSV writes them; and readers that fail. What the files say was reckoned by Python's `csv` and
+//! the rules of the fields.
 
 use commands::VoucherAddition;
 use std::alloc::Global;

@@ -1,6 +1,6 @@
 //! What is kept of accepted commands, written and read again.
 
-use crate::tests::requests::WRITTEN;
+use crate::tests::requests::{WRITTEN, with_update};
 use crate::tests::tables::{Told, try_told};
 use commands::{Content, Credit, CreditEnd, CreditStart, KeptCredit, same_content};
 use identifiers::{AccountNumber, Reference};
@@ -86,7 +86,8 @@ fn credits(rt: HostRuntime) -> Result<(), Fail> {
 
 #[test]
 fn requests(rt: HostRuntime) -> Result<(), Fail> {
-    try_told(&rt, rt.alloc(), Told::KeptRequest, WRITTEN)
+    let cases = with_update(rt.alloc(), WRITTEN)?;
+    try_told(&rt, rt.alloc(), Told::KeptRequest, cases.as_str())
 }
 
 /// The credit that begins as late and ends as early as one can.

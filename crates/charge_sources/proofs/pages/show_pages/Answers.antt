@@ -2,40 +2,42 @@ use Rattle.std.proofs.Common.{arith, subst}
 use Rattle.std.specs.List.{filter}
 use Rattle.charge_sources.specs.Rows.{is_between}
 use Rattle.charge_sources.specs.Visits.{Shows}
-use Rattle.charge_sources.proofs.Paged.{begun, ended, never, none_shown, on_err, page_shown, stopped}
+use Rattle.charge_sources.proofs.Paged.{begun, ended, never, none_shown, on_err, page_shown}
+use Rattle.charge_sources.proofs.Paged.{stopped}
 use Rattle.charge_sources.proofs.pages.show_pages.Goals as goal
 
 pub loop-page-init : goal.loop-page-init
 loop-page-init g c = record {
   turns = λ clean. omega arith;
   small = omega arith;
-  shown = none_shown g.K.Keeper.content g.K.Keeper.failed g.K.Keeper.clean g.V.ChargeVisitor.sees c.args.account.now
-      c.args.from c.args.until c.args.keeper.now c.args.visitor.now
+  shown = none_shown g.K.Keeper.content g.K.Keeper.failed g.K.Keeper.clean g.V.ChargeVisitor.sees
+      c.args.account.now c.args.from c.args.until c.args.keeper.now c.args.visitor.now
       (g.met.K.ChargePages.numbered c.args.keeper.now c.args.account.now);
 }
 
 pub returns-in_err-page-clause-beginning : goal.returns-in_err-page-clause-beginning
 returns-in_err-page-clause-beginning g c = λ clean.
     on_err c.from_residual.result
-    (begun g.K.Keeper.content g.K.Keeper.failed g.K.Keeper.clean g.V.ChargeVisitor.sees c.args.account.now
-    c.args.from c.args.until c.loop-page.after c.args.keeper.now c.loop-page.keeper c.page.new.self
-    c.args.visitor.now c.loop-page.visitor _ c.page.result c.loop-page.invariant.shown c.page.ensures clean)
+    (begun g.K.Keeper.content g.K.Keeper.failed g.K.Keeper.clean g.V.ChargeVisitor.sees
+    c.args.account.now c.args.from c.args.until c.loop-page.after c.args.keeper.now
+    c.loop-page.keeper c.page.new.self c.args.visitor.now c.loop-page.visitor _ c.page.result
+    c.loop-page.invariant.shown c.page.ensures clean)
 
 pub returns-then-not-show-clause-reads : goal.returns-then-not-show-clause-reads
 returns-then-not-show-clause-reads g c =
-    stopped g.K.Keeper.content g.K.Keeper.failed g.K.Keeper.clean g.V.ChargeVisitor.sees c.args.account.now
-    c.args.from c.args.until c.loop-page.after c.args.keeper.now c.loop-page.keeper c.page.new.self
-    c.in_ok-page.page c.args.visitor.now c.loop-page.visitor c.show.new.visitor c.loop-page.invariant.shown
-    c.in_ok-page.ensures
+    stopped g.K.Keeper.content g.K.Keeper.failed g.K.Keeper.clean g.V.ChargeVisitor.sees
+    c.args.account.now c.args.from c.args.until c.loop-page.after c.args.keeper.now
+    c.loop-page.keeper c.page.new.self c.in_ok-page.page c.args.visitor.now c.loop-page.visitor
+    c.show.new.visitor c.loop-page.invariant.shown c.in_ok-page.ensures
     (subst (λ l. Shows g.V.ChargeVisitor.sees (filter (is_between c.args.from c.args.until) l) _
     c.loop-page.visitor c.show.new.visitor) c.deref.ensures.value c.if-not-show.ensures)
 
 pub returns-then-page-clause-reads : goal.returns-then-page-clause-reads
 returns-then-page-clause-reads g c =
-    ended g.K.Keeper.content g.K.Keeper.failed g.K.Keeper.clean g.V.ChargeVisitor.sees c.args.account.now
-    c.args.from c.args.until c.loop-page.after c.args.keeper.now c.loop-page.keeper c.page.new.self
-    c.in_ok-page.page c.args.visitor.now c.loop-page.visitor c.show.new.visitor c.loop-page.invariant.shown
-    c.in_ok-page.ensures
+    ended g.K.Keeper.content g.K.Keeper.failed g.K.Keeper.clean g.V.ChargeVisitor.sees
+    c.args.account.now c.args.from c.args.until c.loop-page.after c.args.keeper.now
+    c.loop-page.keeper c.page.new.self c.in_ok-page.page c.args.visitor.now c.loop-page.visitor
+    c.show.new.visitor c.loop-page.invariant.shown c.in_ok-page.ensures
     (subst (λ l. Shows g.V.ChargeVisitor.sees (filter (is_between c.args.from c.args.until) l) _
     c.loop-page.visitor c.show.new.visitor) c.deref.ensures.value c.if-not-show.ensures)
     c.if-page.true
@@ -47,19 +49,19 @@ loop-page-preserved g c = record {
       let further = (c.in_ok-page.ensures.found clean).goes_on c.if-page.false in
       omega (arith, was, further);
   small = omega arith;
-  shown = page_shown g.K.Keeper.content g.K.Keeper.failed g.K.Keeper.clean g.V.ChargeVisitor.sees c.args.account.now
-      c.args.from c.args.until c.loop-page.after c.args.keeper.now c.loop-page.keeper c.page.new.self
-      c.in_ok-page.page c.args.visitor.now c.loop-page.visitor c.show.new.visitor c.loop-page.invariant.shown
-      c.in_ok-page.ensures
+  shown = page_shown g.K.Keeper.content g.K.Keeper.failed g.K.Keeper.clean g.V.ChargeVisitor.sees
+      c.args.account.now c.args.from c.args.until c.loop-page.after c.args.keeper.now
+      c.loop-page.keeper c.page.new.self c.in_ok-page.page c.args.visitor.now c.loop-page.visitor
+      c.show.new.visitor c.loop-page.invariant.shown c.in_ok-page.ensures
       (subst (λ l. Shows g.V.ChargeVisitor.sees (filter (is_between c.args.from c.args.until) l) _
       c.loop-page.visitor c.show.new.visitor) c.deref.ensures.value c.if-not-show.ensures);
 }
 
 pub returns-clause-reads : goal.returns-clause-reads
 returns-clause-reads g c =
-    never g.K.Keeper.content g.K.Keeper.failed g.K.Keeper.clean g.V.ChargeVisitor.sees c.args.account.now
-    c.args.from c.args.until c.loop-page.after c.args.keeper.now c.loop-page.keeper c.args.visitor.now
-    c.loop-page.visitor c.loop-page.invariant.shown
+    never g.K.Keeper.content g.K.Keeper.failed g.K.Keeper.clean g.V.ChargeVisitor.sees
+    c.args.account.now c.args.from c.args.until c.loop-page.after c.args.keeper.now
+    c.loop-page.keeper c.args.visitor.now c.loop-page.visitor c.loop-page.invariant.shown
     (λ clean.
     let turns = c.loop-page.invariant.turns clean in
     let small = c.loop-page.invariant.small in

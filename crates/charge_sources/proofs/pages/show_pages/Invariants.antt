@@ -6,6 +6,7 @@ abbrev pub invariant-loop-page : goal.invariant-loop-page
 invariant-loop-page g l = record {
   turns : g.K.Keeper.clean l.keeper → l._page ≤ l.after;
   small : l.after ≤ 4294967295;
-  shown : HasShown g.K.Keeper.content g.K.Keeper.failed g.K.Keeper.clean g.V.ChargeVisitor.sees l.account
+  shown : HasShown g.K.Keeper.content g.K.Keeper.failed g.K.Keeper.clean
+      g.V.ChargeVisitor.sees l.account
       l.from l.until l.after l.fn.keeper l.keeper l.fn.visitor l.visitor;
 }

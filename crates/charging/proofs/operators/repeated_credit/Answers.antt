@@ -5,10 +5,12 @@ use Rattle.charging.proofs.operators.repeated_credit.Goals as goal
 
 pub returns-then-is_kept_credit : goal.returns-then-is_kept_credit
 returns-then-is_kept_credit c =
-    let same = sym (same-content c.is_kept_credit.result c.args.kept.content (content.Credit c.args.credit.now) c.is_kept_credit.ensures) ∙ c.if-is_kept_credit.true in
+    let same = sym (same-content c.is_kept_credit.result c.args.kept.content
+    (content.Credit c.args.credit.now) c.is_kept_credit.ensures) ∙ c.if-is_kept_credit.true in
     sym (ap (λ v. if v then c.args.kept.answer else c.args.conflict) same)
 
 pub returns-else-is_kept_credit : goal.returns-else-is_kept_credit
 returns-else-is_kept_credit c =
-    let same = sym (same-content c.is_kept_credit.result c.args.kept.content (content.Credit c.args.credit.now) c.is_kept_credit.ensures) ∙ c.if-is_kept_credit.false in
+    let same = sym (same-content c.is_kept_credit.result c.args.kept.content
+    (content.Credit c.args.credit.now) c.is_kept_credit.ensures) ∙ c.if-is_kept_credit.false in
     sym (ap (λ v. if v then c.args.kept.answer else c.args.conflict) same)

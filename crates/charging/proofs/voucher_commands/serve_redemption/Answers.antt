@@ -68,7 +68,7 @@ returns-in-Err-clause-served g c = λ clean list time is le.
     ∙ sym c.in_ok-redeemed.ensures ∙ c.in-Err.is in
     subst (λ (x : Refusal). IsServed c.args.book.now list (command.Redeem c.args.asked)
     c.args.moment (g.K.Keeper.content c.args.keeper.now) (g.K.Keeper.content c.abandon.new.self)
-    (answer.Refused x)) (sym c.refused.ensures)
+    (answer.Refused x)) (sym c.told_refusal.ensures)
     (redeem-refused c.args.book.now list c.args.asked c.args.moment
     (g.K.Keeper.content c.args.keeper.now) (g.K.Keeper.content c.abandon.new.self)
     c.in-Some-2.loaded c.in-Err.refusal time le is loads fresh redeems

@@ -1,4 +1,5 @@
-use Rattle.std.proofs.Common.{◌≡◌, ◌==◌, ℕ, List, [], refl, ap, subst, ◌∙◌, if◌then◌else◌, Option, Some, None, IfOk, OnErr, IfSome}
+use Rattle.std.proofs.Common.{◌≡◌, ◌==◌, ℕ, List, [], refl, ap, subst, ◌∙◌, if◌then◌else◌, Option}
+use Rattle.std.proofs.Common.{Some, None, IfOk, OnErr, IfSome}
 use Rattle.std.specs.declared.io.buffered.BufReader.{BufReader}
 use Rattle.std.specs.Io.Buffered.{reader_remaining, reader_capacity, reader_buffer, reader_inner}
 use Rattle.std.specs.Io.KnownBytes.{prepend_known}
@@ -11,31 +12,46 @@ nothing_before None = refl
 nothing_before (Some xs) = refl
 
 -- a new buffer has what its reader has
-unread : {T A : Type 0} (r : BufReader T A) (inner : T) (remaining : T → Option (List ℕ)) → reader_capacity r ≡ 8192 → reader_buffer r ≡ [] → reader_inner r ≡ inner →
+unread : {T A : Type 0} (r : BufReader T A) (inner : T) (remaining : T → Option (List ℕ)) →
+    reader_capacity r ≡ 8192 → reader_buffer r ≡ [] → reader_inner r ≡ inner →
     reader_remaining remaining r ≡ remaining inner
 unread r inner remaining capacity empty is =
-    ap (λ (n : ℕ). if n == 0 then None else prepend_known (reader_buffer r) (remaining r.inner)) capacity ∙ ap (λ (b : List ℕ). prepend_known b (remaining r.inner)) empty ∙ nothing_before (remaining r.inner) ∙ ap remaining is
+    ap (λ (n : ℕ). if n == 0 then None else prepend_known (reader_buffer r) (remaining r.inner))
+    capacity
+    ∙ ap (λ (b : List ℕ). prepend_known b (remaining r.inner)) empty
+    ∙ nothing_before (remaining r.inner)
+    ∙ ap remaining is
 
 pub returns-in_default-clause-begun : goal.returns-in_default-clause-begun
 returns-in_default-clause-begun g c = λ clean.
-    begun_none g.C.Clock.gives c.args.book.now (g.R.Read.remaining c.args.reader.now) c.args.clock.now (g.W.Write.contents c.args.writer.now) (g.K.Keeper.content c.args.keeper.now)
+    begun_none g.C.Clock.gives c.args.book.now (g.R.Read.remaining c.args.reader.now)
+    c.args.clock.now (g.W.Write.contents c.args.writer.now) (g.K.Keeper.content c.args.keeper.now)
 
 pub returns-in_default-from_elem-clause-begun : goal.returns-in_default-from_elem-clause-begun
 returns-in_default-from_elem-clause-begun g c = λ clean.
-    begun_none g.C.Clock.gives c.args.book.now (g.R.Read.remaining c.args.reader.now) c.args.clock.now (g.W.Write.contents c.args.writer.now) (g.K.Keeper.content c.args.keeper.now)
+    begun_none g.C.Clock.gives c.args.book.now (g.R.Read.remaining c.args.reader.now)
+    c.args.clock.now (g.W.Write.contents c.args.writer.now) (g.K.Keeper.content c.args.keeper.now)
 
 pub returns-in_default-new-clause-begun : goal.returns-in_default-new-clause-begun
 returns-in_default-new-clause-begun g c = λ clean.
-    begun_none g.C.Clock.gives c.args.book.now (g.R.Read.remaining c.args.reader.now) c.args.clock.now (g.W.Write.contents c.args.writer.now) (g.K.Keeper.content c.args.keeper.now)
+    begun_none g.C.Clock.gives c.args.book.now (g.R.Read.remaining c.args.reader.now)
+    c.args.clock.now (g.W.Write.contents c.args.writer.now) (g.K.Keeper.content c.args.keeper.now)
 
 pub returns-clause-served : goal.returns-clause-served
-returns-clause-served g c = λ clean. subst (λ (o : Option (List ℕ)). IfOk c.serve_requests.result (λ done. IfSome o (λ stream.
-    IsServed g.C.Clock.gives c.args.book.now stream done.requests c.args.clock.now c.serve_requests.new.clock (g.W.Write.contents c.args.writer.now) (g.W.Write.contents c.serve_requests.new.writer)
+returns-clause-served g c = λ clean.
+    subst (λ (o : Option (List ℕ)). IfOk c.serve_requests.result (λ done. IfSome o (λ stream.
+    IsServed g.C.Clock.gives c.args.book.now stream
+    done.requests c.args.clock.now c.serve_requests.new.clock (g.W.Write.contents c.args.writer.now)
+    (g.W.Write.contents c.serve_requests.new.writer)
     (g.K.Keeper.content c.args.keeper.now) (g.K.Keeper.content c.serve_requests.new.keeper))))
-    (unread c.in-Ok-new.buffered _ (λ m. g.R.Read.remaining m.now) c.in-Ok-new.ensures.capacity c.in-Ok-new.ensures.empty c.in-Ok-new.ensures.inner) (c.serve_requests.ensures.served clean)
+    (unread c.in-Ok-new.buffered _ (λ m. g.R.Read.remaining m.now) c.in-Ok-new.ensures.capacity
+    c.in-Ok-new.ensures.empty c.in-Ok-new.ensures.inner) (c.serve_requests.ensures.served clean)
 
 pub returns-clause-begun : goal.returns-clause-begun
-returns-clause-begun g c = λ clean. subst (λ (o : Option (List ℕ)). OnErr c.serve_requests.result (IfSome o (λ stream.
-    IsBegun g.C.Clock.gives c.args.book.now stream c.args.clock.now c.serve_requests.new.clock (g.W.Write.contents c.args.writer.now) (g.W.Write.contents c.serve_requests.new.writer)
+returns-clause-begun g c =
+    λ clean. subst (λ (o : Option (List ℕ)). OnErr c.serve_requests.result (IfSome o (λ stream.
+    IsBegun g.C.Clock.gives c.args.book.now stream c.args.clock.now c.serve_requests.new.clock
+    (g.W.Write.contents c.args.writer.now) (g.W.Write.contents c.serve_requests.new.writer)
     (g.K.Keeper.content c.args.keeper.now) (g.K.Keeper.content c.serve_requests.new.keeper))))
-    (unread c.in-Ok-new.buffered _ (λ m. g.R.Read.remaining m.now) c.in-Ok-new.ensures.capacity c.in-Ok-new.ensures.empty c.in-Ok-new.ensures.inner) (c.serve_requests.ensures.begun clean)
+    (unread c.in-Ok-new.buffered _ (λ m. g.R.Read.remaining m.now) c.in-Ok-new.ensures.capacity
+    c.in-Ok-new.ensures.empty c.in-Ok-new.ensures.inner) (c.serve_requests.ensures.begun clean)

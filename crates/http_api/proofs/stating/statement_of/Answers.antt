@@ -5,7 +5,8 @@ use Rattle.http_api.proofs.stating.statement_of.Goals as goal
 
 pub returns-clause-text : goal.returns-clause-text
 returns-clause-text g c = λ clean rows are.
-    let text : List Row → List ℕ = statement_text c.args.book.now c.args.asked.now.account c.args.asked.now.month c.args.state.now.moment rows in
+    let text : List Row → List ℕ = statement_text c.args.book.now c.args.asked.now.account
+    c.args.asked.now.month c.args.state.now.moment rows in
     (c.in_ok-statement.ensures.writes clean).whole rows are
     ∙ ap (λ l. l ++ text c.as_slice-buckets.result.now) c.new-text.ensures.items
     ∙ ap text c.as_slice-buckets.ensures.value

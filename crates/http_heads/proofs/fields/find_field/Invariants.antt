@@ -6,4 +6,5 @@ use Rattle.http_heads.proofs.fields.find_field.Given as goal
 
 -- the fields of the name so far
 abbrev pub invariant-loop-field : goal.invariant-loop-field
-invariant-loop-field l = FoundWithin (length l.part) l.found × IsFound l.part (values_of l.name (map (header_bytes l.part) (take l.field-index l.fields))) l.found
+invariant-loop-field l = FoundWithin (length l.part) l.found × IsFound l.part
+    (values_of l.name (map (header_bytes l.part) (take l.field-index l.fields))) l.found

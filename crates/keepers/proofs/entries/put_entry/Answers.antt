@@ -1,4 +1,5 @@
-use Rattle.std.proofs.Common.{◌≡◌, List, [], ◌∷◌, ◌++◌, length, sym, ap, ◌∙◌, Some, None, refl, rules, subst, Option}
+use Rattle.std.proofs.Common.{◌≡◌, List, [], ◌∷◌, ◌++◌, length, sym, ap, ◌∙◌, Some, None, refl}
+use Rattle.std.proofs.Common.{rules, subst, Option}
 use Rattle.std.specs.Prelude.{position, if◌then◌else◌}
 use Rattle.std.specs.HashMap.{get}
 use Rattle.std.proofs.lemmas.List.{length-set}
@@ -8,8 +9,10 @@ use Rattle.keepers.specs.Change.{kept_after}
 use Rattle.keepers.specs.declared.entries.Entry.{Entry}
 use Rattle.keepers.specs.Change.{over, IsMadeFrom}
 use Rattle.keepers.specs.Parts.{rows_of}
-use Rattle.keepers.specs.Memory.{is_entry, entry_in, rows_of_entry, answer_of_entry, charges_of_entry}
-use Rattle.keepers.proofs.Placed.{place_added, place_written, on_err, found_at, seen_written, seen_left, count_written, seen_added, count_added}
+use Rattle.keepers.specs.Memory.{is_entry, entry_in, rows_of_entry, answer_of_entry}
+use Rattle.keepers.specs.Memory.{charges_of_entry}
+use Rattle.keepers.proofs.Placed.{place_added, place_written, on_err, found_at, seen_written}
+use Rattle.keepers.proofs.Placed.{seen_left, count_written, seen_added, count_added}
 use Rattle.keepers.proofs.entries.put_entry.Goals as goal
 
 pub returns-in_err-write_entry-clause-err : goal.returns-in_err-write_entry-clause-err

@@ -9,9 +9,11 @@ returns-then-is_some-clause-runs g c = λ clean.
     let b = c.args.book.now in
     let old = g.K.Keeper.content c.args.keeper.now in
     let new = g.K.Keeper.content c.run-fault.new.keeper in
-    subst (λ (answers : List Answer). ForEachList b old (IsRunOpened b c.args.opening.items c.args.requests.items new answers c.run-fault.result.fault)) (sym c.new-answers.ensures.items)
-    (opening-stopped b c.args.opening.items c.args.requests.items c.run-fault.result.fault c.run-fault.result.answers.items old new
-    (sym c.is_some.ensures ∙ c.if-is_some.true) c.run-fault.ensures.beginning (c.run-fault.ensures.runs clean))
+    subst (λ (answers : List Answer). ForEachList b old (IsRunOpened b c.args.opening.items
+    c.args.requests.items new answers c.run-fault.result.fault)) (sym c.new-answers.ensures.items)
+    (opening-stopped b c.args.opening.items c.args.requests.items c.run-fault.result.fault
+    c.run-fault.result.answers.items old new (sym c.is_some.ensures
+    ∙ c.if-is_some.true) c.run-fault.ensures.beginning (c.run-fault.ensures.runs clean))
 
 pub returns-clause-runs : goal.returns-clause-runs
 returns-clause-runs g c = λ clean.
@@ -20,6 +22,9 @@ returns-clause-runs g c = λ clean.
     let new = g.K.Keeper.content c.run.new.keeper in
     let before = c.run-fault.result.answers.items in
     let all : length before ≡ length c.args.opening.items =
-    where_none (length before ≡ length c.args.opening.items) c.run-fault.result.fault (sym c.is_some.ensures ∙ c.if-is_some.false) c.run-fault.ensures.whole in
-    requests-run c.args.book.now c.args.opening.items c.args.requests.items c.run.result.fault before c.run.result.answers.items old mid new all
-    (c.run-fault.ensures.runs (c.run.ensures.cleanness clean)) (c.run.ensures.runs clean) c.run.ensures.whole
+    where_none (length before ≡ length c.args.opening.items) c.run-fault.result.fault
+    (sym c.is_some.ensures ∙ c.if-is_some.false) c.run-fault.ensures.whole in
+    requests-run c.args.book.now c.args.opening.items c.args.requests.items c.run.result.fault
+    before c.run.result.answers.items old mid new all
+    (c.run-fault.ensures.runs (c.run.ensures.cleanness clean))
+    (c.run.ensures.runs clean) c.run.ensures.whole

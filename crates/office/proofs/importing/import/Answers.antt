@@ -25,15 +25,15 @@ loop-row-preserved g c = record {
       is in
       one-more c.args.book.now c.args.moment list c.loop-row.yielded c.in-Some.row
       (g.K.Keeper.content c.args.keeper.now) (g.K.Keeper.content c.loop-row.keeper)
-      (g.K.Keeper.content c.add_voucher.new.keeper) c.loop-row.counts c.counted-counts.result
+      (g.K.Keeper.content c.add_voucher.new.keeper) c.loop-row.counts c.count_one-counts.result
       c.in_ok-addition.addition so
       (c.in_ok-addition.ensures.added clean
       (after_commands c.args.book.now list (additions c.args.moment c.loop-row.yielded))
-      so.time so.tables) c.counted-counts.ensures;
+      so.time so.tables) c.count_one-counts.ensures;
   all = append_assoc c.loop-row.yielded (c.in-Some.row ∷ []) c.next.new.self.rest.items
       ∙ ap (λ (more : List VoucherAddition). c.loop-row.yielded ++ more)
       (sym c.in-Some.ensures.steps.0) ∙ c.loop-row.invariant.all;
-  count = ap total c.counted-counts.ensures
+  count = ap total c.count_one-counts.ensures
       ∙ one-counted c.in_ok-addition.addition c.loop-row.counts
       ∙ ap (λ n. n + 1) c.loop-row.invariant.count
       ∙ sym (length-append c.loop-row.yielded (c.in-Some.row ∷ []));

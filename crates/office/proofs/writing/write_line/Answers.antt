@@ -8,6 +8,10 @@ pub returns-in_err-write_whole-clause-err : goal.returns-in_err-write_whole-clau
 unfolding lib.Utf8.encode
 returns-in_err-write_whole-clause-err g c =
     on_err c.from_residual-in_err-write_whole.result
-    (subst (WritesBeginning (g.W.Write.contents c.args.writer.now) (g.W.Write.contents c.write_whole.new.writer)) c.in_ok-push.ensures.bytes
-    (some_written (g.W.Write.contents c.args.writer.now) (g.W.Write.contents c.write_whole.new.writer) (string_bytes c.push.new.self) c.in_err-write_whole.ensures.err.0
-    (subst (λ l. Appends (g.W.Write.contents c.args.writer.now) (g.W.Write.contents c.write_whole.new.writer) (take c.in_err-write_whole.ensures.err.0 l)) c.as_bytes.ensures.value c.in_err-write_whole.ensures.err.1)))
+    (subst (WritesBeginning (g.W.Write.contents c.args.writer.now)
+    (g.W.Write.contents c.write_whole.new.writer)) c.in_ok-push.ensures.bytes
+    (some_written (g.W.Write.contents c.args.writer.now) (g.W.Write.contents
+    c.write_whole.new.writer) (string_bytes c.push.new.self) c.in_err-write_whole.ensures.err.0
+    (subst (λ l. Appends (g.W.Write.contents c.args.writer.now)
+    (g.W.Write.contents c.write_whole.new.writer) (take c.in_err-write_whole.ensures.err.0 l))
+    c.as_bytes.ensures.value c.in_err-write_whole.ensures.err.1)))

@@ -15,12 +15,17 @@ loop-served-init g c = record {
 pub loop-served-preserved : goal.loop-served-preserved
 loop-served-preserved g c = record {
   told =
-      faults_more c.loop-served.failed c.serve_next-failed.result (g.E.Write.contents c.args.errors.now) (g.E.Write.contents c.loop-served.errors) (g.E.Write.contents c.serve_next-failed.new.errors)
+      faults_more c.loop-served.failed c.serve_next-failed.result
+      (g.E.Write.contents c.args.errors.now) (g.E.Write.contents c.loop-served.errors)
+      (g.E.Write.contents c.serve_next-failed.new.errors)
       c.loop-served.invariant.told c.serve_next-failed.ensures.told;
   few = omega (arith, c.loop-served.invariant.few, c.serve_next-failed.ensures.bounded);
   continued = λ clean.
-      continued_more c.args.book.now (g.K.Keeper.content c.args.keeper.now) (g.K.Keeper.content c.loop-served.keeper) (g.K.Keeper.content c.serve_next-failed.new.keeper)
-      (c.loop-served.invariant.continued (c.serve_next-failed.ensures.cleanness clean)) (c.serve_next-failed.ensures.continued clean);
-  cleanness = λ clean. c.loop-served.invariant.cleanness (c.serve_next-failed.ensures.cleanness clean);
+      continued_more c.args.book.now (g.K.Keeper.content c.args.keeper.now)
+      (g.K.Keeper.content c.loop-served.keeper) (g.K.Keeper.content c.serve_next-failed.new.keeper)
+      (c.loop-served.invariant.continued (c.serve_next-failed.ensures.cleanness clean))
+      (c.serve_next-failed.ensures.continued clean);
+  cleanness = λ clean.
+      c.loop-served.invariant.cleanness (c.serve_next-failed.ensures.cleanness clean);
   failures = omega (arith, c.loop-served.invariant.failures, c.serve_next-failed.ensures.failures);
 }

@@ -5,5 +5,8 @@ use Rattle.office_server.proofs.telling.tell_fault.Goals as goal
 
 pub returns : goal.returns
 returns g c =
-    subst (WritesBeginning (g.E.Write.contents c.args.errors.now) (g.E.Write.contents c.write_whole.new.writer)) (c.as_bytes.ensures.value ∙ c.fault_line.ensures)
-    (whole_or_part c.write_whole.result (g.E.Write.contents c.args.errors.now) (g.E.Write.contents c.write_whole.new.writer) c.as_bytes.result.now c.write_whole.ensures.ok c.write_whole.ensures.err)
+    subst (WritesBeginning (g.E.Write.contents c.args.errors.now)
+    (g.E.Write.contents c.write_whole.new.writer)) (c.as_bytes.ensures.value ∙ c.fault_line.ensures)
+    (whole_or_part c.write_whole.result (g.E.Write.contents c.args.errors.now)
+    (g.E.Write.contents c.write_whole.new.writer) c.as_bytes.result.now c.write_whole.ensures.ok
+    c.write_whole.ensures.err)

@@ -18,7 +18,8 @@ covered_blocks-blocks-requires-clause-after c =
 -- the units that are granted are no more than those wanted
 pub units_to_end-units-requires-clause-fits : goal.units_to_end-units-requires-clause-fits
 units_to_end-units-requires-clause-fits c =
-    let block : c.block-block.result ≡ c.args.prices.now.tariff.block = c.block-block.ensures.value in
+    let block : c.block-block.result ≡ c.args.prices.now.tariff.block =
+    c.block-block.ensures.value in
     let few =
     fewer c.covered_blocks-blocks.result.0 c.blocks_started-started.result.0
     (started c.args.used_before.0 c.args.wanted.0 c.args.prices.now.tariff.block)
@@ -26,7 +27,8 @@ units_to_end-units-requires-clause-fits c =
     c.if-blocks-started.false in
     let less =
     less_to_end c.args.used_before.0 c.args.wanted.0 c.covered_blocks-blocks.result.0
-    c.args.prices.now.tariff.block (subst (λ n. 1 ≤ n) c.block-block.ensures.value c.block-block.ensures.some) few in
+    c.args.prices.now.tariff.block
+    (subst (λ n. 1 ≤ n) c.block-block.ensures.value c.block-block.ensures.some) few in
     rw block (omega (arith, less))
 
 pub returns-then-blocks-started-clause-grant : goal.returns-then-blocks-started-clause-grant
@@ -54,7 +56,8 @@ returns-else-blocks-started-clause-grant c =
     fewer n c.blocks_started-started.result.0
     (started c.args.used_before.0 c.args.wanted.0 t.tariff.block) started_is
     c.covered_blocks-blocks.ensures.greatest.within c.if-blocks-started.false in
-    let units : c.units_to_end-units.result ≡ block_start c.args.used_before.0 t.tariff.block + n * t.tariff.block
+    let units : c.units_to_end-units.result
+    ≡ block_start c.args.used_before.0 t.tariff.block + n * t.tariff.block
     - c.args.used_before.0 = rw block at c.units_to_end-units.ensures in
     subst (λ u. IsGreatestGrant t c.args.used_before.0 c.args.place c.args.wanted.0
     c.args.funds.0
@@ -64,7 +67,8 @@ returns-else-blocks-started-clause-grant c =
       amount = record { 0 = c.covered_blocks-blocks.result.1 };
     })) (sym units)
     (cut_grant t c.args.used_before.0 c.args.place c.args.wanted.0 c.args.funds.0 n
-    c.covered_blocks-blocks.result.1 (subst (λ n. 1 ≤ n) c.block-block.ensures.value c.block-block.ensures.some)
+    c.covered_blocks-blocks.result.1
+    (subst (λ n. 1 ≤ n) c.block-block.ensures.value c.block-block.ensures.some)
     (rw (c.tiers.ensures.value, c.tiers-2.ensures.value, started_is) at
     c.covered_blocks-blocks.ensures.greatest)
     few

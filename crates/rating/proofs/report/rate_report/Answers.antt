@@ -5,14 +5,19 @@ use Rattle.rating.proofs.report.rate_report.Goals as goal
 
 pub loop-part-init : goal.loop-part-init
 loop-part-init c =
-    let block : c.block-block.result ≡ c.args.prices.now.tariff.block = c.block-block.ensures.value in
+    let block : c.block-block.result ≡ c.args.prices.now.tariff.block =
+    c.block-block.ensures.value in
     let blocks =
-    rw (← block) at (blocks_mod c.args.prices.now.tariff.block c.args.used_before.0 c.args.parts.now)
+    rw (← block)
+    at (blocks_mod c.args.prices.now.tariff.block c.args.used_before.0 c.args.parts.now)
     in
     let place : c.args.place + 0 ≡ c.args.place = omega arith in
     record {
       blocks = rw block
-          (omega (arith, blocks_mod c.args.prices.now.tariff.block c.args.used_before.0 c.args.parts.now));
+          (omega (
+            arith,
+            blocks_mod c.args.prices.now.tariff.block c.args.used_before.0 c.args.parts.now,
+          ));
       amount = rw (block, place)
           (omega (
             arith,
@@ -24,7 +29,8 @@ loop-part-init c =
 
 pub loop-part-preserved : goal.loop-part-preserved
 loop-part-preserved c =
-    let block : c.block-block.result ≡ c.args.prices.now.tariff.block = c.block-block.ensures.value in
+    let block : c.block-block.result ≡ c.args.prices.now.tariff.block =
+    c.block-block.ensures.value in
     let n = rw block at c.blocks_started-started.ensures in
     let into = rw block at c.place_in_block-into_block.ensures in
     let place : c.from.result + c.loop-part.blocks ≡ c.args.place + c.loop-part.blocks =
@@ -33,7 +39,8 @@ loop-part-preserved c =
     omega (arith, c.told-parts, c.loop-part-test.true) in
     let price = rw (c.tiers.ensures.value, place) at c.rated_amount-amount.ensures.value in
     record {
-      blocks = blocks_after c.args.prices.now.tariff.block c.loop-part.into_block c.loop-part.part-index
+      blocks =
+          blocks_after c.args.prices.now.tariff.block c.loop-part.into_block c.loop-part.part-index
           c.loop-part.blocks c.blocks_started-started.result.0 c.place_in_block-into_block.result _
           c.args.parts.now within n into c.loop-part.invariant.blocks;
       amount = amount_after c.args.prices.now c.loop-part.into_block c.args.place

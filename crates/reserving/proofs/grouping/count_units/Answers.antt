@@ -15,7 +15,8 @@ there c =
 
 pub unreachable-requires : goal.unreachable-requires
 unreachable-requires c =
-    found_none c.args.session.now c.args.group c.deref.ensures.value c.place_of.ensures c.in_default.is c.requires.there
+    found_none c.args.session.now c.args.group c.deref.ensures.value c.place_of.ensures
+    c.in_default.is c.requires.there
 
 pub overflow_add-index_mut : goal.overflow_add-index_mut
 overflow_add-index_mut c =
@@ -34,7 +35,8 @@ pub returns : goal.returns
 returns c =
     let at : position (is_of c.args.session.now c.args.group) c.args.groups.now.items
     ≡ Some c.in-Some.place =
-    place_is c.args.session.now c.args.group c.deref.ensures.value c.place_of.ensures c.in-Some.is in
+    place_is c.args.session.now c.args.group c.deref.ensures.value c.place_of.ensures
+    c.in-Some.is in
     let used : c.index_mut.result.now.used
     ≡ used_in c.args.session.now c.args.group c.args.groups.now.items =
     ap (λ (x : SessionGroup). x.used) c.index_mut.ensures.value

@@ -13,13 +13,15 @@ there c =
 pub returns-in_default-clause-groups : goal.returns-in_default-clause-groups
 returns-in_default-clause-groups c =
     ended_none c.args.session.now c.args.group c.args.groups.now.items
-    (place_is c.args.session.now c.args.group c.deref.ensures.value c.place_of.ensures c.in_default.is)
+    (place_is c.args.session.now c.args.group c.deref.ensures.value c.place_of.ensures
+    c.in_default.is)
 
 pub returns-in_default-clause-holds : goal.returns-in_default-clause-holds
 returns-in_default-clause-holds c =
     c.none.ensures
     ∙ unreserved c.args.session.now c.args.group c.args.groups.now.items
-    (place_is c.args.session.now c.args.group c.deref.ensures.value c.place_of.ensures c.in_default.is)
+    (place_is c.args.session.now c.args.group c.deref.ensures.value c.place_of.ensures
+    c.in_default.is)
 
 pub returns-clause-groups : goal.returns-clause-groups
 returns-clause-groups c =
@@ -30,5 +32,6 @@ returns-clause-groups c =
 
 pub returns-clause-holds : goal.returns-clause-holds
 returns-clause-holds c =
-    taken_is c.args.session.now c.args.group c.in-Some.place _ c.index_mut-row.result.now _ _ (there c)
+    taken_is c.args.session.now c.args.group c.in-Some.place _
+    c.index_mut-row.result.now _ _ (there c)
     c.index_mut-row.ensures.value c.take.ensures.value c.holds_of.ensures

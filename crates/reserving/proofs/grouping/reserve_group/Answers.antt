@@ -10,13 +10,15 @@ use Rattle.reserving.proofs.grouping.reserve_group.Goals as goal
 
 pub unreachable-requires : goal.unreachable-requires
 unreachable-requires c =
-    found_none c.args.session.now c.args.group c.deref.ensures.value c.place_of.ensures c.in_default.is c.requires
+    found_none c.args.session.now c.args.group c.deref.ensures.value c.place_of.ensures
+    c.in_default.is c.requires
 
 pub returns : goal.returns
 returns c =
     let there : position (is_of c.args.session.now c.args.group) c.args.groups.now.items
     ≡ Some c.in-Some.place =
-    place_is c.args.session.now c.args.group c.deref.ensures.value c.place_of.ensures c.in-Some.is in
+    place_is c.args.session.now c.args.group c.deref.ensures.value c.place_of.ensures
+    c.in-Some.is in
     let used : c.index_mut-row.result.now.used
     ≡ used_in c.args.session.now c.args.group c.args.groups.now.items =
     ap (λ (x : SessionGroup). x.used) c.index_mut-row.ensures.value

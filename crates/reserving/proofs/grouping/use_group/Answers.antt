@@ -20,7 +20,8 @@ found c =
 
 pub unreachable-requires : goal.unreachable-requires
 unreachable-requires c =
-    found_none c.args.session.now c.args.group c.deref.ensures.value c.place_of.ensures c.in_default.is c.requires.there
+    found_none c.args.session.now c.args.group c.deref.ensures.value c.place_of.ensures
+    c.in_default.is c.requires.there
 
 pub overflow_add-row : goal.overflow_add-row
 overflow_add-row c =
@@ -57,5 +58,6 @@ returns-clause-groups c =
 
 pub returns-clause-holds : goal.returns-clause-holds
 returns-clause-holds c =
-    taken_is c.args.session.now c.args.group c.in-Some.place _ c.index_mut-row.result.now _ _ (found c)
+    taken_is c.args.session.now c.args.group c.in-Some.place _
+    c.index_mut-row.result.now _ _ (found c)
     c.index_mut-row.ensures.value c.take.ensures.value c.holds_of.ensures

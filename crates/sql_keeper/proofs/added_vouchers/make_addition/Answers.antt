@@ -17,8 +17,11 @@ returns-in_err-write_addition-clause-commits g c =
     rw p.1 (not_put_at_once (with_addition text code terms t) (BecomesAdded text code terms t) old
     (state g.S.Store c.write_addition.new.conn)
     (become_added text code terms t
-    (omega (arith, c.seconds-moment.ensures.in_range, c.seconds-moment.ensures.value)) old.now.trees) _ _
-    c.in_err-write_addition.ensures.transacts)
+    (omega (
+      arith,
+      c.seconds-moment.ensures.in_range,
+      c.seconds-moment.ensures.value,
+    )) old.now.trees) _ _ c.in_err-write_addition.ensures.transacts)
 
 pub returns-clause-commits : goal.returns-clause-commits
 returns-clause-commits g c =
@@ -30,5 +33,8 @@ returns-clause-commits g c =
     put_at_once (with_addition text code terms t) (BecomesAdded text code terms t) old
     (state g.S.Store c.write_addition.new.conn)
     (become_added text code terms t
-    (omega (arith, c.seconds-moment.ensures.in_range, c.seconds-moment.ensures.value)) old.now.trees) _ _
-    c.in_ok-write_addition.ensures.transacts
+    (omega (
+      arith,
+      c.seconds-moment.ensures.in_range,
+      c.seconds-moment.ensures.value,
+    )) old.now.trees) _ _ c.in_ok-write_addition.ensures.transacts

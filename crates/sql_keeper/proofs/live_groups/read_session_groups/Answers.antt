@@ -12,16 +12,19 @@ use Rattle.sql_keeper.proofs.LiveGroups.{gathered}
 use Rattle.sql_keeper.proofs.live_groups.read_session_groups.Goals as goal
 
 pub returns : goal.returns
-returns g c = gathered (λ xs. xs.items) c.args.book.now.periods c.args.account.now c.args.session.now
+returns g c =
+    gathered (λ xs. xs.items) c.args.book.now.periods c.args.account.now c.args.session.now
     c.buckets.result.now c.deref.result.now c.deref-2.result.now
-    (state g.S.Store c.args.conn.now) (state g.S.Store c.read_groups.new.conn) (state g.S.Store c.read_holds.new.conn)
-    c.groups_of.result
-    (subst (λ (bs : List Row). AreDistinct bs) (sym c.buckets.ensures.value) c.buckets.ensures.sound.distinct)
+    (state g.S.Store c.args.conn.now) (state g.S.Store c.read_groups.new.conn)
+    (state g.S.Store c.read_holds.new.conn) c.groups_of.result
+    (subst (λ (bs : List Row). AreDistinct bs)
+    (sym c.buckets.ensures.value) c.buckets.ensures.sound.distinct)
     (have_read _ _ _ _ c.in_ok-rows.ensures.reads) (have_read _ _ _ _ c.in_ok-held.ensures.reads)
     (λ clean. subst (λ (l : List GroupColumns). AreGroups
-    (rows_in (state g.S.Store c.args.conn.now).now.trees c.args.account.now) c.args.session.now (map group_at l))
-    (sym c.deref.ensures.value) (c.in_ok-rows.ensures.reads.found clean))
+    (rows_in (state g.S.Store c.args.conn.now).now.trees c.args.account.now) c.args.session.now
+    (map group_at l)) (sym c.deref.ensures.value) (c.in_ok-rows.ensures.reads.found clean))
     (λ clean. subst (λ (l : List HeldColumns). AreHolds
-    (rows_in (state g.S.Store c.read_groups.new.conn).now.trees c.args.account.now) c.args.session.now (map hold_at l))
+    (rows_in (state g.S.Store c.read_groups.new.conn).now.trees c.args.account.now)
+    c.args.session.now (map hold_at l))
     (sym c.deref-2.ensures.value) (c.in_ok-held.ensures.reads.found clean))
     c.groups_of.ensures

@@ -5,7 +5,10 @@ use Rattle.sql_keeper.proofs.Repeating.{counters_joined}
 use Rattle.sql_keeper.proofs.live_rows.read_counters_at.Goals as goal
 
 pub returns : goal.returns
-returns g c = gathers_made _ _ _ _ c.in_ok-counters.counters c.joined_counters.result c.in_ok-counters.ensures
-    (λ trees found. told_if_ok c.joined_counters.result (λ xs is. counters_joined c.args.book.now c.args.moment
-    (rows_in trees c.args.account.now) c.in_ok-counters.counters.never.items c.in_ok-counters.counters.daily.items
+returns g c =
+    gathers_made _ _ _ _ c.in_ok-counters.counters c.joined_counters.result c.in_ok-counters.ensures
+    (λ trees found.
+    told_if_ok c.joined_counters.result (λ xs is. counters_joined c.args.book.now c.args.moment
+    (rows_in trees c.args.account.now) c.in_ok-counters.counters.never.items
+    c.in_ok-counters.counters.daily.items
     c.in_ok-counters.counters.monthly.items xs.items found is) c.joined_counters.ensures)

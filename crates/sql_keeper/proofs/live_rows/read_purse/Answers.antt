@@ -8,7 +8,8 @@ use Rattle.sql_keeper.proofs.live_rows.read_purse.Goals as goal
 
 pub returns : goal.returns
 returns g c = reads_made _ _ _ _ c.in_ok-rows.rows c.purse_of.result c.in_ok-rows.ensures.reads
-    (λ trees found. live_made (rows_in trees c.args.account.now) (map bucket_row c.in_ok-rows.rows.items)
+    (λ trees found.
+    live_made (rows_in trees c.args.account.now) (map bucket_row c.in_ok-rows.rows.items)
     c.purse_of.result found
     (subst (λ (rows : List BucketColumns). IfOk c.purse_of.result (λ p. p ≡ map bucket_row rows))
     c.deref.ensures.value c.purse_of.ensures))

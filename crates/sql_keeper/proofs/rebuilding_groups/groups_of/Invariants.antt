@@ -5,4 +5,5 @@ use Rattle.sql_keeper.proofs.rebuilding_groups.groups_of.Given as goal
 
 abbrev pub invariant-rows : goal.invariant-rows
 invariant-rows l =
-    AreGroupsOf l.book.periods l.buckets l.held l.session (map group_at (take l.row-index l.rows)) l.groups.items
+    AreGroupsOf l.book.periods l.buckets l.held l.session
+    (map group_at (take l.row-index l.rows)) l.groups.items

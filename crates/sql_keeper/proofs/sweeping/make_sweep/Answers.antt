@@ -17,12 +17,16 @@ returns-in_err-write_sweep-clause-commits g c =
     let reads = c.in_ok-accounts.ensures in
     let p = err_from_is_err_and c.from_residual-in_err-write_sweep.result
     c.from_residual-in_err-write_sweep.ensures.1 in
-    rw p.1 (not_written (with_sweep names text t c.deref.result.now) (BecomesSwept names text book t) old mid
+    rw p.1 (not_written (with_sweep names text t c.deref.result.now)
+    (BecomesSwept names text book t) old mid
     (state g.S.Store c.write_sweep.new.conn) reads.only reads.survives
     (become_swept (λ xs. xs.items) names text book t c.in_ok-accounts.accounts c.deref.result.now
     c.deref.ensures.value c.validity-ranges.ensures.book
-    (omega (arith, c.seconds-moment.ensures.in_range, c.seconds-moment.ensures.value)) old mid reads) _ _
-    c.in_err-write_sweep.ensures.transacts)
+    (omega (
+      arith,
+      c.seconds-moment.ensures.in_range,
+      c.seconds-moment.ensures.value,
+    )) old mid reads) _ _ c.in_err-write_sweep.ensures.transacts)
 
 pub returns-clause-commits : goal.returns-clause-commits
 returns-clause-commits g c =
@@ -37,14 +41,20 @@ returns-clause-commits g c =
     (state g.S.Store c.write_sweep.new.conn) reads.only reads.survives
     (become_swept (λ xs. xs.items) names text book t c.in_ok-accounts.accounts c.deref.result.now
     c.deref.ensures.value c.validity-ranges.ensures.book
-    (omega (arith, c.seconds-moment.ensures.in_range, c.seconds-moment.ensures.value)) old mid reads) _ _
-    c.in_ok-write_sweep.ensures.transacts
+    (omega (
+      arith,
+      c.seconds-moment.ensures.in_range,
+      c.seconds-moment.ensures.value,
+    )) old mid reads) _ _ c.in_ok-write_sweep.ensures.transacts
 
 pub returns-clause-count : goal.returns-clause-count
 returns-clause-count g c =
     let n : c.len.result ≡ length c.in_ok-accounts.accounts.items = omega (arith, c.len.ensures) in
     λ clean. n
     ∙ count_swept (λ xs. xs.items) c.args.names.now.periods c.args.text.now c.args.book.now
-    c.args.moment c.in_ok-accounts.accounts c.deref.result.now c.deref.ensures.value c.validity-ranges.ensures.book
-    (omega (arith, c.seconds-moment.ensures.in_range, c.seconds-moment.ensures.value)) (state g.S.Store c.args.conn.now) (state g.S.Store c.read_sweep.new.conn) c.in_ok-accounts.ensures
+    c.args.moment c.in_ok-accounts.accounts c.deref.result.now c.deref.ensures.value
+    c.validity-ranges.ensures.book
+    (omega (arith, c.seconds-moment.ensures.in_range, c.seconds-moment.ensures.value))
+    (state g.S.Store c.args.conn.now)
+    (state g.S.Store c.read_sweep.new.conn) c.in_ok-accounts.ensures
     (state g.S.Store c.write_sweep.new.conn) _ c.in_ok-write_sweep.ensures.transacts clean

@@ -7,6 +7,7 @@ use Rattle.sql_keeper.proofs.sweeping.put_accounts.Given as goal
 abbrev pub invariant-accounts : goal.invariant-accounts
 invariant-accounts g l = record {
   same : l.tx.conn.ghost_name ≡ l.initial.tx.conn.ghost_name;
-  put : HasPut (λ x. with_stored x.number l.names.periods x.rows) l.accounts (drop l.account-index l.accounts)
+  put : HasPut (λ x. with_stored x.number l.names.periods x.rows) l.accounts
+      (drop l.account-index l.accounts)
       (state g.S.Store l.fn.tx.conn.now) (state g.S.Store l.tx.conn.now);
 }

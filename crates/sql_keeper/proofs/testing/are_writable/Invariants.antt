@@ -4,4 +4,5 @@ use Rattle.sql_keeper.proofs.testing.are_writable.Given as goal
 
 abbrev pub invariant-groups : goal.invariant-groups
 invariant-groups l =
-    AreWritable l.book.periods l.sessions (drop l.group-index l.groups) → AreWritable l.book.periods l.sessions l.groups
+    AreWritable l.book.periods l.sessions (drop l.group-index l.groups) →
+    AreWritable l.book.periods l.sessions l.groups

@@ -3,4 +3,5 @@ use Rattle.reserving.specs.Sessions.{session_in}
 use Rattle.sql_keeper.proofs.testing.is_open.Given as goal
 
 abbrev pub invariant-loop-session : goal.invariant-loop-session
-invariant-loop-session l = session_in l.id l.sessions ≡ session_in l.id (drop l.session-index l.sessions)
+invariant-loop-session l =
+    session_in l.id l.sessions ≡ session_in l.id (drop l.session-index l.sessions)

@@ -17,7 +17,8 @@ returns-clause-means g c =
     let made = c.in-Ok.ensures.made refl in
     not_ours c.schema.result.now c.args.conn.now.schema c.same_schema.result
     (c.schema.ensures.value ∙ made.idle.book.schema)
-    (λ plain same. c.same_schema.ensures.all plain (same ∙ sym c.schema-2.ensures.value)) c.if-same_schema.false
+    (λ plain same. c.same_schema.ensures.all plain (same ∙ sym c.schema-2.ensures.value))
+    c.if-same_schema.false
 
 pub returns-in-Err-clause-means : goal.returns-in-Err-clause-means
 returns-in-Err-clause-means g c = c.fault_of.ensures.means (state g.S.Store c.args.conn.now).now

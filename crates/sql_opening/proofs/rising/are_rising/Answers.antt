@@ -13,7 +13,8 @@ commits_nothing : (sql : List ℕ) (params : Row) (old new : State)
     → (HasCleanDisk old → IsPlain (understood old.now.schema sql))
     → Survives old new (CommitsShowing sql params old) → Survives old new (λ _. ⊥)
 commits_nothing sql params old new plain s =
-    survives_weaker old new _ _ (λ clean db. never_commits sql params old db (plain (omega (arith, s.clean, clean)))) s
+    survives_weaker old new _ _
+    (λ clean db. never_commits sql params old db (plain (omega (arith, s.clean, clean)))) s
 
 pub returns-in_err-rows-clause-crash : goal.returns-in_err-rows-clause-crash
 returns-in_err-rows-clause-crash g c =
@@ -25,8 +26,13 @@ returns-in_err-rows-clause-crash g c =
 
 pub rows-init : goal.rows-init
 rows-init g c =
-    let made = c.in_ok-rows.ensures in
-    (refl, commits_nothing _ _ _ _ c.requires made.survives, λ clean. let begun = begun_plain g.S.Store _ _ c.args.conn.now _ (c.requires (omega (arith, made.survives.clean, clean))) (made.begun clean) in ([], begun.0, begun.1, refl))
+    let made = c.in_ok-rows.ensures in (
+      refl,
+      commits_nothing _ _ _ _ c.requires made.survives,
+      λ clean. let begun = begun_plain g.S.Store _ _ c.args.conn.now _
+          (c.requires (omega (arith, made.survives.clean, clean))) (made.begun clean) in
+          ([], begun.0, begun.1, refl),
+    )
 
 pub returns-in_default-clause-rise : goal.returns-in_default-clause-rise
 returns-in_default-clause-rise g c clean =
@@ -34,7 +40,8 @@ returns-in_default-clause-rise g c clean =
     let now = c.next.follows.lender-at-none.conn.now in
     let late : HasCleanDisk (state g.S.Store now) = search rules in
     let was = c.rows.invariant.2 (omega (arith, moved.survives.clean)) in
-    let shown = (rw (c.in_ok-row.was, c.in_default.is) at (moved.ok late)) c.args.sql.now [] was.0 was.1 in
+    let shown =
+    (rw (c.in_ok-row.was, c.in_default.is) at (moved.ok late)) c.args.sql.now [] was.0 was.1 in
     let up = up_to c.rows.climb.rises c.rows.climb.last was.0 was.3 in
     (c.rows.rows.conn.now, was.0, was.2, search (rules, shown), up.0, up.1)
 
@@ -45,9 +52,16 @@ rows-preserved g c =
     let moved = c.next.follows.holds-at-none in
     let now = c.next.follows.lender-at-none.conn.now in (
       search rules,
-      survives_then old mid (state g.S.Store now) _ _ (λ _. ⊥) (λ _ db none. none) (λ _ db none. none) c.rows.invariant.1 moved.survives,
+      survives_then old mid (state g.S.Store now) _ _ (λ _. ⊥) (λ _ db none. none)
+          (λ _ db none. none) c.rows.invariant.1 moved.survives,
       λ clean.
           let was = c.rows.invariant.2 (omega (arith, moved.survives.clean)) in
-          let on : HasGiven g.S.Store c.args.sql.now [] now (was.0 ++ c.in-Some.row.now ∷ []) = (rw (c.in_ok-row.was, c.in-Some.is) at (moved.ok clean)) c.args.sql.now [] was.0 was.1 in
-          (was.0 ++ c.in-Some.row.now ∷ [], on, unchanged_then old mid (state g.S.Store now) was.2 (search (rules, moved.same)), c.with-climb.ensures was.0 was.3),
+          let on : HasGiven g.S.Store c.args.sql.now [] now (was.0 ++ c.in-Some.row.now ∷ []) =
+          (rw (c.in_ok-row.was, c.in-Some.is) at (moved.ok clean)) c.args.sql.now []
+          was.0 was.1 in (
+            was.0 ++ c.in-Some.row.now ∷ [],
+            on,
+            unchanged_then old mid (state g.S.Store now) was.2 (search (rules, moved.same)),
+            c.with-climb.ensures was.0 was.3,
+          ),
     )

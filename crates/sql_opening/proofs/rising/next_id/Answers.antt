@@ -6,7 +6,8 @@ use Rattle.sql_opening.proofs.rising.next_id.Goals as goal
 
 pub returns-in-Some-clause-none : goal.returns-in-Some-clause-none
 returns-in-Some-clause-none c none it above =
-    let is : Int c.in-Ok-Int.id ≡ column c.args.row.now 0 = sym (ap owned c.in-Ok-Int.field-0-is) ∙ c.in-Ok-Int.ensures.ok.1 in
+    let is : Int c.in-Ok-Int.id ≡ column c.args.row.now 0 = sym (ap owned c.in-Ok-Int.field-0-is)
+    ∙ c.in-Ok-Int.ensures.ok.1 in
     let both : Int c.in-Ok-Int.id ≡ Int it = is ∙ above.is in
     let same : c.in-Ok-Int.id ≡ it = cc both in
     let less : c.in-Some.before <ℤ c.in-Ok-Int.id =

@@ -11,9 +11,13 @@ returns-in-Ok-true g c = λ k next so. record {
   found = λ clean.
       let rise = c.in-Ok-true.ensures.rise clean in
       let same = c.in-Ok-true.ensures.same clean in
-      let was : HasCleanDisk (state g.S.Store c.args.conn.now) = omega (arith, c.in-Ok-true.ensures.crash.clean, clean) in
-      let up = rising_stored rise.1 (rise.4 c.in-Ok-true.field-0-test) in
-      (same, stored_next g.S.Store c.args.sql.now k next c.args.conn.now rise.0 (state g.S.Store c.are_rising.new.conn) rise.1 rise.2 rise.3 up same (so was));
+      let was : HasCleanDisk (state g.S.Store c.args.conn.now) =
+      omega (arith, c.in-Ok-true.ensures.crash.clean, clean) in
+      let up = rising_stored rise.1 (rise.4 c.in-Ok-true.field-0-test) in (
+        same,
+        stored_next g.S.Store c.args.sql.now k next c.args.conn.now rise.0
+            (state g.S.Store c.are_rising.new.conn) rise.1 rise.2 rise.3 up same (so was),
+      );
   told = tt;
   means = λ clean. tt;
   survives = c.in-Ok-true.ensures.crash;
@@ -25,9 +29,12 @@ returns-in-Ok-false g c = λ k next so. record {
   told = λ is. absurd (cc is);
   means = λ clean.
       let rise = c.in-Ok-false.ensures.rise clean in
-      let was : HasCleanDisk (state g.S.Store c.args.conn.now) = omega (arith, c.in-Ok-false.ensures.crash.clean, clean) in
-      let falls : ¬ AreRising rise.1 = λ up. let yes' = rise.5 up in cc (yes', c.in-Ok-false.field-0-test) in
-      told_twice g.S.Store c.args.sql.now k next c.args.conn.now rise.0 (state g.S.Store c.are_rising.new.conn) rise.1 rise.2 rise.3 falls (so was);
+      let was : HasCleanDisk (state g.S.Store c.args.conn.now) =
+      omega (arith, c.in-Ok-false.ensures.crash.clean, clean) in
+      let falls : ¬ AreRising rise.1 = λ up. let yes' = rise.5 up in
+      cc (yes', c.in-Ok-false.field-0-test) in
+      told_twice g.S.Store c.args.sql.now k next c.args.conn.now rise.0
+      (state g.S.Store c.are_rising.new.conn) rise.1 rise.2 rise.3 falls (so was);
   survives = c.in-Ok-false.ensures.crash;
 }
 

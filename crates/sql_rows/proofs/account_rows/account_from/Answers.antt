@@ -5,4 +5,5 @@ use Rattle.sql_rows.proofs.account_rows.account_from.Goals as goal
 
 pub returns : goal.returns
 returns c = told_if_ok c.account_at.result
-    (λ a is. row_is c.args.row.now _ (omega (arith, c.has_columns.ensures)) (is, tt)) c.account_at.ensures
+    (λ a is. row_is c.args.row.now _ (omega (arith, c.has_columns.ensures)) (is, tt))
+    c.account_at.ensures

@@ -10,8 +10,8 @@ read-requires-clause-plain g c = read_account_plain
 
 pub returns : goal.returns
 returns g c = record {
-  reads = reads_as _ read_account_text _ _ _ _ _ _ c.head_among.result c.read.ensures.reads c.read.ensures.stops
-      c.in_ok-rows.ensures.answers
+  reads = reads_as _ read_account_text _ _ _ _ _ _ c.head_among.result c.read.ensures.reads
+      c.read.ensures.stops c.in_ok-rows.ensures.answers
       (λ i. map bound_value ((c.text-of_account.ensures ∙ ap Text c.as_str.ensures.value) i ∷ []))
       c.deref.ensures.value c.head_among.ensures (account_read c.args.account.now _ _ _);
 }

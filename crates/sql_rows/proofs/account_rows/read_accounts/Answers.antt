@@ -8,8 +8,8 @@ read-requires-clause-plain g c = read_accounts_plain
 
 pub returns : goal.returns
 returns g c = record {
-  reads = reads_as _ read_accounts_text _ _ _ _ _ _ c.accounts_from.result c.read.ensures.reads c.read.ensures.stops
-      c.in_ok-rows.ensures.answers
+  reads = reads_as _ read_accounts_text _ _ _ _ _ _ c.accounts_from.result c.read.ensures.reads
+      c.read.ensures.stops c.in_ok-rows.ensures.answers
       refl
       c.deref.ensures.value c.accounts_from.ensures (λ xs. accounts_read _ _ _ xs.items);
 }

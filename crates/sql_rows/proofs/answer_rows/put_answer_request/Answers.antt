@@ -9,7 +9,8 @@ use Rattle.sql_rows.proofs.answer_rows.put_answer_request.Goals as goal
 
 pub returns-clause-makes : goal.returns-clause-makes
 returns-clause-makes g c =
-    makes_answer c.args.account.now 1 c.args.session.now c.args.number (record { content = c.args.content.now; answer = c.args.answer.now }) _
+    makes_answer c.args.account.now 1 c.args.session.now c.args.number
+    (record { content = c.args.content.now; answer = c.args.answer.now }) _
     (bound_answer c.args.account.now 1 c.args.session.now c.args.number
     (record { content = c.args.content.now; answer = c.args.answer.now }) _ _ _ _ _ _
     (c.text-of_account.ensures ∙ ap Text c.as_str.ensures.value)

@@ -13,7 +13,8 @@ read-requires-clause-plain g c = read_answer_plain
 
 pub returns : goal.returns
 returns g c = record {
-  reads = reads_as _ read_answer_text _ (answer_key c.args.account.now 2 c.args.reference.now 0) _ _ _ _
+  reads =
+      reads_as _ read_answer_text _ (answer_key c.args.account.now 2 c.args.reference.now 0) _ _ _ _
       c.kept_among.result c.read.ensures.reads c.read.ensures.stops c.in_ok-rows.ensures.answers
       (λ i. map bound_value ((c.text-of_account.ensures ∙ ap Text c.as_str.ensures.value) i ∷
       c.whole-kind.ensures i ∷ (c.text-name.ensures ∙ ap Text c.as_str-2.ensures.value) i ∷

@@ -8,7 +8,8 @@ use Rattle.sql_rows.proofs.bucket_rows.dead_among.Goals as goal
 
 pub returns-clause-dead : goal.returns-clause-dead
 returns-clause-dead c =
-    ap (map bucket_row) (filter_same _ (λ b. is_dead (bucket_row b)) _ (λ x b f' k. search rules) _ _
+    ap (map bucket_row)
+    (filter_same _ (λ b. is_dead (bucket_row b)) _ (λ x b f' k. search rules) _ _
     c.retain.ensures.filtered)
     ∙ filter_rows bucket_row c.args.buckets.items
 

@@ -5,5 +5,6 @@ use Rattle.sql_rows.proofs.Rising.{RiseAfter}
 use Rattle.sql_rows.proofs.charge_rows.do_numbers_rise.Given as goal
 
 abbrev pub invariant-rows : goal.invariant-rows
-invariant-rows l = RiseAfter (λ x. x.number) (option_map (λ b. b.now) l.last) (drop l.charge-index l.charges)
+invariant-rows l =
+    RiseAfter (λ x. x.number) (option_map (λ b. b.now) l.last) (drop l.charge-index l.charges)
     → NumbersRise l.charges

@@ -3,7 +3,8 @@ use Rattle.sqlite.specs.Values.{bound_value}
 use Rattle.sqlite_value.specs.declared.value.Value.TheVariants.{Text}
 use Rattle.sql_tables.proofs.Telling.{reads_as}
 use Rattle.sql_rows.specs.Values.{nat}
-use Rattle.sql_rows.proofs.ReadCounters.{read_counters_in_text, read_counters_in_plain, counters_read}
+use Rattle.sql_rows.proofs.ReadCounters.{read_counters_in_text, read_counters_in_plain}
+use Rattle.sql_rows.proofs.ReadCounters.{counters_read}
 use Rattle.sql_rows.proofs.counter_lists.read_counters_in.Goals as goal
 
 pub read-requires-clause-plain : goal.read-requires-clause-plain
@@ -11,8 +12,9 @@ read-requires-clause-plain g c = read_counters_in_plain
 
 pub returns : goal.returns
 returns g c = record {
-  reads = reads_as _ read_counters_in_text _ _ _ _ _ _ c.counters_from.result c.read.ensures.reads c.read.ensures.stops
-      c.in_ok-rows.ensures.answers
-      (λ i. map bound_value ((c.text-of_account.ensures ∙ ap Text c.as_str.ensures.value) i ∷ c.whole-of_cycle.ensures i ∷ []))
-      c.deref.ensures.value c.counters_from.ensures (λ xs. counters_read c.args.account.now c.args.cycle _ _ _ xs.items);
+  reads = reads_as _ read_counters_in_text _ _ _ _ _ _ c.counters_from.result c.read.ensures.reads
+      c.read.ensures.stops c.in_ok-rows.ensures.answers
+      (λ i. map bound_value ((c.text-of_account.ensures ∙ ap Text c.as_str.ensures.value) i
+      ∷ c.whole-of_cycle.ensures i ∷ [])) c.deref.ensures.value c.counters_from.ensures
+      (λ xs. counters_read c.args.account.now c.args.cycle _ _ _ xs.items);
 }

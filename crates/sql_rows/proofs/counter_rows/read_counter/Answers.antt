@@ -10,9 +10,10 @@ read-requires-clause-plain g c = read_counter_plain
 
 pub returns : goal.returns
 returns g c = record {
-  reads = reads_as _ read_counter_text _ _ _ _ _ _ c.counter_among.result c.read.ensures.reads c.read.ensures.stops
-      c.in_ok-rows.ensures.answers
+  reads = reads_as _ read_counter_text _ _ _ _ _ _ c.counter_among.result c.read.ensures.reads
+      c.read.ensures.stops c.in_ok-rows.ensures.answers
       (λ i. map bound_value ((c.text-of_account.ensures ∙ ap Text c.as_str.ensures.value) i ∷
       c.whole-of_group.ensures i ∷ c.whole-of_cycle.ensures i ∷ []))
-      c.deref.ensures.value c.counter_among.ensures (counter_read c.args.account.now c.args.group c.args.cycle _ _ _);
+      c.deref.ensures.value c.counter_among.ensures
+      (counter_read c.args.account.now c.args.group c.args.cycle _ _ _);
 }

@@ -12,7 +12,8 @@ returns c =
       (
         c.in_ok-used.ensures,
         (
-          c.in_ok-reserved.ensures ∙ ap (λ b. nat (flag_number b)) (sym periods.there ∙ is_some_names _),
+          c.in_ok-reserved.ensures
+              ∙ ap (λ b. nat (flag_number b)) (sym periods.there ∙ is_some_names _),
           (periods.before ∙ before_names _, (periods.after ∙ after_names _, tt)),
         ),
       ),

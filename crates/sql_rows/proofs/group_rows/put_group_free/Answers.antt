@@ -9,7 +9,8 @@ use Rattle.sql_rows.proofs.group_rows.put_group_free.Goals as goal
 
 pub returns-clause-makes : goal.returns-clause-makes
 returns-clause-makes g c =
-    makes_group c.args.account.now c.args.session.now c.args.group (record { used = c.args.used; periods = None }) _
+    makes_group c.args.account.now c.args.session.now c.args.group
+    (record { used = c.args.used; periods = None }) _
     (bound_group c.args.account.now c.args.session.now c.args.group
     (record { used = c.args.used; periods = None }) _ _ _ _ _ _ _
     (c.text-of_account.ensures ∙ ap Text c.as_str.ensures.value)

@@ -9,8 +9,10 @@ use Rattle.sql_rows.proofs.group_rows.put_group_reserved.Goals as goal
 
 pub returns-clause-makes : goal.returns-clause-makes
 returns-clause-makes g c =
-    makes_group c.args.account.now c.args.session.now c.args.group (record { used = c.args.used; periods = Some (record { before = c.args.before.now; after = c.args.after.now }) }) _
-    (bound_group c.args.account.now c.args.session.now c.args.group
+    makes_group c.args.account.now c.args.session.now c.args.group (record {
+      used = c.args.used;
+      periods = Some (record { before = c.args.before.now; after = c.args.after.now });
+    }) _ (bound_group c.args.account.now c.args.session.now c.args.group
     (record {
       used = c.args.used;
       periods = Some (record

@@ -11,8 +11,8 @@ read-requires-clause-plain g c = read_groups_plain
 
 pub returns : goal.returns
 returns g c = record {
-  reads = reads_as _ read_groups_text _ _ _ _ _ _ c.groups_from.result c.read.ensures.reads c.read.ensures.stops
-      c.in_ok-rows.ensures.answers
+  reads = reads_as _ read_groups_text _ _ _ _ _ _ c.groups_from.result c.read.ensures.reads
+      c.read.ensures.stops c.in_ok-rows.ensures.answers
       (λ i. map bound_value ((c.text-of_account.ensures ∙ ap Text c.as_str.ensures.value) i ∷
       (c.text-of_session.ensures ∙ ap Text c.as_str-2.ensures.value) i ∷ []))
       c.deref.ensures.value c.groups_from.ensures

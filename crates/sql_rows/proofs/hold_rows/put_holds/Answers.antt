@@ -6,6 +6,8 @@ use Rattle.sql_rows.proofs.hold_rows.put_holds.Goals as goal
 pub rows-preserved : goal.rows-preserved
 rows-preserved g c = record {
   same = c.in_ok-put_hold.ensures.same_reference ∙ c.rows.invariant.same;
-  put = put_at (λ x. with_rows c.args.account.now (with_hold c.args.session.now c.args.group x.bucket x.amount)) c.args.rows.now c.rows.row-index _
-      _ _ _ c.in_ok-put_hold.field-0 (omega arith) c.rows.invariant.put c.in_ok-put_hold.ensures.makes;
+  put = put_at (λ x.
+      with_rows c.args.account.now (with_hold c.args.session.now c.args.group x.bucket x.amount))
+      c.args.rows.now c.rows.row-index _ _ _ _ c.in_ok-put_hold.field-0
+      (omega arith) c.rows.invariant.put c.in_ok-put_hold.ensures.makes;
 }

@@ -7,6 +7,6 @@ use Rattle.sql_rows.proofs.hold_rows.put_holds.Given as goal
 abbrev pub invariant-rows : goal.invariant-rows
 invariant-rows g l = record {
   same : l.tx.conn.ghost_name ≡ l.initial.tx.conn.ghost_name;
-  put : HasPut (λ x. with_rows l.account (with_hold l.session l.group x.bucket x.amount)) l.rows (drop l.row-index l.rows)
-      (state g.S.Store l.fn.tx.conn.now) (state g.S.Store l.tx.conn.now);
+  put : HasPut (λ x. with_rows l.account (with_hold l.session l.group x.bucket x.amount)) l.rows
+      (drop l.row-index l.rows) (state g.S.Store l.fn.tx.conn.now) (state g.S.Store l.tx.conn.now);
 }

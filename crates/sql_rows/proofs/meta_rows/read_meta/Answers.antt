@@ -12,9 +12,11 @@ read-requires-clause-plain g c = read_meta_plain
 pub returns : goal.returns
 returns g c = record {
   refused = λ clean. at_err _ _ _ c.meta_among.result (λ e refused is. meta_refused _ _ _
-      (c.in_ok-rows.ensures.answers clean) (λ o rows. refused is o (c.deref.ensures.value ∙ rows))) c.meta_among.ensures;
-  reads = reads_as _ read_meta_text _ _ _ _ _ _ c.meta_among.result c.read.ensures.reads c.read.ensures.stops
-      c.in_ok-rows.ensures.answers
+      (c.in_ok-rows.ensures.answers clean) (λ o rows. refused is o (c.deref.ensures.value ∙ rows)))
+      c.meta_among.ensures;
+  reads = reads_as _ read_meta_text _ _ _ _ _ _ c.meta_among.result c.read.ensures.reads
+      c.read.ensures.stops c.in_ok-rows.ensures.answers
       refl
-      c.deref.ensures.value (at_ok _ _ c.meta_among.result c.meta_among.ensures) (λ o. meta_read _ _ _ (option_map meta_of o));
+      c.deref.ensures.value (at_ok _ _ c.meta_among.result c.meta_among.ensures)
+      (λ o. meta_read _ _ _ (option_map meta_of o));
 }

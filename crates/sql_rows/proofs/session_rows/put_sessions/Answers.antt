@@ -6,6 +6,7 @@ use Rattle.sql_rows.proofs.session_rows.put_sessions.Goals as goal
 pub rows-preserved : goal.rows-preserved
 rows-preserved g c = record {
   same = c.in_ok-put_session.ensures.same_reference ∙ c.rows.invariant.same;
-  put = put_next (λ x. with_rows c.args.account.now (with_session x)) c.args.rows.now c.rows.row-index c.row-item.result
-      _ _ _ c.in_ok-put_session.field-0 (omega arith) c.row-item.is c.rows.invariant.put c.in_ok-put_session.ensures.makes;
+  put = put_next (λ x. with_rows c.args.account.now (with_session x)) c.args.rows.now
+      c.rows.row-index c.row-item.result _ _ _ c.in_ok-put_session.field-0
+      (omega arith) c.row-item.is c.rows.invariant.put c.in_ok-put_session.ensures.makes;
 }

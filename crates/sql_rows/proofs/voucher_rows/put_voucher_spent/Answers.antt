@@ -9,8 +9,12 @@ use Rattle.sql_rows.proofs.voucher_rows.put_voucher_spent.Goals as goal
 
 pub returns-clause-makes : goal.returns-clause-makes
 returns-clause-makes g c =
-    makes_voucher c.args.code.now (record { amount = c.args.amount; days = c.args.days; scope = c.args.scope; account = Some c.args.account.now }) _
-    (bound_voucher c.args.code.now (record {
+    makes_voucher c.args.code.now (record {
+      amount = c.args.amount;
+      days = c.args.days;
+      scope = c.args.scope;
+      account = Some c.args.account.now;
+    }) _ (bound_voucher c.args.code.now (record {
       amount = c.args.amount;
       days = c.args.days;
       scope = c.args.scope;

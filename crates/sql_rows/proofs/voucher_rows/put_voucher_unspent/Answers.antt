@@ -9,7 +9,8 @@ use Rattle.sql_rows.proofs.voucher_rows.put_voucher_unspent.Goals as goal
 
 pub returns-clause-makes : goal.returns-clause-makes
 returns-clause-makes g c =
-    makes_voucher c.args.code.now (record { amount = c.args.amount; days = c.args.days; scope = c.args.scope; account = None }) _
+    makes_voucher c.args.code.now
+    (record { amount = c.args.amount; days = c.args.days; scope = c.args.scope; account = None }) _
     (bound_voucher c.args.code.now (record {
       amount = c.args.amount;
       days = c.args.days;

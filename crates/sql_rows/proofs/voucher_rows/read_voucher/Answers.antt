@@ -11,8 +11,9 @@ read-requires-clause-plain g c = read_voucher_plain
 
 pub returns : goal.returns
 returns g c = record {
-  reads = reads_as _ read_voucher_text _ _ _ _ _ _ c.voucher_among.result c.read.ensures.reads c.read.ensures.stops
-      c.in_ok-rows.ensures.answers
+  reads = reads_as _ read_voucher_text _ _ _ _ _ _ c.voucher_among.result c.read.ensures.reads
+      c.read.ensures.stops c.in_ok-rows.ensures.answers
       (λ i. map bound_value (c.text-of_code.ensures i ∷ []))
-      c.deref.ensures.value c.voucher_among.ensures (λ o. voucher_read c.args.code.now _ _ _ (option_map voucher_of o));
+      c.deref.ensures.value c.voucher_among.ensures
+      (λ o. voucher_read c.args.code.now _ _ _ (option_map voucher_of o));
 }

@@ -8,6 +8,6 @@ use Rattle.sql_tables.proofs.creating.create_holds.Goals as goal
 
 pub returns-clause-makes : goal.returns-clause-makes
 returns-clause-makes g c =
-    makes_stage 6 holds holds_text holds_is holds_next refl refl (state g.S.Store c.args.tx.now.conn.now)
-    (state g.S.Store c.write.new.tx.conn.now)
+    makes_stage 6 holds holds_text holds_is holds_next refl refl
+    (state g.S.Store c.args.tx.now.conn.now) (state g.S.Store c.write.new.tx.conn.now)
     c.write.result c.requires.stage c.write.ensures.runs

@@ -8,6 +8,6 @@ use Rattle.sql_tables.proofs.creating.create_meta.Goals as goal
 
 pub returns-clause-makes : goal.returns-clause-makes
 returns-clause-makes g c =
-    makes_stage 0 meta meta_text meta_is meta_next refl refl (state g.S.Store c.args.tx.now.conn.now)
-    (state g.S.Store c.write.new.tx.conn.now)
+    makes_stage 0 meta meta_text meta_is meta_next refl refl
+    (state g.S.Store c.args.tx.now.conn.now) (state g.S.Store c.write.new.tx.conn.now)
     c.write.result c.requires.stage c.write.ensures.runs

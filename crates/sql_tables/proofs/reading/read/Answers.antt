@@ -12,12 +12,14 @@ returns-in-Ok-clause-answers g c clean =
     (c.in-Ok.ensures.ok clean)
 
 pub returns-in-Ok-clause-reads : goal.returns-in-Ok-clause-reads
-returns-in-Ok-clause-reads g c = reads_only (λ v. v.items) c.args.sql.now _ _ _ c.query_all.result c.requires.plain
+returns-in-Ok-clause-reads g c =
+    reads_only (λ v. v.items) c.args.sql.now _ _ _ c.query_all.result c.requires.plain
     c.requires.idle c.query_all.ensures.survives c.query_all.ensures.mode c.query_all.ensures.ok
     c.query_all.ensures.err
 
 pub returns-in-Err-clause-reads : goal.returns-in-Err-clause-reads
-returns-in-Err-clause-reads g c = reads_only (λ v. v.items) c.args.sql.now _ _ _ c.query_all.result c.requires.plain
+returns-in-Err-clause-reads g c =
+    reads_only (λ v. v.items) c.args.sql.now _ _ _ c.query_all.result c.requires.plain
     c.requires.idle c.query_all.ensures.survives c.query_all.ensures.mode c.query_all.ensures.ok
     c.query_all.ensures.err
 
@@ -26,5 +28,6 @@ returns-in-Ok-clause-stops g c = reads_survive c.args.sql.now _ _ _ c.requires.p
     c.query_all.ensures.survives
 
 pub returns-in-Err-clause-stops : goal.returns-in-Err-clause-stops
-returns-in-Err-clause-stops g c = reads_survive c.args.sql.now _ _ _ c.requires.plain c.requires.idle
+returns-in-Err-clause-stops g c =
+    reads_survive c.args.sql.now _ _ _ c.requires.plain c.requires.idle
     c.query_all.ensures.survives

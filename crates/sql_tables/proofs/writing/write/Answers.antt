@@ -13,7 +13,8 @@ returns-clause-runs g c =
     record {
       done = λ clean. elim (cases_Bool old.in_transaction) [
         | inl open' ↦ on_ok c.execute.result (c.execute.ensures.runs clean open')
-        | inr shut ↦ subst (λ r. OnOk r (ExecutesInside 0 c.args.sql.now (bound c.args.params.now) old new r))
+        | inr shut ↦ subst (λ r.
+            OnOk r (ExecutesInside 0 c.args.sql.now (bound c.args.params.now) old new r))
             (sym (c.execute.ensures.ended shut).0) tt
       ];
       kept = λ clean. elim (cases_Bool old.in_transaction) [

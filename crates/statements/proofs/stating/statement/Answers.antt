@@ -1,9 +1,6 @@
-use Rattle.std.proofs.Common.{◌++◌, subst}
-use Rattle.std.specs.Io.KnownBytes.{Appends}
-use Rattle.std.proofs.KnownBytes.{Appends-trans}
-use Rattle.statements.specs.Texts.{charges_text, of_month, sums_of, head_text, foot_text, WritesBeginning}
+use Rattle.statements.specs.Texts.{charges_text, of_month, sums_of, head_text, foot_text}
 use Rattle.statements.specs.declared.rows.Form.TheVariants.{Lines}
-use Rattle.statements.proofs.Beginnings.{begun_first, begun_second}
+use Rattle.statements.proofs.Beginnings.{begun_first, begun_second, three_begun, three_written}
 use Rattle.statements.proofs.MonthLemmas.{err_writes}
 use Rattle.statements.proofs.stating.statement.Goals as goal
 
@@ -32,38 +29,23 @@ returns-in_err-write_foot-clause-writes g c = λ clean.
     err_writes _ _ _ _ c.from_residual-in_err-write_foot.result
     c.from_residual-in_err-write_foot.ensures.0 (λ rows are.
     let month = of_month c.args.book.now c.args.month rows in
-    let head = head_text c.args.account.now c.args.month c.args.moment in
-    let foot = subst (λ s. WritesBeginning (g.W.Write.contents c.write_charges.new.writer)
-    (g.W.Write.contents c.write_foot.new.writer) (foot_text s c.args.buckets.now))
-    (c.in_ok-sums.ensures.sums clean rows are) c.in_err-write_foot.ensures.err in
-    begun_second (g.W.Write.contents c.args.writer.now)
-    (g.W.Write.contents c.write_charges.new.writer)
-    (g.W.Write.contents c.write_foot.new.writer)
-    (head ++ charges_text Lines month) (foot_text (sums_of month) c.args.buckets.now)
-    (Appends-trans (g.W.Write.contents c.args.writer.now)
-    (g.W.Write.contents c.write_head.new.writer)
-    (g.W.Write.contents c.write_charges.new.writer) head (charges_text Lines month)
-    c.in_ok-write_head.ensures.written
-    ((c.in_ok-sums.ensures.writes clean).whole rows are))
-    foot)
+    three_begun (g.W.Write.contents c.args.writer.now) (g.W.Write.contents c.write_head.new.writer)
+    (g.W.Write.contents c.write_charges.new.writer) (g.W.Write.contents c.write_foot.new.writer)
+    (head_text c.args.account.now c.args.month c.args.moment) (charges_text Lines month)
+    (λ s. foot_text s c.args.buckets.now) _ (sums_of month)
+    (c.in_ok-sums.ensures.sums clean rows are) c.in_ok-write_head.ensures.written
+    ((c.in_ok-sums.ensures.writes clean).whole rows are) c.in_err-write_foot.ensures.err)
 
 pub returns-clause-writes : goal.returns-clause-writes
 returns-clause-writes g c = λ clean. record {
   whole = λ rows are.
       let month = of_month c.args.book.now c.args.month rows in
-      let head = head_text c.args.account.now c.args.month c.args.moment in
-      let foot = subst (λ s. Appends (g.W.Write.contents c.write_charges.new.writer)
-      (g.W.Write.contents c.write_foot.new.writer) (foot_text s c.args.buckets.now))
-      (c.in_ok-sums.ensures.sums clean rows are) c.in_ok-write_foot.ensures.written in
-      Appends-trans (g.W.Write.contents c.args.writer.now)
-      (g.W.Write.contents c.write_charges.new.writer)
-      (g.W.Write.contents c.write_foot.new.writer)
-      (head ++ charges_text Lines month) (foot_text (sums_of month) c.args.buckets.now)
-      (Appends-trans (g.W.Write.contents c.args.writer.now)
+      three_written (g.W.Write.contents c.args.writer.now)
       (g.W.Write.contents c.write_head.new.writer)
-      (g.W.Write.contents c.write_charges.new.writer) head (charges_text Lines month)
-      c.in_ok-write_head.ensures.written
-      ((c.in_ok-sums.ensures.writes clean).whole rows are))
-      foot;
+      (g.W.Write.contents c.write_charges.new.writer) (g.W.Write.contents c.write_foot.new.writer)
+      (head_text c.args.account.now c.args.month c.args.moment) (charges_text Lines month)
+      (λ s. foot_text s c.args.buckets.now) _ (sums_of month)
+      (c.in_ok-sums.ensures.sums clean rows are) c.in_ok-write_head.ensures.written
+      ((c.in_ok-sums.ensures.writes clean).whole rows are) c.in_ok-write_foot.ensures.written;
   beginning = λ rows are. tt;
 }

@@ -3,7 +3,8 @@ use Rattle.std.specs.Prelude.{is_some}
 use Rattle.std.specs.Io.KnownBytes.{Appends}
 use Rattle.statements.specs.Months.{cycle_of_month}
 use Rattle.statements.specs.Texts.{charges_text, of_month, WritesBeginning}
-use Rattle.statements.proofs.MonthLemmas.{Begins, wrote_all, begun_name, begun_text, err_writes, sums_from, sums_are}
+use Rattle.statements.proofs.MonthLemmas.{Begins, wrote_all, begun_name, begun_text, err_writes}
+use Rattle.statements.proofs.MonthLemmas.{sums_from, sums_are}
 use Rattle.statements.proofs.stating.write_charges.Goals as goal
 
 pub returns-in_err-each-clause-writes : goal.returns-in_err-each-clause-writes

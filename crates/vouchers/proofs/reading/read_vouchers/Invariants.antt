@@ -6,5 +6,6 @@ use Rattle.vouchers.proofs.FileLemmas.{Knows}
 use Rattle.vouchers.proofs.reading.read_vouchers.Given as goal
 
 abbrev pub invariant-loop-number : goal.invariant-loop-number
-invariant-loop-number g l = (reader_trim l.records ≡ trim.None) × Ready l.records × (reader_config l.records ≡ default_config) × All IsVoucher l.rows.items
+invariant-loop-number g l = (reader_trim l.records ≡ trim.None) × Ready l.records
+    × (reader_config l.records ≡ default_config) × All IsVoucher l.rows.items
     × Knows g.R.Read.remaining (g.R.Read.remaining l.fn.reader) l.records l.rows.items l.number

@@ -8,7 +8,8 @@ use Rattle.wire_answers.proofs.balances.put_buckets.Given as goal
 -- what is written so far, with what is left, is what is written in the end
 abbrev pub invariant-loop-bucket : goal.invariant-loop-bucket
 invariant-loop-bucket l = record {
-  tokens : l.out.tokens ++ item_tokens (bucket_items (drop l.bucket-index l.list)) ≡ l.fn.out.tokens ++ item_tokens (bucket_items l.list);
+  tokens : l.out.tokens ++ item_tokens (bucket_items (drop l.bucket-index l.list))
+      ≡ l.fn.out.tokens ++ item_tokens (bucket_items l.list);
   rules : AllByRecursion IsBucketBalance (take l.bucket-index l.list);
   before : l.out.before ≡ l.fn.out.before;
 }

@@ -11,19 +11,24 @@ use Rattle.wire_answers.proofs.reading.read_answer.Goals as goal
 pub returns-in-Err-clause-written : goal.returns-in-Err-clause-written
 returns-in-Err-clause-written c =
     let given : Gives (λ (a : Answer). a) (Err c.in-Err.fault) (answer_of c.args.bytes.now) =
-    subst (λ (r : Result Answer WireFault). Gives (λ (a : Answer). a) r (answer_of c.args.bytes.now)) c.in-Err.is c.answer.ensures in
+    subst (λ (r : Result Answer WireFault).
+    Gives (λ (a : Answer). a) r (answer_of c.args.bytes.now)) c.in-Err.is c.answer.ensures in
     never_said c.args.bytes.now c.in-Err.fault c.told.result given c.told.ensures.memory
 
 pub returns-then-is_text-clause-written : goal.returns-then-is_text-clause-written
 returns-then-is_text-clause-written c =
     reads_written c.args.bytes.now (Ok c.in-Ok.answer)
-    (subst (λ (r : Result Answer WireFault). Gives (λ (a : Answer). a) r (answer_of c.args.bytes.now)) c.in-Ok.is c.answer.ensures)
+    (subst (λ (r : Result Answer WireFault).
+    Gives (λ (a : Answer). a) r (answer_of c.args.bytes.now)) c.in-Ok.is c.answer.ensures)
 
 pub returns-else-is_text-clause-written : goal.returns-else-is_text-clause-written
 returns-else-is_text-clause-written c =
     let given : answer_of c.args.bytes.now ≡ Ok c.in-Ok.answer =
-    subst (λ (r : Result Answer WireFault). Gives (λ (a : Answer). a) r (answer_of c.args.bytes.now)) c.in-Ok.is c.answer.ensures in
+    subst (λ (r : Result Answer WireFault).
+    Gives (λ (a : Answer). a) r (answer_of c.args.bytes.now)) c.in-Ok.is c.answer.ensures in
     never_written c.args.bytes.now c.in-Ok.answer (Err NotRequest) given (λ e.
-    let same : c.deref.result.now ≡ c.args.bytes.now = c.deref.ensures ∙ c.in_ok-text.ensures.text ∙ e in
+    let same : c.deref.result.now ≡ c.args.bytes.now = c.deref.ensures
+    ∙ c.in_ok-text.ensures.text
+    ∙ e in
     let clash : false ≡ true = sym c.if-is_text.false ∙ c.is_text.ensures.1 same in
     absurd (cc))

@@ -3,6 +3,11 @@ use Rattle.wire_answers.proofs.services.put_terminate.Goals as goal
 
 pub returns : goal.returns
 returns c = (
-  rw (c.in_ok-end_object.ensures.ok, c.in_ok-put_number.ensures.0, c.in_ok-begin_object.ensures.ok) (simp append_assoc),
-  rw (c.in_ok-end_object.ensures.room.0, c.in_ok-put_number.ensures.1, c.in_ok-begin_object.ensures.room.0),
+  rw (c.in_ok-end_object.ensures.ok, c.in_ok-put_number.ensures.0, c.in_ok-begin_object.ensures.ok)
+      (simp append_assoc),
+  rw (
+    c.in_ok-end_object.ensures.room.0,
+    c.in_ok-put_number.ensures.1,
+    c.in_ok-begin_object.ensures.room.0,
+  ),
 )

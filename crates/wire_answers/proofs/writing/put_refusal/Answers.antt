@@ -3,6 +3,11 @@ use Rattle.wire_answers.proofs.writing.put_refusal.Goals as goal
 
 pub returns : goal.returns
 returns c = (
-  rw (c.in_ok-end_object.ensures.ok, c.in_ok-put_text.ensures.0, c.in_ok-begin_object.ensures.ok) (simp append_assoc),
-  rw (c.in_ok-end_object.ensures.room.0, c.in_ok-put_text.ensures.1, c.in_ok-begin_object.ensures.room.0),
+  rw (c.in_ok-end_object.ensures.ok, c.in_ok-put_text.ensures.0, c.in_ok-begin_object.ensures.ok)
+      (simp append_assoc),
+  rw (
+    c.in_ok-end_object.ensures.room.0,
+    c.in_ok-put_text.ensures.1,
+    c.in_ok-begin_object.ensures.room.0,
+  ),
 )

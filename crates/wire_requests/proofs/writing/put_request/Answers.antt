@@ -6,6 +6,31 @@ use Rattle.wire_requests.proofs.writing.put_request.Goals as goal
 pub returns-clause-adds : goal.returns-clause-adds
 unfolding request_data
 returns-clause-adds c = (
-  rw (c.in_ok-end_object.ensures.ok, c.in_ok-put_subscription.ensures.adds.0, c.in_ok-key.ensures.ok, c.name-4.ensures, c.in_ok-put_text.ensures.0, c.name-3.ensures, c.as_str.ensures.value, c.in_ok-put_ask.ensures.adds.0, c.in_ok-put_number-2.ensures.0, c.name-2.ensures, c.number.ensures, c.kind.ensures, c.in_ok-put_number.ensures.0, c.name.ensures, c.in_ok-begin_object.ensures.ok) (simp (named_front, append_assoc)),
-  rw (c.in_ok-end_object.ensures.room.0, c.in_ok-put_subscription.ensures.adds.1, c.in_ok-key.ensures.room.0, c.in_ok-put_text.ensures.1, c.in_ok-put_ask.ensures.adds.1, c.in_ok-put_number-2.ensures.1, c.in_ok-put_number.ensures.1, c.in_ok-begin_object.ensures.room.0),
+  rw (
+    c.in_ok-end_object.ensures.ok,
+    c.in_ok-put_subscription.ensures.adds.0,
+    c.in_ok-key.ensures.ok,
+    c.name-4.ensures,
+    c.in_ok-put_text.ensures.0,
+    c.name-3.ensures,
+    c.as_str.ensures.value,
+    c.in_ok-put_ask.ensures.adds.0,
+    c.in_ok-put_number-2.ensures.0,
+    c.name-2.ensures,
+    c.number.ensures,
+    c.kind.ensures,
+    c.in_ok-put_number.ensures.0,
+    c.name.ensures,
+    c.in_ok-begin_object.ensures.ok,
+  ) (simp (named_front, append_assoc)),
+  rw (
+    c.in_ok-end_object.ensures.room.0,
+    c.in_ok-put_subscription.ensures.adds.1,
+    c.in_ok-key.ensures.room.0,
+    c.in_ok-put_text.ensures.1,
+    c.in_ok-put_ask.ensures.adds.1,
+    c.in_ok-put_number-2.ensures.1,
+    c.in_ok-put_number.ensures.1,
+    c.in_ok-begin_object.ensures.room.0,
+  ),
 )

@@ -5,6 +5,19 @@ use Rattle.wire_requests.proofs.writing.put_subscription.Goals as goal
 pub returns-clause-adds : goal.returns-clause-adds
 unfolding subscription_data
 returns-clause-adds c = (
-  rw (c.in_ok-end_object.ensures.ok, c.in_ok-put_number.ensures.0, c.name-2.ensures, c.in_ok-put_text.ensures.0, c.name.ensures, c.as_str.ensures.value, c.in_ok-begin_object.ensures.ok) (simp append_assoc),
-  rw (c.in_ok-end_object.ensures.room.0, c.in_ok-put_number.ensures.1, c.in_ok-put_text.ensures.1, c.in_ok-begin_object.ensures.room.0),
+  rw (
+    c.in_ok-end_object.ensures.ok,
+    c.in_ok-put_number.ensures.0,
+    c.name-2.ensures,
+    c.in_ok-put_text.ensures.0,
+    c.name.ensures,
+    c.as_str.ensures.value,
+    c.in_ok-begin_object.ensures.ok,
+  ) (simp append_assoc),
+  rw (
+    c.in_ok-end_object.ensures.room.0,
+    c.in_ok-put_number.ensures.1,
+    c.in_ok-put_text.ensures.1,
+    c.in_ok-begin_object.ensures.room.0,
+  ),
 )

@@ -1,9 +1,14 @@
 use Rattle.std.proofs.Common.{append_assoc}
 use Rattle.wire_requests.proofs.written_services.put_asked.Goals as goal
 
-pub returns-in_ok-put_requested-in-Some-clause-adds : goal.returns-in_ok-put_requested-in-Some-clause-adds
+pub returns-in_ok-put_requested-in-Some-clause-adds :
+    goal.returns-in_ok-put_requested-in-Some-clause-adds
 returns-in_ok-put_requested-in-Some-clause-adds c =
     rw c.in-Some.is (
-      rw (c.in_ok-put_requested-in-Some.ensures.adds.0, c.in_ok-key-in-Some.ensures.ok, c.name.ensures) (simp append_assoc),
+      rw (
+        c.in_ok-put_requested-in-Some.ensures.adds.0,
+        c.in_ok-key-in-Some.ensures.ok,
+        c.name.ensures,
+      ) (simp append_assoc),
       rw (c.in_ok-put_requested-in-Some.ensures.adds.1, c.in_ok-key-in-Some.ensures.room.0),
     )

@@ -8,7 +8,8 @@ use Rattle.wire_requests.proofs.written_services.put_items.Given as goal
 -- what is written so far, with what is left, is what is written in the end
 abbrev pub invariant-loop-service : goal.invariant-loop-service
 invariant-loop-service l = record {
-  tokens : l.out.tokens ++ item_tokens (service_items (drop l.service-index l.services)) ≡ l.fn.out.tokens ++ item_tokens (service_items l.services);
+  tokens : l.out.tokens ++ item_tokens (service_items (drop l.service-index l.services))
+      ≡ l.fn.out.tokens ++ item_tokens (service_items l.services);
   rules : AllByRecursion IsService (take l.service-index l.services);
   before : l.out.before ≡ l.fn.out.before;
 }

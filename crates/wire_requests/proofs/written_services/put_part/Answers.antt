@@ -6,6 +6,18 @@ use Rattle.wire_requests.proofs.written_services.put_part.Goals as goal
 pub returns : goal.returns
 unfolding part_data
 returns c = (
-  rw (c.in_ok-end_object.ensures.ok, c.in_ok-put_perhaps.ensures.0, c.tag_of.ensures, c.in_ok-put_number.ensures.0, c.unit_name.ensures, c.in_ok-begin_object.ensures.ok) (simp (perhaps_front, append_assoc)),
-  rw (c.in_ok-end_object.ensures.room.0, c.in_ok-put_perhaps.ensures.1, c.in_ok-put_number.ensures.1, c.in_ok-begin_object.ensures.room.0),
+  rw (
+    c.in_ok-end_object.ensures.ok,
+    c.in_ok-put_perhaps.ensures.0,
+    c.tag_of.ensures,
+    c.in_ok-put_number.ensures.0,
+    c.unit_name.ensures,
+    c.in_ok-begin_object.ensures.ok,
+  ) (simp (perhaps_front, append_assoc)),
+  rw (
+    c.in_ok-end_object.ensures.room.0,
+    c.in_ok-put_perhaps.ensures.1,
+    c.in_ok-put_number.ensures.1,
+    c.in_ok-begin_object.ensures.room.0,
+  ),
 )

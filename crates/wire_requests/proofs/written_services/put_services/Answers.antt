@@ -5,6 +5,17 @@ use Rattle.wire_requests.proofs.written_services.put_services.Goals as goal
 
 pub returns-clause-adds : goal.returns-clause-adds
 returns-clause-adds c = (
-  rw (c.in_ok-end_array.ensures.ok, c.in_ok-put_items.ensures.adds.0, c.in_ok-begin_array.ensures.ok, c.in_ok-key.ensures.ok, c.name.ensures) (simp (items_front (service_items c.args.services.now), append_assoc)),
-  rw (c.in_ok-end_array.ensures.room.0, c.in_ok-put_items.ensures.adds.1, c.in_ok-begin_array.ensures.room.0, c.in_ok-key.ensures.room.0),
+  rw (
+    c.in_ok-end_array.ensures.ok,
+    c.in_ok-put_items.ensures.adds.0,
+    c.in_ok-begin_array.ensures.ok,
+    c.in_ok-key.ensures.ok,
+    c.name.ensures,
+  ) (simp (items_front (service_items c.args.services.now), append_assoc)),
+  rw (
+    c.in_ok-end_array.ensures.room.0,
+    c.in_ok-put_items.ensures.adds.1,
+    c.in_ok-begin_array.ensures.room.0,
+    c.in_ok-key.ensures.room.0,
+  ),
 )

@@ -3,7 +3,8 @@ use Rattle.std.proofs.lemmas.Bool.{false≢true}
 use Rattle.jiff_core.proofs.SignedLemmas.{signed_casts}
 use Rattle.jiff.specs.Words.{plain_zone, picked_instant}
 use Rattle.calendar.specs.Clock.{IsZone}
-use Rattle.calendar.proofs.DayEnds.{IsAnswered, zone_is, picked_is, seconds_are, answers, answers_none, far_end, no_instant}
+use Rattle.calendar.proofs.DayEnds.{IsAnswered, zone_is, picked_is, seconds_are, answers}
+use Rattle.calendar.proofs.DayEnds.{answers_none, far_end, no_instant}
 use Rattle.calendar.proofs.zone.Zone.day_end.Goals as goal
 
 pub overflow_cast-as_second : goal.overflow_cast-as_second

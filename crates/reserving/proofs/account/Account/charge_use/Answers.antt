@@ -35,7 +35,8 @@ invariant_of-self c =
       priced = subst IsPriced (sym is)
           (IsPriced-debited now c.args.session.now c.args.group c.args.rated.units.0
           c.args.rated.blocks.0 c.args.rated.amount.0 c.requires.used
-          (subst (λ x. count_in c.args.group x now.counters + c.args.rated.blocks.0 ≤ 4000000000000000000)
+          (subst (λ x.
+          count_in c.args.group x now.counters + c.args.rated.blocks.0 ≤ 4000000000000000000)
           c.requires.cycle c.requires.counted) c.requires.charges
           (subst IsPriced c.self.view_is c.self.invariant.priced));
       calm = λ e. subst IsCalm (sym is)

@@ -11,9 +11,11 @@ use Rattle.reserving.specs.Prepared.{with_rows}
 use Rattle.reserving.specs.declared.settle.Settled.{Settled}
 use Rattle.reserving.specs.Rows.{AccountRows}
 use Rattle.reserving.proofs.Advancing.{session_in-advanced}
-use Rattle.reserving.proofs.calls.Settled.{within_used, within_counted, there_later, counter_there, used_middle, count_middle}
+use Rattle.reserving.proofs.calls.Settled.{within_used, within_counted, there_later, counter_there}
+use Rattle.reserving.proofs.calls.Settled.{used_middle, count_middle}
 use Rattle.reserving.proofs.ChargeRows.{charge-numbered}
-use Rattle.reserving.proofs.calls.Debited.{IsDebitMade, debited_is, covered_is, debit_passes_is, debit_is}
+use Rattle.reserving.proofs.calls.Debited.{IsDebitMade, debited_is, covered_is, debit_passes_is}
+use Rattle.reserving.proofs.calls.Debited.{debit_is}
 use Rattle.reserving.specs.Sessions.{is_of}
 use Rattle.reserving.proofs.LeftTests.{none_each}
 use Rattle.reserving.proofs.LeftReadings.{debit_passes_told}

@@ -25,7 +25,8 @@ returns-clause-rows c =
 
 pub returns-clause-ledger : goal.returns-clause-ledger
 returns-clause-ledger c = λ ledger rows.
-    let account : IsAccount c.args.self.now = (subst IsPriced c.self.view_is c.self.invariant.priced).account in
+    let account : IsAccount c.args.self.now =
+    (subst IsPriced c.self.view_is c.self.invariant.priced).account in
     returns-clause-rows c
     ∙ ap (funds c.args.group c.args.moment)
     (IsRowsOf-advanced ledger c.args.self.now c.args.moment account rows c.requires).buckets

@@ -6,7 +6,9 @@ use Rattle.reserving.specs.Pricing.{periods_at, switch_at, validity_at}
 use Rattle.reserving.specs.Changes.{advanced, used_in, reserved_account}
 use Rattle.reserving.specs.Prepared.{with_group_row}
 use Rattle.reserving.specs.Rows.{AccountRows}
-use Rattle.reserving.proofs.ReservedCall.{group_there, free_middle, covered_middle, QuotaOf, quota_of, grant_told, quota_covered, grant_is, within_grant}
+use Rattle.reserving.proofs.ReservedCall.{group_there, free_middle, covered_middle, QuotaOf}
+use Rattle.reserving.proofs.ReservedCall.{quota_of, grant_told, quota_covered, grant_is}
+use Rattle.reserving.proofs.ReservedCall.{within_grant}
 use Rattle.reserving.proofs.calls.StillFree.{others_advanced, others_reserved}
 use Rattle.reserving.specs.Left.{IsWith}
 use Rattle.reserving.proofs.left.Granted.{nothing_beside, grant_beside}

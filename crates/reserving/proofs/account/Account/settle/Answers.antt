@@ -1,10 +1,14 @@
 use Rattle.std.proofs.Common.{false, ◌≡◌, refl, sym, ap, ◌∙◌, arith}
-use Rattle.reserving.specs.Changes.{advanced, used_in, count_in, price_in, settled_account, ended_rows}
+use Rattle.reserving.specs.Changes.{advanced, used_in, count_in, price_in, settled_account}
+use Rattle.reserving.specs.Changes.{ended_rows}
 use Rattle.reserving.specs.Pricing.{cycle_at}
 use Rattle.reserving.specs.Rows.{AccountRows}
 use Rattle.reserving.specs.Settlement.{passes, reported}
 use Rattle.reserving.proofs.Lists.{is_nothing, is_something}
-use Rattle.reserving.proofs.calls.Settled.{rows_ended, nothing_settled, within_used, within_counted, passes_is, there_later, counter_there, used_middle, count_middle, rows_settled, settled_is, ended_is, IsTold, settlement_is}
+use Rattle.reserving.proofs.calls.Settled.{rows_ended, nothing_settled, within_used, within_counted}
+use Rattle.reserving.proofs.calls.Settled.{passes_is, there_later, counter_there, used_middle}
+use Rattle.reserving.proofs.calls.Settled.{count_middle, rows_settled, settled_is, ended_is, IsTold}
+use Rattle.reserving.proofs.calls.Settled.{settlement_is}
 use Rattle.reserving.proofs.calls.Freed.{ended_free, settled_free}
 use Rattle.reserving.proofs.calls.StillFree.{others_ended, others_settled}
 use Rattle.reserving.proofs.left.Settled.{left_ended, left_settled}

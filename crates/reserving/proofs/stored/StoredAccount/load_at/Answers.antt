@@ -20,8 +20,8 @@ invariant_of-result c =
           (stored_of c.self.inside.rows) c.drop_dead.ensures c.in_ok-purse.ensures
           c.in_ok-live_counters.ensures c.deref-2.ensures.value c.in_ok-open_sessions.ensures
           c.in_ok-live_groups.ensures c.deref-3.ensures.value c.deref-4.ensures.value))
-          (IsPriced-live c.args.book.now c.args.moment c.args.others.now (stored_of c.self.inside.rows)
-          c.validity-ranges.ensures.book c.self.invariant
+          (IsPriced-live c.args.book.now c.args.moment c.args.others.now
+          (stored_of c.self.inside.rows) c.validity-ranges.ensures.book c.self.invariant
           (placed_by c.args.book.now c.deref.result.now c.self.inside.rows.groups.items
           c.are_placed.result c.deref.ensures.value c.are_placed.ensures c.if-not-are_placed.false)
           (subst (λ (w : StoredRows). AreApart (λ x y. is_counter x.group x.cycle y)

@@ -10,7 +10,8 @@ invariant_of-self g c = committed_keeper g.S.Store _ _
     c.commit_addition.ensures.bounded
 
 pub returns-clause-done : goal.returns-clause-done
-returns-clause-done g c = rw (← c.self.view_is) (added_law g.S.Store _ c.commit_addition.new.conn _ _ _ _
+returns-clause-done g c =
+    rw (← c.self.view_is) (added_law g.S.Store _ c.commit_addition.new.conn _ _ _ _
     c.self.invariant c.commit_addition.result c.commit_addition.ensures.commits)
 
 pub returns-clause-kept : goal.returns-clause-kept

@@ -7,6 +7,7 @@ invariant_of-self g c = keeper_after g.S.Store _ _ c.self.invariant c.answer_und
     c.counted.ensures.bounded
 
 pub returns : goal.returns
-returns g c = rw (← c.self.view_is) (asked g.S.Store _ _ _ _ c.answer_under-read.result c.counted.result
-    c.self.invariant c.answer_under-read.ensures refl c.counted.ensures.handed c.counted.ensures.cause
-    (λ x t. t))
+returns g c =
+    rw (← c.self.view_is) (asked g.S.Store _ _ _ _ c.answer_under-read.result c.counted.result
+    c.self.invariant c.answer_under-read.ensures refl c.counted.ensures.handed
+    c.counted.ensures.cause (λ x t. t))

@@ -3,10 +3,12 @@ use Rattle.sql_keeper.proofs.Asked.{asked, keeper_after}
 use Rattle.sql_keeper.proofs.keeper.SqlKeeper.find_voucher.Goals as goal
 
 pub invariant_of-self : goal.invariant_of-self
-invariant_of-self g c = keeper_after g.S.Store _ _ c.self.invariant c.voucher_under-read.ensures.only
+invariant_of-self g c =
+    keeper_after g.S.Store _ _ c.self.invariant c.voucher_under-read.ensures.only
     c.counted.ensures.bounded
 
 pub returns : goal.returns
-returns g c = rw (← c.self.view_is) (asked g.S.Store _ _ _ _ c.voucher_under-read.result c.counted.result
-    c.self.invariant c.voucher_under-read.ensures refl c.counted.ensures.handed c.counted.ensures.cause
-    (λ x t. t))
+returns g c =
+    rw (← c.self.view_is) (asked g.S.Store _ _ _ _ c.voucher_under-read.result c.counted.result
+    c.self.invariant c.voucher_under-read.ensures refl c.counted.ensures.handed
+    c.counted.ensures.cause (λ x t. t))

@@ -9,6 +9,7 @@ invariant_of-self g c = keeper_after g.S.Store _ _ c.self.invariant c.is_opened-
     c.counted.ensures.bounded
 
 pub returns : goal.returns
-returns g c = rw (← c.self.view_is) (asked g.S.Store _ _ _ _ c.is_opened-read.result c.counted.result
+returns g c =
+    rw (← c.self.view_is) (asked g.S.Store _ _ _ _ c.is_opened-read.result c.counted.result
     c.self.invariant c.is_opened-read.ensures refl c.counted.ensures.handed c.counted.ensures.cause
     (λ x t. t ∙ sym (is_some_map head_in _)))

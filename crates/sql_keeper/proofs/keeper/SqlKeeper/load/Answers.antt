@@ -7,6 +7,7 @@ invariant_of-self g c = keeper_after g.S.Store _ _ c.self.invariant c.load_of-re
     c.counted.ensures.bounded
 
 pub returns : goal.returns
-returns g c = rw (← c.self.view_is) (asked_in_turn g.S.Store _ _ _ _ c.load_of-read.result c.counted.result
+returns g c =
+    rw (← c.self.view_is) (asked_in_turn g.S.Store _ _ _ _ c.load_of-read.result c.counted.result
     c.self.invariant c.load_of-read.ensures refl c.counted.ensures.handed c.counted.ensures.cause
     (λ x t. t))
