@@ -1,6 +1,6 @@
 -- What is collected of an account is what is charged to its buckets.
 use Rattle.std.proofs.Common.{◌≡◌, ℕ, ◌+◌, ◌≤◌, List, [], ◌∷◌, ◌++◌, true, map, refl, sym, ap, ◌∙◌}
-use Rattle.std.proofs.Common.{arith, Option, None, append-nil}
+use Rattle.std.proofs.Common.{arith, Option, append-nil}
 use Rattle.std.specs.Prelude.{sum_by}
 use Rattle.std.proofs.lemmas.List.Sums.{sum_by-cons, sum_by_push}
 use Rattle.std.proofs.lemmas.Bool.{leb-true}
@@ -9,12 +9,13 @@ use Rattle.tariffs.specs.Books.{Book}
 use Rattle.buckets.specs.declared.holds.Hold.{Hold}
 use Rattle.buckets.specs.Row.{Row, new_row}
 use Rattle.buckets.specs.Share.{parts}
-use Rattle.buckets.specs.Spend.{Each, IsBelow, inserted, funds}
+use Rattle.buckets.specs.Spend.{Each, inserted, funds}
 use Rattle.buckets.specs.Holding.{paid, holds_of}
 use Rattle.buckets.proofs.Paid.{amounts, amounts-parts, sum_by-paid, sum_by-both}
 use Rattle.buckets.proofs.Parts.{sum_at, sum_at-parts}
-use Rattle.reserving.specs.Ledger.{Fact, Ledger, charged, last_recording, next_bucket}
+use Rattle.reserving.specs.Ledger.{Fact, Ledger, charged, next_bucket}
 use Rattle.reserving.specs.Ledger.Fact.{Touch, Close, Recorded, Barred}
+use Rattle.reserving.specs.SoundLedger.{IsSoundLedger}
 use Rattle.reserving.specs.Balance.{credits, bucket_at, buckets_at}
 use Rattle.reserving.specs.Charges.{charge_rows}
 use Rattle.reserving.specs.Sessions.{holds_at}
@@ -26,13 +27,11 @@ use Rattle.reserving.proofs.ChargeRows.{charge_rows-touched, charge_rows-credite
 use Rattle.reserving.proofs.ChargeRows.{charge_rows-reserved, charge_rows-settled}
 use Rattle.reserving.proofs.ChargeRows.{charge_rows-charged_use}
 use Rattle.reserving.proofs.SettledFacts.{charged-charge_facts, charged-hold_facts}
-use Rattle.reserving.proofs.SettledRows.{differs_above, sum_at_none}
 use Rattle.charging.specs.Collected.{collected_to_date, charged_to_date}
-use Rattle.charging.specs.SessionReports.{Report, with_report}
-use Rattle.charging.specs.Paid.{is_touched}
+use Rattle.charging.specs.SessionReports.{Report}
 use Rattle.charging.proofs.BucketSums.{sum_by-inserted, sum_by-moved}
 use Rattle.charging.proofs.Credited.{AreCredited, distinct, in_order, charge_credits, hold_credits}
-use Rattle.charging.proofs.Paying.{IsPaying, paying_none, paying_debit, keeps_paying}
+use Rattle.charging.proofs.Sound.{IsSoundHistory, sound_none, keeps_sound}
 use Rattle.charging.proofs.Steps.{is_quiet, with_grant, granted, Keeps}
 
 -- ---- sums
@@ -65,17 +64,18 @@ shown v t ledger (c ∷ cs) =
 
 -- ---- what each ledger of an account keeps
 
--- nothing is charged to a bucket that isn't made yet, and what was collected was charged
+-- what was collected was charged
+abbrev IsCharged : Ledger → Type 0
+IsCharged ledger = collected_to_date ledger ≡ charged_in ledger
+
 pub record IsCollecting (b : Book) (reports : List Report) (ledger : Ledger) : Type 0 where
-  pub paying : IsPaying b reports ledger
-  pub fresh : (n : ℕ) → next_bucket ledger ≤ n → charged n ledger ≡ 0
-  pub sums : collected_to_date ledger ≡ charged_in ledger
+  pub kept : IsSoundHistory b reports ledger
+  pub sums : IsCharged ledger
 
 -- facts that collect nothing and make no bucket
 record SameSums (new old : Ledger) : Type 0 where
   pub rows : charge_rows new ≡ charge_rows old
   pub credits_are : credits new ≡ credits old
-  pub next : next_bucket new ≡ next_bucket old
   pub charged_is : (n : ℕ) → charged n new ≡ charged n old
 
 same_charged : (new old : Ledger) → SameSums new old → charged_in new ≡ charged_in old
@@ -84,38 +84,30 @@ same_charged new old same =
     (λ c. same.charged_is c.number)
     ∙ ap (sum_by (λ c. charged c.number old)) same.credits_are
 
-collecting_same : (b : Book) (reports more : List Report) (new old : Ledger) → SameSums new old →
-    IsPaying b more new → IsCollecting b reports old → IsCollecting b more new
-collecting_same b reports more new old same paying h = record {
-  paying = paying;
-  fresh = λ n le. same.charged_is n ∙ h.fresh n (let e = same.next in omega (arith, e, le));
-  sums = ap (sum_by (λ c. c.collected.0)) same.rows ∙ h.sums ∙ sym (same_charged new old same);
-}
+sums_same : (new old : Ledger) → SameSums new old → IsCharged old → IsCharged new
+sums_same new old same sums =
+    ap (sum_by (λ c. c.collected.0)) same.rows ∙ sums ∙ sym (same_charged new old same)
 
 same_quiet : (t : ℕ) (f : Fact) (ledger : Ledger) → is_quiet f ≡ true →
     SameSums (record { at = t; fact = f } ∷ ledger) ledger
 same_quiet t (Touch s) ledger q = record {
   rows = append-nil (charge_rows ledger);
   credits_are = refl;
-  next = omega arith;
   charged_is = λ n. omega arith;
 }
 same_quiet t (Close s) ledger q = record {
   rows = append-nil (charge_rows ledger);
   credits_are = refl;
-  next = omega arith;
   charged_is = λ n. omega arith;
 }
 same_quiet t (Recorded s n) ledger q = record {
   rows = append-nil (charge_rows ledger);
   credits_are = refl;
-  next = omega arith;
   charged_is = λ n. omega arith;
 }
 same_quiet t (Barred x) ledger q = record {
   rows = append-nil (charge_rows ledger);
   credits_are = refl;
-  next = omega arith;
   charged_is = λ n. omega arith;
 }
 same_quiet t _ ledger q = cc
@@ -125,7 +117,6 @@ same_touched : (t : ℕ) (s : List ℕ) (n : ℕ) (ledger : Ledger) →
 same_touched t s n ledger = record {
   rows = charge_rows-touched t s n ledger;
   credits_are = refl;
-  next = omega arith;
   charged_is = λ k. omega arith;
 }
 
@@ -138,7 +129,6 @@ same_reserved b t s g units amount ledger =
     record {
       rows = charge_rows-reserved b t s g units amount ledger;
       credits_are = same.rows;
-      next = let e = same.next in omega (arith, e);
       charged_is = λ n. let e = charged-hold_facts n t s g hs before in omega (arith, e);
     }
 
@@ -147,25 +137,20 @@ same_reserved b t s g units amount ledger =
 nothing_more : (n : ℕ) → 0 + n ≡ n
 nothing_more n = omega arith
 
-collecting_credit : (b : Book) (t from until : ℕ) (scope : Option ℕ) (amount : ℕ)
-    (reports : List Report) (ledger : Ledger) → IsCollecting b reports ledger →
-    IsCollecting b reports (credited t from until scope amount ledger)
-collecting_credit b t from until scope amount reports ledger h =
+sums_credit : (t from until : ℕ) (scope : Option ℕ) (amount : ℕ) (ledger : Ledger) →
+    IsSoundLedger ledger → IsCharged ledger →
+    IsCharged (credited t from until scope amount ledger)
+sums_credit t from until scope amount ledger sound sums =
     let new : Ledger = credited t from until scope amount ledger in
     let made : Row = new_row (next_bucket ledger) from until scope amount in
     let same : (n : ℕ) → charged n new ≡ charged n ledger = λ n. omega arith in
-    record {
-      paying = (keeps_paying b).credit t from until scope amount reports ledger h.paying;
-      fresh = λ n le. same n ∙ h.fresh n (omega (arith, le));
-      sums =
-          ap (sum_by (λ c. c.collected.0)) (charge_rows-credited t from until scope amount ledger)
-          ∙ h.sums
-          ∙ sym (sum_by-alike (λ c. charged c.number new) (λ c. charged c.number ledger)
-          (inserted made (credits ledger)) (λ c. same c.number)
-          ∙ sum_by-inserted (λ c. charged c.number ledger) made (credits ledger)
-          ∙ ap (λ n. n + charged_in ledger) (h.fresh (next_bucket ledger) (omega arith))
-          ∙ nothing_more (charged_in ledger));
-    }
+    ap (sum_by (λ c. c.collected.0)) (charge_rows-credited t from until scope amount ledger)
+    ∙ sums
+    ∙ sym (sum_by-alike (λ c. charged c.number new) (λ c. charged c.number ledger)
+    (inserted made (credits ledger)) (λ c. same c.number)
+    ∙ sum_by-inserted (λ c. charged c.number ledger) made (credits ledger)
+    ∙ ap (λ n. n + charged_in ledger) (sound.fresh (next_bucket ledger) (omega arith))
+    ∙ nothing_more (charged_in ledger))
 
 -- ---- charges
 
@@ -187,62 +172,30 @@ charged_more f v t ledger h =
     ∙ sum_by-each (λ x. sum_at x.number hs) f rows (sum_at-parts f rows (distinct v t ledger h))
     ∙ sym (amounts-parts f rows))
 
-below_moved : (v t next : ℕ) (ledger : Ledger) (cs : List Row) → IsBelow next cs →
-    IsBelow next (map (bucket_at v t ledger) cs)
-below_moved v t next ledger [] h = tt
-below_moved v t next ledger (c ∷ cs) h = (h.0, below_moved v t next ledger cs h.1)
-
--- they charge nothing to a bucket that isn't made
-charged_fresh : (f : Row → ℕ) (v t n : ℕ) (ledger : Ledger) →
-    AreCredited (credits ledger) (next_bucket ledger) → next_bucket ledger ≤ n →
-    charged n ledger ≡ 0 →
-    charged n (charge_facts t (parts f (buckets_at v t ledger)) ++ ledger) ≡ 0
-charged_fresh f v t n ledger h le none =
-    let rows : List Row = buckets_at v t ledger in
-    let one = charged-charge_facts n t (parts f rows) ledger in
-    let two = sum_at_none f n rows
-    (differs_above (next_bucket ledger) n rows
-    (below_moved v t (next_bucket ledger) ledger (credits ledger) h.below) le) in
-    omega (arith, one, two, none)
-
-collecting_settled : (b : Book) (t : ℕ) (s : List ℕ) (g units blocks rated : ℕ)
-    (reports more : List Report) (ledger : Ledger) →
-    IsPaying b more (settled b.validity t s g units blocks rated ledger) →
-    IsCollecting b reports ledger →
-    IsCollecting b more (settled b.validity t s g units blocks rated ledger)
-collecting_settled b t s g units blocks rated reports more ledger paying h =
-    let v : ℕ = b.validity in
+sums_settled : (v t : ℕ) (s : List ℕ) (g units blocks rated : ℕ) (ledger : Ledger) →
+    AreCredited (credits ledger) (next_bucket ledger) → IsCharged ledger →
+    IsCharged (settled v t s g units blocks rated ledger)
+sums_settled v t s g units blocks rated ledger made sums =
     let rows : List Row = buckets_at v t ledger in
     let holds : List Hold = holds_at v t s g ledger in
     let hs : List Hold = parts (paid holds g t rated rows) rows in
     let same = charge_credits t hs ledger in
-    record {
-      paying = paying;
-      fresh = λ n le.
-          let more_are = same.next in
-          let none = charged_fresh (paid holds g t rated rows) v t n ledger h.paying.credits
-          (omega (arith, le, more_are)) (h.fresh n (omega (arith, le, more_are))) in
-          omega (arith, none);
-      sums =
-          ap (sum_by (λ c. c.collected.0)) (charge_rows-settled v t s g units blocks rated ledger)
-          ∙ sum_by_push (λ c. c.collected.0) (charge_rows ledger) _
-          ∙ (let all = amounts-parts (paid holds g t rated rows) rows in
-          let both = sum_by-paid holds g t rated rows (in_order v t ledger h.paying.credits) in
-          let was = h.sums in
-          omega (arith, all, both, was))
-          ∙ sym (sum_by-alike
-          (λ c. charged c.number (settled v t s g units blocks rated ledger))
-          (λ c. charged c.number (charge_facts t hs ++ ledger))
-          (credits (charge_facts t hs ++ ledger)) (λ c. omega arith)
-          ∙ ap (sum_by (λ c. charged c.number (charge_facts t hs ++ ledger))) same.rows
-          ∙ charged_more (paid holds g t rated rows) v t ledger h.paying.credits);
-    }
+    ap (sum_by (λ c. c.collected.0)) (charge_rows-settled v t s g units blocks rated ledger)
+    ∙ sum_by_push (λ c. c.collected.0) (charge_rows ledger) _
+    ∙ (let all = amounts-parts (paid holds g t rated rows) rows in
+    let both = sum_by-paid holds g t rated rows (in_order v t ledger made) in
+    omega (arith, all, both, sums))
+    ∙ sym (sum_by-alike
+    (λ c. charged c.number (settled v t s g units blocks rated ledger))
+    (λ c. charged c.number (charge_facts t hs ++ ledger))
+    (credits (charge_facts t hs ++ ledger)) (λ c. omega arith)
+    ∙ ap (sum_by (λ c. charged c.number (charge_facts t hs ++ ledger))) same.rows
+    ∙ charged_more (paid holds g t rated rows) v t ledger made)
 
-collecting_debited : (b : Book) (t : ℕ) (s : List ℕ) (g units : ℕ) (reports more : List Report)
-    (ledger : Ledger) → is_covered b t g units ledger ≡ true →
-    IsPaying b more (debited b t s g units ledger) →
-    IsCollecting b reports ledger → IsCollecting b more (debited b t s g units ledger)
-collecting_debited b t s g units reports more ledger covered paying h =
+sums_debited : (b : Book) (t : ℕ) (s : List ℕ) (g units : ℕ) (ledger : Ledger) →
+    is_covered b t g units ledger ≡ true → AreCredited (credits ledger) (next_bucket ledger) →
+    IsCharged ledger → IsCharged (debited b t s g units ledger)
+sums_debited b t s g units ledger covered made sums =
     let v : ℕ = b.validity in
     let rows : List Row = buckets_at v t ledger in
     let rated : ℕ = (event_price b t g units ledger).amount.0 in
@@ -250,80 +203,70 @@ collecting_debited b t s g units reports more ledger covered paying h =
     let hs : List Hold = parts (paid [] g t rated rows) rows in
     let same = charge_credits t hs ledger in
     let within : rated ≤ funds g t rows = leb-true rated (funds g t rows) covered in
-    record {
-      paying = paying;
-      fresh = λ n le.
-          let more_are = same.next in
-          let none = charged_fresh (paid [] g t rated rows) v t n ledger h.paying.credits
-          (omega (arith, le, more_are)) (h.fresh n (omega (arith, le, more_are))) in
-          omega (arith, none);
-      sums =
-          ap (sum_by (λ c. c.collected.0))
-          (charge_rows-charged_use v t s g units blocks rated ledger)
-          ∙ sum_by_push (λ c. c.collected.0) (charge_rows ledger) _
-          ∙ (let all = amounts-parts (paid [] g t rated rows) rows in
-          let both = sum_by-paid [] g t rated rows (in_order v t ledger h.paying.credits) in
-          let was = h.sums in
-          omega (arith, all, both, was, within))
-          ∙ sym (sum_by-alike
-          (λ c. charged c.number (debited b t s g units ledger))
-          (λ c. charged c.number (charge_facts t hs ++ ledger))
-          (credits (charge_facts t hs ++ ledger)) (λ c. omega arith)
-          ∙ ap (sum_by (λ c. charged c.number (charge_facts t hs ++ ledger))) same.rows
-          ∙ charged_more (paid [] g t rated rows) v t ledger h.paying.credits);
-    }
+    ap (sum_by (λ c. c.collected.0)) (charge_rows-charged_use v t s g units blocks rated ledger)
+    ∙ sum_by_push (λ c. c.collected.0) (charge_rows ledger) _
+    ∙ (let all = amounts-parts (paid [] g t rated rows) rows in
+    let both = sum_by-paid [] g t rated rows (in_order v t ledger made) in
+    omega (arith, all, both, sums, within))
+    ∙ sym (sum_by-alike
+    (λ c. charged c.number (debited b t s g units ledger))
+    (λ c. charged c.number (charge_facts t hs ++ ledger))
+    (credits (charge_facts t hs ++ ledger)) (λ c. omega arith)
+    ∙ ap (sum_by (λ c. charged c.number (charge_facts t hs ++ ledger))) same.rows
+    ∙ charged_more (paid [] g t rated rows) v t ledger made)
 
-collecting_settle : (b : Book) (t : ℕ) (s : List ℕ) (g : ℕ) (used_parts : List UsedPart)
-    (reports : List Report) (ledger : Ledger) → is_touched s ledger ≡ true →
-    IsCollecting b reports ledger →
-    IsCollecting b (with_report t s g used_parts reports) (settled_by b t s g used_parts ledger)
-collecting_settle b t s g [] reports ledger touches h =
-    collecting_same b reports reports (settled_by b t s g [] ledger) ledger
+sums_settle : (b : Book) (t : ℕ) (s : List ℕ) (g : ℕ) (used_parts : List UsedPart)
+    (ledger : Ledger) → AreCredited (credits ledger) (next_bucket ledger) → IsCharged ledger →
+    IsCharged (settled_by b t s g used_parts ledger)
+sums_settle b t s g [] ledger made sums =
+    sums_same (settled_by b t s g [] ledger) ledger
     (record {
       rows = append-nil (charge_rows ledger);
       credits_are = refl;
-      next = omega arith;
       charged_is = λ n. omega arith;
-    })
-    ((keeps_paying b).settle t s g [] reports ledger touches h.paying) h
-collecting_settle b t s g (p ∷ ps) reports ledger touches h =
-    collecting_settled b t s g (reported (p ∷ ps)) (report_price b t s g (p ∷ ps) ledger).blocks
-    (report_price b t s g (p ∷ ps) ledger).amount.0 reports
-    (with_report t s g (p ∷ ps) reports) ledger
-    ((keeps_paying b).settle t s g (p ∷ ps) reports ledger touches h.paying) h
-
-collecting_event : (b : Book) (t : ℕ) (s : List ℕ) (g units n : ℕ) (reports : List Report)
-    (ledger : Ledger) → last_recording s ledger ≡ None → is_covered b t g units ledger ≡ true →
-    IsPaying b reports (debited b t s g units ledger) → IsCollecting b reports ledger →
-    IsCollecting b reports (recorded t s n (debited b t s g units ledger))
-collecting_event b t s g units n reports ledger new covered paying h =
-    collecting_same b reports reports (recorded t s n (debited b t s g units ledger))
-    (debited b t s g units ledger) (same_quiet t (Recorded s n) (debited b t s g units ledger) refl)
-    ((keeps_paying b).quiet t (Recorded s n) reports
-    (debited b t s g units ledger) refl refl paying)
-    (collecting_debited b t s g units reports reports ledger covered paying h)
+    }) sums
+sums_settle b t s g (p ∷ ps) ledger made sums =
+    sums_settled b.validity t s g (reported (p ∷ ps))
+    (report_price b t s g (p ∷ ps) ledger).blocks
+    (report_price b t s g (p ∷ ps) ledger).amount.0 ledger made sums
 
 pub collecting_none : (b : Book) → IsCollecting b [] []
-collecting_none b = record { paying = paying_none b; fresh = λ n le. refl; sums = refl }
+collecting_none b = record { kept = sound_none b; sums = refl }
 
 pub keeps_collecting : (b : Book) → Keeps b (IsCollecting b)
 keeps_collecting b = record {
-  quiet = λ t f reports ledger q n h.
-      collecting_same b reports reports (record { at = t; fact = f } ∷ ledger) ledger
-      (same_quiet t f ledger q) ((keeps_paying b).quiet t f reports ledger q n h.paying) h;
-  touch = λ t s n reports ledger h.
-      collecting_same b reports reports (touched t s n ledger) ledger (same_touched t s n ledger)
-      ((keeps_paying b).touch t s n reports ledger h.paying) h;
-  credit = collecting_credit b;
-  settle = collecting_settle b;
-  grant = λ t s g asked reports ledger known h.
-      collecting_same b reports reports (granted b t s g asked ledger) ledger
-      (same_reserved b t s g _ _ ledger)
-      ((keeps_paying b).grant t s g asked reports ledger known h.paying) h;
-  event = λ t s g units n reports ledger new covered h.
-      collecting_event b t s g units n reports ledger new covered
-      (paying_debit b t s g units reports ledger new covered h.paying) h;
+  quiet = λ t f reports ledger q n fits h. record {
+    kept = kept.quiet t f reports ledger q n fits h.kept;
+    sums = sums_same (record { at = t; fact = f } ∷ ledger) ledger (same_quiet t f ledger q) h.sums;
+  };
+  touch = λ t s n reports ledger h. record {
+    kept = kept.touch t s n reports ledger h.kept;
+    sums = sums_same (touched t s n ledger) ledger (same_touched t s n ledger) h.sums;
+  };
+  credit = λ t from until scope amount reports ledger h. record {
+    kept = kept.credit t from until scope amount reports ledger h.kept;
+    sums = sums_credit t from until scope amount ledger h.kept.sound h.sums;
+  };
+  settle = λ t s g used_parts reports ledger touches h. record {
+    kept = kept.settle t s g used_parts reports ledger touches h.kept;
+    sums = sums_settle b t s g used_parts ledger h.kept.paying.credits h.sums;
+  };
+  grant = λ t s g asked reports ledger known h. record {
+    kept = kept.grant t s g asked reports ledger known h.kept;
+    sums = sums_same (granted b t s g asked ledger) ledger (same_reserved b t s g _ _ ledger)
+        h.sums;
+  };
+  event = λ t s g units n reports ledger new covered h. record {
+    kept = kept.event t s g units n reports ledger new covered h.kept;
+    sums = sums_same (recorded t s n (debited b t s g units ledger))
+        (debited b t s g units ledger)
+        (same_quiet t (Recorded s n) (debited b t s g units ledger) refl)
+        (sums_debited b t s g units ledger covered h.kept.paying.credits h.sums);
+  };
 }
+  where
+    kept : Keeps b (IsSoundHistory b)
+    kept = keeps_sound b
 
 -- at any moment
 pub collected_is_charged : (b : Book) (reports : List Report) (ledger : Ledger) →

@@ -13,6 +13,7 @@ use Rattle.reserving.specs.Requests.{credited}
 use Rattle.reserving.specs.Settlement.{charge_facts}
 use Rattle.reserving.specs.Reservation.{hold_facts}
 use Rattle.reserving.proofs.Crediting.{IsBelow-inserted}
+use Rattle.reserving.proofs.rows.Lapsing.{IsBelow-map}
 use Rattle.charging.proofs.Steps.{is_quiet}
 
 -- ---- the buckets of a ledger
@@ -87,6 +88,11 @@ pub in_order : (v t : ℕ) (ledger : Ledger) → AreCredited (credits ledger) (n
     IsInOrder (buckets_at v t ledger)
 in_order v t ledger h = IsInOrder-map (bucket_at v t ledger) (credits ledger)
     (position_kept v t ledger) h.order
+
+pub all_made : (v t : ℕ) (ledger : Ledger) → AreCredited (credits ledger) (next_bucket ledger) →
+    IsBelow (next_bucket ledger) (buckets_at v t ledger)
+all_made v t ledger h =
+    IsBelow-map (next_bucket ledger) (bucket_at v t ledger) (credits ledger) (λ c. refl) h.below
 
 pub distinct : (v t : ℕ) (ledger : Ledger) → AreCredited (credits ledger) (next_bucket ledger) →
     AreDistinct (buckets_at v t ledger)

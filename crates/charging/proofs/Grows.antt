@@ -24,7 +24,7 @@ settled_more b t s g (p ∷ ps) old ledger h = many old ledger (_ ∷ _ ∷ _) h
 
 keeps_extends : (b : Book) (old : Ledger) → Keeps b (λ reports ledger. Extends old ledger)
 keeps_extends b old = record {
-  quiet = λ t f reports ledger q n h. more old ledger _ h;
+  quiet = λ t f reports ledger q n fits h. more old ledger _ h;
   touch = λ t s n reports ledger h. more old _ _ (more old ledger _ h);
   credit = λ t from until scope amount reports ledger h. more old ledger _ h;
   settle = λ t s g used_parts reports ledger touches h.

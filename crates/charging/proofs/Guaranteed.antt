@@ -129,8 +129,8 @@ guaranteed_none b = record { paying = paying_none b; covered = covered_none b; q
 
 pub keeps_guaranteed : (b : Book) → IsBook b → Keeps b (IsGuaranteed b)
 keeps_guaranteed b is = record {
-  quiet = λ t f reports ledger q n h. record {
-    paying = paying.quiet t f reports ledger q n h.paying;
+  quiet = λ t f reports ledger q n fits h. record {
+    paying = paying.quiet t f reports ledger q n fits h.paying;
     covered = covered_quiet b t f ledger q h.covered;
     quotas = quiet_quotas b t f ledger q h.quotas;
   };

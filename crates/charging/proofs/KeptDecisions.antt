@@ -38,7 +38,7 @@ use Rattle.reserving.proofs.Lists.{no_some}
 use Rattle.reserving.proofs.Keys.{is_same-refl}
 use Rattle.reserving.proofs.SettledFacts.{newest-front, each_hold}
 use Rattle.decisions.specs.Known.{is_known}
-use Rattle.decisions.specs.Reports.{units_of, parts_of}
+use Rattle.decisions.specs.Reports.{units_fault, units_of, parts_of}
 use Rattle.decisions.specs.Decided.{Decision, invalid, refused_or}
 use Rattle.decisions.specs.Settling.{settled_service, settled_services}
 use Rattle.decisions.specs.Granting.{Answered, granted_units, granted_if, granted_by, granted}
@@ -124,9 +124,15 @@ module _ (b : Book) (P : List Report → Ledger → Type 0) (k : Keeps b P)
 
   -- ---- a session's requests
 
-  kept_recorded : (t : ℕ) (s : List ℕ) (n : ℕ) (ledger : Ledger) → IsKept ledger →
-      IsKept (recorded t s n ledger)
-  kept_recorded t s n ledger h = k.quiet t (Recorded s n) reports ledger refl refl h
+  kept_recorded : (t : ℕ) (s : List ℕ) (n : ℕ) (ledger : Ledger) →
+      last_recording s ledger ≡ None → IsKept ledger → IsKept (recorded t s n ledger)
+  kept_recorded t s n ledger new h = k.quiet t (Recorded s n) reports ledger refl refl new h
+
+  -- a first request that isn't refused has a new name
+  new_name : (s : List ℕ) (o : Option Recording) (other : Option Failure) →
+      (if is_some o then Some (invalid SessionId) else other) ≡ None → o ≡ None
+  new_name s None other e = refl
+  new_name s (Some r) other e = absurd (no_some (invalid SessionId) (sym e))
 
   kept_touched : (t : ℕ) (s : List ℕ) (n : ℕ) (ledger : Ledger) → IsKept ledger →
       IsKept (touched t s n ledger)
@@ -187,40 +193,40 @@ module _ (b : Book) (P : List Report → Ledger → Type 0) (k : Keeps b P)
   kept_initial t s n services ledger h =
       unless_refused (initial_refusal b s services ledger) ledger
       (opened_unless_barred b t s n services ledger) h
-      (λ e. either_decision (is_barred ledger) _ (opened b t s n services ledger)
-      (λ e. kept_recorded t s n ledger h)
+      (λ free.
+      let new : last_recording s ledger ≡ None =
+      new_name s (last_recording s ledger) (option_map invalid (units_fault b s ledger services))
+      free in
+      either_decision (is_barred ledger) _ (opened b t s n services ledger)
+      (λ e. kept_recorded t s n ledger new h)
       (λ e. either_decision (any_grants b t ledger services) _ _
       (λ e. kept_grants t s services (touched t s n ledger) (open_touched t s n ledger h))
-      (λ e. kept_recorded t s n ledger h)))
+      (λ e. kept_recorded t s n ledger new h)))
 
   -- ---- events
 
   kept_charged : (o : Option GroupTariff) (t : ℕ) (s : List ℕ) (n : ℕ) (e : Event)
       (ledger : Ledger) → last_recording s ledger ≡ None → IsKept ledger →
       IsKept (charged_by o b t s n e ledger).after
-  kept_charged None t s n e ledger new h = kept_recorded t s n ledger h
+  kept_charged None t s n e ledger new h = kept_recorded t s n ledger new h
   kept_charged (Some tariff) t s n e ledger new h =
       let units : ℕ = event_units tariff e.requested in
       either_decision (is_covered b t e.group units ledger)
       (charged b tariff t s n e.group units ledger) _
       (λ covered. either_decision (debit_passes b t s e.group units ledger) _ _ (λ p. h)
       (λ p. k.event t s e.group units n reports ledger new covered h))
-      (λ p. kept_recorded t s n ledger h)
-
-  -- an event that isn't refused has a new name
-  new_name : (s : List ℕ) (o : Option Recording) (other : Option Failure) →
-      (if is_some o then Some (invalid SessionId) else other) ≡ None → o ≡ None
-  new_name s None other e = refl
-  new_name s (Some r) other e = absurd (no_some (invalid SessionId) (sym e))
+      (λ p. kept_recorded t s n ledger new h)
 
   kept_debit : (t : ℕ) (s : List ℕ) (n : ℕ) (e : Event) (ledger : Ledger) → IsKept ledger →
       IsKept (debit_decision b t s n e ledger).after
   kept_debit t s n e ledger h =
       unless_refused (debit_refusal b s e ledger) ledger (charged_unless_barred b t s n e ledger) h
-      (λ free. either_decision (is_barred ledger) _
-      (charged_by (tariff_of b e.group) b t s n e ledger) (λ p. kept_recorded t s n ledger h)
-      (λ p. kept_charged (tariff_of b e.group) t s n e ledger
-      (new_name s (last_recording s ledger) (option_map invalid (event_fault b e)) free) h))
+      (λ free.
+      let new : last_recording s ledger ≡ None =
+      new_name s (last_recording s ledger) (option_map invalid (event_fault b e)) free in
+      either_decision (is_barred ledger) _
+      (charged_by (tariff_of b e.group) b t s n e ledger) (λ p. kept_recorded t s n ledger new h)
+      (λ p. kept_charged (tariff_of b e.group) t s n e ledger new h))
 
   kept_event : (action : EventAction) (t : ℕ) (s : List ℕ) (n : ℕ) (e : Event) (ledger : Ledger) →
       IsKept ledger → IsKept (decided_action action b t s n e ledger).after
@@ -232,8 +238,9 @@ module _ (b : Book) (P : List Report → Ledger → Type 0) (k : Keeps b P)
       IsKept (refund_decision b t s n r ledger).after
   kept_refund t s n r ledger h =
       unless_refused (refund_refusal b s r ledger) ledger (refunded t s n r ledger) h
-      (λ e. either_decision (nat_lt 4294967295 (next_bucket ledger)) _ _ (λ p. h)
+      (λ free. either_decision (nat_lt 4294967295 (next_bucket ledger)) _ _ (λ p. h)
       (λ p. kept_recorded t s n (credited t t 4102444800 None r.micros ledger)
+      (new_name s (last_recording s ledger) _ free)
       (k.credit t t 4102444800 None r.micros reports ledger h)))
 
 -- ---- updates and terminations
@@ -305,9 +312,10 @@ module _ (b : Book) (P : List Report → Ledger → Type 0) (k : Keeps b P) wher
   kept_termination t s n services reports ledger h =
       kept_session t s n services reports ledger (ended b t s n services ledger) refl h (λ touches.
       let more : List Report = with_services b t s services reports in
-      k.quiet t (Close s) more (settled_touched b t s n services ledger) refl refl
-      (kept_touched b P k more t s n (settled_services b t s services ledger)
-      (kept_services t s services reports ledger touches h)))
+      let live : IsOpen b P k more s (settled_touched b t s n services ledger) =
+      open_touched b P k more t s n (settled_services b t s services ledger)
+      (kept_services t s services reports ledger touches h) in
+      k.quiet t (Close s) more (settled_touched b t s n services ledger) refl refl live.0 live.1)
 
   -- ---- a request
 

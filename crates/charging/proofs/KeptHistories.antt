@@ -123,9 +123,10 @@ module _ (b : Book) (P : List Report → Ledger → Type 0) (k : Keeps b P) wher
   kept_opened s h (command.Ccr r) t reports p = kept_request r t reports h p
   kept_opened s h (command.OpenAccount n) t reports p = p
   kept_opened s h (command.Credit c) t reports p = kept_credit c t reports h p
-  kept_opened s h (command.Bar n) t reports p = k.quiet t (Barred true) reports h.ledger refl refl p
+  kept_opened s h (command.Bar n) t reports p =
+      k.quiet t (Barred true) reports h.ledger refl refl tt p
   kept_opened s h (command.Unbar n) t reports p =
-      k.quiet t (Barred false) reports h.ledger refl refl p
+      k.quiet t (Barred false) reports h.ledger refl refl tt p
   kept_opened s h (command.AddVoucher v) t reports p =
       kept_addition (addition s v.terms) (command.AddVoucher v) t reports h p p
   kept_opened s h (command.Redeem r) t reports p = kept_redeem s r t reports h p

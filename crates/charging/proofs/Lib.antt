@@ -24,4 +24,5 @@ pub mod Guaranteed
 pub mod KeptDecisions
 pub mod KeptHistories
 pub mod Accounted
+pub mod Sound
 pub mod Collecting

@@ -349,7 +349,7 @@ paying_none b = record {
 
 pub keeps_paying : (b : Book) → Keeps b (IsPaying b)
 keeps_paying b = record {
-  quiet = paying_quiet b;
+  quiet = λ t f reports ledger q n fits h. paying_quiet b t f reports ledger q n h;
   touch = paying_touch b;
   credit = paying_credit b;
   settle = paying_settle b;

@@ -86,7 +86,7 @@ holds t s g (x ∷ xs) ledger h =
     plain t (HoldFact s g x.bucket x.amount) (hold_facts t s g xs ++ ledger)
     (hold_plain s g x.bucket x.amount) (holds t s g xs ledger h)
 
-charges_record : (s : List ℕ) (t : ℕ) (hs : List Hold) (ledger : Ledger) →
+pub charges_record : (s : List ℕ) (t : ℕ) (hs : List Hold) (ledger : Ledger) →
     last_recording s (charge_facts t hs ++ ledger) ≡ last_recording s ledger
 charges_record s t [] ledger = refl
 charges_record s t (x ∷ xs) ledger = charges_record s t xs ledger
@@ -213,7 +213,7 @@ event_kept b t s g units n ledger h =
 
 keeps_recorded : (b : Book) → Keeps b (λ reports ledger. AreRecorded ledger)
 keeps_recorded b = record {
-  quiet = λ t f reports ledger q n h. quiet_kept t f ledger q n h;
+  quiet = λ t f reports ledger q n fits h. quiet_kept t f ledger q n h;
   touch = λ t s n reports ledger h. touched_kept t s n ledger h;
   credit = λ t from until scope amount reports ledger h.
       plain t (Credit _ from until scope amount) ledger

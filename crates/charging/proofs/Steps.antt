@@ -40,10 +40,18 @@ abbrev pub is_touch : Fact → Bool
 is_touch (Touch session) = true
 is_touch _ = false
 
+-- what a quiet fact wants of the ledger before it: a session that is recorded without a touch is
+-- new, and one that ends is recorded
+abbrev pub IsInPlace : Fact → Ledger → Type 0
+IsInPlace (Close session) ledger = last_recording session ledger ≡ None → ⊥
+IsInPlace (Recorded session number) ledger = last_recording session ledger ≡ None
+IsInPlace _ ledger = Unit {0}
+
 -- a property of an account's reports and ledger is kept by each step that its commands take
 pub record Keeps (b : Book) (P : List Report → Ledger → Type 0) : Type 0 where
   pub quiet : (t : ℕ) (f : Fact) (reports : List Report) (ledger : Ledger) → is_quiet f ≡ true →
-      is_touch f ≡ false → P reports ledger → P reports (record { at = t; fact = f } ∷ ledger)
+      is_touch f ≡ false → IsInPlace f ledger → P reports ledger →
+      P reports (record { at = t; fact = f } ∷ ledger)
   pub touch : (t : ℕ) (s : List ℕ) (n : ℕ) (reports : List Report) (ledger : Ledger) →
       P reports ledger → P reports (touched t s n ledger)
   pub credit : (t from until : ℕ) (scope : Option ℕ) (amount : ℕ) (reports : List Report)

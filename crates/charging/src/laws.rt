@@ -2,6 +2,7 @@
 
 ghost use Rattle.std.specs.Prelude.{◌≡◌, ℕ, List, []};
 ghost use Rattle.tariffs.specs.Books.{Book, IsBook};
+ghost use Rattle.reserving.specs.SoundLedger.{IsSoundLedger};
 ghost use Rattle.keepers.specs.Tables.{no_tables};
 ghost use Rattle.charging.specs.Accepted.{Accepted, IsInTime};
 ghost use Rattle.charging.specs.Served.{history, AreTables};
@@ -18,6 +19,14 @@ ghost use Rattle.charging.specs.Isolation.{HasOwnCodes, IsIsolated};
 pub fn beginning()
     ensures time { IsInTime [] }
     ensures tables { (b : Book) → AreTables b [] no_tables }
+{}
+
+/// What the ledger of each history is: a session's last touch is recorded, a session without a
+/// record was neither closed nor has anything held or granted, and nothing is charged or held of a
+/// bucket that isn't made yet (profile).
+pub fn soundness()
+    ensures { (b : Book) (a : List ℕ) (list : List Accepted) →
+        IsSoundLedger (history b a list).ledger }
 {}
 
 /// Each report and each debit of an account has the price of the blocks that it started: what is

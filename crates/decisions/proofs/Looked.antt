@@ -74,7 +74,7 @@ unreserved ledger a s [] rows none = refl
 unreserved ledger a s (x ∷ xs) rows none =
     (λ i. is_some (row_reservation a.book.validity a.as_of ledger s x.group
     (group_in s x.group a.groups) (rows.groups s x.group)
-    ((rows.unknown s none).granted x.group) i) || any_reserved s xs a.groups)
+    ((rows.sound.unknown s none).granted x.group) i) || any_reserved s xs a.groups)
     ∙ unreserved ledger a s xs rows none
 
 recorded_row : (s : List ℕ) (state : SessionState) (o : Option Recording) →

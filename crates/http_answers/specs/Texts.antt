@@ -59,6 +59,11 @@ no_members = codes "{}"
 abbrev pub unable : List ℕ
 unable = codes "{\"Result-Code\":5012}"
 
+-- a text is told, or that there is no memory
+abbrev pub TellsText : Bool → Status → List ℕ → (List ℕ → Type 0) → Type 0
+TellsText closes status body Writes = Writes (response_of Text status closes body)
+    ⊎ Writes (response Unavailable closes unable)
+
 -- a refusal is told, or that there is no memory
 abbrev pub TellsRefusal : Bool → Status → (List ℕ → Type 0) → Type 0
 TellsRefusal closes status Writes = Writes (response status closes no_members)

@@ -7,5 +7,7 @@ mod text;
 
 pub use crate::asking::{Asked, StatementAsked, ask};
 pub use crate::routes::{Route, known_router};
-pub use crate::text::{Media, NO_MEMBERS, tell, tell_fault, tell_refusal, tell_text, tell_unable};
+pub use crate::text::{
+    Media, NO_MEMBERS, response, tell_fault, tell_refusal, tell_text, tell_unable, write_text,
+};
 pub use matchit::Router;

@@ -1,12 +1,13 @@
-ghost use Rattle.std.specs.Prelude.{◌≡◌, ◌++◌, ℕ, IfOk, OnOk, OnErr, IfSome, None, true, false};
-ghost use Rattle.std.specs.Prelude.{string_bytes};
+ghost use Rattle.std.specs.Prelude.{◌≡◌, ◌++◌, ℕ, IfOk, IsErrOf, OnOk, OnErr, IfSome, None};
+ghost use Rattle.std.specs.Prelude.{true, false, string_bytes};
 ghost use Rattle.json_fields.specs.declared.fault.WireFault.TheVariants.{Memory};
 ghost use Rattle.std.specs.Io.KnownBytes.{Appends};
 ghost use Rattle.http_heads.specs.declared.status.Status.TheVariants.{BadRequest, Unavailable};
 ghost use Rattle.wire_answers.specs.Spelled.{fault_text};
 ghost use Rattle.http_answers.specs.declared.text.Media.TheVariants.{Text};
-ghost use Rattle.http_answers.specs.Texts.{status_line, closing_line, response, response_of};
-ghost use Rattle.http_answers.specs.Texts.{text_head, unable, Begins, TellsRefusal, TellsFault};
+ghost use Rattle.http_answers.specs.Texts.{status_line, closing_line, response};
+ghost use Rattle.http_answers.specs.Texts.{text_head, unable, Begins, TellsText, TellsRefusal};
+ghost use Rattle.http_answers.specs.Texts.{TellsFault};
 
 use byte_streams::{StreamFault, write_whole};
 use http_heads::Status;
@@ -62,7 +63,15 @@ fn closing_line(closes: bool) -> &'static str
 }
 
 /// The bytes of an answer.
-fn response(alloc: Global, status: Status, closes: bool, body: &str) -> Result<String, AllocError>
+///
+/// # Errors
+/// The growth of its text was refused.
+pub fn response(
+    alloc: Global,
+    status: Status,
+    closes: bool,
+    body: &str,
+) -> Result<String, AllocError>
     ensures { IfOk result (λ s. string_bytes s ≡ response status closes body.now) }
 {
     let line = status_line(status);
@@ -90,25 +99,19 @@ fn unable_at_last() -> &'static [u8]
     UNABLE_AT_LAST
 }
 
-/// Writes an answer, its head and its body in one.
+/// Writes all of a text.
 ///
 /// # Errors
-/// `Memory` where the growth of its text was refused, `Write` where the writer failed. Then a
-/// beginning of it is written.
-pub fn tell<W: Write>(
-    alloc: Global,
-    writer: &mut W,
-    status: Status,
-    closes: bool,
-    body: &str,
-) -> Result<(), StreamFault>
-    ensures ok { OnOk result (Appends (W.contents writer.old) (W.contents writer.new)
-        (response status closes body.now)) }
-    ensures err { OnErr result
-        (Begins (W.contents writer.old) (W.contents writer.new) (response status closes body.now)) }
+/// `Write` where the writer failed. Then a beginning of it is written.
+pub fn write_text<W: Write>(writer: &mut W, text: &[u8]) -> Result<(), StreamFault>
+    ensures ok { OnOk result (Appends (W.contents writer.old) (W.contents writer.new) text.now) }
+    ensures err { OnErr result (Begins (W.contents writer.old) (W.contents writer.new) text.now) }
+    ensures memory { IsErrOf result StreamFault.Memory → ⊥ }
 {
-    let text = response(alloc, status, closes, body)?;
-    write_whole(writer, text.as_bytes())
+    match write_whole(writer, text) {
+        Ok(()) => Ok(()),
+        Err(_) => Err(StreamFault::Write),
+    }
 }
 
 /// The head of an answer whose body is a text of so many bytes.
@@ -130,11 +133,11 @@ fn text_head(
     Ok(text)
 }
 
-/// Writes an answer whose body is a text, its head and then its body.
+/// Writes an answer whose body is a text, its head and then its body; where the growth of its head
+/// is refused, that there is no memory.
 ///
 /// # Errors
-/// `Memory` where the growth of its head was refused, `Write` where the writer failed. Then a
-/// beginning of it is written.
+/// `Write` where the writer failed. Then a beginning of it is written.
 pub fn tell_text<W: Write>(
     alloc: Global,
     writer: &mut W,
@@ -142,13 +145,16 @@ pub fn tell_text<W: Write>(
     closes: bool,
     body: &[u8],
 ) -> Result<(), StreamFault>
-    ensures ok { OnOk result (Appends (W.contents writer.old) (W.contents writer.new)
-        (response_of Text status closes body.now)) }
-    ensures err { OnErr result (Begins (W.contents writer.old) (W.contents writer.new)
-        (response_of Text status closes body.now)) }
+    ensures ok { OnOk result (TellsText closes status body.now
+        (Appends (W.contents writer.old) (W.contents writer.new))) }
+    ensures err { OnErr result (TellsText closes status body.now
+        (Begins (W.contents writer.old) (W.contents writer.new))) }
+    ensures memory { IsErrOf result StreamFault.Memory → ⊥ }
 {
-    let head = text_head(alloc, status, closes, body.len())?;
-    write_both(writer, head.as_bytes(), body)
+    match text_head(alloc, status, closes, body.len()) {
+        Ok(head) => write_both(writer, head.as_bytes(), body),
+        Err(_) => tell_unable(writer, closes),
+    }
 }
 
 /// Writes a text and then another.
@@ -157,9 +163,10 @@ fn write_both<W: Write>(writer: &mut W, first: &[u8], second: &[u8]) -> Result<(
         (Appends (W.contents writer.old) (W.contents writer.new) (first.now ++ second.now)) }
     ensures err { OnErr result
         (Begins (W.contents writer.old) (W.contents writer.new) (first.now ++ second.now)) }
+    ensures memory { IsErrOf result StreamFault.Memory → ⊥ }
 {
-    write_whole(writer, first)?;
-    write_whole(writer, second)
+    write_text(writer, first)?;
+    write_text(writer, second)
 }
 
 /// Writes that there is no memory, no store or no clock; this takes no memory.
@@ -171,11 +178,12 @@ pub fn tell_unable<W: Write>(writer: &mut W, closes: bool) -> Result<(), StreamF
         (response Unavailable closes unable)) }
     ensures err { OnErr result (Begins (W.contents writer.old) (W.contents writer.new)
         (response Unavailable closes unable)) }
+    ensures memory { IsErrOf result StreamFault.Memory → ⊥ }
 {
     if closes {
-        write_whole(writer, unable_at_last())
+        write_text(writer, unable_at_last())
     } else {
-        write_whole(writer, unable())
+        write_text(writer, unable())
     }
 }
 
@@ -193,9 +201,10 @@ pub fn tell_refusal<W: Write>(
         (TellsRefusal closes status (Appends (W.contents writer.old) (W.contents writer.new))) }
     ensures err { OnErr result
         (TellsRefusal closes status (Begins (W.contents writer.old) (W.contents writer.new))) }
+    ensures memory { IsErrOf result StreamFault.Memory → ⊥ }
 {
     match response(alloc, status, closes, NO_MEMBERS) {
-        Ok(text) => write_whole(writer, text.as_bytes()),
+        Ok(text) => write_text(writer, text.as_bytes()),
         Err(_) => tell_unable(writer, closes),
     }
 }
@@ -229,9 +238,10 @@ pub fn tell_fault<W: Write>(
         (TellsFault closes fault (Appends (W.contents writer.old) (W.contents writer.new))) }
     ensures err { OnErr result
         (TellsFault closes fault (Begins (W.contents writer.old) (W.contents writer.new))) }
+    ensures memory { IsErrOf result StreamFault.Memory → ⊥ }
 {
     match fault_response(alloc, fault, closes) {
-        Some(text) => write_whole(writer, text.as_bytes()),
+        Some(text) => write_text(writer, text.as_bytes()),
         None => tell_unable(writer, closes),
     }
 }

@@ -1,3 +1,4 @@
+pub mod Unaccepted
 pub mod RequestReplies
 pub mod StatementReplies
 pub mod Continuing

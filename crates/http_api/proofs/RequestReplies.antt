@@ -1,7 +1,10 @@
 -- The reply to one request.
-use Rattle.std.proofs.Common.{◌≡◌, ℕ, Bool, List, [], ◌∷◌, refl, sym, ap, subst, inl, inr, arith}
-use Rattle.std.proofs.Common.{Option, Some, None, Result, Ok, Err, OnOk, OnErr}
+use Rattle.std.proofs.Common.{◌≡◌, ℕ, Bool, true, false, List, [], ◌∷◌, refl, sym, ap, subst}
+use Rattle.std.proofs.Common.{◌∙◌, inl, inr, arith, Option, Some, None, Result, Ok, Err}
 use Rattle.std.proofs.KnownBytes.{Appends-nil}
+use Rattle.std.specs.Prelude.{IsErrAnd, OnOk, OnErr}
+use Rattle.byte_streams.specs.declared.StreamFault.{StreamFault}
+use Rattle.byte_streams.specs.declared.StreamFault.TheVariants as stream
 use Rattle.commands.specs.declared.answer.Answer.{Answer}
 use Rattle.commands.specs.declared.command.Command.{Command}
 use Rattle.json_fields.specs.declared.fault.WireFault.{WireFault}
@@ -11,7 +14,7 @@ use Rattle.tariffs.specs.Books.{Book}
 use Rattle.keepers.specs.declared.fault.StoreFault.{StoreFault}
 use Rattle.keepers.specs.Tables.{Tables}
 use Rattle.charging.specs.Accepted.{Accepted}
-use Rattle.charging.specs.Served.{AreTables, Serves}
+use Rattle.charging.specs.Served.{AreTables, Serves, moment_of}
 use Rattle.http_heads.specs.declared.status.Status.{Status}
 use Rattle.http_heads.specs.declared.status.Status.TheVariants as status
 use Rattle.http_answers.specs.Asking.{Asking, refuses, reads, states, IsAsked}
@@ -19,7 +22,13 @@ use Rattle.http_answers.specs.declared.asking.StatementAsked.{StatementAsked}
 use Rattle.http_answers.specs.declared.asking.Asked.TheVariants as told
 use Rattle.http_answers.specs.Texts.{response, no_members, unable, Begins, TellsRefusal, TellsFault}
 use Rattle.http_api.specs.Clocks.{GivesInTurn}
+use Rattle.http_api.specs.Faults.{serve_fault}
 use Rattle.http_api.specs.Replies.{refusal, unserved, reply_at, IsDue, MayAsk, ForEachList, Replies}
+use Rattle.http_api.specs.Told.{TellsAnswer, Owes}
+use Rattle.http_api.specs.Unaccepted.{is_read_command, is_unaccepted}
+use Rattle.http_api.specs.declared.fault.ServeFault.{ServeFault}
+use Rattle.http_api.specs.declared.fault.ServeFault.TheVariants as serve
+use Rattle.http_api.proofs.Unaccepted.{unaccepted_same}
 
 -- what follows where all went well, or at an error
 pub ok_gives : {A E P Q : Type 0} (r : Result A E) → (P → Q) → OnOk r P → OnOk r Q
@@ -37,6 +46,23 @@ begins_none w text = (0, Appends-nil w)
 pub at_err : {A E P : Type 0} (r : Result A E) → P → OnErr r P
 at_err (Ok x) h = tt
 at_err (Err e) h = h
+
+-- which fault was told
+abbrev error_of : {A : Type 0} → Result A ServeFault → ServeFault
+error_of (Ok x) = serve.Memory
+error_of (Err e) = e
+
+is_memory : (fault : StreamFault) → serve_fault fault ≡ serve.Memory → fault ≡ stream.Memory
+is_memory stream.Memory e = refl
+is_memory stream.Read e = absurd (cc)
+is_memory stream.Write e = absurd (cc)
+
+pub memory_told : {A B : Type 0} (r : Result A StreamFault) (q : Result B ServeFault)
+    (fault : StreamFault) → r ≡ Err fault → IsErrAnd q (λ e. e ≡ serve_fault fault) →
+    q ≡ Err serve.Memory → r ≡ Err stream.Memory
+memory_told r (Ok x) fault was gives e = absurd gives
+memory_told r (Err told_fault) fault was gives e =
+    was ∙ ap (λ f. Err f) (is_memory fault (sym gives ∙ ap error_of e))
 
 may_not : (asking : Asking) → MayAsk asking []
 may_not (refuses code) = refl
@@ -167,8 +193,8 @@ module _ {C : Type 0} (gives : C → Option ℕ → C → Type 0) (b : Book) (cl
         refl,
       ) (λ list time are. subst (AreTables b list) (sym (serves list time are)) are) w
 
-  -- a command that is served
-  pub served_reply : (c : Command) (t : ℕ) (c0 c1 : C) (old new : Tables) (answer : Answer) →
+  -- a command that is served, and its answer told
+  served_reply : (c : Command) (t : ℕ) (c0 c1 : C) (old new : Tables) (answer : Answer) →
       gives c0 (Some t) c1 → Serves b c t old new (Ok answer) →
       Writes (response status.Ok closes (answer_text answer)) →
       Replies gives b (reads (Ok c)) closes c0 c1 Writes old new
@@ -187,3 +213,52 @@ module _ {C : Type 0} (gives : C → Option ℕ → C → Type 0) (b : Book) (cl
           time = served.time;
         };
   }
+
+  -- a command that is served, with no memory for the text of an answer that no accepted one gets
+  untold_reply : (c : Command) (t : ℕ) (c0 c1 : C) (old new : Tables) (answer : Answer) →
+      gives c0 (Some t) c1 → Serves b c t old new (Ok answer) →
+      is_unaccepted (is_read_command c) answer ≡ true →
+      Writes (response status.Unavailable closes unable) →
+      Replies gives b (reads (Ok c)) closes c0 c1 Writes old new
+  untold_reply c t c0 c1 old new answer given serves is w =
+      unserved_reply (reads (Ok c)) (Some t ∷ []) c0 c1 old new (may_once c (Some t))
+      (c1, given, refl) (λ list time are. subst (AreTables b list) (sym (unaccepted_same b list c
+      (moment_of list t) old new answer (serves list time are) is)) are) w
+
+  -- a command that is served
+  pub answered_reply : (c : Command) (read : Bool) (t : ℕ) (c0 c1 : C) (old new : Tables)
+      (answer : Answer) → read ≡ is_read_command c → gives c0 (Some t) c1 →
+      Serves b c t old new (Ok answer) → TellsAnswer read answer closes Writes →
+      Replies gives b (reads (Ok c)) closes c0 c1 Writes old new
+  answered_reply c read t c0 c1 old new answer is given serves (inl w) =
+      served_reply c t c0 c1 old new answer given serves w
+  answered_reply c read t c0 c1 old new answer is given serves (inr w) =
+      untold_reply c t c0 c1 old new answer given serves
+      (subst (λ r. is_unaccepted r answer ≡ true) is w.0) w.1
+
+-- ---- no memory for the text of an answer
+
+module _ {C : Type 0} (gives : C → Option ℕ → C → Type 0) (b : Book) where
+  -- it is owed where an accepted command may get it
+  pub owed_answer : (c : Command) (read : Bool) (t : ℕ) (c0 c1 : C) (old new : Tables)
+      (answer : Answer) → read ≡ is_read_command c → gives c0 (Some t) c1 →
+      Serves b c t old new (Ok answer) → is_unaccepted read answer ≡ false →
+      Owes gives b (reads (Ok c)) c0 c1 old
+  owed_answer c read t c0 c1 old new answer is given serves free = record {
+    command = c;
+    asks = refl;
+    moment = t;
+    given = given;
+    owed = λ list time are.
+        subst (λ a. is_unaccepted (is_read_command c) a ≡ false) (serves list time are).answer
+        (subst (λ r. is_unaccepted r answer ≡ false) is free);
+  }
+
+  -- whatever the command is read from
+  pub owed_command : (c : Command) (c0 c1 : C) (old : Tables) →
+      Owes gives b (reads (Ok c)) c0 c1 old → (asking : Asking) → IsAsked asking (told.Does c) →
+      Owes gives b asking c0 c1 old
+  owed_command c c0 c1 old owes (refuses s) asked = absurd asked
+  owed_command c c0 c1 old owes (reads read) asked =
+      subst (λ r. Owes gives b (reads r) c0 c1 old) (sym asked) owes
+  owed_command c c0 c1 old owes (states q) asked = absurd asked

@@ -1,9 +1,7 @@
 -- The reply to a request for a statement.
 use Rattle.std.proofs.Common.{◌≡◌, ◌∙◌, ℕ, Bool, true, false, List, [], ◌∷◌, refl, sym, ap, subst}
-use Rattle.std.proofs.Common.{inl, inr, arith, Option, Some, None, Result, Ok, Err}
-use Rattle.std.proofs.KnownBytes.{Appends-nil}
-use Rattle.std.specs.Prelude.{◌⊎◌, if◌then◌else◌, IfOk, OnOk, OnErr}
-use Rattle.std.specs.Io.KnownBytes.{Appends}
+use Rattle.std.proofs.Common.{inl, inr, arith, Option, Some, None}
+use Rattle.std.specs.Prelude.{if◌then◌else◌}
 use Rattle.commands.specs.declared.answer.Answer.TheVariants.{Refused}
 use Rattle.commands.specs.declared.answer.Refusal.TheVariants.{AccountUnknown}
 use Rattle.wire_answers.specs.Spelled.{answer_text}
@@ -23,13 +21,13 @@ use Rattle.http_heads.specs.declared.status.Status.TheVariants as status
 use Rattle.http_answers.specs.Asking.{states}
 use Rattle.http_answers.specs.declared.asking.StatementAsked.{StatementAsked}
 use Rattle.http_answers.specs.declared.text.Media.TheVariants.{Text}
-use Rattle.http_answers.specs.Texts.{response, response_of, unable}
+use Rattle.http_answers.specs.Texts.{response, response_of, unable, TellsText}
 use Rattle.charging.specs.Balances.{by_number}
 use Rattle.reserving.specs.Balance.{buckets_at}
-use Rattle.http_api.specs.Replies.{unserved, MayAsk, statement_media, statement_body}
+use Rattle.http_api.specs.Replies.{unserved, MayAsk, statement_media}
 use Rattle.http_api.specs.Replies.{statement_reply, reply_text, ForEachList, IsReplied, IsContinued}
 use Rattle.http_api.specs.Replies.{Replies}
-use Rattle.http_api.specs.Told.{IsTold, TellsCharges}
+use Rattle.http_api.specs.Told.{IsTold, TellsAnswer, TellsCharges}
 use Rattle.http_api.proofs.RequestReplies.{unserved_reply}
 
 -- the charges of the tables are those of the ledger
@@ -67,11 +65,11 @@ module _ {C : Type 0} (gives : C → Option ℕ → C → Type 0) (b : Book) (cl
       q.account q.month t (charge_rows h.ledger) (by_number (buckets_at b.validity t h.ledger))
       else answer_text (Refused AccountUnknown))) closed)
 
-  pub unknown_reply : (t : ℕ) (c0 c1 : C) (old new : Tables) (found : Option AccountState) →
+  unknown_told : (t : ℕ) (c0 c1 : C) (old new : Tables) (found : Option AccountState) →
       gives c0 (Some t) c1 → TellsState b q.account t old found → found ≡ None → new ≡ old →
       Writes (response status.Ok closes (answer_text (Refused AccountUnknown))) →
       Replies gives b (states q) closes c0 c1 Writes old new
-  unknown_reply t c0 c1 old new found given tells is same w = record {
+  unknown_told t c0 c1 old new found given tells is same w = record {
     moments = Some t ∷ [];
     given = (c1, given, refl);
     text = response status.Ok closes (answer_text (Refused AccountUnknown));
@@ -88,6 +86,15 @@ module _ {C : Type 0} (gives : C → Option ℕ → C → Type 0) (b : Book) (cl
           time = time;
         };
   }
+
+  pub unknown_reply : (t : ℕ) (c0 c1 : C) (old new : Tables) (found : Option AccountState) →
+      gives c0 (Some t) c1 → TellsState b q.account t old found → found ≡ None → new ≡ old →
+      TellsAnswer true (Refused AccountUnknown) closes Writes →
+      Replies gives b (states q) closes c0 c1 Writes old new
+  unknown_reply t c0 c1 old new found given tells is same (inl w) =
+      unknown_told t c0 c1 old new found given tells is same w
+  unknown_reply t c0 c1 old new found given tells is same (inr w) =
+      unstated_reply (Some t) c0 c1 old new given same w.1
 
   -- the text of one whose state was found
   stated_text : (t : ℕ) (list : List Accepted) (h : History) (s : AccountState) → h.opened ≡ true →
@@ -150,15 +157,6 @@ module _ {C : Type 0} (gives : C → Option ℕ → C → Type 0) (b : Book) (cl
 
 module _ (charges : ℕ → Option ChargeColumns) (body : List ChargeColumns → List ℕ) (closes : Bool)
     (Writes : List ℕ → Type 0) where
-  pub tells_body : (text : List ℕ) →
-      ((rows : List ChargeColumns) → AreCharges charges rows → text ≡ body rows) →
-      Writes (response_of Text status.Ok closes text) → TellsCharges charges body closes Writes
-  tells_body text is w = record {
-    text = response_of Text status.Ok closes text;
-    written = w;
-    told = λ rows are. inl (ap (response_of Text status.Ok closes) (is rows are));
-  }
-
   pub tells_nothing : Writes (response status.Unavailable closes unable) →
       TellsCharges charges body closes Writes
   tells_nothing w = record {
@@ -166,3 +164,13 @@ module _ (charges : ℕ → Option ChargeColumns) (body : List ChargeColumns →
     written = w;
     told = λ rows are. inr refl;
   }
+
+  pub tells_body : (text : List ℕ) →
+      ((rows : List ChargeColumns) → AreCharges charges rows → text ≡ body rows) →
+      TellsText closes status.Ok text Writes → TellsCharges charges body closes Writes
+  tells_body text is (inl w) = record {
+    text = response_of Text status.Ok closes text;
+    written = w;
+    told = λ rows are. inl (ap (response_of Text status.Ok closes) (is rows are));
+  }
+  tells_body text is (inr w) = tells_nothing w

@@ -8,11 +8,12 @@ use Rattle.tariffs.specs.Books.{Book}
 use Rattle.keepers.specs.Tables.{Tables}
 use Rattle.charging.specs.Accepted.{Accepted, IsInTime}
 use Rattle.charging.specs.Served.{AreTables}
-use Rattle.http_heads.specs.Requests.{Next, asks, refused, ended, IsNext}
+use Rattle.http_heads.specs.Requests.{Ask, Next, asks, refused, ended, IsNext}
 use Rattle.http_answers.specs.Asking.{Asking, refuses, asked_of}
 use Rattle.http_answers.specs.Texts.{Begins}
 use Rattle.http_api.specs.Clocks.{GivesInTurn}
 use Rattle.http_api.specs.Replies.{Reply, reply_text, IsReply, ForEachList}
+use Rattle.http_api.specs.Told.{Owes}
 use Rattle.http_api.specs.declared.fault.ServeFault.{ServeFault}
 use Rattle.http_api.specs.declared.serving.Served.{Served}
 
@@ -113,6 +114,36 @@ pub record IsBegun {C : Type 0} (gives : C → Option ℕ → C → Type 0) (b :
   pub text : List ℕ
   pub written : Begins empty full text
   pub taken : ForEachList b old (IsTaken b stream count moments text new)
+
+-- so many of its requests were answered, and this is left of it
+pub record IsTakenTo (b : Book) (stream left : List ℕ) (count : ℕ) (moments : List (Option ℕ))
+    (text : List ℕ) (content : Tables) (list : List Accepted) : Type 0 where
+  pub taken : IsTaken b stream count moments text content list
+  pub left_is : taken.last.rest ≡ left
+
+-- its next request is a command, and the text of the answer is owed
+pub record OwesNext {C : Type 0} (gives : C → Option ℕ → C → Type 0) (b : Book) (stream : List ℕ)
+    (before after : C) (old : Tables) : Type 0 where
+  pub ask : Ask
+  pub left : List ℕ
+  pub is_next : IsNext stream (asks ask left)
+  pub owes : Owes gives b (asked_of ask) before after old
+
+-- where memory is refused so many requests of a stream were answered whole; nothing is done for the
+-- next one, or the text of its answer is owed
+pub record IsOutOfMemory {C : Type 0} (gives : C → Option ℕ → C → Type 0) (b : Book)
+    (stream : List ℕ) (before after : C) (empty full : Option (List ℕ)) (old new : Tables) :
+    Type 0 where
+  pub count : ℕ
+  pub moments : List (Option ℕ)
+  pub between : C
+  pub given : GivesInTurn gives before moments between
+  pub text : List ℕ
+  pub written : Appends empty full text
+  pub content : Tables
+  pub left : List ℕ
+  pub answered : ForEachList b old (IsTakenTo b stream left count moments text content)
+  pub next : ((after ≡ between) × (new ≡ content)) ⊎ OwesNext gives b left between after content
 
 -- what comes of a stream, where the reader tells its bytes: it is served to the end of the
 -- connection

@@ -1,5 +1,6 @@
 pub mod Clocks
 pub mod Faults
+pub mod Unaccepted
 pub mod Replies
 pub mod Told
 pub mod Connections

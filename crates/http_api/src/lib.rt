@@ -9,6 +9,7 @@ mod hearing;
 mod serving;
 mod socket;
 mod stating;
+mod telling;
 
 pub use crate::clock::{Clock, FixedClock};
 pub use crate::fault::ServeFault;

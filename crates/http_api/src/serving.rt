@@ -1,7 +1,9 @@
 ghost use Rattle.std.specs.Prelude.{◌≡◌, ◌≤◌, ◌<◌, ◌+◌, ◌*◌, length, IfOk, OnErr, IfSome};
+ghost use Rattle.std.specs.Prelude.{IsErrOf};
 ghost use Rattle.http_answers.specs.Routes.{table};
 ghost use Rattle.http_api.specs.Replies.{Continues};
 ghost use Rattle.http_api.specs.Connections.{left_after, IsServed, IsBegun, Serves, Starts};
+ghost use Rattle.http_api.specs.Connections.{IsOutOfMemory};
 
 use crate::answering::answer_request;
 use crate::clock::Clock;
@@ -32,9 +34,9 @@ pub struct Served {
 /// dated commands.
 ///
 /// # Errors
-/// `Memory` where a growth was refused for a head, a body or the text of a command's answer; `Read`
-/// where the reader failed; `Write` where the writer did. What was accepted stays so, and a
-/// beginning of the answers is written.
+/// `Memory` where a growth was refused for a head, a body or the text of an answer that an accepted
+/// command may get; `Read` where the reader failed; `Write` where the writer did. What was accepted
+/// stays so, and a beginning of the answers is written.
 pub fn serve<R: Read, W: Write, K: ChargeSource, C: Clock>(
     alloc: Global,
     reader: &mut R,
@@ -50,6 +52,10 @@ pub fn serve<R: Read, W: Write, K: ChargeSource, C: Clock>(
     ensures begun { K.clean keeper.new → OnErr result (IfSome (R.remaining reader.old) (λ stream.
         IsBegun C.gives book.now stream clock.old clock.new (W.contents writer.old)
         (W.contents writer.new) (K.content keeper.old) (K.content keeper.new))) }
+    ensures memory { K.clean keeper.new → IsErrOf result ServeFault.Memory →
+        IfSome (R.remaining reader.old) (λ stream. IsOutOfMemory C.gives book.now stream
+        clock.old clock.new (W.contents writer.old) (W.contents writer.new)
+        (K.content keeper.old) (K.content keeper.new)) }
     ensures bounded { IfOk result (λ done. done.requests ≤ 1000) }
     ensures continued { K.clean keeper.new →
         Continues book.now (K.content keeper.old) (K.content keeper.new) }
@@ -114,6 +120,10 @@ fn serve_requests<R: BufRead, W: Write, K: ChargeSource, C: Clock>(
     ensures begun { K.clean keeper.new → Starts C.gives book.now (R.remaining reader.old)
         clock.old clock.new (W.contents writer.old) (W.contents writer.new)
         (K.content keeper.old) (K.content keeper.new) result }
+    ensures memory { K.clean keeper.new → IsErrOf result ServeFault.Memory →
+        IfSome (R.remaining reader.old) (λ stream. IsOutOfMemory C.gives book.now stream
+        clock.old clock.new (W.contents writer.old) (W.contents writer.new)
+        (K.content keeper.old) (K.content keeper.new)) }
     ensures bounded { IfOk result (λ done. done.requests ≤ 1000) }
     ensures continued { K.clean keeper.new →
         Continues book.now (K.content keeper.old) (K.content keeper.new) }

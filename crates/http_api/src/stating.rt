@@ -1,6 +1,6 @@
 //! A statement that is asked for.
 
-ghost use Rattle.std.specs.Prelude.{◌≡◌, ◌≤◌, List, OnOk, OnErr, IfOk};
+ghost use Rattle.std.specs.Prelude.{◌≡◌, ◌≤◌, true, List, OnOk, OnErr, IfOk, IsErrOf};
 ghost use Rattle.std.specs.Io.KnownBytes.{Appends};
 ghost use Rattle.commands.specs.declared.answer.Answer.TheVariants.{Refused};
 ghost use Rattle.commands.specs.declared.answer.Refusal.TheVariants.{AccountUnknown as Unknown};
@@ -8,31 +8,28 @@ ghost use Rattle.reserving.specs.ChargeColumns.{ChargeColumns};
 ghost use Rattle.charge_sources.specs.Rows.{AreCharges};
 ghost use Rattle.statements.specs.Charges.{Asks};
 ghost use Rattle.statements.specs.Texts.{statement_text};
-ghost use Rattle.wire_answers.specs.Spelled.{answer_text};
-ghost use Rattle.http_heads.specs.declared.status.Status.TheVariants.{Ok};
 ghost use Rattle.http_answers.specs.Asking.{states};
-ghost use Rattle.http_answers.specs.Texts.{response, Begins};
+ghost use Rattle.http_answers.specs.Texts.{Begins};
 ghost use Rattle.http_api.specs.Replies.{Replies};
-ghost use Rattle.http_api.specs.Told.{TellsCharges};
+ghost use Rattle.http_api.specs.Told.{TellsAnswer, TellsCharges};
 
 use crate::clock::Clock;
+use crate::telling::tell_answer;
 use byte_streams::StreamFault;
 use charge_sources::ChargeSource;
 use charging::{AccountState, account_state};
 use commands::{Answer, Refusal};
-use http_answers::{StatementAsked, tell, tell_text, tell_unable};
+use http_answers::{StatementAsked, tell_text, tell_unable};
 use http_heads::Status;
 use statements::{StatementFault, statement};
 use std::alloc::Global;
 use std::io::Write;
 use tariffs::TariffBook;
-use wire::write_answer;
 
 /// Serves a statement at the clock's moment. It is a read: it changes nothing.
 ///
 /// # Errors
-/// `Memory` where the head of the answer wasn't made, `Write` where the writer failed: then a
-/// beginning of the answer is written.
+/// `Write` where the writer failed: then a beginning of the answer is written.
 pub(crate) fn serve_statement<W: Write, K: ChargeSource, C: Clock>(
     alloc: Global,
     writer: &mut W,
@@ -50,6 +47,7 @@ pub(crate) fn serve_statement<W: Write, K: ChargeSource, C: Clock>(
         (Replies C.gives book.now (states asked.now) closes clock.old clock.new
         (Begins (W.contents writer.old) (W.contents writer.new))
         (K.content keeper.old) (K.content keeper.new)) }
+    ensures memory { IsErrOf result StreamFault.Memory → ⊥ }
     ensures same { K.clean keeper.new → K.content keeper.new ≡ K.content keeper.old }
     ensures cleanness { K.clean keeper.new → K.clean keeper.old }
     ensures failures { K.failed keeper.old ≤ K.failed keeper.new }
@@ -85,6 +83,7 @@ fn tell_statement<W: Write, K: ChargeSource>(
         (TellsCharges ((K.content keeper.old).charges asked.now.account)
         (λ rows. statement_text book.now asked.now.account asked.now.month state.now.moment rows
         state.now.buckets.items) closes (Begins (W.contents writer.old) (W.contents writer.new))) }
+    ensures memory { IsErrOf result StreamFault.Memory → ⊥ }
     ensures same { K.clean keeper.new → K.content keeper.new ≡ K.content keeper.old }
     ensures cleanness { K.clean keeper.new → K.clean keeper.old }
     ensures failures { K.failed keeper.old ≤ K.failed keeper.new }
@@ -126,12 +125,12 @@ fn statement_of<K: ChargeSource>(
 
 /// Writes that the account isn't there.
 fn tell_unknown<W: Write>(alloc: Global, writer: &mut W, closes: bool) -> Result<(), StreamFault>
-    ensures ok { OnOk result (Appends (W.contents writer.old) (W.contents writer.new)
-        (response Ok closes (answer_text (Refused Unknown)))) }
-    ensures err { OnErr result (Begins (W.contents writer.old) (W.contents writer.new)
-        (response Ok closes (answer_text (Refused Unknown)))) }
+    ensures ok { OnOk result (TellsAnswer true (Refused Unknown) closes
+        (Appends (W.contents writer.old) (W.contents writer.new))) }
+    ensures err { OnErr result (TellsAnswer true (Refused Unknown) closes
+        (Begins (W.contents writer.old) (W.contents writer.new))) }
+    ensures memory { IsErrOf result StreamFault.Memory → ⊥ }
 {
     let unknown = Answer::Refused(Refusal::AccountUnknown);
-    let body = write_answer(alloc, &unknown)?;
-    tell(alloc, writer, Status::Ok, closes, body.as_str())
+    tell_answer(alloc, writer, &unknown, true, closes)
 }

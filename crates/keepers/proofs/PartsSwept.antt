@@ -312,11 +312,7 @@ module _ (book : Book) (ledger : Ledger) (u t : ℕ) (p : Parts) (ranges : IsBoo
     counters = λ g c. are.are.counters g c ∙ are.rows.counters g c;
     next_bucket = (λ i. (head_is i).next_bucket) ∙ are.rows.next_bucket;
     next_charge = (λ i. (head_is i).next_charge) ∙ are.rows.next_charge;
-    touched = are.rows.touched;
-    unknown = are.rows.unknown;
-    fresh = λ n k. are.rows.fresh n (subst (λ (m : ℕ). m ≤ n) (λ i. (head_is i).next_bucket) k);
-    free = λ n counts k. are.rows.free n counts
-        (subst (λ (m : ℕ). m ≤ n) (λ i. (head_is i).next_bucket) k);
+    sound = are.rows.sound;
   }
 
   same : advanced t (joined left a) ≡ joined left (advanced t a)

@@ -34,7 +34,7 @@ module _ (ledger : Ledger) (w : AccountRows) (rows : IsRowsOf ledger w) where
       is_open_row (session_row s (state_at w.book.validity w.as_of ledger s) o) ≡ false →
       reservation_at w.book.validity w.as_of ledger s g ≡ None
   closed_free s g None e k = at (is_live w.book.validity w.as_of ledger s) (open_grant s g ledger)
-      ((rows.unknown s e).granted g)
+      ((rows.sound.unknown s e).granted g)
     where
       at : (l : Bool) (p : Option Periods) → p ≡ None →
           (if l then reservation_of (holds_at w.book.validity w.as_of s g ledger) p else None) ≡

@@ -1,5 +1,5 @@
 -- What the rows of an account tell, whatever list they are written in.
-use Rattle.std.proofs.Common.{◌≡◌, ℕ, ◌≤◌, List, refl, sym, ap, subst, ◌∙◌, Option, Some}
+use Rattle.std.proofs.Common.{◌≡◌, ℕ, List, refl, sym, ap, subst, ◌∙◌, Option, Some}
 use Rattle.buckets.specs.Row.{Row, IsBalanced}
 use Rattle.buckets.specs.Spend.{Each}
 use Rattle.tariffs.specs.Books.{Book, IsBook}
@@ -57,9 +57,5 @@ rows_told book ledger t r v h are kept = (rows, as_of ∙ h.moment)
       counters = λ g c. sym (are.counters g c) ∙ h.are.counters g c ∙ h.rows.counters g c;
       next_bucket = (λ i. (head_is i).next_bucket) ∙ h.rows.next_bucket;
       next_charge = (λ i. (head_is i).next_charge) ∙ h.rows.next_charge;
-      touched = h.rows.touched;
-      unknown = h.rows.unknown;
-      fresh = λ n k. h.rows.fresh n (subst (λ (m : ℕ). m ≤ n) (λ i. (head_is i).next_bucket) k);
-      free = λ n counts k. h.rows.free n counts
-          (subst (λ (m : ℕ). m ≤ n) (λ i. (head_is i).next_bucket) k);
+      sound = h.rows.sound;
     }

@@ -11,7 +11,8 @@ use Rattle.reserving.specs.Ledger.{has_counter, open_grant, next_bucket}
 use Rattle.reserving.specs.Balance.{credits, bucket_at, balance_of}
 use Rattle.reserving.specs.Sessions.{held_by, holds_at, group_at, reservation_of, counter_at}
 use Rattle.reserving.specs.Pricing.{cycle_at}
-use Rattle.reserving.specs.Rows.{AccountRows, IsAccount, IsRowsOf, IsUnknown}
+use Rattle.reserving.specs.SoundLedger.{IsUnknown, IsSoundLedger}
+use Rattle.reserving.specs.Rows.{AccountRows, IsAccount, IsRowsOf}
 use Rattle.reserving.specs.Requests.{credited}
 use Rattle.reserving.specs.Changes.{credited_account}
 use Rattle.buckets.specs.Row.{with_end, with_release}
@@ -119,6 +120,18 @@ new_later t n from until scope amount lapsed ch h el ec eh =
         rw e (with_columns b 0 0 (0 - 0) 0 0 0 (0 + 0 + amount) (amount - 0 - 0) refl (omega arith)
         refl (omega arith))
 
+-- a bucket more leaves the ledger sound
+pub IsSoundLedger-credited : (t from until : ℕ) (scope : Option ℕ) (amount : ℕ)
+    (ledger : Ledger) → IsSoundLedger ledger →
+    IsSoundLedger (credited t from until scope amount ledger)
+IsSoundLedger-credited t from until scope amount ledger sound = record {
+  touched = sound.touched;
+  unknown = λ s e. let u : IsUnknown s ledger = sound.unknown s e in
+      record { closed = u.closed; held = λ n. omega (arith, u.held n); granted = u.granted };
+  fresh = λ n le. omega (arith, sound.fresh n (omega (arith, le)));
+  free = λ n p le. omega (arith, sound.free n p (omega (arith, le)));
+}
+
 pub IsRowsOf-credited : (ledger : Ledger) (a : AccountRows) (t from until : ℕ) (scope : Option ℕ)
     (amount : ℕ) → IsAccount a → IsRowsOf ledger a → a.as_of ≤ t →
     IsRowsOf (credited t from until scope amount ledger)
@@ -136,11 +149,7 @@ IsRowsOf-credited ledger a t from until scope amount is rows le = record {
   counters = λ g c. rows.counters g c ∙ counted g c;
   next_bucket = omega (arith, rows.next_bucket);
   next_charge = omega (arith, rows.next_charge);
-  touched = rows.touched;
-  unknown = λ s e. let u : IsUnknown s ledger = rows.unknown s e in
-      record { closed = u.closed; held = λ n. omega (arith, u.held n); granted = u.granted };
-  fresh = λ n h. omega (arith, rows.fresh n (omega arith));
-  free = λ n p h. omega (arith, rows.free n p (omega arith));
+  sound = IsSoundLedger-credited t from until scope amount ledger rows.sound;
 }
   where
     v : ℕ
@@ -158,11 +167,11 @@ IsRowsOf-credited ledger a t from until scope amount is rows le = record {
     later : IsRowsOf ledger (advanced t a)
     later = IsRowsOf-advanced ledger a t is rows le
 
-    next : a.next_bucket ≤ next_bucket ledger
-    next = omega (arith, rows.next_bucket)
+    next : next_bucket ledger ≤ next_bucket ledger
+    next = omega arith
 
     unheld : (p : List ℕ → ℕ → Bool) → held p (next_bucket ledger) ledger ≡ 0
-    unheld p = rows.free (next_bucket ledger) p next
+    unheld p = rows.sound.free (next_bucket ledger) p next
 
     given : lapsed_in (is_live_in v t a.sessions) a.groups b ≡ 0
     given = omega (
@@ -175,7 +184,7 @@ IsRowsOf-credited ledger a t from until scope amount is rows le = record {
     first = new_later t a.next_bucket from until scope amount
         (lapsed_in (is_live_in v t a.sessions) a.groups b) (charged (next_bucket ledger) more)
         (held (λ s g. is_live v t more s) (next_bucket ledger) more) given
-        (omega (arith, rows.fresh (next_bucket ledger) next))
+        (omega (arith, rows.sound.fresh (next_bucket ledger) next))
         (omega (arith, unheld (λ s g. is_live v t more s)))
         ∙ ap (λ n. balance_of t (new_row n from until scope amount)
         (charged (next_bucket ledger) more)

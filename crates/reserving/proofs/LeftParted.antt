@@ -397,9 +397,6 @@ module _ (ledger : Ledger) (t : ℕ) (w a : AccountRows) (is : IsAccount w) (own
           ∙ (λ i. counter_at (cycle_at (sym part.book i) g) ledger g c);
       next_bucket = part.next_bucket ∙ rows.next_bucket;
       next_charge = part.next_charge ∙ rows.next_charge;
-      touched = rows.touched;
-      unknown = rows.unknown;
-      fresh = λ n le. rows.fresh n (subst (λ m. m ≤ n) part.next_bucket le);
-      free = λ n counts le. rows.free n counts (subst (λ m. m ≤ n) part.next_bucket le);
+      sound = rows.sound;
     };
   }

@@ -5,6 +5,7 @@ use Rattle.std.specs.Prelude.{if◌then◌else◌, ◌==◌, ◌&&◌, ◌||◌,
 use Rattle.std.proofs.lemmas.Bool.{or_parts}
 use Rattle.std.proofs.lemmas.Bool.Decides.{nat_tests}
 use Rattle.units.specs.declared.blocks.UsedPart.{UsedPart}
+use Rattle.tariffs.specs.Books.{Book}
 use Rattle.buckets.specs.declared.holds.Hold.{Hold}
 use Rattle.buckets.specs.Row.{Row, with_charge, with_charge_of_hold, with_release}
 use Rattle.buckets.specs.Share.{parts}
@@ -34,7 +35,8 @@ use Rattle.reserving.specs.Settlement.{report_price}
 use Rattle.reserving.specs.Changes.{new_group, used_in, reserved_in, periods_in, price_in, count_in}
 use Rattle.reserving.specs.Changes.{with_use, with_count, ended_group, ended_rows, settled_account}
 use Rattle.reserving.specs.Changes.{settled_by_rows}
-use Rattle.reserving.specs.Rows.{AccountRows, IsAccount, IsRowsOf, IsUnknown}
+use Rattle.reserving.specs.SoundLedger.{IsUnknown, IsSoundLedger}
+use Rattle.reserving.specs.Rows.{AccountRows, IsAccount, IsRowsOf}
 use Rattle.reserving.proofs.Lists.{find-put, find-put_other, find-map}
 use Rattle.reserving.proofs.Keys.{is_key, own_key, key_session, key_group, key_of, other_row}
 use Rattle.reserving.proofs.Keys.{is_cycle, own_cycle, cycle_group, cycle_cycle, other_counter}
@@ -588,6 +590,63 @@ unknown-ended t session group ledger s h =
           λ g. grant_ended (is_key session group s g) (newest (grant_in s g) ledger) (h.granted g);
     }
 
+-- ---- the ledger stays sound
+
+-- an account's buckets are made
+pub made_in : (ledger : Ledger) (a : AccountRows) → IsAccount a → IsRowsOf ledger a →
+    IsBelow (next_bucket ledger) (buckets_at a.book.validity a.as_of ledger)
+made_in ledger a account rows =
+    subst (λ n. IsBelow n (buckets_at a.book.validity a.as_of ledger)) rows.next_bucket
+    (subst (IsBelow a.next_bucket) rows.buckets account.below)
+
+pub IsSoundLedger-settled : (v t : ℕ) (session : List ℕ) (group units blocks rated : ℕ)
+    (ledger : Ledger) → IsBelow (next_bucket ledger) (buckets_at v t ledger) →
+    IsSoundLedger ledger → IsSoundLedger (settled v t session group units blocks rated ledger)
+IsSoundLedger-settled v t session group units blocks rated ledger below sound =
+    let now : List Row = buckets_at v t ledger in
+    let holds : List Hold = holds_at v t session group ledger in
+    let hs : List Hold = parts (paid holds group t rated now) now in
+    let after : Ledger = settled v t session group units blocks rated ledger in
+    let same : SameSessions ledger after =
+    same_sessions-settled v t session group units blocks rated ledger in
+    let next : next_bucket after ≡ next_bucket ledger =
+    omega (arith, next_bucket-charges t hs ledger) in
+    record {
+      touched = same_touched ledger after same sound.touched;
+      unknown =
+          λ s e. unknown-settled v t session group units blocks rated ledger s
+          (sound.unknown s (sym (same.recording s) ∙ e));
+      fresh = λ n le.
+          let made : next_bucket ledger ≤ n = subst (λ (m : ℕ). m ≤ n) next le in
+          omega (
+            arith,
+            charged-charge_facts n t hs ledger,
+            sum_at_none (paid holds group t rated now) n now
+                (differs_above (next_bucket ledger) n now below made),
+            sound.fresh n made,
+          );
+      free = λ n counts le. omega (
+        arith,
+        held-charge_facts (λ s g. counts s g && not (is_same s session && g == group)) n t
+            hs ledger,
+        sound.free n (λ s g. counts s g && not (is_same s session && g == group))
+            (subst (λ (m : ℕ). m ≤ n) next le),
+      );
+    }
+
+pub IsSoundLedger-ended : (t : ℕ) (session : List ℕ) (group : ℕ) (ledger : Ledger) →
+    IsSoundLedger ledger → IsSoundLedger (with_end t session group ledger)
+IsSoundLedger-ended t session group ledger sound = record {
+  touched = sound.touched;
+  unknown = λ s e. unknown-ended t session group ledger s (sound.unknown s e);
+  fresh = λ n le. omega (arith, sound.fresh n (omega (arith, le)));
+  free = λ n counts le. omega (
+    arith,
+    sound.free n (λ s g. counts s g && not (is_same s session && g == group))
+        (omega (arith, le)),
+  );
+}
+
 -- ---- the rows of the ledger with the settlement
 
 pub IsRowsOf-settled : (ledger : Ledger) (a : AccountRows) (session : List ℕ)
@@ -603,8 +662,6 @@ IsRowsOf-settled ledger a session group units blocks rated account rows live =
     let holds : List Hold = holds_at v t session group ledger in
     let hs : List Hold = parts (paid holds group t rated now) now in
     let sound : IsSound now = subst IsSound rows.buckets account.sound in
-    let below : IsBelow a.next_bucket now =
-    subst (IsBelow a.next_bucket) rows.buckets account.below in
     let same : SameSessions ledger after =
     same_sessions-settled v t session group units blocks rated ledger in
     let moved : buckets_at v t after ≡ settled_rows holds group t rated now =
@@ -628,23 +685,8 @@ IsRowsOf-settled ledger a session group units blocks rated account rows live =
       next_bucket = rows.next_bucket ∙ omega (arith, next_bucket-charges t hs ledger);
       next_charge =
           ap (λ n. n + 1) rows.next_charge ∙ omega (arith, next_charge-charges t hs ledger);
-      touched = same_touched ledger after same rows.touched;
-      unknown =
-          λ s e. unknown-settled v t session group units blocks rated ledger s
-          (rows.unknown s (sym (same.recording s) ∙ e));
-      fresh = λ n le. omega (
-        arith,
-        charged-charge_facts n t hs ledger,
-        sum_at_none (paid holds group t rated now) n now
-            (differs_above a.next_bucket n now below le),
-        rows.fresh n le,
-      );
-      free = λ n counts le. omega (
-        arith,
-        held-charge_facts (λ s g. counts s g && not (is_same s session && g == group)) n t
-            hs ledger,
-        rows.free n (λ s g. counts s g && not (is_same s session && g == group)) le,
-      );
+      sound = IsSoundLedger-settled v t session group units blocks rated ledger
+          (made_in ledger a account rows) rows.sound;
     }
 
 -- ---- the rows of the ledger with the reservation's end
@@ -766,14 +808,21 @@ IsRowsOf-ended ledger a session group account rows live =
           λ g c. rows.counters g c ∙ counter_ended (cycle_at a.book g) t session group ledger g c;
       next_bucket = rows.next_bucket ∙ omega arith;
       next_charge = rows.next_charge ∙ omega arith;
-      touched = same_touched ledger after same rows.touched;
-      unknown = λ s e. unknown-ended t session group ledger s (rows.unknown s e);
-      fresh = λ n le. omega (arith, rows.fresh n le);
-      free = λ n counts le. omega
-          (arith, rows.free n (λ s g. counts s g && not (is_same s session && g == group)) le);
+      sound = IsSoundLedger-ended t session group ledger rows.sound;
     }
 
 -- ---- a report's settlement
+
+pub IsSoundLedger-settled_by : (b : Book) (t : ℕ) (session : List ℕ) (group : ℕ)
+    (used_parts : List UsedPart) (ledger : Ledger) →
+    IsBelow (next_bucket ledger) (buckets_at b.validity t ledger) → IsSoundLedger ledger →
+    IsSoundLedger (settled_by b t session group used_parts ledger)
+IsSoundLedger-settled_by b t session group [] ledger below sound =
+    IsSoundLedger-ended t session group ledger sound
+IsSoundLedger-settled_by b t session group (p ∷ ps) ledger below sound =
+    IsSoundLedger-settled b.validity t session group (reported (p ∷ ps))
+    (report_price b t session group (p ∷ ps) ledger).blocks
+    (report_price b t session group (p ∷ ps) ledger).amount.0 ledger below sound
 
 -- a report costs by the rows what it costs by the ledger
 pub price_in_is : (ledger : Ledger) (a : AccountRows) (s : List ℕ) (g : ℕ)

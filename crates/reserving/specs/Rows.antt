@@ -1,6 +1,6 @@
 -- An account's rows, and the ledger that they are the sums of.
 -- Source: profile.
-use Rattle.std.specs.Prelude.{◌≡◌, ℕ, ◌≤◌, List, [], ◌∷◌, Bool, true, false, Some, None, option_map}
+use Rattle.std.specs.Prelude.{◌≡◌, ℕ, ◌≤◌, List, [], ◌∷◌, Bool, true, false}
 use Rattle.buckets.specs.declared.holds.Hold.{Hold}
 use Rattle.buckets.specs.Row.{Row}
 use Rattle.buckets.specs.Share.{parts}
@@ -9,8 +9,8 @@ use Rattle.buckets.specs.Spend.{Each, IsSound, IsBelow}
 use Rattle.reserving.specs.declared.session.Session.{Session}
 use Rattle.reserving.specs.declared.session.SessionGroup.{SessionGroup}
 use Rattle.reserving.specs.declared.session.Counter.{Counter}
-use Rattle.reserving.specs.Ledger.{Ledger, is_barred, charged, held, is_same, is_closed, open_grant}
-use Rattle.reserving.specs.Ledger.{last_touch, last_recording, next_bucket, next_charge}
+use Rattle.reserving.specs.Ledger.{Ledger, is_barred, next_bucket, next_charge}
+use Rattle.reserving.specs.SoundLedger.{IsSoundLedger}
 use Rattle.tariffs.specs.Books.{Book, IsBook}
 use Rattle.reserving.specs.Pricing.{cycle_at}
 use Rattle.reserving.specs.Balance.{buckets_at}
@@ -67,12 +67,6 @@ pub record IsAccount (a : AccountRows) : Type 0 where
 
 -- ---- the ledger's rows
 
--- a session without a recorded request has nothing else either
-pub record IsUnknown (s : List ℕ) (ledger : Ledger) : Type 0 where
-  pub closed : is_closed s ledger ≡ false
-  pub held : (n : ℕ) → held (λ x g. is_same x s) n ledger ≡ 0
-  pub granted : (g : ℕ) → open_grant s g ledger ≡ None
-
 -- the account's rows are the ledger's at the moment as of which they stand: each row is the
 -- ledger's, and what the ledger tells has its row
 pub record IsRowsOf (ledger : Ledger) (a : AccountRows) : Type 0 where
@@ -85,10 +79,4 @@ pub record IsRowsOf (ledger : Ledger) (a : AccountRows) : Type 0 where
   pub counters : (g c : ℕ) → counter_in g c a.counters ≡ counter_at (cycle_at a.book g) ledger g c
   pub next_bucket : a.next_bucket ≡ next_bucket ledger
   pub next_charge : a.next_charge ≡ next_charge ledger
-  -- a session's last touch is recorded
-  pub touched : (s : List ℕ) (x : ℕ) → last_touch s ledger ≡ Some x →
-      option_map (λ r. r.at) (last_recording s ledger) ≡ Some x
-  pub unknown : (s : List ℕ) → last_recording s ledger ≡ None → IsUnknown s ledger
-  -- nothing is charged or held of a bucket that isn't there
-  pub fresh : (n : ℕ) → a.next_bucket ≤ n → charged n ledger ≡ 0
-  pub free : (n : ℕ) (counts : List ℕ → ℕ → Bool) → a.next_bucket ≤ n → held counts n ledger ≡ 0
+  pub sound : IsSoundLedger ledger

@@ -136,12 +136,15 @@ fn put_answer(out: &mut Writer, answer: &Answer) -> Result<(), AllocError>
     }
 }
 
+/// Room for most answers, in bytes, so that their text doesn't grow step by step.
+const ROOM: usize = 512;
+
 #[tactic(auto, unfolding(crate::specs::Spelled::answer_text))]
 fn compact(alloc: Global, answer: &Answer) -> Result<String, AllocError>
     ensures text { IfOk result (λ s. string_bytes s ≡ answer_text answer.now) }
     ensures rule { IfOk result (λ s. IsAnswer answer.now) }
 {
-    let mut out = Writer::new(Vec::new(alloc));
+    let mut out = Writer::new(Vec::with_capacity(alloc, ROOM)?);
     put_answer(&mut out, answer)?;
     Ok(text_of(out))
 }
@@ -184,7 +187,7 @@ fn put_fault(out: &mut Writer, fault: WireFault) -> Result<(), AllocError>
 pub fn write_fault(alloc: Global, fault: WireFault) -> Result<String, AllocError>
     ensures { IfOk result (λ s. string_bytes s ≡ fault_text fault) }
 {
-    let mut out = Writer::new(Vec::new(alloc));
+    let mut out = Writer::new(Vec::with_capacity(alloc, ROOM)?);
     put_fault(&mut out, fault)?;
     Ok(text_of(out))
 }

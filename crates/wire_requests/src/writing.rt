@@ -102,12 +102,15 @@ fn put_request(out: &mut Writer, request: &Request) -> Result<(), AllocError>
     Ok(())
 }
 
+/// Room for most requests, in bytes, so that their text doesn't grow step by step.
+const ROOM: usize = 512;
+
 #[tactic(auto, unfolding(crate::specs::Spelled::request_text))]
 fn compact(alloc: Global, request: &Request) -> Result<String, AllocError>
     ensures text { IfOk result (λ s. string_bytes s ≡ request_text request.now) }
     ensures rule { IfOk result (λ s. IsRequest request.now) }
 {
-    let mut out = Writer::new(Vec::new(alloc));
+    let mut out = Writer::new(Vec::with_capacity(alloc, ROOM)?);
     put_request(&mut out, request)?;
     Ok(text_of(out))
 }

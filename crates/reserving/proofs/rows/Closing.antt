@@ -17,7 +17,8 @@ use Rattle.reserving.specs.Balance.{credits, bucket_at, buckets_at}
 use Rattle.reserving.specs.Sessions.{is_session, session_at, session_row, state_at, is_of, group_at}
 use Rattle.reserving.specs.Sessions.{reservation_at, holds_at, held_by}
 use Rattle.reserving.specs.Pricing.{cycle_at}
-use Rattle.reserving.specs.Rows.{AccountRows, EachIn, AreApart, IsAccount, IsRowsOf, IsUnknown}
+use Rattle.reserving.specs.SoundLedger.{IsUnknown, IsSoundLedger}
+use Rattle.reserving.specs.Rows.{AccountRows, EachIn, AreApart, IsAccount, IsRowsOf}
 use Rattle.reserving.specs.Requests.{touched, closed}
 use Rattle.reserving.specs.Changes.{touched_account, touched_session, closed_account}
 use Rattle.reserving.specs.Changes.{closed_session, is_other, lapse_group, lapsed_in}
@@ -27,7 +28,7 @@ use Rattle.reserving.proofs.ledger.Columns.{balanced_le, balance_by, release_by}
 use Rattle.reserving.proofs.Advancing.{held_by-is, groups_each, found_each, IsGroupsOf}
 use Rattle.reserving.proofs.rows.Touching.{IsRowsOf-leaves, SameMoney, same_touched, same_closed}
 use Rattle.reserving.proofs.rows.Touching.{reservation_at-same, counter_at-same, unknown-same}
-use Rattle.reserving.proofs.rows.Touching.{same_back, touch-recorded, touch-known}
+use Rattle.reserving.proofs.rows.Touching.{same_back, IsSoundLedger-same, IsSoundLedger-touched}
 
 -- ---- a live session
 
@@ -95,8 +96,7 @@ IsRowsOf-touched ledger a s n rows live some =
       sessions =
           λ x. find-map (is_session x) (touched_session s n t) a.sessions (touched_id s n t x)
           ∙ ap (option_map (touched_session s n t)) (rows.sessions x) ∙ found x (is_same s x) refl;
-      touched = λ x y e. touch-recorded s x n t y (is_same s x) ledger (rows.touched x y) e;
-      unknown = λ x e. touch-known s x n t (is_same s x) ledger (rows.unknown x) refl e;
+      sound = IsSoundLedger-touched t s n ledger rows.sound;
     })
   where
     v : ℕ
@@ -123,7 +123,7 @@ IsRowsOf-touched ledger a s n rows live some =
     recording : is_some (last_recording s ledger) ≡ true
     recording =
         recording_is (last_recording s ledger) facts.touch
-        (rows.touched s facts.touch facts.touched)
+        (rows.sound.touched s facts.touch facts.touched)
 
     open_now : state_at v t (touched t s n ledger) s ≡ Open
     open_now = rw (same_itself s, begun, facts.«open») refl
@@ -233,6 +233,21 @@ each_closed v t ledger s groups (c ∷ cs) apart is split balanced sums all =
     λ i. one i
     ∷ each_closed v t ledger s groups cs apart is split balanced.1 (λ x g. (sums x g).1) all.1 i
 
+-- a recorded session ends: the ledger stays sound
+pub IsSoundLedger-closed : (t : ℕ) (s : List ℕ) (ledger : Ledger) →
+    (last_recording s ledger ≡ None → ⊥) → IsSoundLedger ledger → IsSoundLedger (closed t s ledger)
+IsSoundLedger-closed t s ledger has sound =
+    IsSoundLedger-same (closed t s ledger) ledger (same_closed t s ledger) sound.touched
+    (λ x e. known x (is_same s x) refl e) sound
+  where
+    known : (x : List ℕ) (b : Bool) → is_same s x ≡ b → last_recording x ledger ≡ None →
+        IsUnknown x (closed t s ledger)
+    known x true e h =
+        absurd (has (ap (λ y. last_recording y ledger) (same_from s x e) ∙ h))
+    known x false e h =
+        unknown-same x (closed t s ledger) ledger (same_closed t s ledger) (rw e refl)
+        (sound.unknown x h)
+
 pub IsRowsOf-closed : (ledger : Ledger) (a : AccountRows) (s : List ℕ) → IsAccount a →
     IsRowsOf ledger a → is_live a.book.validity a.as_of ledger s ≡ true →
     IsRowsOf (closed a.as_of s ledger) (closed_account s a)
@@ -255,10 +270,9 @@ IsRowsOf-closed ledger a s is rows live = record {
       ∙ sym (counter_at-same (cycle_at a.book g) (closed t s ledger) ledger g c same);
   next_bucket = rows.next_bucket ∙ sym same.next_bucket;
   next_charge = rows.next_charge ∙ sym same.next_charge;
-  touched = rows.touched;
-  unknown = λ x e. known x (is_same s x) refl e;
-  fresh = λ n le. same.charged n ∙ rows.fresh n le;
-  free = λ n p le. same.held p n ∙ rows.free n p le;
+  sound = IsSoundLedger-closed t s ledger (λ none. no_some facts.touch
+      (ap (option_map (λ (r : Recording). r.at)) (sym none)
+      ∙ rows.sound.touched s facts.touch facts.touched)) rows.sound;
 }
   where
     v : ℕ
@@ -383,14 +397,3 @@ IsRowsOf-closed ledger a s is rows live = record {
             ∙ (λ i. Some
             (record { session = x; group = g; used = number i; reservation = stays i }))
         at false = refl
-
-    known : (x : List ℕ) (b : Bool) → is_same s x ≡ b → last_recording x ledger ≡ None →
-        IsUnknown x (closed t s ledger)
-    known x true e h =
-        absurd (let none : last_recording s ledger
-        ≡ None = ap (λ y. last_recording y ledger) (same_from s x e) ∙ h in
-        no_some facts.touch
-        (ap (option_map (λ (r : Recording). r.at)) (sym none)
-        ∙ rows.touched s facts.touch facts.touched))
-    known x false e h =
-        unknown-same x (closed t s ledger) ledger same (rw e refl) (rows.unknown x h)

@@ -13,7 +13,7 @@ use Rattle.reserving.specs.declared.session.SessionGroup.{SessionGroup}
 use Rattle.rating.specs.declared.grant.Periods.{Periods}
 use Rattle.reserving.specs.Ledger.{Ledger, charged, open_grant, held, only, used, counter}
 use Rattle.reserving.specs.Ledger.{has_group, has_counter, inner, is_live, is_same, grant_in}
-use Rattle.reserving.specs.Ledger.{counts_group, blocks_in}
+use Rattle.reserving.specs.Ledger.{counts_group, blocks_in, next_bucket}
 use Rattle.reserving.specs.Pricing.{cycle_at}
 use Rattle.reserving.specs.Keyed.{put}
 use Rattle.reserving.specs.Balance.{credits, balance_of, bucket_at, buckets_at}
@@ -22,7 +22,8 @@ use Rattle.reserving.specs.Sessions.{reservation_at}
 use Rattle.reserving.specs.Settlement.{charge_facts}
 use Rattle.reserving.specs.Debiting.{charged_use}
 use Rattle.reserving.specs.Changes.{new_group, group_or_new, used_in, with_event, debited_account}
-use Rattle.reserving.specs.Rows.{AccountRows, IsAccount, IsRowsOf, IsUnknown}
+use Rattle.reserving.specs.SoundLedger.{IsUnknown, IsSoundLedger}
+use Rattle.reserving.specs.Rows.{AccountRows, IsAccount, IsRowsOf}
 use Rattle.reserving.proofs.Lists.{find-put, find-put_other}
 use Rattle.reserving.proofs.Keys.{is_key, own_key, key_session, key_group, other_row}
 use Rattle.reserving.proofs.SettledFacts.{is_barred-front, total-front, newest-front, any-front}
@@ -37,7 +38,7 @@ use Rattle.reserving.proofs.rows.Complete.{row_with}
 use Rattle.reserving.proofs.SettledRows.{own_row, own_named, own_used, other_named, other_used}
 use Rattle.reserving.proofs.SettledRows.{next_bucket-charges, next_charge-charges, used_in_is}
 use Rattle.reserving.proofs.SettledRows.{count_in_is, open_none, if_none, counters_used}
-use Rattle.reserving.proofs.SettledRows.{differs_above, sum_at_none}
+use Rattle.reserving.proofs.SettledRows.{differs_above, sum_at_none, made_in}
 
 -- what each bucket pays of an event's price
 abbrev shares : ℕ → ℕ → ℕ → ℕ → Ledger → List Hold
@@ -286,6 +287,36 @@ unknown-debited v t session group units blocks rated ledger s h = record {
   granted = λ g. same_grant v t session group units blocks rated ledger s g ∙ h.granted g;
 }
 
+-- the ledger stays sound
+pub IsSoundLedger-debited : (v t : ℕ) (session : List ℕ) (group units blocks rated : ℕ)
+    (ledger : Ledger) → IsBelow (next_bucket ledger) (buckets_at v t ledger) →
+    IsSoundLedger ledger → IsSoundLedger (charged_use v t session group units blocks rated ledger)
+IsSoundLedger-debited v t session group units blocks rated ledger below sound =
+    let now : List Row = buckets_at v t ledger in
+    let hs : List Hold = shares v t group rated ledger in
+    let after : Ledger = charged_use v t session group units blocks rated ledger in
+    let same : SameSessions ledger after =
+    same_sessions-debited v t session group units blocks rated ledger in
+    let next : next_bucket after ≡ next_bucket ledger =
+    omega (arith, next_bucket-charges t hs ledger) in
+    record {
+      touched = same_touched ledger after same sound.touched;
+      unknown =
+          λ s e. unknown-debited v t session group units blocks rated ledger s
+          (sound.unknown s (sym (same.recording s) ∙ e));
+      fresh = λ n le.
+          let made : next_bucket ledger ≤ n = subst (λ (m : ℕ). m ≤ n) next le in
+          omega (
+            arith,
+            charged-charge_facts n t hs ledger,
+            sum_at_none (paid [] group t rated now) n now
+                (differs_above (next_bucket ledger) n now below made),
+            sound.fresh n made,
+          );
+      free = λ n counts le. same_held v t session group units blocks rated ledger counts n
+          ∙ sound.free n counts (subst (λ (m : ℕ). m ≤ n) next le);
+    }
+
 pub IsRowsOf-debited : (ledger : Ledger) (a : AccountRows) (session : List ℕ)
     (group units blocks rated : ℕ) →
     IsAccount a → IsRowsOf ledger a →
@@ -298,8 +329,6 @@ IsRowsOf-debited ledger a session group units blocks rated account rows =
     let now : List Row = buckets_at v t ledger in
     let hs : List Hold = shares v t group rated ledger in
     let sound : IsSound now = subst IsSound rows.buckets account.sound in
-    let below : IsBelow a.next_bucket now =
-    subst (IsBelow a.next_bucket) rows.buckets account.below in
     let same : SameSessions ledger after =
     same_sessions-debited v t session group units blocks rated ledger in
     let moved : buckets_at v t after ≡ settled_rows [] group t rated now =
@@ -324,17 +353,6 @@ IsRowsOf-debited ledger a session group units blocks rated account rows =
       next_bucket = rows.next_bucket ∙ omega (arith, next_bucket-charges t hs ledger);
       next_charge =
           ap (λ n. n + 1) rows.next_charge ∙ omega (arith, next_charge-charges t hs ledger);
-      touched = same_touched ledger after same rows.touched;
-      unknown =
-          λ s e. unknown-debited v t session group units blocks rated ledger s
-          (rows.unknown s (sym (same.recording s) ∙ e));
-      fresh = λ n le. omega (
-        arith,
-        charged-charge_facts n t hs ledger,
-        sum_at_none (paid [] group t rated now) n now
-            (differs_above a.next_bucket n now below le),
-        rows.fresh n le,
-      );
-      free = λ n counts le. same_held v t session group units blocks rated ledger counts n
-          ∙ rows.free n counts le;
+      sound = IsSoundLedger-debited v t session group units blocks rated ledger
+          (made_in ledger a account rows) rows.sound;
     }

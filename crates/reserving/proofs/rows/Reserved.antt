@@ -3,7 +3,6 @@ use Rattle.std.proofs.Common.{◌≡◌, ℕ, ◌+◌, ◌-◌, ◌≤◌, Bool,
 use Rattle.std.proofs.Common.{refl, sym, ap, subst, ◌∙◌, arith, Option, Some, None}
 use Rattle.std.specs.Prelude.{if◌then◌else◌, ◌==◌, ◌&&◌, ◌||◌, not, nat_lt, min, is_some}
 use Rattle.std.specs.Prelude.{option_map}
-use Rattle.std.proofs.lemmas.Bool.Decides.{nat_tests}
 use Rattle.buckets.specs.declared.holds.Hold.{Hold}
 use Rattle.buckets.specs.Row.{Row, eligible_amount, is_eligible, with_hold}
 use Rattle.buckets.specs.Share.{share, parts}
@@ -19,7 +18,7 @@ use Rattle.reserving.specs.Ledger.{Ledger, or_else, charged, held, only, used, c
 use Rattle.reserving.specs.Ledger.{has_counter, open_grant, inner, is_live, is_within, is_same}
 use Rattle.reserving.specs.Ledger.{is_closed, units_in, names_group, grant_in, counts_group}
 use Rattle.reserving.specs.Ledger.{blocks_in, uses_in, credits_in, newest, last_touch}
-use Rattle.reserving.specs.Ledger.{last_recording}
+use Rattle.reserving.specs.Ledger.{last_recording, next_bucket}
 use Rattle.reserving.specs.Ledger.Fact.{Grant}
 use Rattle.tariffs.specs.Books.{Book}
 use Rattle.rating.specs.declared.grant.Periods.{Periods}
@@ -31,11 +30,13 @@ use Rattle.reserving.specs.Sessions.{held_by, reservation_of, reservation_at}
 use Rattle.reserving.specs.Reservation.{hold_facts, reserved}
 use Rattle.reserving.specs.Changes.{used_in, reserved_in, with_reservation, reserved_account}
 use Rattle.reserving.specs.Prepared.{reservation_in}
-use Rattle.reserving.specs.Rows.{AccountRows, IsAccount, IsRowsOf, IsUnknown}
+use Rattle.reserving.specs.SoundLedger.{IsUnknown, IsSoundLedger}
+use Rattle.reserving.specs.Rows.{AccountRows, IsAccount, IsRowsOf}
 use Rattle.reserving.proofs.InOrder.{order_map, order_held}
 use Rattle.reserving.proofs.Lists.{find-put, find-put_other, EachIn-put, no_some}
 use Rattle.reserving.proofs.Keys.{is_key, own_key, key_session, key_group, other_row, not_true}
 use Rattle.reserving.proofs.Keys.{first_true}
+use Rattle.reserving.proofs.Holds.{same_from}
 use Rattle.reserving.proofs.SettledFacts.{is_barred-front, total-front, newest-front, any-front}
 use Rattle.reserving.proofs.SettledFacts.{any_dated-front, each_hold, held-hold_facts}
 use Rattle.reserving.proofs.SettledFacts.{held-hold_facts_other, credits-hold_facts}
@@ -44,6 +45,7 @@ use Rattle.reserving.proofs.SettledFacts.{same_session, same_live, same_touched,
 use Rattle.reserving.proofs.ledger.Columns.{balance_by, with_columns}
 use Rattle.reserving.proofs.rows.Complete.{held_free}
 use Rattle.reserving.proofs.SettledRows.{own_row, used_in_is, if_none, differs_above, sum_at_none}
+use Rattle.reserving.proofs.SettledRows.{made_in}
 use Rattle.reserving.proofs.kept.Settled.{held_by-put, held_by_number, AreApart-put, used_le}
 use Rattle.reserving.proofs.kept.Settled.{IsBelow-map}
 
@@ -415,6 +417,45 @@ held_above book t session group units amount ledger n p sum none = by_test (p se
           none,
         )
 
+-- ---- the ledger stays sound: a grant is of a recorded session
+
+pub IsSoundLedger-reserved : (book : Book) (t : ℕ) (session : List ℕ) (group units amount : ℕ)
+    (ledger : Ledger) → IsBelow (next_bucket ledger) (buckets_at book.validity t ledger) →
+    (last_recording session ledger ≡ None → ⊥) → IsSoundLedger ledger →
+    IsSoundLedger (reserved book t session group units amount ledger)
+IsSoundLedger-reserved book t session group units amount ledger below has sound =
+    let now : List Row = buckets_at book.validity t ledger in
+    let hs : List Hold = holds_for book t group amount ledger in
+    let before : Ledger = granted book t session group units ledger in
+    let after : Ledger = reserved book t session group units amount ledger in
+    let same : SameSessions ledger after =
+    same_sessions-reserved book t session group units amount ledger in
+    let next : next_bucket after ≡ next_bucket ledger =
+    omega (
+      arith,
+      total-front (λ d. credits_in d.fact) (hold_facts t session group hs) before
+          (each_hold _ t session group hs (λ b n. refl)),
+    ) in
+    record {
+      touched = same_touched ledger after same sound.touched;
+      unknown = λ s e.
+          let nothing : last_recording s ledger ≡ None = sym (same.recording s) ∙ e in
+          unknown-reserved book t session group units amount ledger s
+          (not_true (is_same session s)
+          (λ q. has (ap (λ x. last_recording x ledger) (same_from session s q) ∙ nothing)))
+          (sound.unknown s nothing);
+      fresh = λ n le. omega (
+        arith,
+        charged-hold_facts n t session group hs before,
+        sound.fresh n (subst (λ (m : ℕ). m ≤ n) next le),
+      );
+      free = λ n counts le.
+          let made : next_bucket ledger ≤ n = subst (λ (m : ℕ). m ≤ n) next le in
+          held_above book t session group units amount ledger n counts
+          (sum_at_none (share (eligible_amount group t) now amount) n now
+          (differs_above (next_bucket ledger) n now below made)) (sound.free n counts made);
+    }
+
 -- ---- the rows of the ledger with the grant
 
 pub IsRowsOf-reserved : (ledger : Ledger) (a : AccountRows) (session : List ℕ)
@@ -432,24 +473,10 @@ IsRowsOf-reserved ledger a session group units amount account rows live none =
     let now : List Row = buckets_at v t ledger in
     let hs : List Hold = holds_for book t group amount ledger in
     let sound : IsSound now = subst IsSound rows.buckets account.sound in
-    let below : IsBelow a.next_bucket now =
-    subst (IsBelow a.next_bucket) rows.buckets account.below in
     let same : SameSessions ledger after =
     same_sessions-reserved book t session group units amount ledger in
     let free : Each (λ b. held (only session group) b.number ledger ≡ 0) now =
     held_free ledger a session group account rows live (ap is_some none) in
-    let above : (n : ℕ) → a.next_bucket ≤ n → sum_at n hs ≡ 0 =
-    λ n le. sum_at_none (share (eligible_amount group t) now amount) n now
-    (differs_above a.next_bucket n now below le) in
-    let unknown : (s : List ℕ) → last_recording s after ≡ None → IsUnknown s after = λ s e.
-    (let nothing : last_recording s ledger ≡ None = sym (same.recording s) ∙ e in
-    unknown-reserved book t session group units amount ledger s
-    (not_true (is_same session s)
-    (λ q. touched_live v t ledger s (rows.touched s)
-    (ap (is_live v t ledger)
-    (sym (key_session session group s group
-    (ap (λ x. x && group == group) q ∙ own_group group))) ∙ live) nothing))
-    (rows.unknown s nothing)) in
     record {
       barred = rows.barred
           ∙ sym (is_barred-front (hold_facts t session group hs) before
@@ -479,19 +506,10 @@ IsRowsOf-reserved ledger a session group units amount account rows live none =
             total-front (λ d. uses_in d.fact) (hold_facts t session group hs) before
                 (each_hold _ t session group hs (λ b n. refl)),
           );
-      touched = same_touched ledger after same rows.touched;
-      unknown = unknown;
-      fresh = λ n le. omega (
-        arith,
-        charged-hold_facts n t session group hs before,
-        rows.fresh n le,
-      );
-      free = λ n counts le. held_above book t session group units amount ledger n counts
-          (above n le) (rows.free n counts le);
+      sound = IsSoundLedger-reserved book t session group units amount ledger
+          (made_in ledger a account rows)
+          (touched_live v t ledger session (rows.sound.touched session) live) rows.sound;
     }
-  where
-    own_group : (g : ℕ) → (true && g == g) ≡ true
-    own_group g = grind (arith, nat_tests)
 
 -- ---- what each account keeps
 

@@ -17,7 +17,8 @@ use Rattle.reserving.specs.Balance.{credits, bucket_at, buckets_at, balance_of}
 use Rattle.reserving.specs.Sessions.{is_session, session_in, session_at, session_row, state_at}
 use Rattle.reserving.specs.Sessions.{group_at, reservation_at, reservation_of, holds_at, counter_at}
 use Rattle.reserving.specs.Pricing.{cycle_at}
-use Rattle.reserving.specs.Rows.{AccountRows, IsRowsOf, IsUnknown}
+use Rattle.reserving.specs.SoundLedger.{IsUnknown, IsSoundLedger}
+use Rattle.reserving.specs.Rows.{AccountRows, IsRowsOf}
 use Rattle.reserving.specs.Requests.{recorded, touched, closed}
 use Rattle.reserving.specs.Changes.{session_put, with_session}
 use Rattle.reserving.proofs.Lists.{find-put, find-put_other, no_some}
@@ -181,9 +182,7 @@ pub record Leaves (a : AccountRows) (new old : Ledger) (rows : List Session) : T
       reservation_at a.book.validity a.as_of new s g
       ≡ reservation_at a.book.validity a.as_of old s g
   pub sessions : (s : List ℕ) → session_in s rows ≡ session_at a.book.validity a.as_of new s
-  pub touched : (s : List ℕ) (x : ℕ) → last_touch s new ≡ Some x →
-      option_map (λ (r : Recording). r.at) (last_recording s new) ≡ Some x
-  pub unknown : (s : List ℕ) → last_recording s new ≡ None → IsUnknown s new
+  pub sound : IsSoundLedger new
 
 pub IsRowsOf-leaves : (a : AccountRows) (new old : Ledger) (sessions : List Session) →
     IsRowsOf old a → Leaves a new old sessions → IsRowsOf new (record a { sessions = sessions })
@@ -197,10 +196,7 @@ IsRowsOf-leaves a new old sessions rows h = record {
       λ g c. rows.counters g c ∙ sym (counter_at-same (cycle_at a.book g) new old g c h.money);
   next_bucket = rows.next_bucket ∙ sym h.money.next_bucket;
   next_charge = rows.next_charge ∙ sym h.money.next_charge;
-  touched = h.touched;
-  unknown = h.unknown;
-  fresh = λ n le. h.money.charged n ∙ rows.fresh n le;
-  free = λ n p le. h.money.held p n ∙ rows.free n p le;
+  sound = h.sound;
 }
 
 -- ---- names
@@ -234,16 +230,33 @@ no_record ledger a s rows new =
     unrecorded s (state_at a.book.validity a.as_of ledger s) (last_recording s ledger)
     (sym (rows.sessions s) ∙ new)
 
-no_touch_of : (ledger : Ledger) (a : AccountRows) (s : List ℕ) → IsRowsOf ledger a →
-    session_in s a.sessions ≡ None → last_touch s ledger ≡ None
-no_touch_of ledger a s rows new =
+-- so it has no touch
+no_touch_of : (ledger : Ledger) (s : List ℕ) → IsSoundLedger ledger →
+    last_recording s ledger ≡ None → last_touch s ledger ≡ None
+no_touch_of ledger s sound none =
     untouched (last_touch s ledger)
-    (λ x e. ap (option_map (λ (r : Recording). r.at)) (sym (no_record ledger a s rows new))
-    ∙ rows.touched s x e)
+    (λ x e. ap (option_map (λ (r : Recording). r.at)) (sym none) ∙ sound.touched s x e)
 
--- ---- a touch is a record: what the ledger alone must be
+-- ---- what keeps a ledger sound
 
-pub touch-recorded : (s x : List ℕ) (n t y : ℕ) (b : Bool) (ledger : Ledger) →
+-- facts of sessions alone, where each touch is recorded and who isn't known has nothing
+pub IsSoundLedger-same : (new old : Ledger) → SameMoney new old →
+    ((s : List ℕ) (x : ℕ) → last_touch s new ≡ Some x →
+    option_map (λ (r : Recording). r.at) (last_recording s new) ≡ Some x) →
+    ((s : List ℕ) → last_recording s new ≡ None → IsUnknown s new) →
+    IsSoundLedger old → IsSoundLedger new
+IsSoundLedger-same new old same touched unknown sound = record {
+  touched = touched;
+  unknown = unknown;
+  fresh = λ n le. same.charged n ∙ sound.fresh n (made n le);
+  free = λ n p le. same.held p n ∙ sound.free n p (made n le);
+}
+  where
+    made : (n : ℕ) → next_bucket new ≤ n → next_bucket old ≤ n
+    made n le = subst (λ (m : ℕ). m ≤ n) same.next_bucket le
+
+-- a session is touched
+touch-recorded : (s x : List ℕ) (n t y : ℕ) (b : Bool) (ledger : Ledger) →
     (last_touch x ledger ≡ Some y →
     option_map (λ (r : Recording). r.at) (last_recording x ledger) ≡ Some y) →
     or_else (if b then Some t else None) (last_touch x ledger) ≡ Some y →
@@ -253,7 +266,7 @@ pub touch-recorded : (s x : List ℕ) (n t y : ℕ) (b : Bool) (ledger : Ledger)
 touch-recorded s x n t y true ledger before h = h
 touch-recorded s x n t y false ledger before h = before h
 
-pub touch-known : (s x : List ℕ) (n t : ℕ) (b : Bool) (ledger : Ledger) →
+touch-known : (s x : List ℕ) (n t : ℕ) (b : Bool) (ledger : Ledger) →
     (last_recording x ledger ≡ None → IsUnknown x ledger) →
     is_same s x ≡ b →
     or_else (if b then Some (record { number = n; at = t }) else None) (last_recording x ledger)
@@ -261,6 +274,37 @@ pub touch-known : (s x : List ℕ) (n t : ℕ) (b : Bool) (ledger : Ledger) →
 touch-known s x n t true ledger before e h = absurd (no_some _ (sym h))
 touch-known s x n t false ledger before e h =
     unknown-same x (touched t s n ledger) ledger (same_touched t s n ledger) refl (before h)
+
+pub IsSoundLedger-touched : (t : ℕ) (s : List ℕ) (n : ℕ) (ledger : Ledger) →
+    IsSoundLedger ledger → IsSoundLedger (touched t s n ledger)
+IsSoundLedger-touched t s n ledger sound =
+    IsSoundLedger-same (touched t s n ledger) ledger (same_touched t s n ledger)
+    (λ x y e. touch-recorded s x n t y (is_same s x) ledger (sound.touched x y) e)
+    (λ x e. touch-known s x n t (is_same s x) ledger (sound.unknown x) refl e) sound
+
+-- a request of a new session is recorded
+pub IsSoundLedger-recorded : (t : ℕ) (s : List ℕ) (n : ℕ) (ledger : Ledger) →
+    last_recording s ledger ≡ None → IsSoundLedger ledger → IsSoundLedger (recorded t s n ledger)
+IsSoundLedger-recorded t s n ledger none sound =
+    IsSoundLedger-same (recorded t s n ledger) ledger (same_recorded t s n ledger)
+    (λ x y e. recorded_at x y (is_same s x) refl e) (λ x e. known x (is_same s x) refl e) sound
+  where
+    recorded_at : (x : List ℕ) (y : ℕ) (b : Bool) → is_same s x ≡ b → last_touch x ledger ≡ Some y →
+        option_map (λ (r : Recording). r.at)
+        (or_else (if b then Some (record { number = n; at = t }) else None)
+        (last_recording x ledger)) ≡ Some y
+    recorded_at x y true e h = absurd
+        (no_some y (sym (no_touch_of ledger s sound none)
+        ∙ ap (λ z. last_touch z ledger) (same_from s x e) ∙ h))
+    recorded_at x y false e h = sound.touched x y h
+
+    known : (x : List ℕ) (b : Bool) → is_same s x ≡ b →
+        or_else (if b then Some (record { number = n; at = t }) else None) (last_recording x ledger)
+        ≡ None → IsUnknown x (recorded t s n ledger)
+    known x true e h = absurd (no_some _ (sym h))
+    known x false e h =
+        unknown-same x (recorded t s n ledger) ledger (same_recorded t s n ledger) refl
+        (sound.unknown x h)
 
 -- the row of a session's first request
 abbrev new_row : List ℕ → ℕ → ℕ → SessionState → Session
@@ -282,8 +326,7 @@ IsRowsOf-denied ledger a s n t rows new =
           (same_recorded t s n ledger)
           refl;
       sessions = λ x. found x (is_same s x) refl;
-      touched = λ x y e. recorded_at x y (is_same s x) refl e;
-      unknown = λ x e. known x (is_same s x) refl e;
+      sound = IsSoundLedger-recorded t s n ledger none rows.sound;
     })
   where
     v : ℕ
@@ -292,11 +335,11 @@ IsRowsOf-denied ledger a s n t rows new =
     u : ℕ
     u = a.as_of
 
-    no_touch : last_touch s ledger ≡ None
-    no_touch = no_touch_of ledger a s rows new
+    none : last_recording s ledger ≡ None
+    none = no_record ledger a s rows new
 
     never : state_at v u ledger s ≡ NeverOpened
-    never = rw no_touch refl
+    never = rw (no_touch_of ledger s rows.sound none) refl
 
     found : (x : List ℕ) (b : Bool) → is_same s x ≡ b →
         session_in x (session_put s n t NeverOpened a.sessions)
@@ -315,22 +358,6 @@ IsRowsOf-denied ledger a s n t rows new =
         find-put_other (is_session s) (is_session x) (new_row s n t NeverOpened) a.sessions e
         (λ y p. other_name s x y.id e p) ∙ rows.sessions x
 
-    recorded_at : (x : List ℕ) (y : ℕ) (b : Bool) → is_same s x ≡ b → last_touch x ledger ≡ Some y →
-        option_map (λ (r : Recording). r.at)
-        (or_else (if b then Some (record { number = n; at = t }) else None)
-        (last_recording x ledger)) ≡ Some y
-    recorded_at x y true e h =
-        absurd (no_some y (sym no_touch ∙ ap (λ z. last_touch z ledger) (same_from s x e) ∙ h))
-    recorded_at x y false e h = rows.touched x y h
-
-    known : (x : List ℕ) (b : Bool) → is_same s x ≡ b →
-        or_else (if b then Some (record { number = n; at = t }) else None) (last_recording x ledger)
-        ≡ None → IsUnknown x (recorded t s n ledger)
-    known x true e h = absurd (no_some _ (sym h))
-    known x false e h =
-        unknown-same x (recorded t s n ledger) ledger (same_recorded t s n ledger) refl
-        (rows.unknown x h)
-
 -- ---- a new session is opened
 
 pub IsRowsOf-opened : (ledger : Ledger) (a : AccountRows) (s : List ℕ) (n t : ℕ) →
@@ -344,8 +371,7 @@ IsRowsOf-opened ledger a s n t rows new le some =
       live = λ m. more m;
       reservations = λ x g. kept x g (is_same s x) refl;
       sessions = λ x. found x (is_same s x) refl;
-      touched = λ x y e. touch-recorded s x n t y (is_same s x) ledger (rows.touched x y) e;
-      unknown = λ x e. touch-known s x n t (is_same s x) ledger (rows.unknown x) refl e;
+      sound = IsSoundLedger-touched t s n ledger rows.sound;
     })
   where
     v : ℕ
@@ -354,8 +380,11 @@ IsRowsOf-opened ledger a s n t rows new le some =
     u : ℕ
     u = a.as_of
 
+    none : last_recording s ledger ≡ None
+    none = no_record ledger a s rows new
+
     unknown : IsUnknown s ledger
-    unknown = rows.unknown s (no_record ledger a s rows new)
+    unknown = rows.sound.unknown s none
 
     begun : nat_lt u (t + 2 * v) ≡ true
     begun = grind (arith, nat_tests)
@@ -364,7 +393,7 @@ IsRowsOf-opened ledger a s n t rows new le some =
     live_now = rw (same_itself s, begun, unknown.closed) refl
 
     dead_before : is_live v u ledger s ≡ false
-    dead_before = rw (no_touch_of ledger a s rows new) refl
+    dead_before = rw (no_touch_of ledger s rows.sound none) refl
 
     others : (x : List ℕ) → is_same s x ≡ false →
         is_live v u (touched t s n ledger) x ≡ is_live v u ledger x

@@ -3,7 +3,7 @@ use Rattle.std.specs.Io.KnownBytes.{Appends}
 use Rattle.http_answers.specs.Texts.{Begins}
 use Rattle.http_api.proofs.Continuing.{continued_step}
 use Rattle.http_api.proofs.RequestReplies.{ok_gives, err_gives, unclocked_reply, failed_reply}
-use Rattle.http_api.proofs.RequestReplies.{served_reply}
+use Rattle.http_api.proofs.RequestReplies.{answered_reply, owed_answer}
 use Rattle.http_api.proofs.answering.serve_command.Goals as goal
 
 pub returns-in_default-clause-ok : goal.returns-in_default-clause-ok
@@ -13,6 +13,9 @@ returns-in_default-clause-ok g c = λ clean. ok_gives c.tell_unable.result
     c.args.command c.args.clock.now c.now.new.self (g.K.Keeper.content c.args.keeper.now)
     (subst (λ o. g.C.Clock.gives c.args.clock.now o c.now.new.self) c.in_default.is c.now.ensures))
     c.tell_unable.ensures.ok
+
+pub returns-in_default-clause-memory : goal.returns-in_default-clause-memory
+returns-in_default-clause-memory g c = λ clean e. absurd (c.tell_unable.ensures.memory e)
 
 pub returns-in_default-clause-err : goal.returns-in_default-clause-err
 returns-in_default-clause-err g c = λ clean. err_gives c.tell_unable.result
@@ -24,21 +27,31 @@ returns-in_default-clause-err g c = λ clean. err_gives c.tell_unable.result
 
 pub returns-in-Ok-clause-ok : goal.returns-in-Ok-clause-ok
 returns-in-Ok-clause-ok g c = λ clean. ok_gives c.tell_answer.result
-    (served_reply g.C.Clock.gives c.args.book.now c.args.closes
+    (answered_reply g.C.Clock.gives c.args.book.now c.args.closes
     (Appends (g.W.Write.contents c.args.writer.now) (g.W.Write.contents c.tell_answer.new.writer))
-    c.args.command c.in-Some.moment c.args.clock.now c.now.new.self
+    c.args.command c.is_read_command-read.result c.in-Some.moment c.args.clock.now c.now.new.self
     (g.K.Keeper.content c.args.keeper.now) (g.K.Keeper.content c.step.new.keeper) c.in-Ok.answer
+    c.is_read_command-read.ensures
     (subst (λ o. g.C.Clock.gives c.args.clock.now o c.now.new.self) c.in-Some.is c.now.ensures)
     (c.in-Ok.ensures.served clean)) c.tell_answer.ensures.ok
 
 pub returns-in-Ok-clause-err : goal.returns-in-Ok-clause-err
 returns-in-Ok-clause-err g c = λ clean. err_gives c.tell_answer.result
-    (served_reply g.C.Clock.gives c.args.book.now c.args.closes
+    (answered_reply g.C.Clock.gives c.args.book.now c.args.closes
     (Begins (g.W.Write.contents c.args.writer.now) (g.W.Write.contents c.tell_answer.new.writer))
-    c.args.command c.in-Some.moment c.args.clock.now c.now.new.self
+    c.args.command c.is_read_command-read.result c.in-Some.moment c.args.clock.now c.now.new.self
     (g.K.Keeper.content c.args.keeper.now) (g.K.Keeper.content c.step.new.keeper) c.in-Ok.answer
+    c.is_read_command-read.ensures
     (subst (λ o. g.C.Clock.gives c.args.clock.now o c.now.new.self) c.in-Some.is c.now.ensures)
     (c.in-Ok.ensures.served clean)) c.tell_answer.ensures.err
+
+pub returns-in-Ok-clause-memory : goal.returns-in-Ok-clause-memory
+returns-in-Ok-clause-memory g c = λ clean e.
+    owed_answer g.C.Clock.gives c.args.book.now c.args.command c.is_read_command-read.result
+    c.in-Some.moment c.args.clock.now c.now.new.self (g.K.Keeper.content c.args.keeper.now)
+    (g.K.Keeper.content c.step.new.keeper) c.in-Ok.answer c.is_read_command-read.ensures
+    (subst (λ o. g.C.Clock.gives c.args.clock.now o c.now.new.self) c.in-Some.is c.now.ensures)
+    (c.in-Ok.ensures.served clean) (c.tell_answer.ensures.memory e)
 
 pub returns-in-Ok-clause-continued : goal.returns-in-Ok-clause-continued
 returns-in-Ok-clause-continued g c = λ clean.
@@ -63,3 +76,15 @@ returns-in-Err-clause-err g c = λ clean. err_gives c.tell_unable-in-Err.result
     (g.K.Keeper.content c.args.keeper.now) (g.K.Keeper.content c.step.new.keeper) c.in-Err.field-0
     (subst (λ o. g.C.Clock.gives c.args.clock.now o c.now.new.self) c.in-Some.is c.now.ensures)
     (c.in-Err.ensures.served clean)) c.tell_unable-in-Err.ensures.err
+
+pub returns-in-Err-clause-memory : goal.returns-in-Err-clause-memory
+returns-in-Err-clause-memory g c = λ clean e. absurd (c.tell_unable-in-Err.ensures.memory e)
+
+pub returns-in_default-clause-unwritten : goal.returns-in_default-clause-unwritten
+returns-in_default-clause-unwritten g c = λ e. absurd (c.tell_unable.ensures.memory e)
+
+pub returns-in-Ok-clause-unwritten : goal.returns-in-Ok-clause-unwritten
+returns-in-Ok-clause-unwritten g c = c.tell_answer.ensures.unwritten
+
+pub returns-in-Err-clause-unwritten : goal.returns-in-Err-clause-unwritten
+returns-in-Err-clause-unwritten g c = λ e. absurd (c.tell_unable-in-Err.ensures.memory e)

@@ -3,8 +3,8 @@ use Rattle.std.proofs.Common.{Some, None, IfOk, OnErr, IfSome}
 use Rattle.std.specs.declared.io.buffered.BufReader.{BufReader}
 use Rattle.std.specs.Io.Buffered.{reader_remaining, reader_capacity, reader_buffer, reader_inner}
 use Rattle.std.specs.Io.KnownBytes.{prepend_known}
-use Rattle.http_api.specs.Connections.{IsServed, IsBegun}
-use Rattle.http_api.proofs.Taking.{begun_none}
+use Rattle.http_api.specs.Connections.{IsServed, IsBegun, IsOutOfMemory}
+use Rattle.http_api.proofs.Taking.{begun_none, short_none}
 use Rattle.http_api.proofs.serving.serve.Goals as goal
 
 nothing_before : (known : Option (List ℕ)) → prepend_known [] known ≡ known
@@ -37,6 +37,21 @@ returns-in_default-new-clause-begun g c = λ clean.
     begun_none g.C.Clock.gives c.args.book.now (g.R.Read.remaining c.args.reader.now)
     c.args.clock.now (g.W.Write.contents c.args.writer.now) (g.K.Keeper.content c.args.keeper.now)
 
+pub returns-in_default-clause-memory : goal.returns-in_default-clause-memory
+returns-in_default-clause-memory g c = λ clean e.
+    short_none g.C.Clock.gives c.args.book.now (g.R.Read.remaining c.args.reader.now)
+    c.args.clock.now (g.W.Write.contents c.args.writer.now) (g.K.Keeper.content c.args.keeper.now)
+
+pub returns-in_default-from_elem-clause-memory : goal.returns-in_default-from_elem-clause-memory
+returns-in_default-from_elem-clause-memory g c = λ clean e.
+    short_none g.C.Clock.gives c.args.book.now (g.R.Read.remaining c.args.reader.now)
+    c.args.clock.now (g.W.Write.contents c.args.writer.now) (g.K.Keeper.content c.args.keeper.now)
+
+pub returns-in_default-new-clause-memory : goal.returns-in_default-new-clause-memory
+returns-in_default-new-clause-memory g c = λ clean e.
+    short_none g.C.Clock.gives c.args.book.now (g.R.Read.remaining c.args.reader.now)
+    c.args.clock.now (g.W.Write.contents c.args.writer.now) (g.K.Keeper.content c.args.keeper.now)
+
 pub returns-clause-served : goal.returns-clause-served
 returns-clause-served g c = λ clean.
     subst (λ (o : Option (List ℕ)). IfOk c.serve_requests.result (λ done. IfSome o (λ stream.
@@ -55,3 +70,12 @@ returns-clause-begun g c =
     (g.K.Keeper.content c.args.keeper.now) (g.K.Keeper.content c.serve_requests.new.keeper))))
     (unread c.in-Ok-new.buffered _ (λ m. g.R.Read.remaining m.now) c.in-Ok-new.ensures.capacity
     c.in-Ok-new.ensures.empty c.in-Ok-new.ensures.inner) (c.serve_requests.ensures.begun clean)
+
+pub returns-clause-memory : goal.returns-clause-memory
+returns-clause-memory g c = λ clean e.
+    subst (λ (o : Option (List ℕ)). IfSome o (λ stream.
+    IsOutOfMemory g.C.Clock.gives c.args.book.now stream c.args.clock.now c.serve_requests.new.clock
+    (g.W.Write.contents c.args.writer.now) (g.W.Write.contents c.serve_requests.new.writer)
+    (g.K.Keeper.content c.args.keeper.now) (g.K.Keeper.content c.serve_requests.new.keeper)))
+    (unread c.in-Ok-new.buffered _ (λ m. g.R.Read.remaining m.now) c.in-Ok-new.ensures.capacity
+    c.in-Ok-new.ensures.empty c.in-Ok-new.ensures.inner) (c.serve_requests.ensures.memory clean e)

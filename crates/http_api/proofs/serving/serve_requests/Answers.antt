@@ -1,8 +1,10 @@
-use Rattle.std.proofs.Common.{◌==◌, refl, le_refl, arith}
-use Rattle.http_api.proofs.RequestReplies.{at_err}
+use Rattle.std.proofs.Common.{◌≡◌, ◌==◌, refl, le_refl, arith, Err}
+use Rattle.byte_streams.specs.declared.StreamFault.TheVariants as broken
+use Rattle.http_api.proofs.RequestReplies.{at_err, memory_told}
 use Rattle.http_api.proofs.Continuing.{continued_none, continued_more}
 use Rattle.http_api.proofs.Taking.{so_far-none, so_far-more, so_far-closed, so_far-broken}
 use Rattle.http_api.proofs.Taking.{so_far-ended, so_far-full, so_far-begun, some_left, turns-more}
+use Rattle.http_api.proofs.Taking.{so_far-short, so_far-owed}
 use Rattle.http_api.proofs.serving.serve_requests.Goals as goal
 
 pub loop-served-init : goal.loop-served-init
@@ -24,6 +26,14 @@ returns-in_err-heard-clause-begun g c = λ clean. at_err c.from_residual.result
     (g.W.Write.contents c.loop-served.writer) (g.K.Keeper.content c.args.keeper.now)
     (g.K.Keeper.content c.loop-served.keeper)
     (omega (arith, c.loop-served.invariant.turns)) (c.loop-served.invariant.so_far clean))
+
+pub returns-in_err-heard-clause-memory : goal.returns-in_err-heard-clause-memory
+returns-in_err-heard-clause-memory g c = λ clean e.
+    so_far-short g.C.Clock.gives c.args.book.now c.loop-served.served c.loop-served.left
+    (g.R.Read.remaining c.args.reader.now) (g.R.Read.remaining c.loop-served.reader)
+    c.args.clock.now c.loop-served.clock (g.W.Write.contents c.args.writer.now)
+    (g.W.Write.contents c.loop-served.writer) (g.K.Keeper.content c.args.keeper.now)
+    (g.K.Keeper.content c.loop-served.keeper) (c.loop-served.invariant.so_far clean)
 
 pub returns-in_default-clause-served : goal.returns-in_default-clause-served
 returns-in_default-clause-served g c = λ clean.
@@ -50,6 +60,22 @@ returns-in_err-answer_request-clause-begun g c =
     c.loop-served-test.true) c.in-Some.is c.left_after-left.ensures refl c.loop-served-test.true
     (c.loop-served.invariant.so_far (c.answer_request.ensures.cleanness clean))
     c.in_ok-heard.ensures (c.in_err-answer_request.ensures.err clean))
+
+pub returns-in_err-answer_request-clause-memory : goal.returns-in_err-answer_request-clause-memory
+returns-in_err-answer_request-clause-memory g c = λ clean e.
+    let refused : c.answer_request.result ≡ Err broken.Memory =
+    memory_told c.answer_request.result c.from_residual-in_err-answer_request.result _
+    c.in_err-answer_request.was c.from_residual-in_err-answer_request.ensures.1 e in
+    so_far-owed g.C.Clock.gives c.args.book.now c.loop-served.served c.loop-served.left
+    (g.R.Read.remaining c.args.reader.now) (g.R.Read.remaining c.loop-served.reader)
+    (g.R.Read.remaining c.hear.new.reader) c.args.clock.now c.loop-served.clock
+    c.answer_request.new.clock (g.W.Write.contents c.args.writer.now)
+    (g.W.Write.contents c.loop-served.writer) (g.W.Write.contents c.answer_request.new.writer)
+    (g.K.Keeper.content c.args.keeper.now) (g.K.Keeper.content c.loop-served.keeper)
+    (g.K.Keeper.content c.answer_request.new.keeper) c.in_ok-heard.field-0 c.in-Some.heard
+    c.in-Some.is (c.answer_request.ensures.unwritten refused)
+    (c.loop-served.invariant.so_far (c.answer_request.ensures.cleanness clean))
+    c.in_ok-heard.ensures (c.answer_request.ensures.memory clean refused)
 
 pub returns-in_err-answer_request-clause-continued :
     goal.returns-in_err-answer_request-clause-continued

@@ -1,4 +1,4 @@
-use Rattle.std.proofs.Common.{◌∙◌, subst, refl}
+use Rattle.std.proofs.Common.{subst, refl}
 use Rattle.std.specs.Prelude.{None, Some}
 use Rattle.std.specs.Io.KnownBytes.{Appends}
 use Rattle.http_answers.specs.Texts.{Begins}

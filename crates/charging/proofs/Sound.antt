@@ -1,0 +1,91 @@
+-- The ledger of each history is sound.
+use Rattle.std.proofs.Common.{◌≡◌, ℕ, true, false, true≢false, List, [], ◌∷◌, ◌∙◌, None}
+use Rattle.tariffs.specs.Books.{Book}
+use Rattle.buckets.specs.declared.holds.Hold.{Hold}
+use Rattle.buckets.specs.Row.{Row}
+use Rattle.buckets.specs.Share.{parts}
+use Rattle.buckets.specs.Holding.{paid}
+use Rattle.reserving.specs.Ledger.{Fact, Ledger, last_recording}
+use Rattle.reserving.specs.Ledger.Fact.{Touch, Close, Recorded, Barred}
+use Rattle.reserving.specs.SoundLedger.{IsSoundLedger}
+use Rattle.reserving.specs.Balance.{buckets_at}
+use Rattle.reserving.specs.Debiting.{event_price, debited}
+use Rattle.reserving.proofs.Crediting.{IsSoundLedger-credited}
+use Rattle.reserving.proofs.SettledRows.{IsSoundLedger-settled_by}
+use Rattle.reserving.proofs.rows.Touching.{IsSoundLedger-touched, IsSoundLedger-recorded}
+use Rattle.reserving.proofs.rows.Closing.{IsSoundLedger-closed}
+use Rattle.reserving.proofs.rows.Barring.{IsSoundLedger-barred}
+use Rattle.reserving.proofs.rows.Empty.{IsSoundLedger-none}
+use Rattle.reserving.proofs.rows.Reserved.{IsSoundLedger-reserved}
+use Rattle.reserving.proofs.rows.Debited.{IsSoundLedger-debited}
+use Rattle.charging.specs.SessionReports.{Report}
+use Rattle.charging.proofs.Steps.{is_quiet, is_touch, IsInPlace, Keeps}
+use Rattle.charging.proofs.Credited.{all_made}
+use Rattle.charging.proofs.Recorded.{charges_record}
+use Rattle.charging.proofs.Paying.{IsPaying, paying_none, keeps_paying}
+
+pub record IsSoundHistory (b : Book) (reports : List Report) (ledger : Ledger) : Type 0 where
+  pub paying : IsPaying b reports ledger
+  pub sound : IsSoundLedger ledger
+
+sound_quiet : (t : ℕ) (f : Fact) (ledger : Ledger) → is_quiet f ≡ true → is_touch f ≡ false →
+    IsInPlace f ledger → IsSoundLedger ledger → IsSoundLedger (record { at = t; fact = f } ∷ ledger)
+sound_quiet t (Touch s) ledger q n fits h = absurd (true≢false n)
+sound_quiet t (Close s) ledger q n fits h = IsSoundLedger-closed t s ledger fits h
+sound_quiet t (Recorded s k) ledger q n fits h = IsSoundLedger-recorded t s k ledger fits h
+sound_quiet t (Barred x) ledger q n fits h = IsSoundLedger-barred t x ledger h
+sound_quiet t _ ledger q n fits h = cc
+
+sound_debited : (b : Book) (t : ℕ) (s : List ℕ) (g units : ℕ) (reports : List Report)
+    (ledger : Ledger) → IsSoundHistory b reports ledger →
+    IsSoundLedger (debited b t s g units ledger)
+sound_debited b t s g units reports ledger h =
+    IsSoundLedger-debited b.validity t s g units (event_price b t g units ledger).blocks
+    (event_price b t g units ledger).amount.0 ledger
+    (all_made b.validity t ledger h.paying.credits) h.sound
+
+-- a debit records nothing by itself
+new_debited : (b : Book) (t : ℕ) (s : List ℕ) (g units : ℕ) (ledger : Ledger) →
+    last_recording s ledger ≡ None → last_recording s (debited b t s g units ledger) ≡ None
+new_debited b t s g units ledger new =
+    let rows : List Row = buckets_at b.validity t ledger in
+    let hs : List Hold = parts (paid [] g t (event_price b t g units ledger).amount.0 rows) rows in
+    charges_record s t hs ledger ∙ new
+
+pub sound_none : (b : Book) → IsSoundHistory b [] []
+sound_none b = record { paying = paying_none b; sound = IsSoundLedger-none }
+
+pub keeps_sound : (b : Book) → Keeps b (IsSoundHistory b)
+keeps_sound b = record {
+  quiet = λ t f reports ledger q n fits h. record {
+    paying = paying.quiet t f reports ledger q n fits h.paying;
+    sound = sound_quiet t f ledger q n fits h.sound;
+  };
+  touch = λ t s n reports ledger h. record {
+    paying = paying.touch t s n reports ledger h.paying;
+    sound = IsSoundLedger-touched t s n ledger h.sound;
+  };
+  credit = λ t from until scope amount reports ledger h. record {
+    paying = paying.credit t from until scope amount reports ledger h.paying;
+    sound = IsSoundLedger-credited t from until scope amount ledger h.sound;
+  };
+  settle = λ t s g used_parts reports ledger touches h. record {
+    paying = paying.settle t s g used_parts reports ledger touches h.paying;
+    sound = IsSoundLedger-settled_by b t s g used_parts ledger
+        (all_made b.validity t ledger h.paying.credits) h.sound;
+  };
+  grant = λ t s g asked reports ledger has h. record {
+    paying = paying.grant t s g asked reports ledger has h.paying;
+    sound = IsSoundLedger-reserved b t s g _ _ ledger
+        (all_made b.validity t ledger h.paying.credits) has h.sound;
+  };
+  event = λ t s g units n reports ledger new covered h. record {
+    paying = paying.event t s g units n reports ledger new covered h.paying;
+    sound = IsSoundLedger-recorded t s n (debited b t s g units ledger)
+        (new_debited b t s g units ledger new)
+        (sound_debited b t s g units reports ledger h);
+  };
+}
+  where
+    paying : Keeps b (IsPaying b)
+    paying = keeps_paying b
