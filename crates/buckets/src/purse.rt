@@ -131,12 +131,12 @@ impl Purse {
         if self.funds(group, at) < amount {
             return Err(PurseFault::NotCovered);
         }
-        let room = self.room(group, at)?;
+        let room = self.room()?;
         Ok(self.hold_in(room, group, at, amount))
     }
 
     /// Memory for the holds that a later `hold_in` makes; its error is want of memory.
-    pub fn room(&self, group: u32, at: Moment) -> Result<HoldRoom, AllocError>
+    pub fn room(&self) -> Result<HoldRoom, AllocError>
         ensures { IfOk result (λ room. length self.now ≤ room) }
     {
         HoldRoom::new(self.alloc, self.buckets.len())

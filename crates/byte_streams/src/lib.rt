@@ -212,6 +212,7 @@ fn write_some<W: Write>(writer: &mut W, text: &[u8]) -> Result<usize, StreamFaul
     ensures ok { IfOk result
         (λ n. Appends (W.contents writer.old) (W.contents writer.new) (take n text.now)) }
     ensures err { OnErr result (Keeps (W.contents writer.old) (W.contents writer.new)) }
+    ensures fault { OnErr result (result ≡ Err StreamFault.Write) }
 {
     for _attempt in 0..MAX_ATTEMPTS {
         match writer.write(text) {
@@ -236,6 +237,7 @@ pub fn write_whole<W: Write>(writer: &mut W, text: &[u8]) -> Result<(), StreamFa
     ensures ok { OnOk result (Appends (W.contents writer.old) (W.contents writer.new) text.now) }
     ensures err { OnErr result
         ((n : ℕ) × Appends (W.contents writer.old) (W.contents writer.new) (take n text.now)) }
+    ensures fault { OnErr result (result ≡ Err StreamFault.Write) }
 {
     let mut at = 0;
     for _turn in 0..text.len() {

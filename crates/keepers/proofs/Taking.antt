@@ -1,27 +1,26 @@
 -- What is loaded of an account's rows, and what was left.
-use Rattle.std.proofs.Common.{◌≡◌, ℕ, Bool, true, false, List, [], refl, sym, ap, subst, ◌∙◌}
+use Rattle.std.proofs.Common.{◌≡◌, ℕ, Bool, true, false, List, refl, sym, ap, subst, ◌∙◌}
 use Rattle.std.proofs.Common.{Option, Some, None}
 use Rattle.std.specs.Prelude.{if◌then◌else◌, ◌==◌, ◌||◌, not, is_some, option_map, filter}
 use Rattle.tariffs.specs.Books.{Book}
-use Rattle.rating.specs.declared.grant.Periods.{Periods}
 use Rattle.reserving.specs.declared.session.Session.{Session}
-use Rattle.reserving.specs.declared.session.SessionState.TheVariants.{Open, Ended, NeverOpened}
 use Rattle.reserving.specs.declared.session.SessionGroup.{SessionGroup}
 use Rattle.reserving.specs.declared.session.Reservation.{Reservation}
-use Rattle.reserving.specs.Ledger.{Ledger, Recording, is_live, last_touch, last_recording}
-use Rattle.reserving.specs.Ledger.{open_grant, has_group}
+use Rattle.reserving.specs.Ledger.{Ledger, last_recording}
+use Rattle.reserving.specs.Ledger.{has_group}
 use Rattle.reserving.specs.Pricing.{cycle_at}
-use Rattle.reserving.specs.Sessions.{is_open, session_in, group_in, session_row, state_at}
-use Rattle.reserving.specs.Sessions.{reservation_at, reservation_of, holds_at}
+use Rattle.reserving.specs.Sessions.{is_open, session_in, group_in}
+use Rattle.reserving.specs.Sessions.{reservation_at}
 use Rattle.reserving.specs.Rows.{AccountRows, AreInOrderOf, IsAccount, IsRowsOf}
 use Rattle.reserving.specs.Stored.{stored, priced}
 use Rattle.reserving.specs.Left.{is_dead, is_open_row, only, left_of, IsPartOf, IsWith}
 use Rattle.reserving.specs.Left.{IsLoadedWith}
-use Rattle.reserving.proofs.Lists.{some_of, not_both}
+use Rattle.reserving.proofs.Lists.{some_of}
 use Rattle.reserving.proofs.StoredRows.{IsAccount-priced}
 use Rattle.reserving.proofs.LeftMore.{are_told}
 use Rattle.reserving.proofs.InOrder.{order_live}
 use Rattle.reserving.proofs.LeftParted.{loaded_with}
+use Rattle.reserving.proofs.left.Ended.{closed_free}
 use Rattle.keepers.specs.Tables.{Rows, head_of, group_row, held_of}
 use Rattle.keepers.specs.Change.{has_reservation, is_loaded, IsLoadedFrom, AreRowsAt}
 use Rattle.keepers.proofs.Found.{sound_filter, bucket_filter}
@@ -30,26 +29,6 @@ use Rattle.keepers.proofs.GroupRows.{no_row, group_same}
 -- ---- a session that isn't open has no reservation
 
 module _ (ledger : Ledger) (w : AccountRows) (rows : IsRowsOf ledger w) where
-  closed_free : (s : List ℕ) (g : ℕ) (o : Option Recording) → last_recording s ledger ≡ o →
-      is_open_row (session_row s (state_at w.book.validity w.as_of ledger s) o) ≡ false →
-      reservation_at w.book.validity w.as_of ledger s g ≡ None
-  closed_free s g None e k = at (is_live w.book.validity w.as_of ledger s) (open_grant s g ledger)
-      ((rows.sound.unknown s e).granted g)
-    where
-      at : (l : Bool) (p : Option Periods) → p ≡ None →
-          (if l then reservation_of (holds_at w.book.validity w.as_of s g ledger) p else None) ≡
-          None
-      at true p n = ap (reservation_of (holds_at w.book.validity w.as_of s g ledger)) n
-      at false p n = refl
-  closed_free s g (Some x) e k = at (is_live w.book.validity w.as_of ledger s) k
-    where
-      at : (l : Bool) → is_open
-          (if l then Open else (if is_some (last_touch s ledger) then Ended else NeverOpened)) ≡
-          false → (if l then reservation_of (holds_at w.book.validity w.as_of s g ledger)
-          (open_grant s g ledger) else None) ≡ None
-      at true n = absurd (not_both (sym n))
-      at false n = refl
-
   row_free : (s : List ℕ) (g : ℕ) (t : Bool) →
       reservation_at w.book.validity w.as_of ledger s g ≡ None →
       has_reservation (option_map group_row
@@ -68,7 +47,7 @@ module _ (ledger : Ledger) (w : AccountRows) (rows : IsRowsOf ledger w) where
   ended_free s g e =
       ap (λ o. has_reservation (option_map group_row o)) (rows.groups s g)
       ∙ row_free s g (has_group s g ledger)
-      (closed_free s g (last_recording s ledger) refl
+      (closed_free ledger w rows s g (last_recording s ledger) refl
       (ap is_open_row (sym (rows.sessions s)) ∙ e))
 
 -- ---- what is loaded is a part

@@ -93,7 +93,7 @@ impl<'b> Account<'b> {
             self.advance(moment);
             return Ok(Granted::Nothing);
         }
-        let room = self.make_row(session, group, moment)?;
+        let room = self.make_row(session, group)?;
         self.advance(moment);
         self.hold_quota(room, session, group, window.periods, quota.grant.amount);
         Ok(Granted::Units {
@@ -176,18 +176,13 @@ impl<'b> Account<'b> {
 
     /// Takes the memory of a reservation, and makes the row of its group. At a fault nothing has
     /// changed.
-    fn make_row(
-        &mut self,
-        session: &SessionId,
-        group: u32,
-        moment: Moment,
-    ) -> Result<HoldRoom, AccountFault>
+    fn make_row(&mut self, session: &SessionId, group: u32) -> Result<HoldRoom, AccountFault>
         ensures ok { OnOk result (self.new ≡ with_group_row session.now group self.old) }
         ensures room { IfOk result (λ room. length self.old.buckets ≤ room) }
         ensures err { OnErr result (self.new ≡ self.old) }
         ensures memory { OnErr result (result ≡ Err AccountFault.Memory) }
     {
-        let room = self.rows.purse.room(group, moment)?;
+        let room = self.rows.purse.room()?;
         grouping::add_group(&mut self.rows.groups, session, group)?;
         Ok(room)
     }

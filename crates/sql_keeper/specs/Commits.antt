@@ -14,10 +14,6 @@ use Rattle.sql_rows.specs.Makes.{Commits, Turns}
 use Rattle.sql_keeper.specs.Content.{tables_of}
 use Rattle.sql_keeper.specs.Writes.{head_of, meta_with}
 
--- a connection that is open is in a transaction
-abbrev pub IsInside : State → Type 0
-IsInside s = HasCleanDisk s → IsTrue s.is_open → IsTrue s.in_transaction
-
 -- an account, its buckets and its counters as they become
 abbrev pub with_money : List ℕ → StoredRows → Content → Content
 with_money a w c =

@@ -2,11 +2,10 @@
 
 ghost use Rattle.std.specs.Prelude.{◌≡◌};
 ghost use Rattle.reserving.specs.Sessions.{holds_in};
-ghost use Rattle.sql_tables.specs.Statements.{Attempts, HasBook};
+ghost use Rattle.sql_tables.specs.Statements.{Attempts, HasBook, IsInside};
 ghost use Rattle.sql_rows.specs.Content.{with_group, with_rows};
 ghost use Rattle.sql_rows.specs.Each.{with_holds};
 ghost use Rattle.sql_rows.specs.Makes.{Makes, MakesIfOpen};
-ghost use Rattle.sql_keeper.specs.Commits.{IsInside};
 ghost use Rattle.sql_keeper.specs.Writes.{columns_of, name_at, with_groups, with_held_group};
 ghost use Rattle.sqlite.specs.Held.{state};
 

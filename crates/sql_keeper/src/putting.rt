@@ -2,11 +2,11 @@
 
 ghost use Rattle.std.specs.Prelude.{◌≡◌, option_map};
 ghost use Rattle.keepers.specs.Keys.{key_of};
-ghost use Rattle.sql_tables.specs.Statements.{Attempts, HasBook};
+ghost use Rattle.sql_tables.specs.Statements.{Attempts, HasBook, IsInside};
 ghost use Rattle.sql_rows.specs.Content.{with_account};
 ghost use Rattle.sql_rows.specs.Makes.{Makes, MakesIfOpen};
 ghost use Rattle.sql_rows.specs.Texts.{kept_of};
-ghost use Rattle.sql_keeper.specs.Commits.{IsInside, with_money};
+ghost use Rattle.sql_keeper.specs.Commits.{with_money};
 ghost use Rattle.sql_keeper.specs.Writes.{head_of, meta_with, with_change, with_kept, with_stored};
 ghost use Rattle.sql_keeper.specs.Writes.{with_texts};
 ghost use Rattle.sqlite.specs.Held.{state};

@@ -1,8 +1,7 @@
 //! Vouchers, put under their codes.
 
 ghost use Rattle.std.specs.Prelude.{◌≡◌};
-ghost use Rattle.sql_tables.specs.Statements.{Attempts, HasBook};
-ghost use Rattle.sql_keeper.specs.Commits.{IsInside};
+ghost use Rattle.sql_tables.specs.Statements.{Attempts, HasBook, IsInside};
 ghost use Rattle.sql_keeper.specs.Writes.{row_of, with_redeemed};
 ghost use Rattle.sql_rows.specs.Content.{with_voucher};
 ghost use Rattle.sql_rows.specs.Makes.{Makes, MakesIfOpen};

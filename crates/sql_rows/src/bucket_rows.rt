@@ -5,9 +5,8 @@ ghost use Rattle.sql_rows.specs.Lists.{AreBuckets, BucketsRise, Rises, is_dead, 
 ghost use Rattle.sql_rows.specs.Texts.{bucket_row};
 ghost use Rattle.sql_rows.specs.Each.{with_buckets};
 ghost use Rattle.sql_rows.specs.Makes.{Makes, MakesIfOpen};
-ghost use Rattle.sql_tables.specs.Statements.{Attempts, HasBook, HasIdleBook, Reads};
+ghost use Rattle.sql_tables.specs.Statements.{Attempts, HasBook, HasIdleBook, IsInside, Reads};
 ghost use Rattle.sqlite.specs.Held.{state};
-ghost use Rattle.sqlite.specs.State.{HasCleanDisk};
 
 use crate::decoding::moment_at;
 use buckets::Bucket;
@@ -223,9 +222,7 @@ pub fn put_buckets<S: Alter>(
     account: &AccountNumber,
     rows: &[Bucket],
 ) -> Result<(), Error>
-    requires open { HasCleanDisk (state S.Store tx.old.conn.now) →
-        IsTrue (state S.Store tx.old.conn.now).is_open →
-        IsTrue (state S.Store tx.old.conn.now).in_transaction }
+    requires open { IsInside (state S.Store tx.old.conn.now) }
     requires book { HasBook (state S.Store tx.old.conn.now) }
     ensures same_reference { tx.new.conn.ghost_name ≡ tx.old.conn.ghost_name }
     ensures makes { Attempts (MakesIfOpen (with_buckets account.now rows.now))

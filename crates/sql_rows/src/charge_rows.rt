@@ -4,9 +4,8 @@ ghost use Rattle.sql_rows.specs.Values.{charge_cells};
 ghost use Rattle.sql_rows.specs.Lists.{AreCharges, NumbersRise, is_within};
 ghost use Rattle.sql_rows.specs.Each.{with_charges};
 ghost use Rattle.sql_rows.specs.Makes.{Makes, MakesIfOpen};
-ghost use Rattle.sql_tables.specs.Statements.{Attempts, HasBook, HasIdleBook, Reads};
+ghost use Rattle.sql_tables.specs.Statements.{Attempts, HasBook, HasIdleBook, IsInside, Reads};
 ghost use Rattle.sqlite.specs.Held.{state};
-ghost use Rattle.sqlite.specs.State.{HasCleanDisk};
 
 use crate::decoding::{moment_at, session_at};
 use identifiers::AccountNumber;
@@ -152,9 +151,7 @@ pub fn put_charges<S: Alter>(
     account: &AccountNumber,
     rows: &[ChargeRow],
 ) -> Result<(), Error>
-    requires open { HasCleanDisk (state S.Store tx.old.conn.now) →
-        IsTrue (state S.Store tx.old.conn.now).is_open →
-        IsTrue (state S.Store tx.old.conn.now).in_transaction }
+    requires open { IsInside (state S.Store tx.old.conn.now) }
     requires book { HasBook (state S.Store tx.old.conn.now) }
     ensures same_reference { tx.new.conn.ghost_name ≡ tx.old.conn.ghost_name }
     ensures makes { Attempts (MakesIfOpen (with_charges account.now rows.now))

@@ -1,12 +1,11 @@
-ghost use Rattle.std.specs.Prelude.{◌≡◌, map, IfOk, IsTrue};
+ghost use Rattle.std.specs.Prelude.{◌≡◌, map, IfOk};
 ghost use Rattle.sql_rows.specs.Content.{rows_in, with_hold, with_rows, without_holds};
 ghost use Rattle.sql_rows.specs.Each.{with_holds};
 ghost use Rattle.sql_rows.specs.Lists.{AreHolds, hold_cells};
 ghost use Rattle.sql_rows.specs.Texts.{hold_at};
 ghost use Rattle.sql_rows.specs.Makes.{Makes, MakesIfOpen};
-ghost use Rattle.sql_tables.specs.Statements.{Attempts, HasBook, HasIdleBook, Reads};
+ghost use Rattle.sql_tables.specs.Statements.{Attempts, HasBook, HasIdleBook, IsInside, Reads};
 ghost use Rattle.sqlite.specs.Held.{state};
-ghost use Rattle.sqlite.specs.State.{HasCleanDisk};
 
 use buckets::Hold;
 use identifiers::{AccountNumber, SessionId};
@@ -134,9 +133,7 @@ pub fn put_holds<S: Alter>(
     group: u32,
     rows: &[Hold],
 ) -> Result<(), Error>
-    requires open { HasCleanDisk (state S.Store tx.old.conn.now) →
-        IsTrue (state S.Store tx.old.conn.now).is_open →
-        IsTrue (state S.Store tx.old.conn.now).in_transaction }
+    requires open { IsInside (state S.Store tx.old.conn.now) }
     requires book { HasBook (state S.Store tx.old.conn.now) }
     ensures same_reference { tx.new.conn.ghost_name ≡ tx.old.conn.ghost_name }
     ensures makes { Attempts (MakesIfOpen (with_holds account.now session.now group rows.now))

@@ -1,14 +1,13 @@
-ghost use Rattle.std.specs.Prelude.{◌≡◌, map, IsTrue, IfOk};
+ghost use Rattle.std.specs.Prelude.{◌≡◌, map, IfOk};
 ghost use Rattle.sql_rows.specs.Content.{rows_in, with_rows, with_session};
 ghost use Rattle.sql_rows.specs.Values.{session_cells, state_number};
 ghost use Rattle.sql_rows.specs.Lists.{AreSessions};
 ghost use Rattle.reserving.specs.Sessions.{is_open};
 ghost use Rattle.sql_rows.specs.Each.{with_sessions};
 ghost use Rattle.sql_rows.specs.Makes.{Makes, MakesIfOpen};
-ghost use Rattle.sql_tables.specs.Statements.{Attempts, HasBook, HasIdleBook, Reads};
+ghost use Rattle.sql_tables.specs.Statements.{Attempts, HasBook, HasIdleBook, IsInside, Reads};
 ghost use Rattle.sql_tables.specs.Selects.{one_or_none};
 ghost use Rattle.sqlite.specs.Held.{state};
-ghost use Rattle.sqlite.specs.State.{HasCleanDisk};
 
 use crate::decoding::{moment_at, session_at, state_at};
 use identifiers::{AccountNumber, SessionId};
@@ -142,9 +141,7 @@ pub fn put_sessions<S: Alter>(
     account: &AccountNumber,
     rows: &[Session],
 ) -> Result<(), Error>
-    requires open { HasCleanDisk (state S.Store tx.old.conn.now) →
-        IsTrue (state S.Store tx.old.conn.now).is_open →
-        IsTrue (state S.Store tx.old.conn.now).in_transaction }
+    requires open { IsInside (state S.Store tx.old.conn.now) }
     requires book { HasBook (state S.Store tx.old.conn.now) }
     ensures same_reference { tx.new.conn.ghost_name ≡ tx.old.conn.ghost_name }
     ensures makes { Attempts (MakesIfOpen (with_sessions account.now rows.now))

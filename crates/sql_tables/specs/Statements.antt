@@ -38,6 +38,10 @@ pub record IsIdle (s : State) : Type 0 where
 abbrev pub HasIdleBook : State → Type 0
 HasIdleBook s = HasCleanDisk s → IsTrue s.is_open → IsIdle s
 
+-- a connection that is open is in a transaction
+abbrev pub IsInside : State → Type 0
+IsInside s = HasCleanDisk s → IsTrue s.is_open → IsTrue s.in_transaction
+
 -- the row stands in the place of any with its key, and the other tables stay
 pub record Changes (table : Table) (values : Row) (old new : Trees) : Type 0 where
   pub rows : Alike (table_of table.primary (new table.tree))

@@ -57,7 +57,7 @@ fn a_shortfall_is_uncollected(rt: HostRuntime) -> Result<(), Fail> {
     let ten = moment(TEN)?;
     purse.credit(1, moment(0)?, Moment::no_end(), Some(10), money(250_000)?)?;
     assert!(rt; purse.hold(20, ten, Amount(1)).is_err());
-    let room = purse.room(10, ten)?;
+    let room = purse.room()?;
     let funds = purse.funds(10, ten);
     assert!(rt; funds.0 == 250_000);
     let holds = purse.hold_in(room, 10, ten, Amount(200_000));
