@@ -15,7 +15,9 @@ use std::io::ErrorKind;
 ///
 /// # Errors
 /// `File`, also where there is none; `Memory`.
-pub fn open_file(rt: &HostRuntime, path: &str) -> Result<File, DatabaseFault> {
+pub fn open_file(rt: &HostRuntime, path: &str) -> Result<File, DatabaseFault>
+    ensures { IfErr result IsUnopened }
+{
     match fs::open(rt, path) {
         Ok(file) => Ok(file),
         Err(error) => Err(file_fault(error.kind())),
@@ -23,7 +25,12 @@ pub fn open_file(rt: &HostRuntime, path: &str) -> Result<File, DatabaseFault> {
 }
 
 /// The bytes of the file at a path.
-pub(crate) fn read_file(rt: &HostRuntime, path: &str) -> Result<Vec<u8>, DatabaseFault> {
+///
+/// # Errors
+/// `File`, also where there is none; `Memory`.
+pub(crate) fn read_file(rt: &HostRuntime, path: &str) -> Result<Vec<u8>, DatabaseFault>
+    ensures { IfErr result IsUnopened }
+{
     match fs::read(rt, path) {
         Ok(bytes) => Ok(bytes),
         Err(error) => Err(file_fault(error.kind())),
