@@ -43,7 +43,7 @@ pub fn tables_are_left_again()
     ensures { AreLeftAgain }
 {}
 
-/// Where the connection shows what was left, neither fault 1 nor fault 2 is told.
+/// Where the connection shows what was left, none of the faults 1 to 3 is told.
 pub fn left_tables_are_found<S: Alter>()
     ensures { (old new : Held S) (text : List ℕ) (fault : OpenFault) →
         IsFoundAgain S.Store old new text fault }

@@ -1,6 +1,8 @@
 //! The words of the program, a line each, and what they say.
 
-use operator::{OfficeCommand, ProgramWords, WordsFault, program_words};
+use operator::{
+    OfficeCommand, ProgramWords, ServeWords, StatementWords, WordsFault, program_words,
+};
 use std::alloc::{AllocError, Global};
 use std::test::Fail;
 use units::Moment;
@@ -26,6 +28,27 @@ fn office(alloc: Global, command: &OfficeCommand) -> Result<String, AllocError> 
     }
 }
 
+fn serving(alloc: Global, serve: &ServeWords) -> Result<String, AllocError> {
+    format!(in alloc;
+        "serve {} {} {} {:?}",
+        serve.database.as_str(),
+        serve.port,
+        serve.connections,
+        seconds(serve.at)
+    )
+}
+
+fn stating(alloc: Global, statement: &StatementWords) -> Result<String, AllocError> {
+    format!(in alloc;
+        "statement {} {} {} {} {:?}",
+        statement.database.as_str(),
+        statement.account.as_str(),
+        statement.month.number(),
+        statement.csv,
+        seconds(statement.at)
+    )
+}
+
 /// What words say, as a text.
 fn said(alloc: Global, words: &ProgramWords) -> Result<String, AllocError> {
     match words {
@@ -40,13 +63,7 @@ fn said(alloc: Global, words: &ProgramWords) -> Result<String, AllocError> {
             init.database.as_str(),
             init.book.as_str()
         ),
-        ProgramWords::Serve(serve) => format!(in alloc;
-            "serve {} {} {} {:?}",
-            serve.database.as_str(),
-            serve.port,
-            serve.connections,
-            seconds(serve.at)
-        ),
+        ProgramWords::Serve(serve) => serving(alloc, serve),
         ProgramWords::Import(import) => format!(in alloc;
             "import {} {} {:?}",
             import.database.as_str(),
@@ -59,14 +76,7 @@ fn said(alloc: Global, words: &ProgramWords) -> Result<String, AllocError> {
             words.database.as_str(),
             seconds(words.at)
         ),
-        ProgramWords::Statement(statement) => format!(in alloc;
-            "statement {} {} {} {} {:?}",
-            statement.database.as_str(),
-            statement.account.as_str(),
-            statement.month.number(),
-            statement.csv,
-            seconds(statement.at)
-        ),
+        ProgramWords::Statement(statement) => stating(alloc, statement),
         ProgramWords::Replay(replay) => format!(in alloc;
             "replay {} {}",
             replay.database.as_str(),
