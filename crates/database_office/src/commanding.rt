@@ -11,7 +11,7 @@ ghost use Rattle.office.specs.Written.{WritesBeginning};
 ghost use Rattle.office.specs.declared.fault.OfficeFault.TheVariants.{Store, Write};
 ghost use Rattle.operator.specs.Office.{command_of};
 ghost use Rattle.database_office.specs.Opening.{IsCommandFault, IsOfficeFault, IsUnanswered};
-ghost use Rattle.database_office.specs.declared.fault.DatabaseFault.TheVariants.{Office};
+ghost use Rattle.database_office.specs.declared.fault.DatabaseFault.TheVariants.{Office as OfOffice};
 
 use crate::clock::command_moment;
 use crate::fault::DatabaseFault;
@@ -65,11 +65,11 @@ fn carry_out<K: Keeper, O: Write>(
         × Appends (O.contents output.old) (O.contents output.new) (answer_line answer))) }
     ensures printed { IfOk result (λ status.
         PrintsAnswer status (O.contents output.old) (O.contents output.new)) }
-    ensures untold { (fault : StreamFault) → result ≡ Err (Office (Write fault)) →
+    ensures untold { (fault : StreamFault) → result ≡ Err (OfOffice (Write fault)) →
         K.clean keeper.new → IsCarriedOut book.now (command_of command) moment
         (K.content keeper.old) (K.content keeper.new) (λ answer.
         WritesBeginning (O.contents output.old) (O.contents output.new) (answer_line answer)) }
-    ensures unserved { (fault : StoreFault) → result ≡ Err (Office (Store fault)) →
+    ensures unserved { (fault : StoreFault) → result ≡ Err (OfOffice (Store fault)) →
         K.clean keeper.new → K.content keeper.new ≡ K.content keeper.old }
     ensures unwritten { IfErr result (λ fault. IsUnanswered fault → output.new ≡ output.old) }
     ensures fault { IfErr result IsOfficeFault }
