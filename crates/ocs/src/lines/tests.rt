@@ -505,7 +505,8 @@ fn a_store_fault_and_a_writer_that_fails(rt: HostRuntime) -> Result<(), Fail> {
     let mut keeper = Failing::new(MemoryKeeper::new(alloc), CALLS_OF_ONE_DEBIT);
     let ended = lines(alloc, &mut keeper, &book, credit, &mut input, &mut writer);
     assert_eq!(rt; ended, Err(LinesFault::Both(StoreFault::Store)));
-    assert_eq!(rt; writer.taken.as_slice(), &wanted.as_bytes()[..16]);
+    assert_eq!(rt; writer.taken.len(), 16);
+    assert!(rt; wanted.as_bytes().starts_with(writer.taken.as_slice()));
     Ok(())
 }
 
