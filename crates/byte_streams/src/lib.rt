@@ -3,10 +3,11 @@
 #![tactic(auto)]
 
 ghost use Rattle.std.specs.Prelude.{◌≡◌, ◌≢◌, ◌==◌, ◌≤◌, ◌<◌, ◌-◌, ℕ, List, length, take, All};
-ghost use Rattle.std.specs.Prelude.{OnOk, OnErr, IfOk, IfNone, IfSome, option_to_list};
+ghost use Rattle.std.specs.Prelude.{OnOk, OnErr, IfOk, IsErrOf, IfNone, IfSome, option_to_list};
 ghost use Rattle.std.specs.Io.KnownBytes.{Appends, Consumes, IsAtEnd, Keeps};
 ghost use Rattle.byte_streams.specs.Lines.{IsLineOf};
 ghost use Rattle.byte_streams.specs.Parts.{IsPartOf, TakesPiece};
+ghost use Rattle.byte_streams.specs.declared.StreamFault.TheVariants.{Memory};
 
 use std::alloc::{AllocError, AllocFailed, Global};
 use std::io::{BufRead, ErrorKind, Read, Write};
@@ -30,12 +31,16 @@ pub enum StreamFault {
 }
 
 impl From<AllocError> for StreamFault {
+    ghost from_gives = { λ _ fault. fault ≡ Memory };
+
     fn from(_error: AllocError) -> StreamFault {
         StreamFault::Memory
     }
 }
 
 impl<T: Drop> From<AllocFailed<T>> for StreamFault {
+    ghost from_gives = { λ _ fault. fault ≡ Memory };
+
     fn from(_error: AllocFailed<T>) -> StreamFault {
         StreamFault::Memory
     }
@@ -111,6 +116,7 @@ fn take_shown<R: BufRead>(
     ensures interrupted { IfOk result (λ taken. IfNone taken
         ((part.new.items ≡ part.old.items)
         × Keeps (R.remaining reader.old) (R.remaining reader.new))) }
+    ensures fault { IsErrOf result StreamFault.Write → ⊥ }
 {
     let shown = match reader.fill_buf() {
         Ok(shown) => shown,
@@ -141,8 +147,9 @@ pub fn take_piece<R: BufRead>(
     most: usize,
 ) -> Result<usize, StreamFault>
     requires { 0 < most }
-    ensures { IfOk result (TakesPiece stop most part.old.items part.new.items
+    ensures taken { IfOk result (TakesPiece stop most part.old.items part.new.items
         (R.remaining reader.old) (R.remaining reader.new)) }
+    ensures fault { IsErrOf result StreamFault.Write → ⊥ }
 {
     for _attempt in 0..MAX_ATTEMPTS {
         if let Some(count) = take_shown(reader, part, stop, most)? {
@@ -161,8 +168,9 @@ pub fn next_bytes<R: BufRead>(
     reader: &mut R,
     count: usize,
 ) -> Result<Option<Vec<u8>>, StreamFault>
-    ensures { IfOk result (λ part. IfSome (R.remaining reader.old)
+    ensures part { IfOk result (λ part. IfSome (R.remaining reader.old)
         (λ stream. IsPartOf count stream part (R.remaining reader.new))) }
+    ensures fault { IsErrOf result StreamFault.Write → ⊥ }
 {
     let mut part = Vec::with_capacity(alloc, count)?;
     for _turn in 0..count {

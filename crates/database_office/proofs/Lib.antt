@@ -1,1 +1,2 @@
 pub mod ImportingLemmas
+pub mod CommandLemmas

@@ -2,3 +2,4 @@ pub mod Told
 pub mod Making
 pub mod Opening
 pub mod Importing
+pub mod Stating

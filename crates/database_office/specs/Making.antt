@@ -1,9 +1,7 @@
 -- Which faults the making of a book's database tells.
 -- Source: profile.
 use Rattle.std.specs.Prelude.{◌≡◌, ℕ, List}
-use Rattle.sqlite_schema.specs.declared.schema.Schema.{Schema}
 use Rattle.sql_keeper.specs.Books.{IsBookFault}
-use Rattle.sql_keeper.specs.Faults.{IsCreateFault}
 use Rattle.sql_keeper.specs.declared.create_fault.CreateFault.{CreateFault}
 use Rattle.database_office.specs.Told.{making_fault}
 use Rattle.database_office.specs.declared.fault.DatabaseFault.{DatabaseFault}
@@ -20,8 +18,18 @@ IsTextFault text Net = ⊥
 IsTextFault text Memory = ⊥
 IsTextFault text (Office fault) = ⊥
 
--- the fault is one of making the tables of the text in a database with these tables
-pub record IsMakeFault (text : List ℕ) (schema : Schema) (fault : DatabaseFault) : Type 0 where
+-- one of a file, of a book, of the tables of a database, or of memory
+abbrev pub IsInitFault : DatabaseFault → Type 0
+IsInitFault File = Unit {0}
+IsInitFault Clock = ⊥
+IsInitFault (Book fault) = Unit {0}
+IsInitFault (Open fault) = Unit {0}
+IsInitFault Net = ⊥
+IsInitFault Memory = Unit {0}
+IsInitFault (Office fault) = ⊥
+
+-- this is so of why the tables weren't made, which is told as the fault
+pub record IsNotMade (left : CreateFault → Type 0) (fault : DatabaseFault) : Type 0 where
   pub made : CreateFault
-  pub told : IsCreateFault text schema made
   pub is : fault ≡ making_fault made
+  pub was : left made

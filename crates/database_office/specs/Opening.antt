@@ -1,20 +1,18 @@
 -- Which faults a call tells.
 -- Source: profile.
+use Rattle.std.specs.Prelude.{◌≡◌, ℕ, Option, None}
+use Rattle.sql_opening.specs.declared.fault.OpenFault.{OpenFault}
 use Rattle.office.specs.declared.fault.OfficeFault.{OfficeFault}
 use Rattle.office.specs.declared.fault.OfficeFault.TheVariants as office
 use Rattle.database_office.specs.declared.fault.DatabaseFault.{DatabaseFault}
 use Rattle.database_office.specs.declared.fault.DatabaseFault.TheVariants.{File, Clock, Book, Open}
 use Rattle.database_office.specs.declared.fault.DatabaseFault.TheVariants.{Net, Memory, Office}
 
--- one of the tables of a database
-abbrev pub IsOpenFault : DatabaseFault → Type 0
-IsOpenFault File = ⊥
-IsOpenFault Clock = ⊥
-IsOpenFault (Book fault) = ⊥
-IsOpenFault (Open fault) = Unit {0}
-IsOpenFault Net = ⊥
-IsOpenFault Memory = ⊥
-IsOpenFault (Office fault) = ⊥
+-- this is so of why the tables weren't opened, which is told as the fault
+pub record IsNotFound (left : OpenFault → Type 0) (fault : DatabaseFault) : Type 0 where
+  pub opened : OpenFault
+  pub is : fault ≡ Open opened
+  pub was : left opened
 
 -- one of a file, of the tables of its database, or of memory
 abbrev pub IsUnopened : DatabaseFault → Type 0
@@ -25,6 +23,26 @@ IsUnopened (Open fault) = Unit {0}
 IsUnopened Net = ⊥
 IsUnopened Memory = Unit {0}
 IsUnopened (Office fault) = ⊥
+
+-- one of the office's
+abbrev pub IsOfficeFault : DatabaseFault → Type 0
+IsOfficeFault File = ⊥
+IsOfficeFault Clock = ⊥
+IsOfficeFault (Book fault) = ⊥
+IsOfficeFault (Open fault) = ⊥
+IsOfficeFault Net = ⊥
+IsOfficeFault Memory = ⊥
+IsOfficeFault (Office fault) = Unit {0}
+
+-- one of a command over a database: of the clock only where the words say no moment
+abbrev pub IsCommandFault : Option ℕ → DatabaseFault → Type 0
+IsCommandFault at File = Unit {0}
+IsCommandFault at Clock = at ≡ None
+IsCommandFault at (Book fault) = ⊥
+IsCommandFault at (Open fault) = Unit {0}
+IsCommandFault at Net = ⊥
+IsCommandFault at Memory = Unit {0}
+IsCommandFault at (Office fault) = Unit {0}
 
 -- the command wasn't carried out, so it has no answer
 abbrev pub IsUncarried : OfficeFault → Type 0

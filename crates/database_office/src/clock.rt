@@ -1,6 +1,6 @@
 //! The moment of a command: that of the words, or the machine's.
 
-ghost use Rattle.std.specs.Prelude.{◌≡◌, Ok, Err, OnErr, IfSome};
+ghost use Rattle.std.specs.Prelude.{◌≡◌, ◌<◌, Ok, Err, None, OnErr, IfOk, IfSome};
 ghost use Rattle.database_office.specs.declared.fault.DatabaseFault.TheVariants.{Clock};
 
 use crate::fault::DatabaseFault;
@@ -8,7 +8,9 @@ use std::time::{SystemTime, UNIX_EPOCH};
 use units::Moment;
 
 /// The machine's moment; None where its clock doesn't answer, or tells none of a command.
-pub fn machine_moment(rt: &HostRuntime) -> Option<Moment> {
+pub fn machine_moment(rt: &HostRuntime) -> Option<Moment>
+    ensures { IfSome result (λ t. t < 4_102_444_800) }
+{
     let Ok(now) = SystemTime::now(rt) else {
         return None;
     };
@@ -24,7 +26,9 @@ pub fn machine_moment(rt: &HostRuntime) -> Option<Moment> {
 /// `Clock` where the machine is asked and has none.
 pub fn command_moment(rt: &HostRuntime, at: Option<Moment>) -> Result<Moment, DatabaseFault>
     ensures said { IfSome at (λ t. result ≡ Ok t) }
+    ensures asked { at ≡ None → IfOk result (λ t. t < 4_102_444_800) }
     ensures told { OnErr result (result ≡ Err Clock) }
+    ensures unasked { OnErr result (at ≡ None) }
 {
     match at {
         Some(at) => Ok(at),

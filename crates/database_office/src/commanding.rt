@@ -1,8 +1,17 @@
 //! An operator's command over a database.
 
-ghost use Rattle.std.specs.Prelude.{◌≡◌, IfErr, IfOk};
+ghost use Rattle.std.specs.Prelude.{◌≡◌, ◌≤◌, Err, IfErr, IfOk};
+ghost use Rattle.std.specs.Io.KnownBytes.{Appends};
+ghost use Rattle.byte_streams.specs.declared.StreamFault.{StreamFault};
+ghost use Rattle.keepers.specs.declared.fault.StoreFault.{StoreFault};
+ghost use Rattle.office.specs.Carried.{IsCarriedOut};
 ghost use Rattle.office.specs.Printed.{PrintsAnswer};
-ghost use Rattle.database_office.specs.Opening.{IsUnanswered};
+ghost use Rattle.office.specs.Told.{answer_line, status_of};
+ghost use Rattle.office.specs.Written.{WritesBeginning};
+ghost use Rattle.office.specs.declared.fault.OfficeFault.TheVariants.{Store, Write};
+ghost use Rattle.operator.specs.Office.{command_of};
+ghost use Rattle.database_office.specs.Opening.{IsCommandFault, IsOfficeFault, IsUnanswered};
+ghost use Rattle.database_office.specs.declared.fault.DatabaseFault.TheVariants.{Office as OfOffice};
 
 use crate::clock::command_moment;
 use crate::fault::DatabaseFault;
@@ -29,6 +38,7 @@ pub fn command_office<O: Write>(
     ensures printed { IfOk result (λ status.
         PrintsAnswer status (O.contents output.old) (O.contents output.new)) }
     ensures unwritten { IfErr result (λ fault. IsUnanswered fault → output.new ≡ output.old) }
+    ensures fault { IfErr result (IsCommandFault words.at) }
 {
     let OfficeWords {
         database,
@@ -49,9 +59,22 @@ fn carry_out<K: Keeper, O: Write>(
     moment: Moment,
     output: &mut O,
 ) -> Result<Status, DatabaseFault>
+    ensures done { K.clean keeper.new → IfOk result (λ status.
+        IsCarriedOut book.now (command_of command) moment (K.content keeper.old)
+        (K.content keeper.new) (λ answer. (status ≡ status_of answer)
+        × Appends (O.contents output.old) (O.contents output.new) (answer_line answer))) }
     ensures printed { IfOk result (λ status.
         PrintsAnswer status (O.contents output.old) (O.contents output.new)) }
+    ensures untold { (fault : StreamFault) → result ≡ Err (OfOffice (Write fault)) →
+        K.clean keeper.new → IsCarriedOut book.now (command_of command) moment
+        (K.content keeper.old) (K.content keeper.new) (λ answer.
+        WritesBeginning (O.contents output.old) (O.contents output.new) (answer_line answer)) }
+    ensures unserved { (fault : StoreFault) → result ≡ Err (OfOffice (Store fault)) →
+        K.clean keeper.new → K.content keeper.new ≡ K.content keeper.old }
     ensures unwritten { IfErr result (λ fault. IsUnanswered fault → output.new ≡ output.old) }
+    ensures fault { IfErr result IsOfficeFault }
+    ensures cleanness { K.clean keeper.new → K.clean keeper.old }
+    ensures failures { K.failed keeper.old ≤ K.failed keeper.new }
 {
     match serve_office(alloc, keeper, book, command, moment, output) {
         Ok(status) => Ok(status),

@@ -10,12 +10,15 @@ use sqlite::Connection;
 use sqlite_disk::Wary;
 use std::fs::{self, File};
 use std::io::ErrorKind;
+use std::path::Path;
 
 /// The file at a path, to be read.
 ///
 /// # Errors
 /// `File`, also where there is none; `Memory`.
-pub fn open_file(rt: &HostRuntime, path: &str) -> Result<File, DatabaseFault> {
+pub fn open_file(rt: &HostRuntime, path: &str) -> Result<File, DatabaseFault>
+    ensures { IfErr result IsUnopened }
+{
     match fs::open(rt, path) {
         Ok(file) => Ok(file),
         Err(error) => Err(file_fault(error.kind())),
@@ -23,7 +26,12 @@ pub fn open_file(rt: &HostRuntime, path: &str) -> Result<File, DatabaseFault> {
 }
 
 /// The bytes of the file at a path.
-pub(crate) fn read_file(rt: &HostRuntime, path: &str) -> Result<Vec<u8>, DatabaseFault> {
+///
+/// # Errors
+/// `File`, also where there is none; `Memory`.
+pub(crate) fn read_file(rt: &HostRuntime, path: &str) -> Result<Vec<u8>, DatabaseFault>
+    ensures { IfErr result IsUnopened }
+{
     match fs::read(rt, path) {
         Ok(bytes) => Ok(bytes),
         Err(error) => Err(file_fault(error.kind())),
@@ -45,13 +53,24 @@ pub(crate) fn connect(
 }
 
 /// Whether there is something at a path that isn't an empty file.
+///
+/// # Errors
+/// `File`, also where its folder isn't there; `Memory`.
 fn is_filled(rt: &HostRuntime, path: &str) -> Result<bool, DatabaseFault>
     ensures { IfErr result IsUnopened }
 {
     match fs::metadata(rt, path) {
         Ok(found) => Ok(!found.is_file() || found.len() > 0),
-        Err(error) if error.kind() == ErrorKind::NotFound => Ok(false),
+        Err(error) if error.kind() == ErrorKind::NotFound && has_folder(rt, path) => Ok(false),
         Err(error) => Err(file_fault(error.kind())),
+    }
+}
+
+/// Whether the folder is there in which a path stands.
+fn has_folder(rt: &HostRuntime, path: &str) -> bool {
+    match Path::new(path).parent() {
+        Some(folder) => folder.as_str().is_empty() || folder.exists(rt),
+        None => true,
     }
 }
 

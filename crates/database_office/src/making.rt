@@ -2,28 +2,40 @@
 
 ghost use Rattle.std.specs.Prelude.{◌≡◌, IfErr, IfOk, OnOk};
 ghost use Rattle.sql_keeper.specs.Books.{IsBookText};
-ghost use Rattle.sql_tables.specs.Texts.{stage};
-ghost use Rattle.database_office.specs.Making.{IsMakeFault, IsTextFault};
+ghost use Rattle.sql_keeper.specs.Opened.{IsCreated, IsFresh, IsNotCreated};
+ghost use Rattle.database_office.specs.Making.{IsInitFault, IsNotMade, IsTextFault};
 
 use crate::fault::{DatabaseFault, making_fault};
 use crate::files::{connect, read_file};
+use crate::opening::Office;
+use database_files::DatabaseFiles;
 use operator::InitWords;
 use sql_keeper::SqlKeeper;
 use sqlite::{Alter, Connection};
+use sqlite_disk::Wary;
 use std::alloc::Global;
 use tariffs::{BookFault, TariffBook};
 
-/// Makes the database of a tariff book's file, in a file that is made where there is none. The book
-/// is read first, so a text that is none leaves no file.
+/// Makes the database of a tariff book's file, in a file that is made where there is none, and
+/// answers its office. The book is read first, so a text that is none leaves no file.
 ///
 /// # Errors
 /// `File` or `Memory` where the book's file can't be read; then as `book_text`; `File` or `Memory`
 /// where the database can't be opened as one; then as `make_tables`: what was there is as it was.
-pub fn make_database(rt: &HostRuntime, words: &InitWords) -> Result<(), DatabaseFault> {
+pub fn make_database(
+    rt: &HostRuntime,
+    words: &InitWords,
+) -> Result<Office<DatabaseFiles<Wary>>, DatabaseFault>
+    ensures fresh { IfOk result (λ office. IsFresh office.keeper office.book) }
+    ensures fault { IfErr result IsInitFault }
+{
     let bytes = read_file(rt, words.book.as_str())?;
     let text = book_text(rt.alloc(), &bytes)?;
     let connection = connect(rt, words.database.as_str())?;
-    make_tables(rt.alloc(), connection, text)
+    match make_tables(rt.alloc(), connection, text) {
+        Ok(office) => Ok(office),
+        Err((fault, _left)) => Err(fault),
+    }
 }
 
 /// The text of a tariff book.
@@ -44,21 +56,23 @@ pub fn book_text(alloc: Global, bytes: &[u8]) -> Result<&str, DatabaseFault>
     }
 }
 
-/// Makes the tables of a tariff book's text in a database that has none.
+/// Makes the tables of a tariff book's text in a database that has none, and answers its office.
 ///
 /// # Errors
-/// `Book`, why the text is none of a book; `Open`, a table is there already (`Foreign`), the store
-/// failed, or memory was refused. Then nothing is changed.
+/// The connection is given back, and nothing is changed. `Book`, why the text is none of a book;
+/// `Open`, a table is there already (`Foreign`), the store failed, or memory was refused.
 pub fn make_tables<S: Alter + Drop>(
     alloc: Global,
     connection: Connection<S>,
     text: &str,
-) -> Result<(), DatabaseFault>
-    ensures blank { OnOk result (connection.schema ≡ stage 0) }
-    ensures told { IfErr result (IsMakeFault text.now connection.schema) }
+) -> Result<Office<S>, (DatabaseFault, Connection<S>)>
+    ensures made { IfOk result
+        (λ office. IsCreated S.Store text.now connection office.keeper office.book) }
+    ensures refused { IfErr result
+        (λ left. IsNotMade (IsNotCreated S.Store text.now connection left.1) left.0) }
 {
     match SqlKeeper::create(alloc, connection, text) {
-        Ok(_made) => Ok(()),
-        Err((fault, _left)) => Err(making_fault(fault)),
+        Ok((keeper, book)) => Ok(Office { keeper, book }),
+        Err((fault, left)) => Err((making_fault(fault), left)),
     }
 }

@@ -1,8 +1,8 @@
 //! A database that is opened.
 
 ghost use Rattle.std.specs.Prelude.{IfErr, IfOk};
-ghost use Rattle.sql_keeper.specs.Opened.{IsFresh, IsOpened};
-ghost use Rattle.database_office.specs.Opening.{IsOpenFault, IsUnopened};
+ghost use Rattle.sql_keeper.specs.Opened.{IsFresh, IsNotOpened, IsOpened};
+ghost use Rattle.database_office.specs.Opening.{IsNotFound, IsUnopened};
 
 use crate::fault::DatabaseFault;
 use crate::files::connect_there;
@@ -34,23 +34,28 @@ pub fn open_office(
     ensures told { IfErr result IsUnopened }
 {
     let connection = connect_there(rt, path.as_str())?;
-    open_tables(rt.alloc(), connection)
+    match open_tables(rt.alloc(), connection) {
+        Ok(office) => Ok(office),
+        Err((fault, _left)) => Err(fault),
+    }
 }
 
 /// Opens the office of a connection. It writes nothing.
 ///
 /// # Errors
-/// `Open`: the tables aren't this system's, their version isn't known, a row is out of its rules,
-/// the store failed, or memory was refused.
+/// The connection is given back. `Open`: the tables aren't this system's, their version isn't
+/// known, a rowid stands twice or what is kept once is out of its rules, the store failed, or
+/// memory was refused.
 pub fn open_tables<S: Alter + Drop>(
     alloc: Global,
     connection: Connection<S>,
-) -> Result<Office<S>, DatabaseFault>
+) -> Result<Office<S>, (DatabaseFault, Connection<S>)>
     ensures opened { IfOk result (λ office. IsOpened S.Store connection office.keeper office.book) }
-    ensures told { IfErr result IsOpenFault }
+    ensures refused { IfErr result
+        (λ left. IsNotFound (IsNotOpened S.Store connection left.1) left.0) }
 {
     match SqlKeeper::open(alloc, connection) {
         Ok((keeper, book)) => Ok(Office { keeper, book }),
-        Err((fault, _left)) => Err(DatabaseFault::Open(fault)),
+        Err((fault, left)) => Err((DatabaseFault::Open(fault), left)),
     }
 }

@@ -2,9 +2,10 @@
 
 ghost use Rattle.std.specs.Prelude.{◌≡◌, IfErr, IfOk};
 ghost use Rattle.std.specs.Io.KnownBytes.{Appends};
-ghost use Rattle.office.specs.Months.{unknown_line};
+ghost use Rattle.office.specs.Months.{IsMonthTold, OnlyReads, unknown_line};
 ghost use Rattle.office.specs.Printed.{IsEnded};
-ghost use Rattle.database_office.specs.Opening.{IsUnasked};
+ghost use Rattle.database_office.specs.Opening.{IsCommandFault, IsOfficeFault, IsUnasked};
+ghost use Rattle.database_office.specs.Stating.{IsOfOffice};
 
 use crate::clock::command_moment;
 use crate::fault::DatabaseFault;
@@ -31,6 +32,7 @@ pub fn state_office<O: Write>(
     ensures ended { IfOk result (IsEnded
         (Appends (O.contents output.old) (O.contents output.new) unknown_line)) }
     ensures unwritten { IfErr result (λ fault. IsUnasked fault → output.new ≡ output.old) }
+    ensures fault { IfErr result (IsCommandFault words.at) }
 {
     let StatementWords {
         database,
@@ -58,9 +60,14 @@ fn tell_month<K: ChargeSource, O: Write>(
     moment: Moment,
     output: &mut O,
 ) -> Result<Status, DatabaseFault>
+    ensures told { K.clean keeper.new →
+        IsOfOffice (IsMonthTold book.now query.now moment (K.content keeper.old)
+        (O.contents output.old) (O.contents output.new)) result }
     ensures ended { IfOk result (IsEnded
         (Appends (O.contents output.old) (O.contents output.new) unknown_line)) }
+    ensures reads { IsOfOffice (OnlyReads K.content K.failed K.clean keeper.old keeper.new) result }
     ensures unwritten { IfErr result (λ fault. IsUnasked fault → output.new ≡ output.old) }
+    ensures fault { IfErr result IsOfficeFault }
 {
     match serve_statement(alloc, keeper, book, query, moment, output) {
         Ok(status) => Ok(status),

@@ -1,4 +1,4 @@
-ghost use Rattle.std.specs.Prelude.{◌≡◌, IfOk, OnOk};
+ghost use Rattle.std.specs.Prelude.{◌≡◌, IfOk, OnOk, OnErr};
 ghost use Rattle.http_answers.specs.Routes.{added, table, row_of, has_query, route_of, is_get};
 ghost use Rattle.http_answers.specs.Routes.{is_post, is_put, serves};
 
@@ -107,7 +107,8 @@ fn api_router(alloc: Global) -> Result<Router<Route>, InsertError>
 /// # Errors
 /// A growth was refused.
 pub fn known_router(alloc: Global) -> Result<Router<Route>, StreamFault>
-    ensures { IfOk result (λ r. r ≡ table) }
+    ensures table { IfOk result (λ r. r ≡ table) }
+    ensures fault { OnErr result (result ≡ Err StreamFault.Memory) }
 {
     match api_router(alloc) {
         Ok(router) => Ok(router),

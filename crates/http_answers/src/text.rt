@@ -1,4 +1,4 @@
-ghost use Rattle.std.specs.Prelude.{◌≡◌, ◌++◌, ℕ, IfOk, IsErrOf, OnOk, OnErr, IfSome, None};
+ghost use Rattle.std.specs.Prelude.{◌≡◌, ◌++◌, ℕ, IfOk, OnOk, OnErr, IfSome, None};
 ghost use Rattle.std.specs.Prelude.{true, false, string_bytes};
 ghost use Rattle.json_fields.specs.declared.fault.WireFault.TheVariants.{Memory};
 ghost use Rattle.std.specs.Io.KnownBytes.{Appends};
@@ -106,12 +106,9 @@ fn unable_at_last() -> &'static [u8]
 pub fn write_text<W: Write>(writer: &mut W, text: &[u8]) -> Result<(), StreamFault>
     ensures ok { OnOk result (Appends (W.contents writer.old) (W.contents writer.new) text.now) }
     ensures err { OnErr result (Begins (W.contents writer.old) (W.contents writer.new) text.now) }
-    ensures memory { IsErrOf result StreamFault.Memory → ⊥ }
+    ensures fault { OnErr result (result ≡ Err StreamFault.Write) }
 {
-    match write_whole(writer, text) {
-        Ok(()) => Ok(()),
-        Err(_) => Err(StreamFault::Write),
-    }
+    write_whole(writer, text)
 }
 
 /// The head of an answer whose body is a text of so many bytes.
@@ -149,7 +146,7 @@ pub fn tell_text<W: Write>(
         (Appends (W.contents writer.old) (W.contents writer.new))) }
     ensures err { OnErr result (TellsText closes status body.now
         (Begins (W.contents writer.old) (W.contents writer.new))) }
-    ensures memory { IsErrOf result StreamFault.Memory → ⊥ }
+    ensures fault { OnErr result (result ≡ Err StreamFault.Write) }
 {
     match text_head(alloc, status, closes, body.len()) {
         Ok(head) => write_both(writer, head.as_bytes(), body),
@@ -163,7 +160,7 @@ fn write_both<W: Write>(writer: &mut W, first: &[u8], second: &[u8]) -> Result<(
         (Appends (W.contents writer.old) (W.contents writer.new) (first.now ++ second.now)) }
     ensures err { OnErr result
         (Begins (W.contents writer.old) (W.contents writer.new) (first.now ++ second.now)) }
-    ensures memory { IsErrOf result StreamFault.Memory → ⊥ }
+    ensures fault { OnErr result (result ≡ Err StreamFault.Write) }
 {
     write_text(writer, first)?;
     write_text(writer, second)
@@ -178,7 +175,7 @@ pub fn tell_unable<W: Write>(writer: &mut W, closes: bool) -> Result<(), StreamF
         (response Unavailable closes unable)) }
     ensures err { OnErr result (Begins (W.contents writer.old) (W.contents writer.new)
         (response Unavailable closes unable)) }
-    ensures memory { IsErrOf result StreamFault.Memory → ⊥ }
+    ensures fault { OnErr result (result ≡ Err StreamFault.Write) }
 {
     if closes {
         write_text(writer, unable_at_last())
@@ -201,7 +198,7 @@ pub fn tell_refusal<W: Write>(
         (TellsRefusal closes status (Appends (W.contents writer.old) (W.contents writer.new))) }
     ensures err { OnErr result
         (TellsRefusal closes status (Begins (W.contents writer.old) (W.contents writer.new))) }
-    ensures memory { IsErrOf result StreamFault.Memory → ⊥ }
+    ensures fault { OnErr result (result ≡ Err StreamFault.Write) }
 {
     match response(alloc, status, closes, NO_MEMBERS) {
         Ok(text) => write_text(writer, text.as_bytes()),
@@ -238,7 +235,7 @@ pub fn tell_fault<W: Write>(
         (TellsFault closes fault (Appends (W.contents writer.old) (W.contents writer.new))) }
     ensures err { OnErr result
         (TellsFault closes fault (Begins (W.contents writer.old) (W.contents writer.new))) }
-    ensures memory { IsErrOf result StreamFault.Memory → ⊥ }
+    ensures fault { OnErr result (result ≡ Err StreamFault.Write) }
 {
     match fault_response(alloc, fault, closes) {
         Some(text) => write_text(writer, text.as_bytes()),

@@ -52,17 +52,37 @@ abbrev error_of : {A : Type 0} → Result A ServeFault → ServeFault
 error_of (Ok x) = serve.Memory
 error_of (Err e) = e
 
-is_memory : (fault : StreamFault) → serve_fault fault ≡ serve.Memory → fault ≡ stream.Memory
-is_memory stream.Memory e = refl
-is_memory stream.Read e = absurd (cc)
-is_memory stream.Write e = absurd (cc)
+same_fault : (a b : StreamFault) → serve_fault a ≡ serve_fault b → a ≡ b
+same_fault stream.Memory stream.Memory e = refl
+same_fault stream.Memory stream.Read e = absurd (cc)
+same_fault stream.Memory stream.Write e = absurd (cc)
+same_fault stream.Read stream.Memory e = absurd (cc)
+same_fault stream.Read stream.Read e = refl
+same_fault stream.Read stream.Write e = absurd (cc)
+same_fault stream.Write stream.Memory e = absurd (cc)
+same_fault stream.Write stream.Read e = absurd (cc)
+same_fault stream.Write stream.Write e = refl
 
-pub memory_told : {A B : Type 0} (r : Result A StreamFault) (q : Result B ServeFault)
-    (fault : StreamFault) → r ≡ Err fault → IsErrAnd q (λ e. e ≡ serve_fault fault) →
-    q ≡ Err serve.Memory → r ≡ Err stream.Memory
-memory_told r (Ok x) fault was gives e = absurd gives
-memory_told r (Err told_fault) fault was gives e =
-    was ∙ ap (λ f. Err f) (is_memory fault (sym gives ∙ ap error_of e))
+pub fault_told : {A B : Type 0} (r : Result A StreamFault) (q : Result B ServeFault)
+    (fault told_as : StreamFault) → r ≡ Err fault → IsErrAnd q (λ e. e ≡ serve_fault fault) →
+    q ≡ Err (serve_fault told_as) → r ≡ Err told_as
+fault_told r (Ok x) fault told_as was gives e = absurd gives
+fault_told r (Err told_fault) fault told_as was gives e =
+    was ∙ ap (λ f. Err f) (same_fault fault told_as (sym gives ∙ ap error_of e))
+
+-- a fault of the writer is no other
+pub not_memory : {A X : Type 0} (r : Result A StreamFault) → OnErr r (r ≡ Err stream.Write) →
+    r ≡ Err stream.Memory → X
+not_memory (Ok x) only e = absurd (cc)
+not_memory (Err fault) only e = let both = sym e ∙ only in absurd (cc)
+
+-- one that is no other is of the writer
+pub write_alone : {A : Type 0} (r : Result A StreamFault) → ¬ (r ≡ Err stream.Memory) →
+    ¬ (r ≡ Err stream.Read) → OnErr r (r ≡ Err stream.Write)
+write_alone (Ok x) memory read = tt
+write_alone (Err stream.Memory) memory read = absurd (memory refl)
+write_alone (Err stream.Read) memory read = absurd (read refl)
+write_alone (Err stream.Write) memory read = refl
 
 may_not : (asking : Asking) → MayAsk asking []
 may_not (refuses code) = refl

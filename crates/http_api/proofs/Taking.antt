@@ -18,7 +18,8 @@ use Rattle.http_api.specs.Hearing.{Hears, HearsNext}
 use Rattle.http_api.specs.Replies.{reply_text, ForEachList, IsReplied, Replies}
 use Rattle.http_api.specs.Connections.{Connection, new_connection, left_after, after_reply}
 use Rattle.http_api.specs.Connections.{IsAnswered, Takes, IsTurn, Turns, IsTaken, IsOver, IsServed}
-use Rattle.http_api.specs.Connections.{IsBegun, OwesNext, IsOutOfMemory}
+use Rattle.http_api.specs.Connections.{IsBegun, OwesNext, IsOutOfMemory, IsUnread}
+use Rattle.http_api.specs.Connections.{IsTakenWith, IsCutOff}
 use Rattle.http_api.specs.Told.{Owes}
 
 plus_one : (n : ℕ) → suc n ≡ n + 1
@@ -111,34 +112,43 @@ at-none b stream tables = λ list time are. record {
   rest_is = refl;
 }
 
-at-more : (b : Book) (stream : List ℕ) (count left : ℕ) (rest after : List ℕ)
+-- one more is answered, and this is left
+record IsMoreAt (b : Book) (stream : List ℕ) (count left : ℕ) (closes : Bool) (after : List ℕ)
+    (moments : List (Option ℕ)) (text more : List ℕ) (content : Tables) (list : List Accepted) :
+    Type 0 where
+  turned : IsTakenWith b stream count moments text more content list
+  left_is : turned.last.left ≡ left_after closes left
+  rest_is : turned.last.rest ≡ after
+
+more-at : (b : Book) (stream : List ℕ) (count left : ℕ) (rest after : List ℕ)
     (moments ms : List (Option ℕ)) (text more : List ℕ) (mid new : Tables) (list : List Accepted)
     (asking : Asking) (closes : Bool) (next : Next) →
     0 < left → IsNext rest next →
     ((old last : Connection) → IsAnswered b asking closes after old last → Takes b next old last) →
     (at : IsAt b stream count left rest moments text mid list) →
     IsReplied b asking (left_after closes left == 0) ms more new at.taken.last.list →
-    IsAt b stream (count + 1) (left_after closes left) after (moments ++ ms) (text ++ more) new list
-at-more b stream count left rest after moments ms text more mid new list asking closes next some
+    IsMoreAt b stream count left closes after (moments ++ ms) text more new list
+more-at b stream count left rest after moments ms text more mid new list asking closes next some
     is_next takes at replied =
     let old : Connection = at.taken.last in
     let last : Connection = after_reply old closes after ms replied.reply in
-    let turn : IsTurn b old last = record {
-      taken = subst (λ n. 0 < n) (sym at.left_is) some;
-      next = next;
-      is_next = subst (λ r. IsNext r next) (sym at.rest_is) is_next;
-      takes = takes old last (record {
-        moments = ms;
-        reply = replied.reply;
-        is_reply = replied.is_reply;
-        after = refl;
-      });
-    } in
     record {
-      taken = record {
+      turned = record {
+        between = old;
+        turns = at.taken.turns;
+        whole = at.taken.written;
         last = last;
-        turns = subst (λ n. Turns b n (new_connection stream list) last) (plus_one count)
-            (old, at.taken.turns, turn);
+        turn = record {
+          taken = subst (λ n. 0 < n) (sym at.left_is) some;
+          next = next;
+          is_next = subst (λ r. IsNext r next) (sym at.rest_is) is_next;
+          takes = takes old last (record {
+            moments = ms;
+            reply = replied.reply;
+            is_reply = replied.is_reply;
+            after = refl;
+          });
+        };
         given = ap (λ l. l ++ ms) at.taken.given;
         written = (λ i.
             at.taken.written i ++ reply_text (left_after closes (at.left_is i) == 0) replied.reply)
@@ -149,6 +159,24 @@ at-more b stream count left rest after moments ms text more mid new list asking 
       left_is = ap (left_after closes) at.left_is;
       rest_is = refl;
     }
+
+at-more : (b : Book) (stream : List ℕ) (count left : ℕ) (closes : Bool) (after : List ℕ)
+    (moments : List (Option ℕ)) (text more : List ℕ) (new : Tables) (list : List Accepted) →
+    IsMoreAt b stream count left closes after moments text more new list →
+    IsAt b stream (count + 1) (left_after closes left) after moments (text ++ more) new list
+at-more b stream count left closes after moments text more new list m = record {
+  taken = record {
+    last = m.turned.last;
+    turns = subst (λ n. Turns b n (new_connection stream list) m.turned.last) (plus_one count)
+        (m.turned.between, m.turned.turns, m.turned.turn);
+    given = m.turned.given;
+    written = m.turned.written;
+    tables = m.turned.tables;
+    time = m.turned.time;
+  };
+  left_is = m.left_is;
+  rest_is = m.rest_is;
+}
 
 module _ {C : Type 0} (gives : C → Option ℕ → C → Type 0) (b : Book) where
   -- so many requests of a stream were taken, and it goes on
@@ -187,6 +215,7 @@ module _ {C : Type 0} (gives : C → Option ℕ → C → Type 0) (b : Book) whe
     written : Appends w0 w1 text
     more : List ℕ
     wrote : Writes more
+    turned : ForEachList b old (IsTakenWith b stream count moments text more new)
     at : ForEachList b old
         (IsAt b stream (count + 1) (left_after closes left) rest moments (text ++ more) new)
 
@@ -203,21 +232,26 @@ module _ {C : Type 0} (gives : C → Option ℕ → C → Type 0) (b : Book) whe
       let case : IsHeard b here.next heard r2 = heard_case b here.next heard r2 here.hears in
       let reply : Replies gives b case.asking
       (left_after heard.closes left == 0) c1 c2 Writes mid new = replies case.asking case.asked in
+      let moments : List (Option ℕ) = so.moments ++ reply.moments in
+      let more_at : ForEachList b old (IsMoreAt b stream count left heard.closes case.rest moments
+      so.text reply.text new) = λ list time are.
+      let at : IsAt b stream count left so.rest so.moments so.text mid list =
+      so.at list time are in
+      more-at b stream count left so.rest case.rest so.moments reply.moments so.text
+      reply.text mid new list case.asking heard.closes here.next some here.is_next case.takes
+      at (reply.replied at.taken.last.list at.taken.time at.taken.tables) in
       record {
         rest = case.rest;
         rest_is = case.goes_on;
-        moments = so.moments ++ reply.moments;
+        moments = moments;
         given = gives-more gives c0 c1 c2 so.moments reply.moments so.given reply.given;
         text = so.text;
         written = so.written;
         more = reply.text;
         wrote = reply.written;
-        at = λ list time are.
-            let at : IsAt b stream count left so.rest so.moments so.text mid list =
-            so.at list time are in
-            at-more b stream count left so.rest case.rest so.moments reply.moments so.text
-            reply.text mid new list case.asking heard.closes here.next some here.is_next case.takes
-            at (reply.replied at.taken.last.list at.taken.time at.taken.tables);
+        turned = λ list time are. (more_at list time are).turned;
+        at = λ list time are. at-more b stream count left heard.closes case.rest moments so.text
+            reply.text new list (more_at list time are);
       }
 
   -- the same, of what is known of a call
@@ -320,6 +354,36 @@ module _ {C : Type 0} (gives : C → Option ℕ → C → Type 0) (b : Book) whe
         taken = λ list time are. (one.at list time are).taken;
       }
 
+  -- of its answer a beginning is written
+  pub so_far-cut : (count left next : ℕ) (flag : Bool) (r0 r1 r2 : Option (List ℕ))
+      (c0 c1 c2 : C) (w0 w1 w2 : Option (List ℕ)) (old mid new : Tables) (o : Option Heard)
+      (heard : Heard) →
+      0 < left → o ≡ Some heard → next ≡ left_after heard.closes left → flag ≡ (next == 0) →
+      count < 1000 → IfSome r0 (λ stream. IsSoFar stream count left r1 c0 c1 w0 w1 old mid) →
+      IfSome r1 (λ s. Hears s o r2) →
+      ((asking : Asking) →
+      IsAsked asking heard.asked → Replies gives b asking flag c1 c2 (Begins w1 w2) mid new) →
+      IfSome r0 (λ stream. IsCutOff gives b stream c0 c2 w0 w2 old new)
+  so_far-cut count left next flag None r1 r2 c0 c1 c2 w0 w1 w2 old mid new o heard some is next_is
+      flag_is few so hears replies = tt
+  so_far-cut count left next flag (Some stream) r1 r2 c0 c1 c2 w0 w1 w2 old mid new o heard some is
+      next_is flag_is few so hears replies =
+      let one : IsOneMore stream count left heard.closes r2 c0 c2 w0 w1 (Begins w1 w2) old new =
+      one_more_of stream count left next flag r1 r2 c0 c1 c2 w0 w1
+      (Begins w1 w2) old mid new o heard some is next_is flag_is so hears replies in
+      record {
+        count = count;
+        bounded = few;
+        moments = one.moments;
+        given = one.given;
+        text = one.text;
+        more = one.more;
+        begun = one.wrote.0;
+        written = Appends-trans w0 w1 w2 one.text (take one.wrote.0 one.more) one.written
+            one.wrote.1;
+        taken = one.turned;
+      }
+
   -- what was taken so far is all, where the connection is over
   served_over : (stream : List ℕ) (count left : ℕ) (r1 : Option (List ℕ)) (c0 c1 : C)
       (w0 w1 : Option (List ℕ)) (old new : Tables) →
@@ -381,6 +445,25 @@ module _ {C : Type 0} (gives : C → Option ℕ → C → Type 0) (b : Book) whe
     text = so.text;
     written = begins-all w0 w1 so.text so.written;
     taken = λ list time are. (so.at list time are).taken;
+  }
+
+  -- since the reader fails
+  pub so_far-unread : (count left : ℕ) (r0 r1 : Option (List ℕ)) (c0 c1 : C)
+      (w0 w1 : Option (List ℕ)) (old new : Tables) → count < 1000 → 0 < left →
+      IfSome r0 (λ stream. IsSoFar stream count left r1 c0 c1 w0 w1 old new) →
+      IfSome r0 (λ stream. IsUnread gives b stream c0 c1 w0 w1 old new)
+  so_far-unread count left None r1 c0 c1 w0 w1 old new few some so = tt
+  so_far-unread count left (Some stream) r1 c0 c1 w0 w1 old new few some so = record {
+    count = count;
+    bounded = few;
+    moments = so.moments;
+    given = so.given;
+    text = so.text;
+    written = so.written;
+    taken = λ list time are.
+        let at : IsAt b stream count left so.rest so.moments so.text new list =
+        so.at list time are in
+        record { taken = at.taken; goes_on = subst (λ n. 0 < n) (sym at.left_is) some };
   }
 
   -- memory is refused before the next request is taken

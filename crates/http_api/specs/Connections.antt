@@ -2,7 +2,7 @@
 -- and of the clock's moments, but that 503 may stand where memory or the store fails.
 -- Source: RFC 9112 sections 2.1, 6 and 9.3; the bounds: profile.
 use Rattle.std.specs.Prelude.{◌≡◌, ◌<◌, ◌≤◌, ◌-◌, ◌==◌, ℕ, zero, suc, Bool, true, if◌then◌else◌}
-use Rattle.std.specs.Prelude.{List, [], ◌++◌, Option, ◌⊎◌, Result, IfOk, OnErr, IfSome}
+use Rattle.std.specs.Prelude.{List, [], ◌++◌, take, Option, ◌⊎◌, Result, IfOk, OnErr, IfSome}
 use Rattle.std.specs.Io.KnownBytes.{Appends}
 use Rattle.tariffs.specs.Books.{Book}
 use Rattle.keepers.specs.Tables.{Tables}
@@ -144,6 +144,51 @@ pub record IsOutOfMemory {C : Type 0} (gives : C → Option ℕ → C → Type 0
   pub left : List ℕ
   pub answered : ForEachList b old (IsTakenTo b stream left count moments text content)
   pub next : ((after ≡ between) × (new ≡ content)) ⊎ OwesNext gives b left between after content
+
+-- so many of its requests were answered, and the connection takes more
+pub record IsTakenOn (b : Book) (stream : List ℕ) (count : ℕ) (moments : List (Option ℕ))
+    (text : List ℕ) (content : Tables) (list : List Accepted) : Type 0 where
+  pub taken : IsTaken b stream count moments text content list
+  pub goes_on : 0 < taken.last.left
+
+-- where the reader fails so many requests of a stream were answered whole, and nothing is done for
+-- the next one
+pub record IsUnread {C : Type 0} (gives : C → Option ℕ → C → Type 0) (b : Book) (stream : List ℕ)
+    (before after : C) (empty full : Option (List ℕ)) (old new : Tables) : Type 0 where
+  pub count : ℕ
+  pub bounded : count < 1000
+  pub moments : List (Option ℕ)
+  pub given : GivesInTurn gives before moments after
+  pub text : List ℕ
+  pub written : Appends empty full text
+  pub taken : ForEachList b old (IsTakenOn b stream count moments text new)
+
+-- so many of its requests were answered with a text, and one more with another
+pub record IsTakenWith (b : Book) (stream : List ℕ) (count : ℕ) (moments : List (Option ℕ))
+    (text more : List ℕ) (content : Tables) (list : List Accepted) : Type 0 where
+  pub between : Connection
+  pub turns : Turns b count (new_connection stream list) between
+  pub whole : between.written ≡ text
+  pub last : Connection
+  pub turn : IsTurn b between last
+  pub given : last.moments ≡ moments
+  pub written : last.written ≡ text ++ more
+  pub tables : AreTables b last.list content
+  pub time : IsInTime last.list
+
+-- where the writer fails so many requests of a stream were answered whole, and of the answer to the
+-- next one a beginning is written
+pub record IsCutOff {C : Type 0} (gives : C → Option ℕ → C → Type 0) (b : Book) (stream : List ℕ)
+    (before after : C) (empty full : Option (List ℕ)) (old new : Tables) : Type 0 where
+  pub count : ℕ
+  pub bounded : count < 1000
+  pub moments : List (Option ℕ)
+  pub given : GivesInTurn gives before moments after
+  pub text : List ℕ
+  pub more : List ℕ
+  pub begun : ℕ
+  pub written : Appends empty full (text ++ take begun more)
+  pub taken : ForEachList b old (IsTakenWith b stream count moments text more new)
 
 -- what comes of a stream, where the reader tells its bytes: it is served to the end of the
 -- connection

@@ -46,6 +46,7 @@ pub(crate) fn answer_request<W: Write, K: ChargeSource, C: Clock>(
         Owes C.gives book.now asking clock.old clock.new (K.content keeper.old) }
     ensures unwritten { IsErrOf result StreamFault.Memory →
         W.contents writer.new ≡ W.contents writer.old }
+    ensures read { IsErrOf result StreamFault.Read → ⊥ }
     ensures continued { K.clean keeper.new →
         Continues book.now (K.content keeper.old) (K.content keeper.new) }
     ensures cleanness { K.clean keeper.new → K.clean keeper.old }
@@ -83,6 +84,7 @@ fn serve_command<W: Write, K: ChargeSource, C: Clock>(
         Owes C.gives book.now (reads (Ok command)) clock.old clock.new (K.content keeper.old) }
     ensures unwritten { IsErrOf result StreamFault.Memory →
         W.contents writer.new ≡ W.contents writer.old }
+    ensures read { IsErrOf result StreamFault.Read → ⊥ }
     ensures continued { K.clean keeper.new →
         Continues book.now (K.content keeper.old) (K.content keeper.new) }
     ensures cleanness { K.clean keeper.new → K.clean keeper.old }

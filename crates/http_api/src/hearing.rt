@@ -1,4 +1,4 @@
-ghost use Rattle.std.specs.Prelude.{◌≡◌, ◌≤◌, ◌*◌, ℕ, List, Option, length, IfOk, IfSome};
+ghost use Rattle.std.specs.Prelude.{◌≡◌, ◌≤◌, ◌*◌, ℕ, List, Option, length, IfOk, IsErrOf, IfSome};
 ghost use Rattle.http_heads.specs.Requests.{Next, Tells, seen};
 ghost use Rattle.http_answers.specs.Routes.{table};
 ghost use Rattle.http_answers.specs.Asking.{asked_of, IsAsked};
@@ -30,8 +30,9 @@ pub(crate) fn hear<R: BufRead>(
 ) -> Result<Option<Heard>, StreamFault>
     requires router { router.now ≡ table }
     requires room { 8192 ≤ 3 * length room.old }
-    ensures { IfOk result (λ heard.
+    ensures heard { IfOk result (λ heard.
         IfSome (R.remaining reader.old) (λ stream. Hears stream heard (R.remaining reader.new))) }
+    ensures fault { IsErrOf result StreamFault.Write → ⊥ }
 {
     let taken = next_request(alloc, reader, room)?;
     Ok(heard_of(alloc, router, taken))

@@ -3,7 +3,7 @@ ghost use Rattle.std.specs.Prelude.{IsErrOf};
 ghost use Rattle.http_answers.specs.Routes.{table};
 ghost use Rattle.http_api.specs.Replies.{Continues};
 ghost use Rattle.http_api.specs.Connections.{left_after, IsServed, IsBegun, Serves, Starts};
-ghost use Rattle.http_api.specs.Connections.{IsOutOfMemory};
+ghost use Rattle.http_api.specs.Connections.{IsOutOfMemory, IsUnread, IsCutOff};
 
 use crate::answering::answer_request;
 use crate::clock::Clock;
@@ -35,8 +35,8 @@ pub struct Served {
 ///
 /// # Errors
 /// `Memory` where a growth was refused for a head, a body or the text of an answer that an accepted
-/// command may get; `Read` where the reader failed; `Write` where the writer did. What was accepted
-/// stays so, and a beginning of the answers is written.
+/// command may get; `Read` where the reader failed: then all answers are written; `Write` where the
+/// writer did: then all but the last are, and a beginning of that. What was accepted stays so.
 pub fn serve<R: Read, W: Write, K: ChargeSource, C: Clock>(
     alloc: Global,
     reader: &mut R,
@@ -54,6 +54,14 @@ pub fn serve<R: Read, W: Write, K: ChargeSource, C: Clock>(
         (W.contents writer.new) (K.content keeper.old) (K.content keeper.new))) }
     ensures memory { K.clean keeper.new → IsErrOf result ServeFault.Memory →
         IfSome (R.remaining reader.old) (λ stream. IsOutOfMemory C.gives book.now stream
+        clock.old clock.new (W.contents writer.old) (W.contents writer.new)
+        (K.content keeper.old) (K.content keeper.new)) }
+    ensures read { K.clean keeper.new → IsErrOf result ServeFault.Read →
+        IfSome (R.remaining reader.old) (λ stream. IsUnread C.gives book.now stream
+        clock.old clock.new (W.contents writer.old) (W.contents writer.new)
+        (K.content keeper.old) (K.content keeper.new)) }
+    ensures write { K.clean keeper.new → IsErrOf result ServeFault.Write →
+        IfSome (R.remaining reader.old) (λ stream. IsCutOff C.gives book.now stream
         clock.old clock.new (W.contents writer.old) (W.contents writer.new)
         (K.content keeper.old) (K.content keeper.new)) }
     ensures bounded { IfOk result (λ done. done.requests ≤ 1000) }
@@ -122,6 +130,14 @@ fn serve_requests<R: BufRead, W: Write, K: ChargeSource, C: Clock>(
         (K.content keeper.old) (K.content keeper.new) result }
     ensures memory { K.clean keeper.new → IsErrOf result ServeFault.Memory →
         IfSome (R.remaining reader.old) (λ stream. IsOutOfMemory C.gives book.now stream
+        clock.old clock.new (W.contents writer.old) (W.contents writer.new)
+        (K.content keeper.old) (K.content keeper.new)) }
+    ensures read { K.clean keeper.new → IsErrOf result ServeFault.Read →
+        IfSome (R.remaining reader.old) (λ stream. IsUnread C.gives book.now stream
+        clock.old clock.new (W.contents writer.old) (W.contents writer.new)
+        (K.content keeper.old) (K.content keeper.new)) }
+    ensures write { K.clean keeper.new → IsErrOf result ServeFault.Write →
+        IfSome (R.remaining reader.old) (λ stream. IsCutOff C.gives book.now stream
         clock.old clock.new (W.contents writer.old) (W.contents writer.new)
         (K.content keeper.old) (K.content keeper.new)) }
     ensures bounded { IfOk result (λ done. done.requests ≤ 1000) }

@@ -1,6 +1,6 @@
 //! A statement that is asked for.
 
-ghost use Rattle.std.specs.Prelude.{◌≡◌, ◌≤◌, true, List, OnOk, OnErr, IfOk, IsErrOf};
+ghost use Rattle.std.specs.Prelude.{◌≡◌, ◌≤◌, true, List, OnOk, OnErr, IfOk};
 ghost use Rattle.std.specs.Io.KnownBytes.{Appends};
 ghost use Rattle.commands.specs.declared.answer.Answer.TheVariants.{Refused};
 ghost use Rattle.commands.specs.declared.answer.Refusal.TheVariants.{AccountUnknown as Unknown};
@@ -47,7 +47,7 @@ pub(crate) fn serve_statement<W: Write, K: ChargeSource, C: Clock>(
         (Replies C.gives book.now (states asked.now) closes clock.old clock.new
         (Begins (W.contents writer.old) (W.contents writer.new))
         (K.content keeper.old) (K.content keeper.new)) }
-    ensures memory { IsErrOf result StreamFault.Memory → ⊥ }
+    ensures fault { OnErr result (result ≡ Err StreamFault.Write) }
     ensures same { K.clean keeper.new → K.content keeper.new ≡ K.content keeper.old }
     ensures cleanness { K.clean keeper.new → K.clean keeper.old }
     ensures failures { K.failed keeper.old ≤ K.failed keeper.new }
@@ -83,7 +83,7 @@ fn tell_statement<W: Write, K: ChargeSource>(
         (TellsCharges ((K.content keeper.old).charges asked.now.account)
         (λ rows. statement_text book.now asked.now.account asked.now.month state.now.moment rows
         state.now.buckets.items) closes (Begins (W.contents writer.old) (W.contents writer.new))) }
-    ensures memory { IsErrOf result StreamFault.Memory → ⊥ }
+    ensures fault { OnErr result (result ≡ Err StreamFault.Write) }
     ensures same { K.clean keeper.new → K.content keeper.new ≡ K.content keeper.old }
     ensures cleanness { K.clean keeper.new → K.clean keeper.old }
     ensures failures { K.failed keeper.old ≤ K.failed keeper.new }
@@ -129,7 +129,7 @@ fn tell_unknown<W: Write>(alloc: Global, writer: &mut W, closes: bool) -> Result
         (Appends (W.contents writer.old) (W.contents writer.new))) }
     ensures err { OnErr result (TellsAnswer true (Refused Unknown) closes
         (Begins (W.contents writer.old) (W.contents writer.new))) }
-    ensures memory { IsErrOf result StreamFault.Memory → ⊥ }
+    ensures fault { OnErr result (result ≡ Err StreamFault.Write) }
 {
     let unknown = Answer::Refused(Refusal::AccountUnknown);
     tell_answer(alloc, writer, &unknown, true, closes)

@@ -93,28 +93,6 @@ fn answer_response(alloc: Global, answer: &Answer, closes: bool) -> Result<Strin
     response(alloc, Status::Ok, closes, body.as_str())
 }
 
-/// Writes that there is no memory for the text of an answer, where no accepted command gets it.
-fn tell_untold<W: Write>(
-    writer: &mut W,
-    answer: &Answer,
-    read: bool,
-    closes: bool,
-) -> Result<(), StreamFault>
-    ensures ok { OnOk result (TellsAnswer read answer.now closes
-        (Appends (W.contents writer.old) (W.contents writer.new))) }
-    ensures err { OnErr result (TellsAnswer read answer.now closes
-        (Begins (W.contents writer.old) (W.contents writer.new))) }
-    ensures memory { IsErrOf result StreamFault.Memory → is_unaccepted read answer.now ≡ false }
-    ensures unwritten { IsErrOf result StreamFault.Memory →
-        W.contents writer.new ≡ W.contents writer.old }
-{
-    if read || is_refusal(answer) {
-        tell_unable(writer, closes)
-    } else {
-        Err(StreamFault::Memory)
-    }
-}
-
 /// Writes the answer to a command, a read or another; where memory is refused for its text and no
 /// accepted command gets it, that there is no memory.
 ///
@@ -135,9 +113,16 @@ pub(crate) fn tell_answer<W: Write>(
     ensures memory { IsErrOf result StreamFault.Memory → is_unaccepted read answer.now ≡ false }
     ensures unwritten { IsErrOf result StreamFault.Memory →
         W.contents writer.new ≡ W.contents writer.old }
+    ensures read { IsErrOf result StreamFault.Read → ⊥ }
 {
     match answer_response(alloc, answer, closes) {
         Ok(text) => write_text(writer, text.as_bytes()),
-        Err(_) => tell_untold(writer, answer, read, closes),
+        Err(_) => {
+            if read || is_refusal(answer) {
+                tell_unable(writer, closes)
+            } else {
+                Err(StreamFault::Memory)
+            }
+        }
     }
 }

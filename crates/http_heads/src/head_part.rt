@@ -1,4 +1,4 @@
-ghost use Rattle.std.specs.Prelude.{◌≡◌, ◌≤◌, IfOk, IfSome};
+ghost use Rattle.std.specs.Prelude.{◌≡◌, ◌≤◌, IfOk, IsErrOf, IfSome};
 ghost use Rattle.http_heads.specs.Parts.{first_part, IsHeadPart, IsShort};
 
 use byte_streams::{StreamFault, take_piece};
@@ -30,6 +30,7 @@ pub fn next_head_part<R: BufRead>(alloc: Global, reader: &mut R) -> Result<HeadP
     ensures part { IfOk result (λ part. IfSome (R.remaining reader.old)
         (λ stream. IsHeadPart (first_part stream) part (R.remaining reader.new))) }
     ensures short { IfOk result IsShort }
+    ensures fault { IsErrOf result StreamFault.Write → ⊥ }
 {
     let mut part = Vec::with_capacity(alloc, USUAL_HEAD_PART)?;
     for _turn in 0..MAX_HEAD_PART {

@@ -1,4 +1,4 @@
-ghost use Rattle.std.specs.Prelude.{◌≡◌, ◌≤◌, ◌*◌, length, IfOk, IfSome};
+ghost use Rattle.std.specs.Prelude.{◌≡◌, ◌≤◌, ◌*◌, length, IfOk, IsErrOf, IfSome};
 ghost use Rattle.httparse.specs.Grammar.{RequestHead};
 ghost use Rattle.http_heads.specs.Parts.{Part, whole, first_part, IsHeadPart, IsShort};
 ghost use Rattle.http_heads.specs.Requests.{TellsNext, IsHeadOf, Tells, after_head};
@@ -50,8 +50,9 @@ pub fn next_request<R: BufRead>(
     room: &mut [HeaderSpan],
 ) -> Result<Taken, StreamFault>
     requires room { 8192 ≤ 3 * length room.old }
-    ensures { IfOk result (λ taken. IfSome (R.remaining reader.old)
+    ensures next { IfOk result (λ taken. IfSome (R.remaining reader.old)
         (λ stream. TellsNext (first_part stream) taken (R.remaining reader.new))) }
+    ensures fault { IsErrOf result StreamFault.Write → ⊥ }
 {
     let part = next_head_part(alloc, reader)?;
     after_part(alloc, reader, part, room)
@@ -66,8 +67,9 @@ fn after_part<R: BufRead>(
 ) -> Result<Taken, StreamFault>
     requires short { IsShort part }
     requires room { 8192 ≤ 3 * length room.old }
-    ensures { IfOk result (λ taken. (begun : Part) → IsHeadPart begun part
+    ensures next { IfOk result (λ taken. (begun : Part) → IsHeadPart begun part
         (R.remaining reader.old) → TellsNext begun taken (R.remaining reader.new)) }
+    ensures fault { IsErrOf result StreamFault.Write → ⊥ }
 {
     match part {
         HeadPart::Whole(part) => after_bytes(alloc, reader, part.as_slice(), room),
@@ -85,8 +87,9 @@ fn after_bytes<R: BufRead>(
 ) -> Result<Taken, StreamFault>
     requires short { length part.now ≤ 8192 }
     requires room { 8192 ≤ 3 * length room.old }
-    ensures { IfOk result (λ taken. IfSome (R.remaining reader.old)
+    ensures next { IfOk result (λ taken. IfSome (R.remaining reader.old)
         (λ rest. TellsNext (whole part.now rest) taken (R.remaining reader.new))) }
+    ensures fault { IsErrOf result StreamFault.Write → ⊥ }
 {
     let head = read_head(alloc, part, room)?;
     match head {
@@ -97,9 +100,10 @@ fn after_bytes<R: BufRead>(
 
 /// The request of a head, with its body.
 fn with_body<R: BufRead>(alloc: Global, reader: &mut R, head: Head) -> Result<Taken, StreamFault>
-    ensures { IfOk result (λ taken. IfSome (R.remaining reader.old)
+    ensures tells { IfOk result (λ taken. IfSome (R.remaining reader.old)
         (λ rest. (said : RequestHead) → IsHeadOf said head →
         Tells (after_head said rest) taken (R.remaining reader.new))) }
+    ensures fault { IsErrOf result StreamFault.Write → ⊥ }
 {
     let Head {
         method,

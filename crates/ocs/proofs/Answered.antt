@@ -1,8 +1,8 @@
 -- What a run of a stream's commands leaves, and what is written of it.
 use Rattle.std.proofs.Common.{◌≡◌, ℕ, zero, suc, List, [], ◌∷◌, ◌++◌, map, length, take, drop, refl}
 use Rattle.std.proofs.Common.{sym, ap, subst, ◌∙◌, Option, Some, None, IfSome, IfNone, Result, Ok}
-use Rattle.std.proofs.Common.{Err, ◌+◌, ◌≤◌, arith}
-use Rattle.std.proofs.lemmas.List.{drop_all, take-append-le}
+use Rattle.std.proofs.Common.{Err, ◌+◌, ◌<◌, ◌≤◌, arith}
+use Rattle.std.proofs.lemmas.List.{drop_all, length-append, take-append-le}
 use Rattle.std.proofs.lemmas.Bool.{false≢true}
 use Rattle.std.proofs.lemmas.Option.{none-some}
 use Rattle.std.proofs.Math.Seq.{take-length, take-append-add, drop-append_seam}
@@ -23,7 +23,7 @@ use Rattle.ocs.specs.declared.input.Input.{Input}
 use Rattle.ocs.specs.Lines.{line_request}
 use Rattle.ocs.specs.Served.{requests_in, opening_for, opening_in, commands_of, faults_in, texts_of}
 use Rattle.ocs.specs.Served.{text_of, text_to, once_text, ForEachList, IsContinued, IsAnswered}
-use Rattle.ocs.specs.Served.{IsStopped, IsBegun, IsRunOpened}
+use Rattle.ocs.specs.Served.{IsStopped, IsBegun, IsCut, IsRunOpened, IsUntold}
 use Rattle.ocs.specs.Input.{told_fault, IsInput}
 use Rattle.office.specs.Written.{WritesBeginning}
 use Rattle.office.proofs.Beginnings.{nothing_written, beginning_before}
@@ -69,12 +69,30 @@ pub where_none : {F : Type 0} (P : Type 0) (fault : Option F) → is_some fault 
 where_none P (Some f) none h = absurd (false≢true (sym none))
 where_none P None none h = h
 
+stopped_before : {F : Type 0} (fault : Option F) (opening requests : List DatedCommand) (n : ℕ) →
+    IfSome fault (λ _. n < length opening) → IfSome fault (λ _. n < length (opening ++ requests))
+stopped_before None opening requests n lt = tt
+stopped_before (Some f) opening requests n lt =
+    let long : length (opening ++ requests) ≡ length opening + length requests =
+    length-append opening requests in
+    omega (arith, long, lt)
+
+stopped_within : {F : Type 0} (fault : Option F) (opening requests : List DatedCommand) (n : ℕ) →
+    IfSome fault (λ _. n < length requests) →
+    IfSome fault (λ _. length opening + n < length (opening ++ requests))
+stopped_within None opening requests n lt = tt
+stopped_within (Some f) opening requests n lt =
+    let long : length (opening ++ requests) ≡ length opening + length requests =
+    length-append opening requests in
+    omega (arith, long, lt)
+
 module _ (b : Book) (opening requests : List DatedCommand) where
   -- the run stopped before the requests
   pub opening-stopped : {F : Type 0} (fault : Option F) (given : List Answer) (old new : Tables) →
-      is_some fault ≡ true → length given ≤ length opening → Runs b opening old new given →
+      is_some fault ≡ true → length given ≤ length opening →
+      IfSome fault (λ _. length given < length opening) → Runs b opening old new given →
       ForEachList b old (IsRunOpened b opening requests new [] fault)
-  opening-stopped fault given old new some few runs = λ list time tables.
+  opening-stopped fault given old new some few stopped runs = λ list time tables.
       let run : IsRun b list opening new given = runs list time tables in
       let n = length given in
       let begun : take n (opening ++ requests) ≡ take n opening =
@@ -91,6 +109,7 @@ module _ (b : Book) (opening requests : List DatedCommand) where
             sym (ap (λ (cs : List DatedCommand). drop (length opening) (answers_to b list cs)) begun
             ∙ drop_all (length opening) (answers_to b list (take n opening)) told);
         whole = no_none _ fault some;
+        few = stopped_before fault opening requests n stopped;
       }
 
   all_taken : {F : Type 0} (fault : Option F) (given : List Answer) →
@@ -107,8 +126,9 @@ module _ (b : Book) (opening requests : List DatedCommand) where
   pub requests-run : {F : Type 0} (fault : Option F) (before given : List Answer)
       (old mid new : Tables) → length before ≡ length opening → Runs b opening old mid before →
       Runs b requests mid new given → IfNone fault (length given ≡ length requests) →
+      IfSome fault (λ _. length given < length requests) →
       ForEachList b old (IsRunOpened b opening requests new given fault)
-  requests-run fault before given old mid new all runs later whole = λ list time tables.
+  requests-run fault before given old mid new all runs later whole stopped = λ list time tables.
       let run : IsRun b list opening mid before = runs list time tables in
       let opened : take (length before) opening ≡ opening = ap (λ n. take n opening) all
       ∙ take-length opening in
@@ -138,6 +158,7 @@ module _ (b : Book) (opening requests : List DatedCommand) where
         time = subst IsInTime (sym list_is) rest.time;
         answers = rest.answers ∙ sym told;
         whole = all_taken fault given whole;
+        few = stopped_within fault opening requests n stopped;
       }
 
 -- ---- the list goes on
@@ -203,22 +224,74 @@ module _ (b : Book) (amount : Option ℕ) (w0 w1 : Option (List ℕ)) where
           written = subst (WritesBeginning w0 w1) (text_is stream list h run) written;
         }
 
+  module _ {F : Type 0} (input : Input) (opening : List DatedCommand) (given : List Answer)
+      (old new : Tables) where
     -- it is, up to a fault
-    pub stopped-run : (r : Option (List ℕ)) →
+    pub stopped-run : (f : F) (r : Option (List ℕ)) →
         IfSome r (λ stream. IsInput (map line_request (lines_of stream)) input) →
         opening ≡ opening_for amount input.requests.items →
-        ForEachList b old (IsRunOpened b opening input.requests.items new given fault) →
+        ForEachList b old (IsRunOpened b opening input.requests.items new given (Some f)) →
         Appends w0 w1 (texts_of (map told_fault input.lines.items) given) →
         IfSome r (λ stream. ForEachList b old (IsStopped b amount stream w0 w1 new))
-    stopped-run None h opened runs written = tt
-    stopped-run (Some stream) h opened runs written = λ list time tables.
+    stopped-run f None h opened runs written = tt
+    stopped-run f (Some stream) h opened runs written = λ list time tables.
+        let fault : Option F = Some f in
         let run : IsRunOpened b (opening_in amount stream)
-        (requests_in stream) new given fault list = run_in stream h opened runs list time tables in
+        (requests_in stream) new given fault list =
+        run_in input opening given fault old new stream h opened runs list time tables in
         record {
           count = run.count;
+          few = run.few;
           tables = run.tables;
-          written = subst (Appends w0 w1) (text_is stream list h run) written;
+          written = subst (Appends w0 w1)
+              (text_is input opening given fault old new stream list h run) written;
         }
+
+    -- up to a fault, and not whole
+    pub cut-run : (f : F) (r : Option (List ℕ)) →
+        IfSome r (λ stream. IsInput (map line_request (lines_of stream)) input) →
+        opening ≡ opening_for amount input.requests.items →
+        ForEachList b old (IsRunOpened b opening input.requests.items new given (Some f)) →
+        WritesBeginning w0 w1 (texts_of (map told_fault input.lines.items) given) →
+        IfSome r (λ stream. ForEachList b old (IsCut b amount stream w0 w1 new))
+    cut-run f None h opened runs written = tt
+    cut-run f (Some stream) h opened runs written = λ list time tables.
+        let fault : Option F = Some f in
+        let run : IsRunOpened b (opening_in amount stream)
+        (requests_in stream) new given fault list =
+        run_in input opening given fault old new stream h opened runs list time tables in
+        record {
+          count = run.count;
+          few = run.few;
+          tables = run.tables;
+          written = subst (WritesBeginning w0 w1)
+              (text_is input opening given fault old new stream list h run) written;
+        }
+
+  -- all commands were run, and what is answered isn't written whole
+  pub untold-run : {F : Type 0} (input : Input) (opening : List DatedCommand)
+      (given : List Answer) (fault : Option F) (old new : Tables) (r : Option (List ℕ)) →
+      fault ≡ None →
+      IfSome r (λ stream. IsInput (map line_request (lines_of stream)) input) →
+      opening ≡ opening_for amount input.requests.items →
+      ForEachList b old (IsRunOpened b opening input.requests.items new given fault) →
+      WritesBeginning w0 w1 (texts_of (map told_fault input.lines.items) given) →
+      IfSome r (λ stream. ForEachList b old (IsUntold b amount stream w0 w1 new))
+  untold-run input opening given (Some f) old new r none h opened runs written =
+      absurd (none-some f (sym none))
+  untold-run input opening given None old new None none h opened runs written = tt
+  untold-run {F = F} input opening given None old new (Some stream) none h opened runs written =
+      λ list time tables.
+      let fault : Option F = None in
+      let run : IsRunOpened b (opening_in amount stream) (requests_in stream) new given fault list =
+      run_in input opening given fault old new stream h opened runs list time tables in
+      record {
+        tables = subst (λ (cs : List DatedCommand). AreTables b (after_commands b list cs) new)
+            run.whole run.tables;
+        written = subst (WritesBeginning w0 w1)
+            (λ i. texts_of (h.lines i) ((run.answers ∙ ap (λ (cs : List DatedCommand).
+            drop (length (opening_in amount stream)) (answers_to b list cs)) run.whole) i)) written;
+      }
 
   -- all is
   pub answered-run : {F : Type 0} (input : Input) (opening : List DatedCommand)

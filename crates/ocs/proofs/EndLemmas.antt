@@ -11,6 +11,7 @@ use Rattle.clap.specs.Words.{IsAmong, Kinds, Text, fault_of}
 use Rattle.clap.specs.declared.error.kind.ErrorKind.{ErrorKind}
 use Rattle.keepers.specs.Faults.{max_failures}
 use Rattle.keepers.specs.declared.fault.StoreFault.TheVariants as store
+use Rattle.vouchers.specs.declared.fault.VoucherFault.{VoucherFault}
 use Rattle.commands.specs.declared.answer.Answer.{Answer}
 use Rattle.commands.specs.declared.answer.Answer.TheVariants as answer
 use Rattle.office.specs.Printed.{IsEnded, PrintsAnswer}
@@ -28,10 +29,11 @@ use Rattle.operator.specs.declared.parsed.ProgramWords.{ProgramWords}
 use Rattle.operator.specs.declared.parsed.ProgramWords.TheVariants as words
 use Rattle.ocs.specs.Ends.{HasPrinted, IfOnce, Imports, IsEnd, IsEndBy, IsEndOf, IsMemory}
 use Rattle.ocs.specs.Ends.{IsRefused, Says, Stores}
-use Rattle.ocs.specs.Told.{IsReached, IsReachedByLines, IsTextTold, IsTold, IsToldAtEnd, IsToldBy}
-use Rattle.ocs.specs.Told.{IsToldOf, ServesConnections, TellsAs, TellsFault, fault_line, line_of}
+use Rattle.ocs.specs.Told.{AreUnread, IsReached, IsReachedByLines, IsSilent, IsTextTold, IsTold}
+use Rattle.ocs.specs.Told.{IsToldAtEnd, IsToldBy, IsToldOf, LeavesOutput, ServesConnections, TellsAs}
+use Rattle.ocs.specs.Told.{TellsFault, fault_line, line_of}
 use Rattle.ocs.specs.declared.fault.LinesFault.{LinesFault}
-use Rattle.ocs.specs.declared.fault.LinesFault.TheVariants.{Read, Store, Write}
+use Rattle.ocs.specs.declared.fault.LinesFault.TheVariants.{Read, Store, Both, Write}
 use Rattle.ocs.specs.declared.fault.ProgramFault.{ProgramFault}
 use Rattle.ocs.specs.declared.fault.ProgramFault.TheVariants as program
 
@@ -42,12 +44,15 @@ no_cause : min (0 + 1) max_failures ≤ 0 → ⊥
 no_cause h = omega (arith, h)
 
 pub reached_lines : {A : Type 0} (r : Result A LinesFault) →
-    (r ≡ Err (Store store.Store) → min (0 + 1) max_failures ≤ 0) → IfErr r (IsReachedByLines ⊥)
-reached_lines (Ok x) cause = tt
-reached_lines (Err (Read f)) cause = tt
-reached_lines (Err (Store store.Memory)) cause = tt
-reached_lines (Err (Store store.Store)) cause = no_cause (cause refl)
-reached_lines (Err (Write f)) cause = tt
+    (r ≡ Err (Store store.Store) → min (0 + 1) max_failures ≤ 0) →
+    (r ≡ Err (Both store.Store) → min (0 + 1) max_failures ≤ 0) → IfErr r (IsReachedByLines ⊥)
+reached_lines (Ok x) cause both = tt
+reached_lines (Err (Read f)) cause both = tt
+reached_lines (Err (Store store.Memory)) cause both = tt
+reached_lines (Err (Store store.Store)) cause both = no_cause (cause refl)
+reached_lines (Err (Both store.Memory)) cause both = tt
+reached_lines (Err (Both store.Store)) cause both = no_cause (both refl)
+reached_lines (Err (Write f)) cause both = tt
 
 -- ---- faults
 
@@ -55,6 +60,8 @@ over_from : (C D : Type 0) (f : LinesFault) → (C → D) → IsReachedByLines C
 over_from C D (Read f) h is = is
 over_from C D (Store store.Memory) h is = is
 over_from C D (Store store.Store) h is = h is
+over_from C D (Both store.Memory) h is = is
+over_from C D (Both store.Store) h is = h is
 over_from C D (Write f) h is = is
 
 reached_from : (A B C D : Type 0) (f : ProgramFault) → (A → B) → (C → D) → IsReached A C f →
@@ -64,11 +71,13 @@ reached_from A B C D (program.Stream f) h k is = is
 reached_from A B C D (program.Database f) h k is = k is
 reached_from A B C D (program.Vouchers f) h k is = h is
 
-pub tells_from : (A B C D : Type 0) (old new : Option (List ℕ)) → (A → B) → (C → D) →
-    TellsFault A C old new → TellsFault B D old new
-tells_from A B C D old new h k t = record {
+pub tells_from : (A B C D : Type 0) (P Q : ProgramFault → Type 0) (old new : Option (List ℕ)) →
+    (A → B) → (C → D) → ((f : ProgramFault) → P f → Q f) →
+    TellsFault A C P old new → TellsFault B D Q old new
+tells_from A B C D P Q old new h k l t = record {
   fault = t.fault;
   reached = reached_from A B C D t.fault h k t.reached;
+  silent = l t.fault t.silent;
   written = t.written;
 }
 
@@ -78,7 +87,18 @@ reached_over (Ok x) = tt
 reached_over (Err (Read f)) = tt
 reached_over (Err (Store store.Memory)) = tt
 reached_over (Err (Store store.Store)) = tt
+reached_over (Err (Both store.Memory)) = tt
+reached_over (Err (Both store.Store)) = tt
 reached_over (Err (Write f)) = tt
+
+-- what holds where lines weren't read
+pub where_unread : {A : Type 0} (r : Result A LinesFault) (P : Type 0) →
+    ((f : StreamFault) → r ≡ Err (Read f) → P) → IfErr r (λ f. AreUnread f → P)
+where_unread (Ok x) P h = tt
+where_unread (Err (Read f)) P h = λ unread. h f refl
+where_unread (Err (Store f)) P h = λ unread. absurd unread
+where_unread (Err (Both f)) P h = λ unread. absurd unread
+where_unread (Err (Write f)) P h = λ unread. absurd unread
 
 -- ---- words that are read
 
@@ -120,9 +140,13 @@ pub told_said : (texts : List Text) (said : ProgramWords) (before after : Option
     IsToldBy said before after status old new → IsTold texts before after status old new
 told_said texts said before after Done old new h told = done_said texts said old new h told
 told_said texts said before after Failed old new h (inl told) =
-    inl (tells_from (Imports said) (Says texts Imports)
-    (Stores said) (Says texts Stores) old new (λ adds. record { said = said; says = h; is = adds })
-    (λ stores. record { said = said; says = h; is = stores }) told)
+    inl (tells_from (Imports said) (Says texts Imports) (Stores said) (Says texts Stores)
+    (LeavesOutput said before after)
+    (λ f. (other : ProgramWords) → IsSaid texts other → LeavesOutput other before after f) old new
+    (λ adds. record { said = said; says = h; is = adds })
+    (λ stores. record { said = said; says = h; is = stores })
+    (λ f leaves other k. subst (λ (s : ProgramWords). LeavesOutput s before after f)
+    (same_said texts said other h k) leaves) told)
 told_said texts said before after Failed old new h (inr refused) =
     inr (record { said = said; says = h; is = refused.0 }, refused.1)
 told_said texts said before after Unread old new h told = absurd told
@@ -194,21 +218,43 @@ answered_ends Done old new printed = tt
 answered_ends Failed old new printed = printed
 answered_ends Unread old new printed = subst IsRead (sym printed.is) (is_read printed.answer)
 
+-- nothing is printed before a fault of a file of vouchers
+silent_vouchers : (said : ProgramWords) (f : VoucherFault) → IsSilent said (program.Vouchers f)
+silent_vouchers (words.Once once) f = tt
+silent_vouchers (words.Init init) f = tt
+silent_vouchers (words.Serve serve) f = tt
+silent_vouchers (words.Import import) f = tt
+silent_vouchers (words.Office office) f = tt
+silent_vouchers (words.Statement statement) f = tt
+silent_vouchers (words.Replay replay) f = tt
+
 -- a fault by its line, or want of memory for that
-tells_as : (Adds Over : Type 0) (f : ProgramFault) (old new : Option (List ℕ)) →
-    IsReached Adds Over f → TellsAs f old new → TellsFault Adds Over old new
-tells_as Adds Over f old new reached (inl written) =
-    record { fault = f; reached = reached; written = written }
-tells_as Adds Over f old new reached (inr written) =
-    record { fault = program.Stream stream.Memory; reached = tt; written = written }
+tells_as : (said : ProgramWords) (before after : Option (List ℕ)) (f : ProgramFault)
+    (old new : Option (List ℕ)) → IsReached (Imports said) (Stores said) f →
+    LeavesOutput said before after f → TellsAs f old new →
+    TellsFault (Imports said) (Stores said) (LeavesOutput said before after) old new
+tells_as said before after (program.Lines f) old new reached leaves told =
+    record { fault = program.Lines f; reached = reached; silent = leaves; written = told }
+tells_as said before after (program.Stream f) old new reached leaves told =
+    record { fault = program.Stream f; reached = reached; silent = leaves; written = told }
+tells_as said before after (program.Database f) old new reached leaves told =
+    record { fault = program.Database f; reached = reached; silent = leaves; written = told }
+tells_as said before after (program.Vouchers f) old new reached leaves (inl told) =
+    record { fault = program.Vouchers f; reached = reached; silent = leaves; written = told }
+tells_as said before after (program.Vouchers f) old new reached leaves (inr told) = record {
+  fault = program.Stream stream.Memory;
+  reached = tt;
+  silent = λ silent. leaves (silent_vouchers said f);
+  written = told;
+}
 
 pub fault_told : (said : ProgramWords) (before after : Option (List ℕ)) (f : ProgramFault)
     (status : Status) (old mid new : Option (List ℕ)) → status ≡ Failed →
-    IsReached (Imports said) (Stores said) f → mid ≡ old → TellsAs f mid new →
-    IsToldBy said before after status old new
-fault_told said before after f status old mid new is reached same told =
+    IsReached (Imports said) (Stores said) f → LeavesOutput said before after f → mid ≡ old →
+    TellsAs f mid new → IsToldBy said before after status old new
+fault_told said before after f status old mid new is reached leaves same told =
     subst (λ (s : Status). IsToldBy said before after s old new) (sym is)
-    (inl (tells_as (Imports said) (Stores said) f old new reached
+    (inl (tells_as said before after f old new reached leaves
     (subst (λ (w : Option (List ℕ)). TellsAs f w new) same told)))
 
 pub fault_end : (status : Status) → status ≡ Failed → IsEndBy status
@@ -293,25 +339,30 @@ end_unread texts fault.Memory Done unread end = absurd end
 end_unread texts fault.Memory Failed unread end = tt
 end_unread texts fault.Memory Unread unread end = absurd end
 
-none_tells : (B D : Type 0) (old new : Option (List ℕ)) → TellsFault ⊥ ⊥ old new →
-    TellsFault B D old new
-none_tells B D old new t = tells_from ⊥ B ⊥ D old new (λ none. absurd none) (λ none. absurd none) t
+none_tells : (texts : List Text) (before after : Option (List ℕ)) (old new : Option (List ℕ)) →
+    ((said : ProgramWords) → IsSaid texts said → after ≡ before) →
+    TellsFault ⊥ ⊥ (λ _. Unit {0}) old new → IsTold texts before after Failed old new
+none_tells texts before after old new same t =
+    inl (tells_from ⊥ (Says texts Imports) ⊥ (Says texts Stores) (λ _. Unit {0})
+    (λ f. (said : ProgramWords) → IsSaid texts said → LeavesOutput said before after f) old new
+    (λ none. absurd none) (λ none. absurd none) (λ f any said says silent. same said says) t)
 
-pub told_unread : (texts : List Text) (before after : Option (List ℕ)) (f : WordsFault)
+told_of : (texts : List Text) (before after : Option (List ℕ)) (f : WordsFault)
     (status : Status) (old new : Option (List ℕ)) → IsUnread texts f → IsEndOf f status →
+    ((said : ProgramWords) → IsSaid texts said → after ≡ before) →
     IsToldOf f status old new → IsTold texts before after status old new
-told_unread texts before after (fault.Unread error) Done old new unread end told = inl told
-told_unread texts before after (fault.Unread error) Failed old new unread end told =
-    inl (none_tells (Says texts Imports) (Says texts Stores) old new told)
-told_unread texts before after (fault.Unread error) Unread old new unread end told =
+told_of texts before after (fault.Unread error) Done old new unread end same told = inl told
+told_of texts before after (fault.Unread error) Failed old new unread end same told =
+    none_tells texts before after old new same told
+told_of texts before after (fault.Unread error) Unread old new unread end same told =
     λ invalid. absurd (not_among (kind_of error) (fault_of program_app texts) invalid.taken unread)
-told_unread texts before after fault.Invalid Done old new unread end told = absurd end
-told_unread texts before after fault.Invalid Failed old new unread end told = absurd end
-told_unread texts before after fault.Invalid Unread old new unread end told = λ invalid. told
-told_unread texts before after fault.Memory Done old new unread end told = absurd end
-told_unread texts before after fault.Memory Failed old new unread end told =
-    inl (none_tells (Says texts Imports) (Says texts Stores) old new told)
-told_unread texts before after fault.Memory Unread old new unread end told = absurd end
+told_of texts before after fault.Invalid Done old new unread end same told = absurd end
+told_of texts before after fault.Invalid Failed old new unread end same told = absurd end
+told_of texts before after fault.Invalid Unread old new unread end same told = λ invalid. told
+told_of texts before after fault.Memory Done old new unread end same told = absurd end
+told_of texts before after fault.Memory Failed old new unread end same told =
+    none_tells texts before after old new same told
+told_of texts before after fault.Memory Unread old new unread end same told = absurd end
 
 -- words that say something weren't read only for want of memory
 pub memory_alone : (texts : List Text) (f : WordsFault) (said : ProgramWords) → IsUnread texts f →
@@ -320,6 +371,14 @@ memory_alone texts (fault.Unread error) said unread h =
     absurd (not_among (kind_of error) (fault_of program_app texts) h.taken unread)
 memory_alone texts fault.Invalid said unread h = absurd (not_said texts said h unread)
 memory_alone texts fault.Memory said unread h = tt
+
+pub told_unread : (texts : List Text) (before after : Option (List ℕ)) (f : WordsFault)
+    (status : Status) (old new : Option (List ℕ)) → IsUnread texts f → IsEndOf f status →
+    (IsMemory f → after ≡ before) → IsToldOf f status old new →
+    IsTold texts before after status old new
+told_unread texts before after f status old new unread end same told =
+    told_of texts before after f status old new unread end
+    (λ said says. same (memory_alone texts f said unread says)) told
 
 -- and then nothing is done
 pub not_done : (f : WordsFault) (status : Status) → IsMemory f → IsEndOf f status →
@@ -355,7 +414,7 @@ pub told_stream : (f : StreamFault) (status : Status) (old new : Option (List �
     IsTextTold status old new
 told_stream f status old new is written =
     subst (λ (s : Status). IsTextTold s old new) (sym is)
-    (record { fault = program.Stream f; reached = tt; written = written })
+    (record { fault = program.Stream f; reached = tt; silent = tt; written = written })
 
 pub told_memory : (f : WordsFault) (status : Status) (old new : Option (List ℕ)) →
     f ≡ fault.Memory → status ≡ Failed →
@@ -363,4 +422,9 @@ pub told_memory : (f : WordsFault) (status : Status) (old new : Option (List ℕ
     IsToldOf f status old new
 told_memory f status old new memory is written =
     subst (λ (x : WordsFault). IsToldOf x status old new) (sym memory)
-    (record { fault = program.Stream stream.Memory; reached = tt; written = written })
+    (record {
+      fault = program.Stream stream.Memory;
+      reached = tt;
+      silent = tt;
+      written = written;
+    })

@@ -3,4 +3,5 @@ pub mod SoFar
 pub mod Streams
 pub mod Texts
 pub mod Answered
+pub mod Ended
 pub mod EndLemmas

@@ -2,7 +2,7 @@
 -- is told.
 -- Source: profile.
 use Rattle.std.specs.Prelude.{ℕ, List, [], ◌∷◌, ◌++◌, codes, length, map, take, drop, Option, Some}
-use Rattle.std.specs.Prelude.{None, IfNone, IfSome, Result, Ok, Err, ◌≡◌}
+use Rattle.std.specs.Prelude.{None, IfNone, IfSome, Result, Ok, Err, ◌≡◌, ◌<◌}
 use Rattle.std.specs.Io.KnownBytes.{Appends}
 use Rattle.byte_streams.specs.Lines.{lines_of}
 use Rattle.commands.specs.declared.answer.Answer.{Answer}
@@ -132,15 +132,30 @@ pub record IsAnswered (b : Book) (opening : Option ℕ) (stream : List ℕ) (old
   pub written : Appends old new (text_of b list opening stream)
   pub tables : AreTables b (after_commands b list (commands_of opening stream)) content
 
--- the tables are those of a beginning of the commands, and the text is written as far as these are
--- answered
+-- the tables are those of all commands, and a beginning of the text is written
+pub record IsUntold (b : Book) (opening : Option ℕ) (stream : List ℕ) (old new : Option (List ℕ))
+    (content : Tables) (list : List Accepted) : Type 0 where
+  pub tables : AreTables b (after_commands b list (commands_of opening stream)) content
+  pub written : WritesBeginning old new (text_of b list opening stream)
+
+-- the tables are those of fewer commands than there are, and the text is written as far as these
+-- are answered
 pub record IsStopped (b : Book) (opening : Option ℕ) (stream : List ℕ) (old new : Option (List ℕ))
     (content : Tables) (list : List Accepted) : Type 0 where
   pub count : ℕ
+  pub few : count < length (commands_of opening stream)
   pub tables : AreTables b (after_commands b list (take count (commands_of opening stream))) content
   pub written : Appends old new (text_to count b list opening stream)
 
--- or a beginning of that text
+-- or a beginning of that text is
+pub record IsCut (b : Book) (opening : Option ℕ) (stream : List ℕ) (old new : Option (List ℕ))
+    (content : Tables) (list : List Accepted) : Type 0 where
+  pub count : ℕ
+  pub few : count < length (commands_of opening stream)
+  pub tables : AreTables b (after_commands b list (take count (commands_of opening stream))) content
+  pub written : WritesBeginning old new (text_to count b list opening stream)
+
+-- the same, where all commands may have been run
 pub record IsBegun (b : Book) (opening : Option ℕ) (stream : List ℕ) (old new : Option (List ℕ))
     (content : Tables) (list : List Accepted) : Type 0 where
   pub count : ℕ
@@ -149,8 +164,8 @@ pub record IsBegun (b : Book) (opening : Option ℕ) (stream : List ℕ) (old ne
 
 -- ---- what opens an account, and then requests
 
--- so many of the commands are run, all where there is no fault; the answers are those to the
--- requests among them
+-- so many of the commands are run, all where there is no fault, and fewer where there is one; the
+-- answers are those to the requests among them
 pub record IsRunOpened {F : Type 0} (b : Book) (opening requests : List DatedCommand)
     (content : Tables) (given : List Answer) (fault : Option F)
     (list : List Accepted) : Type 0 where
@@ -159,3 +174,4 @@ pub record IsRunOpened {F : Type 0} (b : Book) (opening requests : List DatedCom
   pub time : IsInTime (after_commands b list (take count (opening ++ requests)))
   pub answers : given ≡ drop (length opening) (answers_to b list (take count (opening ++ requests)))
   pub whole : IfNone fault (take count (opening ++ requests) ≡ opening ++ requests)
+  pub few : IfSome fault (λ _. count < length (opening ++ requests))

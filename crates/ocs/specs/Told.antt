@@ -3,6 +3,7 @@
 use Rattle.std.specs.Prelude.{◌≡◌, ◌≤◌, ◌⊎◌, ◌++◌, ◌∷◌, ℕ, List, [], Option, Some, None, codes}
 use Rattle.std.specs.Fmt.{decimal}
 use Rattle.std.specs.Io.KnownBytes.{Keeps}
+use Rattle.byte_streams.specs.declared.StreamFault.{StreamFault}
 use Rattle.byte_streams.specs.declared.StreamFault.TheVariants as stream
 use Rattle.clap.specs.Words.{Text}
 use Rattle.keepers.specs.declared.fault.StoreFault.TheVariants as store
@@ -16,13 +17,15 @@ use Rattle.operator.specs.declared.fault.WordsFault.TheVariants as fault
 use Rattle.operator.specs.declared.parsed.ProgramWords.{ProgramWords}
 use Rattle.operator.specs.declared.parsed.ProgramWords.TheVariants as words
 use Rattle.operator.specs.declared.parsed.ServeWords.{ServeWords}
+use Rattle.database_office.specs.Opening.{IsUnanswered, IsUnasked}
 use Rattle.database_office.specs.Told.{fault_line as database_line}
-use Rattle.office_server.specs.Told.{TellsFaults, listening_line}
+use Rattle.database_office.specs.declared.fault.DatabaseFault.{DatabaseFault}
+use Rattle.office_server.specs.Told.{IsUnlistened, TellsFaults, listening_line}
 use Rattle.vouchers.specs.Faults.{number_of}
 use Rattle.vouchers.specs.declared.fault.VoucherFault.{VoucherFault}
 use Rattle.ocs.specs.Ends.{Imports, IsRefused, Says, Stores}
 use Rattle.ocs.specs.declared.fault.LinesFault.{LinesFault}
-use Rattle.ocs.specs.declared.fault.LinesFault.TheVariants.{Read, Store, Write}
+use Rattle.ocs.specs.declared.fault.LinesFault.TheVariants.{Read, Store, Both, Write}
 use Rattle.ocs.specs.declared.fault.ProgramFault.{ProgramFault}
 use Rattle.ocs.specs.declared.fault.ProgramFault.TheVariants as program
 
@@ -32,6 +35,7 @@ use Rattle.ocs.specs.declared.fault.ProgramFault.TheVariants as program
 abbrev pub lines_line : LinesFault → List ℕ
 lines_line (Read fault) = stream_line fault
 lines_line (Store fault) = store_line fault
+lines_line (Both fault) = store_line fault
 lines_line (Write fault) = stream_line fault
 
 -- a fault of a file of vouchers
@@ -62,6 +66,52 @@ line_of (words.Office office) = None
 line_of (words.Statement statement) = None
 line_of (words.Replay replay) = None
 
+-- ---- what isn't printed
+
+-- the lines weren't read
+abbrev pub AreUnread : LinesFault → Type 0
+AreUnread (Read fault) = Unit {0}
+AreUnread (Store fault) = ⊥
+AreUnread (Both fault) = ⊥
+AreUnread (Write fault) = ⊥
+
+-- this is so of a fault of lines
+abbrev pub IfLines : ProgramFault → (LinesFault → Type 0) → Type 0
+IfLines (program.Lines fault) says = says fault
+IfLines (program.Stream fault) says = Unit {0}
+IfLines (program.Database fault) says = Unit {0}
+IfLines (program.Vouchers fault) says = Unit {0}
+
+-- of a stream's
+abbrev pub IfStream : ProgramFault → (StreamFault → Type 0) → Type 0
+IfStream (program.Lines fault) says = Unit {0}
+IfStream (program.Stream fault) says = says fault
+IfStream (program.Database fault) says = Unit {0}
+IfStream (program.Vouchers fault) says = Unit {0}
+
+-- of a database's
+abbrev pub IfDatabase : ProgramFault → (DatabaseFault → Type 0) → Type 0
+IfDatabase (program.Lines fault) says = Unit {0}
+IfDatabase (program.Stream fault) says = Unit {0}
+IfDatabase (program.Database fault) says = says fault
+IfDatabase (program.Vouchers fault) says = Unit {0}
+
+-- nothing is printed before this fault: of `once` and `replay` the lines weren't read, of `init` the
+-- database isn't made, of `serve` the port isn't listened to, of a statement the office isn't asked,
+-- of others there is no answer; so it is of each fault that the words don't come to
+abbrev pub IsSilent : ProgramWords → ProgramFault → Type 0
+IsSilent (words.Once once) fault = IfLines fault AreUnread
+IsSilent (words.Init init) fault = IfStream fault (λ _. ⊥)
+IsSilent (words.Serve serve) fault = IfDatabase fault IsUnlistened
+IsSilent (words.Import import) fault = IfDatabase fault IsUnanswered
+IsSilent (words.Office office) fault = IfDatabase fault IsUnanswered
+IsSilent (words.Statement statement) fault = IfDatabase fault IsUnasked
+IsSilent (words.Replay replay) fault = IfLines fault AreUnread
+
+-- then the output is as it was
+abbrev pub LeavesOutput : ProgramWords → Option (List ℕ) → Option (List ℕ) → ProgramFault → Type 0
+LeavesOutput said before after fault = IsSilent said fault → after ≡ before
+
 -- ---- what is told
 
 -- memory is a store that never fails; one that may fail there is only where this is so
@@ -69,6 +119,8 @@ abbrev pub IsReachedByLines : Type 0 → LinesFault → Type 0
 IsReachedByLines Over (Read fault) = Unit {0}
 IsReachedByLines Over (Store store.Memory) = Unit {0}
 IsReachedByLines Over (Store store.Store) = Over
+IsReachedByLines Over (Both store.Memory) = Unit {0}
+IsReachedByLines Over (Both store.Store) = Over
 IsReachedByLines Over (Write fault) = Unit {0}
 
 -- a fault comes only so: one of a file of vouchers, where the first is so; a database's, where the
@@ -79,15 +131,20 @@ IsReached Adds Over (program.Stream fault) = Unit {0}
 IsReached Adds Over (program.Database fault) = Over
 IsReached Adds Over (program.Vouchers fault) = Adds
 
--- a fault is told by its line, as far as it can be written
-pub record TellsFault (Adds Over : Type 0) (old new : Option (List ℕ)) : Type 0 where
+-- a fault of which this is so is told by its line, as far as it can be written
+pub record TellsFault (Adds Over : Type 0) (Silent : ProgramFault → Type 0)
+    (old new : Option (List ℕ)) : Type 0 where
   pub fault : ProgramFault
   pub reached : IsReached Adds Over fault
+  pub silent : Silent fault
   pub written : WritesBeginning old new (fault_line fault ++ 10 ∷ [])
 
--- this fault is, or want of memory for its line
+-- this fault is, or, where it is one of a file of vouchers, want of memory for its line
 abbrev pub TellsAs : ProgramFault → Option (List ℕ) → Option (List ℕ) → Type 0
-TellsAs fault old new = WritesBeginning old new (fault_line fault ++ 10 ∷ [])
+TellsAs (program.Lines fault) old new = WritesBeginning old new (lines_line fault ++ 10 ∷ [])
+TellsAs (program.Stream fault) old new = WritesBeginning old new (stream_line fault ++ 10 ∷ [])
+TellsAs (program.Database fault) old new = WritesBeginning old new (database_line fault ++ 10 ∷ [])
+TellsAs (program.Vouchers fault) old new = WritesBeginning old new (voucher_line fault ++ 10 ∷ [])
     ⊎ WritesBeginning old new (stream_line stream.Memory ++ 10 ∷ [])
 
 -- connections were served: the faults of some of them, each by its line
@@ -103,14 +160,15 @@ pub record ServesConnections (texts : List Text) (old new : Option (List ℕ)) :
   pub told : ConnectionsTold serve.connections old new
 
 -- nothing where all is done, but faults of connections that were served, or where an operator's
--- command or a statement is refused, which is printed; a fault by its line; of words that
--- aren't read the text is `clap`'s, and where `clap` takes them a line
+-- command or a statement is refused, which is printed; a fault by its line, which leaves the output
+-- as it was where the words print nothing before it; of words that aren't read the text is `clap`'s, and where `clap` takes them a line
 abbrev pub IsTold : List Text → Option (List ℕ) → Option (List ℕ) → Status → Option (List ℕ) →
     Option (List ℕ) → Type 0
 IsTold texts before after Done old new = Keeps old new ⊎ ServesConnections texts old new
 IsTold texts before after Failed old new =
-    TellsFault (Says texts Imports) (Says texts Stores) old new
-    ⊎ (Says texts (λ said. IsRefused said before after) × Keeps old new)
+    TellsFault (Says texts Imports) (Says texts Stores)
+    (λ fault. (said : ProgramWords) → IsSaid texts said → LeavesOutput said before after fault)
+    old new ⊎ (Says texts (λ said. IsRefused said before after) × Keeps old new)
 IsTold texts before after Unread old new =
     IsInvalid texts → WritesBeginning old new (invalid_line ++ 10 ∷ [])
 
@@ -118,13 +176,13 @@ IsTold texts before after Unread old new =
 
 abbrev pub IsTextTold : Status → Option (List ℕ) → Option (List ℕ) → Type 0
 IsTextTold Done old new = Keeps old new
-IsTextTold Failed old new = TellsFault ⊥ ⊥ old new
+IsTextTold Failed old new = TellsFault ⊥ ⊥ (λ _. Unit {0}) old new
 IsTextTold Unread old new = Unit {0}
 
 abbrev pub IsToldOf : WordsFault → Status → Option (List ℕ) → Option (List ℕ) → Type 0
 IsToldOf (fault.Unread error) status old new = IsTextTold status old new
 IsToldOf fault.Invalid status old new = WritesBeginning old new (invalid_line ++ 10 ∷ [])
-IsToldOf fault.Memory status old new = TellsFault ⊥ ⊥ old new
+IsToldOf fault.Memory status old new = TellsFault ⊥ ⊥ (λ _. Unit {0}) old new
 
 -- ---- the same by what the words say
 
@@ -142,5 +200,6 @@ abbrev pub IsToldBy : ProgramWords → Option (List ℕ) → Option (List ℕ) �
     Option (List ℕ) → Option (List ℕ) → Type 0
 IsToldBy said before after Done old new = IsToldAtEnd said old new
 IsToldBy said before after Failed old new =
-    TellsFault (Imports said) (Stores said) old new ⊎ (IsRefused said before after × Keeps old new)
+    TellsFault (Imports said) (Stores said) (LeavesOutput said before after) old new
+    ⊎ (IsRefused said before after × Keeps old new)
 IsToldBy said before after Unread old new = ⊥

@@ -8,7 +8,8 @@ ghost use Rattle.one_price.specs.OnceBook.{once_book};
 ghost use Rattle.operator.specs.Read.{IsInRange, IsOnceInRange};
 ghost use Rattle.ocs.specs.Ends.{HasPrinted, IfOnce, Imports, IsRefused, Stores};
 ghost use Rattle.ocs.specs.Served.{BeginsOnce, WritesOnce};
-ghost use Rattle.ocs.specs.Told.{IsReached, IsReachedByLines, IsToldAtEnd, line_of};
+ghost use Rattle.ocs.specs.Told.{IfLines, IsReached, IsReachedByLines, IsSilent, IsToldAtEnd};
+ghost use Rattle.ocs.specs.Told.{AreUnread, line_of};
 
 use crate::fault::{LinesFault, ProgramFault};
 use crate::lines::lines;
@@ -41,6 +42,7 @@ pub(crate) fn do_said<I: Read, O: Write, E: Write>(
     ensures reached { IfErr result (IsReached (Imports said) (Stores said)) }
     ensures told { OnOk result (IsToldAtEnd said (E.contents errors.old) (E.contents errors.new)) }
     ensures untold { OnErr result (errors.new ≡ errors.old) }
+    ensures silent { IfErr result (λ fault. IsSilent said fault → output.new ≡ output.old) }
     ensures printed { IfSome (line_of said) (λ line. OnOk result
         (Appends (O.contents output.old) (O.contents output.new) line)) }
     ensures begun { IfSome (line_of said) (λ line. OnErr result
@@ -72,6 +74,7 @@ fn answer_once<I: Read, O: Write>(
     requires { IsOnceInRange once }
     ensures ended { IfOk result (IsEnded ⊥) }
     ensures reached { IfErr result (IsReached ⊥ ⊥) }
+    ensures unwritten { IfErr result (λ fault. IfLines fault AreUnread → output.new ≡ output.old) }
     ensures done { OnOk result (WritesOnce (once_book once.price once.block) once.credit
         (I.remaining input.old) (O.contents output.old) (O.contents output.new)) }
     ensures fault { OnErr result (BeginsOnce (once_book once.price once.block) once.credit
@@ -92,6 +95,7 @@ fn answer_lines<I: Read, O: Write>(
 ) -> Result<(), LinesFault>
     requires { IsOnceInRange once }
     ensures reached { IfErr result (IsReachedByLines ⊥) }
+    ensures unwritten { IfErr result (λ fault. AreUnread fault → output.new ≡ output.old) }
     ensures done { OnOk result (WritesOnce (once_book once.price once.block) once.credit
         (I.remaining input.old) (O.contents output.old) (O.contents output.new)) }
     ensures fault { OnErr result (BeginsOnce (once_book once.price once.block) once.credit

@@ -18,7 +18,10 @@ pub enum LinesFault {
     /// The keeper didn't do what it was asked: the answers before that are written.
     #[error("store fault {}", .0.number())]
     Store(StoreFault),
-    /// The answers weren't written to their end.
+    /// The same, and the answers before that aren't written to their end.
+    #[error("store fault {}, and the answers were not written", .0.number())]
+    Both(StoreFault),
+    /// All was done that was asked, and the answers weren't written to their end.
     #[error("the answers were not written: {0}")]
     Write(StreamFault),
 }
@@ -31,6 +34,7 @@ impl LinesFault {
         match self {
             LinesFault::Read(fault) => stream_line(fault),
             LinesFault::Store(fault) => store_line(fault),
+            LinesFault::Both(fault) => store_line(fault),
             LinesFault::Write(fault) => stream_line(fault),
         }
     }

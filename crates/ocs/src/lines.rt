@@ -3,16 +3,18 @@ ghost use Rattle.byte_streams.specs.declared.StreamFault.{StreamFault};
 ghost use Rattle.keepers.specs.Faults.{max_failures};
 ghost use Rattle.keepers.specs.declared.fault.StoreFault.{StoreFault};
 ghost use Rattle.keepers.specs.declared.fault.StoreFault.TheVariants.{Store as StoreFailed};
-ghost use Rattle.ocs.specs.declared.fault.LinesFault.TheVariants.{Read, Store};
-ghost use Rattle.ocs.specs.Served.{ForEachList, IsContinued, IsAnswered, IsStopped, IsBegun};
-ghost use Rattle.ocs.specs.Served.{IsRunOpened};
+ghost use Rattle.ocs.specs.declared.fault.LinesFault.TheVariants.{Both, Read, Store, Write};
+ghost use Rattle.ocs.specs.Faults.{ended_as};
+ghost use Rattle.ocs.specs.Served.{ForEachList, IsContinued, IsAnswered, IsStopped, IsBegun, IsCut};
+ghost use Rattle.ocs.specs.Served.{IsRunOpened, IsUntold};
 
 use crate::fault::LinesFault;
 use crate::input::{Input, read_input};
 use crate::opening::open_first;
 use crate::output::write_output;
+use byte_streams::StreamFault;
 use charging::{DatedCommand, Run, run};
-use keepers::Keeper;
+use keepers::{Keeper, StoreFault};
 use std::alloc::Global;
 use std::io::{Read, Write};
 use tariffs::TariffBook;
@@ -26,11 +28,10 @@ use units::Money;
 ///
 /// # Errors
 /// `Read` where memory ran out before the requests were run, or the reader failed: then nothing has
-/// changed. `Store`
-/// where the keeper failed: a beginning of the requests is accepted, and the answers before that
-/// are written. `Write`
-/// where memory ran out for an answer's text, or the writer failed: then a beginning of the answers
-/// is written.
+/// changed. `Store` where the keeper failed: a beginning of the requests is accepted, and the
+/// answers before that are written. `Both` where writing those failed too: then a beginning of them
+/// is written. `Write` where all requests were run, and memory ran out for an answer's text or the
+/// writer failed: then a beginning of the answers is written.
 pub fn lines<K: Keeper, R: Read, W: Write>(
     alloc: Global,
     keeper: &mut K,
@@ -52,6 +53,16 @@ pub fn lines<K: Keeper, R: Read, W: Write>(
         IfSome (R.remaining reader.old) (λ stream. ForEachList book.now (K.content keeper.old)
         (IsStopped book.now opening stream (W.contents writer.old) (W.contents writer.new)
         (K.content keeper.new))) }
+    ensures both { (fault : StoreFault) → result ≡ Err (Both fault) →
+        K.clean keeper.new →
+        IfSome (R.remaining reader.old) (λ stream. ForEachList book.now (K.content keeper.old)
+        (IsCut book.now opening stream (W.contents writer.old) (W.contents writer.new)
+        (K.content keeper.new))) }
+    ensures untold { (fault : StreamFault) → result ≡ Err (Write fault) →
+        K.clean keeper.new →
+        IfSome (R.remaining reader.old) (λ stream. ForEachList book.now (K.content keeper.old)
+        (IsUntold book.now opening stream (W.contents writer.old) (W.contents writer.new)
+        (K.content keeper.new))) }
     ensures unread { (fault : StreamFault) → result ≡ Err (Read fault) → keeper.new ≡ keeper.old }
     ensures unwritten { (fault : StreamFault) → result ≡ Err (Read fault) →
         writer.new ≡ writer.old }
@@ -61,6 +72,8 @@ pub fn lines<K: Keeper, R: Read, W: Write>(
     ensures failures { K.failed keeper.old ≤ K.failed keeper.new }
     ensures cause { result ≡ Err (Store StoreFailed) →
         min (K.failed keeper.old + 1) max_failures ≤ K.failed keeper.new }
+    ensures cause_of_both { result ≡ Err (Both StoreFailed) →
+        min (K.failed keeper.old + 1) max_failures ≤ K.failed keeper.new }
 {
     let Input { lines, requests } = match read_input(alloc, reader) {
         Ok(input) => input,
@@ -68,12 +81,19 @@ pub fn lines<K: Keeper, R: Read, W: Write>(
     };
     let opening = open_first(alloc, opening, &requests)?;
     let Run { answers, fault } = run_opened(alloc, keeper, book, opening, requests);
-    if let Err(fault) = write_output(alloc, writer, &lines, &answers) {
-        return Err(LinesFault::Write(fault));
-    }
-    match fault {
-        Some(fault) => Err(LinesFault::Store(fault)),
-        None => Ok(()),
+    let written = write_output(alloc, writer, &lines, &answers);
+    ended_as(fault, written)
+}
+
+/// What answering ends with: the keeper's fault, whatever became of writing the answers.
+fn ended_as(fault: Option<StoreFault>, written: Result<(), StreamFault>) -> Result<(), LinesFault>
+    ensures { result ≡ ended_as fault written }
+{
+    match (fault, written) {
+        (None, Ok(())) => Ok(()),
+        (None, Err(fault)) => Err(LinesFault::Write(fault)),
+        (Some(fault), Ok(())) => Err(LinesFault::Store(fault)),
+        (Some(fault), Err(_)) => Err(LinesFault::Both(fault)),
     }
 }
 

@@ -4,8 +4,8 @@ ghost use Rattle.std.specs.Prelude.{◌≡◌, IfErr, IfOk, OnErr, OnOk};
 ghost use Rattle.std.specs.Io.KnownBytes.{Appends};
 ghost use Rattle.office.specs.Printed.{IsEnded};
 ghost use Rattle.office.specs.Written.{WritesBeginning};
-ghost use Rattle.office_server.specs.Told.{listening_line};
-ghost use Rattle.ocs.specs.Told.{ConnectionsTold, IsReached};
+ghost use Rattle.office_server.specs.Told.{IsUnlistened, listening_line};
+ghost use Rattle.ocs.specs.Told.{ConnectionsTold, IfDatabase, IsReached};
 
 use crate::fault::ProgramFault;
 use office::Status;
@@ -28,6 +28,8 @@ pub(crate) fn answer_serve<O: Write, E: Write>(
         (listening_line serve.now.port)) }
     ensures told { OnOk result (ConnectionsTold serve.now.connections (E.contents errors.old)
         (E.contents errors.new)) }
+    ensures unwritten { IfErr result (λ fault.
+        IfDatabase fault IsUnlistened → output.new ≡ output.old) }
     ensures untold { OnErr result (errors.new ≡ errors.old) }
 {
     match serve_database(rt, serve, output, errors) {

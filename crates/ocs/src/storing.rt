@@ -1,13 +1,22 @@
 //! What words say that work over a database.
 
-ghost use Rattle.std.specs.Prelude.{◌≡◌, ◌++◌, ◌∷◌, [], codes, IfErr, IfOk, OnErr, OnOk};
+ghost use Rattle.std.specs.Prelude.{◌≡◌, ◌≤◌, ◌+◌, ◌++◌, ◌∷◌, [], codes, min, Err, IfErr, IfOk};
+ghost use Rattle.std.specs.Prelude.{IfSome, None, OnErr, OnOk};
 ghost use Rattle.std.specs.Io.KnownBytes.{Appends};
+ghost use Rattle.byte_streams.specs.declared.StreamFault.{StreamFault};
+ghost use Rattle.database_office.specs.Opening.{IsUnanswered, IsUnasked};
+ghost use Rattle.keepers.specs.Faults.{max_failures};
+ghost use Rattle.keepers.specs.declared.fault.StoreFault.{StoreFault};
+ghost use Rattle.keepers.specs.declared.fault.StoreFault.TheVariants.{Store as StoreFailed};
 ghost use Rattle.office.specs.Months.{unknown_line};
 ghost use Rattle.office.specs.Printed.{IsEnded, PrintsAnswer, PrintsCounts};
 ghost use Rattle.office.specs.Written.{WritesBeginning};
 ghost use Rattle.office.specs.declared.status.Status.TheVariants.{Failed};
-ghost use Rattle.ocs.specs.Served.{ForEachList, IsContinued};
-ghost use Rattle.ocs.specs.Told.{IsReached, IsReachedByLines};
+ghost use Rattle.ocs.specs.declared.fault.LinesFault.TheVariants.{Both, Store, Write};
+ghost use Rattle.ocs.specs.Served.{ForEachList, IsAnswered, IsBegun, IsContinued, IsCut, IsStopped};
+ghost use Rattle.ocs.specs.Served.{IsUntold};
+ghost use Rattle.ocs.specs.Told.{IfDatabase, IfLines, IfStream, IsReached, IsReachedByLines};
+ghost use Rattle.ocs.specs.Told.{AreUnread};
 
 use crate::fault::{LinesFault, ProgramFault};
 use crate::lines::lines;
@@ -36,6 +45,8 @@ pub(crate) fn answer_init<O: Write>(
         (codes "ok\n")) }
     ensures begun { OnErr result (WritesBeginning (O.contents output.old) (O.contents output.new)
         (codes "ok\n")) }
+    ensures unwritten { IfErr result (λ fault.
+        IfStream fault (λ _. ⊥) → output.new ≡ output.old) }
 {
     if let Err(fault) = make_database(rt, init) {
         return Err(ProgramFault::Database(fault));
@@ -58,6 +69,8 @@ pub(crate) fn answer_office<O: Write>(
     ensures answered { IfOk result (λ status.
         PrintsAnswer status (O.contents output.old) (O.contents output.new)) }
     ensures reached { IfErr result (IsReached ⊥ (Unit {0})) }
+    ensures unwritten { IfErr result (λ fault.
+        IfDatabase fault IsUnanswered → output.new ≡ output.old) }
 {
     match command_office(rt, words, output) {
         Ok(status) => Ok(status),
@@ -74,6 +87,8 @@ pub(crate) fn answer_statement<O: Write>(
     ensures ended { IfOk result (IsEnded
         (Appends (O.contents output.old) (O.contents output.new) unknown_line)) }
     ensures reached { IfErr result (IsReached ⊥ (Unit {0})) }
+    ensures unwritten { IfErr result (λ fault.
+        IfDatabase fault IsUnasked → output.new ≡ output.old) }
 {
     match state_office(rt, words, output) {
         Ok(status) => Ok(status),
@@ -90,6 +105,8 @@ pub(crate) fn answer_import<O: Write>(
     ensures ended { IfOk result (IsEnded ⊥) }
     ensures counted { OnOk result (PrintsCounts (O.contents output.old) (O.contents output.new)) }
     ensures reached { IfErr result (IsReached (Unit {0}) (Unit {0})) }
+    ensures unwritten { IfErr result (λ fault.
+        IfDatabase fault IsUnanswered → output.new ≡ output.old) }
 {
     match import_office(rt, import, output) {
         Ok(()) => Ok(Status::Done),
@@ -106,6 +123,7 @@ pub(crate) fn answer_replay<O: Write>(
 ) -> Result<Status, ProgramFault>
     ensures ended { IfOk result (IsEnded ⊥) }
     ensures reached { IfErr result (IsReached ⊥ (Unit {0})) }
+    ensures unwritten { IfErr result (λ fault. IfLines fault AreUnread → output.new ≡ output.old) }
 {
     let file = match open_file(rt, replay.file.as_str()) {
         Ok(file) => file,
@@ -125,7 +143,7 @@ pub(crate) fn answer_replay<O: Write>(
 }
 
 /// Answers the lines of a reader over a keeper, which may fail.
-#[tactic(auto, using(crate::proofs::EndLemmas::reached_over))]
+#[tactic(auto, using(crate::proofs::EndLemmas::reached_over, crate::proofs::EndLemmas::where_unread))]
 fn answer_requests<K: Keeper, R: Read, O: Write>(
     alloc: Global,
     keeper: &mut K,
@@ -134,8 +152,39 @@ fn answer_requests<K: Keeper, R: Read, O: Write>(
     output: &mut O,
 ) -> Result<(), LinesFault>
     ensures reached { IfErr result (IsReachedByLines (Unit {0})) }
+    ensures unwritten { IfErr result (λ fault. AreUnread fault → output.new ≡ output.old) }
+    ensures unread { IfErr result (λ fault. AreUnread fault → keeper.new ≡ keeper.old) }
+    ensures answered { K.clean keeper.new → OnOk result (IfSome (R.remaining reader.old) (λ stream.
+        ForEachList book.now (K.content keeper.old)
+        (IsAnswered book.now None stream (O.contents output.old) (O.contents output.new)
+        (K.content keeper.new)))) }
+    ensures begun { K.clean keeper.new → OnErr result (IfSome (R.remaining reader.old) (λ stream.
+        ForEachList book.now (K.content keeper.old)
+        (IsBegun book.now None stream (O.contents output.old) (O.contents output.new)
+        (K.content keeper.new)))) }
+    ensures stopped { (fault : StoreFault) → result ≡ Err (Store fault) →
+        K.clean keeper.new →
+        IfSome (R.remaining reader.old) (λ stream. ForEachList book.now (K.content keeper.old)
+        (IsStopped book.now None stream (O.contents output.old) (O.contents output.new)
+        (K.content keeper.new))) }
+    ensures both { (fault : StoreFault) → result ≡ Err (Both fault) →
+        K.clean keeper.new →
+        IfSome (R.remaining reader.old) (λ stream. ForEachList book.now (K.content keeper.old)
+        (IsCut book.now None stream (O.contents output.old) (O.contents output.new)
+        (K.content keeper.new))) }
+    ensures untold { (fault : StreamFault) → result ≡ Err (Write fault) →
+        K.clean keeper.new →
+        IfSome (R.remaining reader.old) (λ stream. ForEachList book.now (K.content keeper.old)
+        (IsUntold book.now None stream (O.contents output.old) (O.contents output.new)
+        (K.content keeper.new))) }
     ensures continued { K.clean keeper.new →
         ForEachList book.now (K.content keeper.old) (IsContinued book.now (K.content keeper.new)) }
+    ensures cleanness { K.clean keeper.new → K.clean keeper.old }
+    ensures failures { K.failed keeper.old ≤ K.failed keeper.new }
+    ensures cause { result ≡ Err (Store StoreFailed) →
+        min (K.failed keeper.old + 1) max_failures ≤ K.failed keeper.new }
+    ensures cause_of_both { result ≡ Err (Both StoreFailed) →
+        min (K.failed keeper.old + 1) max_failures ≤ K.failed keeper.new }
 {
     lines(alloc, keeper, book, None, reader, output)
 }

@@ -4,7 +4,7 @@ use Rattle.byte_streams.proofs.next_bytes.Goals as goal
 
 pub loop-turn-preserved : goal.loop-turn-preserved
 loop-turn-preserved g c =
-    let takes = c.in_ok-take_piece.ensures in
+    let takes = c.in_ok-take_piece.ensures.taken in
     let long = piece_length _ _ _ _ _ _ _ takes in (
       omega (arith, c.loop-turn.invariant.0, c.if-branch-eq0.false, long),
       omega (arith, c.loop-turn.invariant.1, takes.within, long),

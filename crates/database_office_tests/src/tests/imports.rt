@@ -40,7 +40,10 @@ fn done(rt: &HostRuntime, line: &str, written: &mut Vec<u8>) -> Result<(), Impor
         return Err(ImportFault::Database(DatabaseFault::Memory));
     };
     match program_words(alloc, words.as_slice()) {
-        Ok(ProgramWords::Init(init)) => Ok(make_database(rt, &init)?),
+        Ok(ProgramWords::Init(init)) => {
+            make_database(rt, &init)?;
+            Ok(())
+        }
         Ok(ProgramWords::Import(import)) => import_office(rt, import, written),
         _ => Err(ImportFault::Database(DatabaseFault::Clock)),
     }

@@ -9,4 +9,5 @@ returns-in-Err-clause-told g c =
     (g.E.Write.contents c.args.errors.now) (g.E.Write.contents c.do_said.new.errors)
     (g.E.Write.contents c.tell_fault.new.errors)
     c.tell_fault.ensures.status c.in-Err.ensures.reached
+    (λ silent. ap (g.O.Write.contents) (c.in-Err.ensures.silent silent))
     (ap (g.E.Write.contents) c.in-Err.ensures.untold) c.tell_fault.ensures.told

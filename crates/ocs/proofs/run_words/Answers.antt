@@ -7,7 +7,7 @@ use Rattle.std.specs.Io.KnownBytes.{Appends}
 use Rattle.office.specs.Written.{WritesBeginning}
 use Rattle.ocs.specs.Told.{line_of}
 use Rattle.ocs.proofs.EndLemmas.{line_said, memory_alone, printed_said, not_done, not_once}
-use Rattle.ocs.proofs.EndLemmas.{told_said, unwritten_begins, unwritten_line}
+use Rattle.ocs.proofs.EndLemmas.{told_said, told_unread, unwritten_begins, unwritten_line}
 use Rattle.ocs.proofs.run_words.Goals as goal
 
 pub returns-in-Ok-clause-unread : goal.returns-in-Ok-clause-unread
@@ -54,6 +54,15 @@ returns-in-Ok-clause-told g c =
     (g.E.Write.contents c.args.errors.now)
     (g.E.Write.contents c.run_said.new.errors) c.in-Ok.ensures.read
     c.run_said.ensures.told
+
+pub returns-in-Err-clause-told : goal.returns-in-Err-clause-told
+returns-in-Err-clause-told g c =
+    told_unread (texts_of c.args.words.now) (g.O.Write.contents c.args.output.now)
+    (g.O.Write.contents c.tell_unread.new.output) c.in-Err.fault c.tell_unread.result
+    (g.E.Write.contents c.args.errors.now) (g.E.Write.contents c.tell_unread.new.errors)
+    c.in-Err.ensures.unread c.tell_unread.ensures.end
+    (λ memory. ap (g.O.Write.contents) (c.tell_unread.ensures.memory memory))
+    c.tell_unread.ensures.told
 
 pub returns-in-Ok-clause-answered : goal.returns-in-Ok-clause-answered
 returns-in-Ok-clause-answered g c = λ other says done.

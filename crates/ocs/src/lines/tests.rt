@@ -489,6 +489,27 @@ impl Write for FailingWriter {
     }
 }
 
+/// Where writing the answers fails too, the store's fault is told, and that they weren't written.
+#[test]
+fn a_store_fault_and_a_writer_that_fails(rt: HostRuntime) -> Result<(), Fail> {
+    let alloc = rt.alloc();
+    let book = once_book(alloc, 100_000, 60)?;
+    let credit = Some(Money::new(100_000).ok_or("an amount")?);
+    let Scenario {
+        lines: asked,
+        answers: wanted,
+    } = read_scenario(alloc, ONE_DEBIT)?;
+    let mut input = asked.as_bytes();
+    let taken = Vec::new(alloc);
+    let mut writer = FailingWriter { taken, left: 2 };
+    let mut keeper = Failing::new(MemoryKeeper::new(alloc), CALLS_OF_ONE_DEBIT);
+    let ended = lines(alloc, &mut keeper, &book, credit, &mut input, &mut writer);
+    assert_eq!(rt; ended, Err(LinesFault::Both(StoreFault::Store)));
+    assert_eq!(rt; writer.taken.len(), 16);
+    assert!(rt; wanted.as_bytes().starts_with(writer.taken.as_slice()));
+    Ok(())
+}
+
 /// Answers lines that open no account.
 fn answer<R: Read, W: Write>(
     alloc: Global,

@@ -3,7 +3,7 @@ use Rattle.std.specs.Io.KnownBytes.{Appends}
 use Rattle.http_answers.specs.Texts.{Begins}
 use Rattle.http_api.proofs.Continuing.{continued_step}
 use Rattle.http_api.proofs.RequestReplies.{ok_gives, err_gives, unclocked_reply, failed_reply}
-use Rattle.http_api.proofs.RequestReplies.{answered_reply, owed_answer}
+use Rattle.http_api.proofs.RequestReplies.{answered_reply, owed_answer, not_memory}
 use Rattle.http_api.proofs.answering.serve_command.Goals as goal
 
 pub returns-in_default-clause-ok : goal.returns-in_default-clause-ok
@@ -15,7 +15,7 @@ returns-in_default-clause-ok g c = λ clean. ok_gives c.tell_unable.result
     c.tell_unable.ensures.ok
 
 pub returns-in_default-clause-memory : goal.returns-in_default-clause-memory
-returns-in_default-clause-memory g c = λ clean e. absurd (c.tell_unable.ensures.memory e)
+returns-in_default-clause-memory g c = λ clean e. not_memory c.tell_unable.result c.tell_unable.ensures.fault e
 
 pub returns-in_default-clause-err : goal.returns-in_default-clause-err
 returns-in_default-clause-err g c = λ clean. err_gives c.tell_unable.result
@@ -78,13 +78,13 @@ returns-in-Err-clause-err g c = λ clean. err_gives c.tell_unable-in-Err.result
     (c.in-Err.ensures.served clean)) c.tell_unable-in-Err.ensures.err
 
 pub returns-in-Err-clause-memory : goal.returns-in-Err-clause-memory
-returns-in-Err-clause-memory g c = λ clean e. absurd (c.tell_unable-in-Err.ensures.memory e)
+returns-in-Err-clause-memory g c = λ clean e. not_memory c.tell_unable-in-Err.result c.tell_unable-in-Err.ensures.fault e
 
 pub returns-in_default-clause-unwritten : goal.returns-in_default-clause-unwritten
-returns-in_default-clause-unwritten g c = λ e. absurd (c.tell_unable.ensures.memory e)
+returns-in_default-clause-unwritten g c = λ e. not_memory c.tell_unable.result c.tell_unable.ensures.fault e
 
 pub returns-in-Ok-clause-unwritten : goal.returns-in-Ok-clause-unwritten
 returns-in-Ok-clause-unwritten g c = c.tell_answer.ensures.unwritten
 
 pub returns-in-Err-clause-unwritten : goal.returns-in-Err-clause-unwritten
-returns-in-Err-clause-unwritten g c = λ e. absurd (c.tell_unable-in-Err.ensures.memory e)
+returns-in-Err-clause-unwritten g c = λ e. not_memory c.tell_unable-in-Err.result c.tell_unable-in-Err.ensures.fault e

@@ -3,7 +3,7 @@ use Rattle.std.proofs.Common.{Some, None, IfOk, OnErr, IfSome}
 use Rattle.std.specs.declared.io.buffered.BufReader.{BufReader}
 use Rattle.std.specs.Io.Buffered.{reader_remaining, reader_capacity, reader_buffer, reader_inner}
 use Rattle.std.specs.Io.KnownBytes.{prepend_known}
-use Rattle.http_api.specs.Connections.{IsServed, IsBegun, IsOutOfMemory}
+use Rattle.http_api.specs.Connections.{IsServed, IsBegun, IsOutOfMemory, IsUnread, IsCutOff}
 use Rattle.http_api.proofs.Taking.{begun_none, short_none}
 use Rattle.http_api.proofs.serving.serve.Goals as goal
 
@@ -79,3 +79,21 @@ returns-clause-memory g c = λ clean e.
     (g.K.Keeper.content c.args.keeper.now) (g.K.Keeper.content c.serve_requests.new.keeper)))
     (unread c.in-Ok-new.buffered _ (λ m. g.R.Read.remaining m.now) c.in-Ok-new.ensures.capacity
     c.in-Ok-new.ensures.empty c.in-Ok-new.ensures.inner) (c.serve_requests.ensures.memory clean e)
+
+pub returns-clause-read : goal.returns-clause-read
+returns-clause-read g c = λ clean e.
+    subst (λ (o : Option (List ℕ)). IfSome o (λ stream.
+    IsUnread g.C.Clock.gives c.args.book.now stream c.args.clock.now c.serve_requests.new.clock
+    (g.W.Write.contents c.args.writer.now) (g.W.Write.contents c.serve_requests.new.writer)
+    (g.K.Keeper.content c.args.keeper.now) (g.K.Keeper.content c.serve_requests.new.keeper)))
+    (unread c.in-Ok-new.buffered _ (λ m. g.R.Read.remaining m.now) c.in-Ok-new.ensures.capacity
+    c.in-Ok-new.ensures.empty c.in-Ok-new.ensures.inner) (c.serve_requests.ensures.read clean e)
+
+pub returns-clause-write : goal.returns-clause-write
+returns-clause-write g c = λ clean e.
+    subst (λ (o : Option (List ℕ)). IfSome o (λ stream.
+    IsCutOff g.C.Clock.gives c.args.book.now stream c.args.clock.now c.serve_requests.new.clock
+    (g.W.Write.contents c.args.writer.now) (g.W.Write.contents c.serve_requests.new.writer)
+    (g.K.Keeper.content c.args.keeper.now) (g.K.Keeper.content c.serve_requests.new.keeper)))
+    (unread c.in-Ok-new.buffered _ (λ m. g.R.Read.remaining m.now) c.in-Ok-new.ensures.capacity
+    c.in-Ok-new.ensures.empty c.in-Ok-new.ensures.inner) (c.serve_requests.ensures.write clean e)

@@ -1,10 +1,10 @@
 use Rattle.std.proofs.Common.{◌≡◌, ◌==◌, refl, le_refl, arith, Err}
 use Rattle.byte_streams.specs.declared.StreamFault.TheVariants as broken
-use Rattle.http_api.proofs.RequestReplies.{at_err, memory_told}
+use Rattle.http_api.proofs.RequestReplies.{at_err, fault_told}
 use Rattle.http_api.proofs.Continuing.{continued_none, continued_more}
 use Rattle.http_api.proofs.Taking.{so_far-none, so_far-more, so_far-closed, so_far-broken}
 use Rattle.http_api.proofs.Taking.{so_far-ended, so_far-full, so_far-begun, some_left, turns-more}
-use Rattle.http_api.proofs.Taking.{so_far-short, so_far-owed}
+use Rattle.http_api.proofs.Taking.{so_far-short, so_far-owed, so_far-unread, so_far-cut}
 use Rattle.http_api.proofs.serving.serve_requests.Goals as goal
 
 pub loop-served-init : goal.loop-served-init
@@ -35,6 +35,21 @@ returns-in_err-heard-clause-memory g c = λ clean e.
     (g.W.Write.contents c.loop-served.writer) (g.K.Keeper.content c.args.keeper.now)
     (g.K.Keeper.content c.loop-served.keeper) (c.loop-served.invariant.so_far clean)
 
+pub returns-in_err-heard-clause-read : goal.returns-in_err-heard-clause-read
+returns-in_err-heard-clause-read g c = λ clean e.
+    so_far-unread g.C.Clock.gives c.args.book.now c.loop-served.served c.loop-served.left
+    (g.R.Read.remaining c.args.reader.now) (g.R.Read.remaining c.loop-served.reader)
+    c.args.clock.now c.loop-served.clock (g.W.Write.contents c.args.writer.now)
+    (g.W.Write.contents c.loop-served.writer) (g.K.Keeper.content c.args.keeper.now)
+    (g.K.Keeper.content c.loop-served.keeper) c.loop-served-test.true
+    (some_left c.loop-served.left c.loop-served.served c.loop-served.invariant.turns
+    c.loop-served-test.true) (c.loop-served.invariant.so_far clean)
+
+pub returns-in_err-heard-clause-write : goal.returns-in_err-heard-clause-write
+returns-in_err-heard-clause-write g c = λ clean e. absurd (c.hear.ensures.fault (fault_told
+    c.hear.result c.from_residual.result _ broken.Write c.in_err-heard.was
+    c.from_residual.ensures.1 e))
+
 pub returns-in_default-clause-served : goal.returns-in_default-clause-served
 returns-in_default-clause-served g c = λ clean.
     so_far-ended g.C.Clock.gives c.args.book.now c.loop-served.served c.loop-served.left
@@ -43,7 +58,7 @@ returns-in_default-clause-served g c = λ clean.
     (g.W.Write.contents c.args.writer.now) (g.W.Write.contents c.loop-served.writer)
     (g.K.Keeper.content c.args.keeper.now) (g.K.Keeper.content c.loop-served.keeper)
     c.in_ok-heard.field-0 c.in_default.is
-    (c.loop-served.invariant.so_far clean) c.in_ok-heard.ensures
+    (c.loop-served.invariant.so_far clean) c.in_ok-heard.ensures.heard
 
 pub returns-in_err-answer_request-clause-begun : goal.returns-in_err-answer_request-clause-begun
 returns-in_err-answer_request-clause-begun g c =
@@ -59,12 +74,12 @@ returns-in_err-answer_request-clause-begun g c =
     (some_left c.loop-served.left c.loop-served.served c.loop-served.invariant.turns
     c.loop-served-test.true) c.in-Some.is c.left_after-left.ensures refl c.loop-served-test.true
     (c.loop-served.invariant.so_far (c.answer_request.ensures.cleanness clean))
-    c.in_ok-heard.ensures (c.in_err-answer_request.ensures.err clean))
+    c.in_ok-heard.ensures.heard (c.in_err-answer_request.ensures.err clean))
 
 pub returns-in_err-answer_request-clause-memory : goal.returns-in_err-answer_request-clause-memory
 returns-in_err-answer_request-clause-memory g c = λ clean e.
     let refused : c.answer_request.result ≡ Err broken.Memory =
-    memory_told c.answer_request.result c.from_residual-in_err-answer_request.result _
+    fault_told c.answer_request.result c.from_residual-in_err-answer_request.result _ broken.Memory
     c.in_err-answer_request.was c.from_residual-in_err-answer_request.ensures.1 e in
     so_far-owed g.C.Clock.gives c.args.book.now c.loop-served.served c.loop-served.left
     (g.R.Read.remaining c.args.reader.now) (g.R.Read.remaining c.loop-served.reader)
@@ -75,7 +90,28 @@ returns-in_err-answer_request-clause-memory g c = λ clean e.
     (g.K.Keeper.content c.answer_request.new.keeper) c.in_ok-heard.field-0 c.in-Some.heard
     c.in-Some.is (c.answer_request.ensures.unwritten refused)
     (c.loop-served.invariant.so_far (c.answer_request.ensures.cleanness clean))
-    c.in_ok-heard.ensures (c.answer_request.ensures.memory clean refused)
+    c.in_ok-heard.ensures.heard (c.answer_request.ensures.memory clean refused)
+
+pub returns-in_err-answer_request-clause-read : goal.returns-in_err-answer_request-clause-read
+returns-in_err-answer_request-clause-read g c = λ clean e.
+    absurd (c.answer_request.ensures.read (fault_told c.answer_request.result
+    c.from_residual-in_err-answer_request.result _ broken.Read c.in_err-answer_request.was
+    c.from_residual-in_err-answer_request.ensures.1 e))
+
+pub returns-in_err-answer_request-clause-write : goal.returns-in_err-answer_request-clause-write
+returns-in_err-answer_request-clause-write g c = λ clean e.
+    so_far-cut g.C.Clock.gives c.args.book.now c.loop-served.served c.loop-served.left
+    c.left_after-left.result (c.left_after-left.result == 0) (g.R.Read.remaining c.args.reader.now)
+    (g.R.Read.remaining c.loop-served.reader) (g.R.Read.remaining c.hear.new.reader)
+    c.args.clock.now c.loop-served.clock c.answer_request.new.clock
+    (g.W.Write.contents c.args.writer.now) (g.W.Write.contents c.loop-served.writer)
+    (g.W.Write.contents c.answer_request.new.writer)
+    (g.K.Keeper.content c.args.keeper.now) (g.K.Keeper.content c.loop-served.keeper)
+    (g.K.Keeper.content c.answer_request.new.keeper) c.in_ok-heard.field-0 c.in-Some.heard
+    (some_left c.loop-served.left c.loop-served.served c.loop-served.invariant.turns
+    c.loop-served-test.true) c.in-Some.is c.left_after-left.ensures refl c.loop-served-test.true
+    (c.loop-served.invariant.so_far (c.answer_request.ensures.cleanness clean))
+    c.in_ok-heard.ensures.heard (c.in_err-answer_request.ensures.err clean)
 
 pub returns-in_err-answer_request-clause-continued :
     goal.returns-in_err-answer_request-clause-continued
@@ -99,7 +135,7 @@ returns-then-left-eq0-clause-served g c = λ clean.
     c.loop-served.invariant.turns c.loop-served-test.true) c.in-Some.is c.left_after-left.ensures
     refl c.if-left-eq0.true
     (c.loop-served.invariant.so_far (c.answer_request.ensures.cleanness clean))
-    c.in_ok-heard.ensures (c.in_ok-answer_request.ensures.ok clean)
+    c.in_ok-heard.ensures.heard (c.in_ok-answer_request.ensures.ok clean)
 
 pub returns-then-left-eq0-clause-continued : goal.returns-then-left-eq0-clause-continued
 returns-then-left-eq0-clause-continued g c = λ clean.
@@ -125,7 +161,7 @@ loop-served-preserved g c = record {
       (some_left c.loop-served.left c.loop-served.served c.loop-served.invariant.turns
       c.loop-served-test.true) c.in-Some.is c.left_after-left.ensures refl c.if-left-eq0.false
       (c.loop-served.invariant.so_far (c.answer_request.ensures.cleanness clean))
-      c.in_ok-heard.ensures (c.in_ok-answer_request.ensures.ok clean);
+      c.in_ok-heard.ensures.heard (c.in_ok-answer_request.ensures.ok clean);
   continued = λ clean.
       continued_more c.args.book.now (g.K.Keeper.content c.args.keeper.now)
       (g.K.Keeper.content c.loop-served.keeper) (g.K.Keeper.content c.answer_request.new.keeper)

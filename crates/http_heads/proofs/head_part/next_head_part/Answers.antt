@@ -25,13 +25,13 @@ returns-then-ends_with-clause-part g c =
     let ends : ends_head c.take_piece.new.part.items ≡ true = search rules in
     ends_whole (g.R.Read.remaining c.args.reader.now) (g.R.Read.remaining c.loop-turn.reader)
     (g.R.Read.remaining c.take_piece.new.reader) c.loop-turn.part.items c.take_piece.new.part
-    _ _ c.in_ok-take_piece.ensures c.if-branch-eq0.false
+    _ _ c.in_ok-take_piece.ensures.taken c.if-branch-eq0.false
     (omega (arith, c.loop-turn.invariant.1)) ends c.loop-turn.invariant.2
 
 pub loop-turn-preserved : goal.loop-turn-preserved
 loop-turn-preserved g c =
     let ends : ends_head c.take_piece.new.part.items ≡ false = search rules in
-    let takes = c.in_ok-take_piece.ensures in
+    let takes = c.in_ok-take_piece.ensures.taken in
     let long = piece_length _ _ _ _ _ _ _ takes in (
       omega (arith, c.loop-turn.invariant.0, c.if-branch-eq0.false, long),
       omega (arith, c.loop-turn.invariant.1, takes.within, long),

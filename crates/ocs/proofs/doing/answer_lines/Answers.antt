@@ -12,3 +12,4 @@ returns-clause-fault g c = once-begun c.lines.result _ _ _ _ _ _ _ _ c.in_ok-boo
 
 pub returns-clause-reached : goal.returns-clause-reached
 returns-clause-reached g c = reached_lines c.lines.result c.lines.ensures.cause
+    c.lines.ensures.cause_of_both

@@ -13,7 +13,7 @@ returns-then-is_some-clause-runs g c = λ clean.
     c.args.requests.items new answers c.run-fault.result.fault)) (sym c.new-answers.ensures.items)
     (opening-stopped b c.args.opening.items c.args.requests.items c.run-fault.result.fault
     c.run-fault.result.answers.items old new (sym c.is_some.ensures
-    ∙ c.if-is_some.true) c.run-fault.ensures.beginning (c.run-fault.ensures.runs clean))
+    ∙ c.if-is_some.true) c.run-fault.ensures.beginning c.run-fault.ensures.stopped (c.run-fault.ensures.runs clean))
 
 pub returns-clause-runs : goal.returns-clause-runs
 returns-clause-runs g c = λ clean.
@@ -27,4 +27,4 @@ returns-clause-runs g c = λ clean.
     requests-run c.args.book.now c.args.opening.items c.args.requests.items c.run.result.fault
     before c.run.result.answers.items old mid new all
     (c.run-fault.ensures.runs (c.run.ensures.cleanness clean))
-    (c.run.ensures.runs clean) c.run.ensures.whole
+    (c.run.ensures.runs clean) c.run.ensures.whole c.run.ensures.stopped

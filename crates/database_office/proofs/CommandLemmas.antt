@@ -1,0 +1,25 @@
+-- The fault of an office, out of the fault of a database that tells it.
+use Rattle.std.proofs.Common.{◌≡◌, Result, Ok, Err, ap}
+use Rattle.office.specs.declared.fault.OfficeFault.{OfficeFault}
+use Rattle.office.specs.declared.status.Status.{Status}
+use Rattle.database_office.specs.declared.fault.DatabaseFault.{DatabaseFault}
+use Rattle.database_office.specs.declared.fault.DatabaseFault.TheVariants.{File, Clock, Book, Open}
+use Rattle.database_office.specs.declared.fault.DatabaseFault.TheVariants.{Net, Memory, Office}
+
+office_fault : OfficeFault → DatabaseFault → OfficeFault
+office_fault other File = other
+office_fault other Clock = other
+office_fault other (Book fault) = other
+office_fault other (Open fault) = other
+office_fault other Net = other
+office_fault other Memory = other
+office_fault other (Office fault) = fault
+
+told_fault : OfficeFault → Result Status DatabaseFault → OfficeFault
+told_fault other (Ok status) = other
+told_fault other (Err fault) = office_fault other fault
+
+pub same_fault : (f g : OfficeFault) →
+    ◌≡◌ {A = Result Status DatabaseFault} (Err (Office f)) (Err (Office g)) → f ≡ g
+unfolding told_fault office_fault
+same_fault f g e = ap (told_fault f) e

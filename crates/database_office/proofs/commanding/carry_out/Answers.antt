@@ -1,0 +1,9 @@
+use Rattle.std.proofs.Common.{Err, ap, ◌∙◌}
+use Rattle.office.specs.declared.fault.OfficeFault.TheVariants.{Write}
+use Rattle.database_office.proofs.CommandLemmas.{same_fault}
+use Rattle.database_office.proofs.commanding.carry_out.Goals as goal
+
+-- src/commanding.rt:54:1
+pub returns-in-Err-clause-untold : goal.returns-in-Err-clause-untold
+returns-in-Err-clause-untold g c fault e =
+    c.serve_office.ensures.untold fault (c.in-Err.is ∙ ap Err (same_fault _ _ e))
