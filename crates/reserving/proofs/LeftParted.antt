@@ -4,11 +4,11 @@ use Rattle.std.proofs.Common.{sym, ap, subst, ◌∙◌, arith, Option, Some, No
 use Rattle.std.specs.Prelude.{if◌then◌else◌, filter, not, ◌==◌}
 use Rattle.std.specs.List.{find}
 use Rattle.std.proofs.lemmas.Bool.{not-true}
-use Rattle.std.proofs.lemmas.Bool.Decides.{nat_tests}
 use Rattle.buckets.specs.Row.{Row, precedes}
 use Rattle.buckets.specs.Spend.{Each, IsSound, IsBelow, IsInOrder, PrecedesAll}
 use Rattle.buckets.specs.Holding.{held_in}
-use Rattle.buckets.proofs.Filtered.{each_filter as each_among}
+use Rattle.buckets.proofs.Filtered.{each_filter as each_among, all_filter}
+use Rattle.buckets.proofs.SharesAlong.{precedes_asym}
 use Rattle.reserving.specs.declared.session.Session.{Session}
 use Rattle.reserving.specs.declared.session.SessionGroup.{SessionGroup}
 use Rattle.reserving.specs.declared.session.Counter.{Counter}
@@ -19,14 +19,14 @@ use Rattle.reserving.specs.Sessions.{is_session, session_in, session_at, is_open
 use Rattle.reserving.specs.Sessions.{group_at, is_counter, counter_in, counter_at, holds_in}
 use Rattle.reserving.specs.Sessions.{held_by, reservation_at}
 use Rattle.reserving.specs.Rows.{AccountRows, EachIn, AreApart, IsAccount, IsRowsOf}
-use Rattle.reserving.proofs.Lists.{no_some, some_of, find-passes as passes}
+use Rattle.reserving.proofs.Lists.{no_some, some_of, find-passes as passes, EachIn-weaker}
 use Rattle.reserving.proofs.Holds.{same_from, same_itself}
 use Rattle.reserving.proofs.Keys.{found_own, is_same-sym, first_true, second_true, same_number}
 use Rattle.reserving.proofs.Advancing.{groups_each, found_each}
 use Rattle.reserving.specs.Left.{LeftRows, placed, merged, joined, IsDead, is_dead, is_open_row}
 use Rattle.reserving.specs.Left.{only, first_of, left_of, AreOfOtherCycles, IsPartOf, IsLoadedWith}
 use Rattle.reserving.proofs.left.Ended.{closed_free}
-use Rattle.reserving.proofs.LeftJoined.{each_in_map, held_behind}
+use Rattle.reserving.proofs.LeftJoined.{held_behind}
 use Rattle.reserving.proofs.InOrder.{order_joined}
 use Rattle.reserving.proofs.LeftTests.{each_filter, each_passes, each_append, each_with}
 use Rattle.reserving.proofs.LeftTests.{apart_filter, apart_append, none_each, find_filter}
@@ -40,21 +40,11 @@ precedes_first : (x : Row) (xs : List Row) → PrecedesAll x xs → placed x xs 
 precedes_first x [] h = refl
 precedes_first x (y ∷ ys) h = rw h.0 refl
 
-asym : (a b : Row) → precedes a b ≡ true → precedes b a ≡ false
-asym a b h = grind (arith, nat_tests)
-
 -- a bucket that stands before all that are left stays first
 first_merged : (x : Row) (left rows : List Row) → PrecedesAll x left →
     merged left (x ∷ rows) ≡ x ∷ merged left rows
 first_merged x [] rows h = refl
-first_merged x (b ∷ bs) rows h = ap (placed b) (first_merged x bs rows h.1) ∙ rw (asym x b h.0) refl
-
-all_filter : (x : Row) (p : Row → Bool) (xs : List Row) → PrecedesAll x xs →
-    PrecedesAll x (filter p xs)
-all_filter x p [] h = tt
-all_filter x p (y ∷ ys) h =
-    elim (p y) as (λ t. PrecedesAll x (cond t (y ∷ filter p ys) (filter p ys)))
-    [ true ↦ (h.0, all_filter x p ys h.1) | false ↦ all_filter x p ys h.1 ]
+first_merged x (b ∷ bs) rows h = ap (placed b) (first_merged x bs rows h.1) ∙ rw (precedes_asym x b h.0) refl
 
 pub parted : (p : Row → Bool) (xs : List Row) → IsInOrder xs →
     merged (filter p xs) (filter (λ b. not (p b)) xs) ≡ xs
@@ -158,7 +148,7 @@ parted_both p (Some r) x y e k = (λ i. first_of (e i) (k i)) ∙ at r (p r)
     at z true = refl
     at z false = refl
 
-either_none : {A : Type 0} (u : Bool) (o : Option A) → o ≡ None → o ≡ (if u then o else None)
+pub either_none : {A : Type 0} (u : Bool) (o : Option A) → o ≡ None → o ≡ (if u then o else None)
 either_none true o e = refl
 either_none false o e = e
 
@@ -192,7 +182,7 @@ module _ (ledger : Ledger) (t : ℕ) (w a : AccountRows) (is : IsAccount w) (own
   )
 
   over : EachIn (λ r. is_open r.state ≡ false) left.sessions
-  over = each_in_map _ _ left.sessions (λ r e. not-true (is_open r.state) e)
+  over = EachIn-weaker _ _ left.sessions (λ r e. not-true (is_open r.state) e)
       (each_passes (λ (r : Session). not (is_open r.state)) w.sessions)
 
   apart : EachIn (λ r. session_in r.id a.sessions ≡ None) left.sessions
@@ -206,7 +196,7 @@ module _ (ledger : Ledger) (t : ℕ) (w a : AccountRows) (is : IsAccount w) (own
   -- ---- groups
 
   gone : EachIn (λ r. is_open_row (session_in r.session w.sessions) ≡ false) left.groups
-  gone = each_in_map _ _ left.groups
+  gone = EachIn-weaker _ _ left.groups
       (λ r e. not-true (is_open_row (session_in r.session w.sessions)) e)
       (each_passes (λ (r : SessionGroup). not (is_open_row (session_in r.session w.sessions)))
       w.groups)
@@ -217,7 +207,7 @@ module _ (ledger : Ledger) (t : ℕ) (w a : AccountRows) (is : IsAccount w) (own
   only_none (Some r) e = ap (λ u. if u then Some r else None) e
 
   others : EachIn (λ r. session_in r.session a.sessions ≡ None) left.groups
-  others = each_in_map _ _ left.groups
+  others = EachIn-weaker _ _ left.groups
       (λ r e. part.sessions r.session ∙ only_none (session_in r.session w.sessions) e) gone
 
   free : EachIn (λ r. r.reservation ≡ None) left.groups
@@ -256,7 +246,7 @@ module _ (ledger : Ledger) (t : ℕ) (w a : AccountRows) (is : IsAccount w) (own
 
   groups_apart : EachIn (λ r. EachIn (λ y. is_of r.session r.group y ≡ false) a.groups) left.groups
   groups_apart =
-      each_in_map _ _ left.groups
+      EachIn-weaker _ _ left.groups
       (λ r e. none_each (is_of r.session r.group) a.groups
       (part.groups r.session r.group
       ∙ ap (λ u. if u then group_in r.session r.group w.groups else None) e)) gone
@@ -264,7 +254,7 @@ module _ (ledger : Ledger) (t : ℕ) (w a : AccountRows) (is : IsAccount w) (own
   -- ---- counters
 
   cycles : EachIn (λ r. (r.cycle == cycle_at w.book r.group t) ≡ false) left.counters
-  cycles = each_in_map _ _ left.counters (λ r e. not-true (r.cycle == cycle_at w.book r.group t) e)
+  cycles = EachIn-weaker _ _ left.counters (λ r e. not-true (r.cycle == cycle_at w.book r.group t) e)
       (each_passes (λ (r : Counter). not (r.cycle == cycle_at w.book r.group t)) w.counters)
 
   by_cycle : (g c : ℕ) (o : Option Counter) → counter_in g c w.counters ≡ o →
@@ -294,7 +284,7 @@ module _ (ledger : Ledger) (t : ℕ) (w a : AccountRows) (is : IsAccount w) (own
   held_same b e d =
       held_behind (λ s. true) left.groups a.groups b free
       ∙ none_held a.groups b
-      (each_in_map (λ r. group_in r.session r.group a.groups ≡ Some r)
+      (EachIn-weaker (λ r. group_in r.session r.group a.groups ≡ Some r)
       (λ r. held_in (holds_in r.reservation) b ≡ 0) a.groups one
       (found_own a.groups own.groups))
       ∙ sym d.reserved
@@ -329,7 +319,7 @@ module _ (ledger : Ledger) (t : ℕ) (w a : AccountRows) (is : IsAccount w) (own
         apart_append (λ x y. is_session x.id y) left.sessions a.sessions
         (apart_filter (λ x y. is_session x.id y) (λ r. not (is_open r.state)) w.sessions
         is.sessions) own.sessions
-        (each_in_map _ _ left.sessions (λ r e. none_each (is_session r.id) a.sessions e) apart);
+        (EachIn-weaker _ _ left.sessions (λ r e. none_each (is_session r.id) a.sessions e) apart);
     groups = apart_append (λ x y. is_of x.session x.group y) left.groups a.groups
         (apart_filter (λ x y. is_of x.session x.group y)
         (λ r. not (is_open_row (session_in r.session w.sessions))) w.groups is.groups) own.groups
@@ -338,7 +328,7 @@ module _ (ledger : Ledger) (t : ℕ) (w a : AccountRows) (is : IsAccount w) (own
         apart_append (λ x y. is_counter x.group x.cycle y) left.counters a.counters
         (apart_filter (λ x y. is_counter x.group x.cycle y)
         (λ r. not (r.cycle == cycle_at w.book r.group t)) w.counters is.counters) own.counters
-        (each_in_map _ _ left.counters
+        (EachIn-weaker _ _ left.counters
         (λ r e. none_each (is_counter r.group r.cycle) a.counters
         (part.counters r.group r.cycle
         ∙ ap (λ u. if u then counter_in r.group r.cycle w.counters else None) e)) cycles);

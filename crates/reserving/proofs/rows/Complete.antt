@@ -4,6 +4,7 @@ use Rattle.std.proofs.Common.{◌≡◌, ℕ, ◌+◌, Bool, true, false, List, 
 use Rattle.std.proofs.Common.{subst, ◌∙◌, arith, Option, Some, None}
 use Rattle.std.specs.Prelude.{if◌then◌else◌, ◌&&◌, ◌||◌, not, is_some, unwrap_or}
 use Rattle.std.specs.List.{find}
+use Rattle.std.proofs.lemmas.Option.{cond_some}
 use Rattle.buckets.specs.declared.holds.Hold.{Hold}
 use Rattle.buckets.specs.Row.{Row}
 use Rattle.buckets.specs.Share.{parts}
@@ -20,7 +21,6 @@ use Rattle.reserving.specs.Sessions.{reservation_of, reservation_at}
 use Rattle.reserving.specs.Changes.{new_group, reserved_in}
 use Rattle.reserving.specs.Prepared.{reservation_in}
 use Rattle.reserving.specs.Rows.{EachIn, AreApart, AccountRows, IsAccount, IsRowsOf}
-use Rattle.reserving.proofs.Lists.{some_of, no_some}
 use Rattle.reserving.proofs.Keys.{is_key, key_session, key_group, is_key-sym, found_own, not_true}
 use Rattle.reserving.proofs.Keys.{first_true, second_true}
 use Rattle.reserving.proofs.Holds.{one_if, split_less, IsSplit, held_split, held_none, held_same}
@@ -64,10 +64,6 @@ pub record IsHeld (v t : ℕ) (ledger : Ledger) (r : SessionGroup) : Type 0 wher
   pub holds : is_some r.reservation ≡ true →
       holds_in r.reservation ≡ holds_at v t r.session r.group ledger
 
-row_of : (h : Bool) (x r : SessionGroup) → (if h then Some x else None) ≡ Some r → x ≡ r
-row_of true x r e = some_of x r e
-row_of false x r e = absurd (no_some r e)
-
 reservation_live : (l : Bool) (hs : List Hold) (p : Option Periods) →
     is_some (if l then reservation_of hs p else None) ≡ true → l ≡ true
 reservation_live true hs p h = refl
@@ -85,13 +81,13 @@ held_row : (v t : ℕ) (ledger : Ledger) (r : SessionGroup) →
 held_row v t ledger r e =
     let is : r.reservation ≡ reservation_at v t ledger r.session r.group =
     sym (ap (λ (x : SessionGroup). x.reservation)
-    (row_of (has_group r.session r.group ledger)
+    (cond_some (has_group r.session r.group ledger)
     (record {
       session = r.session;
       group = r.group;
       used = _;
       reservation = reservation_at v t ledger r.session r.group;
-    }) r e)) in
+    }) r e).1) in
     record {
       live = λ h. reservation_live (is_live v t ledger r.session)
           (holds_at v t r.session r.group ledger) (open_grant r.session r.group ledger)
@@ -128,9 +124,9 @@ reserves_live v t ledger (r ∷ rs) h s g e =
 
 -- ---- what the rows' reservations hold of a bucket
 
-none_held : (o : Option Reservation) (b : Row) → is_some o ≡ false → held_in (holds_in o) b ≡ 0
-none_held None b h = refl
-none_held (Some x) b h = cc
+pub nothing_held : (o : Option Reservation) (b : Row) → is_some o ≡ false → held_in (holds_in o) b ≡ 0
+nothing_held None b h = refl
+nothing_held (Some x) b h = cc
 
 held_by_is : (v t : ℕ) (ledger : Ledger) (b : Row) (rows : List SessionGroup) →
     ((s : List ℕ) (g : ℕ) →
@@ -162,7 +158,7 @@ held_by_is v t ledger b (r ∷ rs) sums apart h =
         (λ s g. is_some r.reservation && only r.session r.group s g) b.number ledger
         (λ s g. sym (ap (λ x. x && only r.session r.group s g) q))
     by_test false q =
-        none_held r.reservation b q
+        nothing_held r.reservation b q
         ∙ sym (held_none (λ s g. is_some r.reservation && only r.session r.group s g) b.number
         ledger (λ s g. ap (λ x. x && only r.session r.group s g) q))
 
