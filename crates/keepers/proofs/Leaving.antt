@@ -212,8 +212,8 @@ module _ (book : Book) (before after : Ledger) (u t : ℕ) (r : Rows) (a x : Acc
           let is_left : group_in s g left.groups ≡ Some y = group_is_left s g y there closed in (
             ap (λ (z : GroupRow). z.periods) (sym (some_of (group_row y) row e))
                 ∙ ap (λ (o : Option Reservation). option_map (λ (z : Reservation). z.periods) o)
-                (EachIn-found (λ z. z.reservation ≡ None) (is_of s g) left.groups y left_with.apart.free
-                is_left),
+                (EachIn-found (λ z. z.reservation ≡ None) (is_of s g) left.groups y
+                left_with.apart.free is_left),
             ap (λ n. session_in n x.sessions) (sym of)
                 ∙ EachIn-found (λ z. session_in z.session x.sessions ≡ None)
                 (is_of s g) left.groups y left_with.apart.others is_left,

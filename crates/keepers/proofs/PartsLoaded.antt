@@ -48,7 +48,8 @@ module _ (book : Book) (t : ℕ) (p : Parts) (h : AreParts p) (live : IsStored p
       (λ y e. (
         apart_none same_bucket (λ b. b.number == n) (one_bucket n) p.left.buckets p.live.buckets y
             h.buckets e,
-        ap not (EachIn-found (λ b. is_dead b ≡ true) (λ b. b.number == n) p.left.buckets y h.dead e),
+        ap not
+            (EachIn-found (λ b. is_dead b ≡ true) (λ b. b.number == n) p.left.buckets y h.dead e),
       ))
       ∙ ap (only (λ b. not (is_dead b)))
       (sym (find_both (λ b. b.number == n) p.left.buckets p.live.buckets))

@@ -35,7 +35,8 @@ with_advanced ledger left t a le h =
       apart = record {
         dead = h.apart.dead;
         over = h.apart.over;
-        apart = EachIn-weaker _ _ left.sessions (λ r e. session_in-advanced r.id t a e) h.apart.apart;
+        apart = EachIn-weaker _ _ left.sessions (λ r e. session_in-advanced r.id t a e)
+            h.apart.apart;
         free = h.apart.free;
         others = EachIn-weaker _ _ left.groups (λ r e. session_in-advanced r.session t a e)
             h.apart.others;

@@ -46,7 +46,8 @@ sessions_are c =
       touched = c.args.moment;
       state = c.args.state;
     } ∷ []) c.in_ok-id.ensures
-    ∙ sym (put-none (is_session c.args.session.now) row c.self.inside.rows.sessions.items (is_new c))
+    ∙ sym (put-none (is_session c.args.session.now) row c.self.inside.rows.sessions.items
+    (is_new c))
 
 after_is : (c : goal.After-push_reserved) →
     (let a : AccountRows =
