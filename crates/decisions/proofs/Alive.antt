@@ -15,13 +15,9 @@ use Rattle.reserving.proofs.Holds.{same_itself}
 use Rattle.commands.specs.declared.service.Service.{Service}
 use Rattle.tariffs.specs.Books.{Book, IsBook}
 use Rattle.reserving.proofs.ReservedCall.{free_later}
+use Rattle.reserving.proofs.Advancing.{lapse-id}
 use Rattle.decisions.specs.Free.{AreFree}
 use Rattle.decisions.proofs.Services.{free_kept}
-
-lapse_keeps : (v t : ℕ) (s : List ℕ) (r : Session) → is_session s (lapse v t r) ≡ is_session s r
-lapse_keeps v t s r = elim (is_open r.state && not (nat_lt t (r.touched + 2 * v))) as
-    (λ l. is_session s (if l then record r { state = Ended } else r) ≡
-    is_session s r) [ true ↦ refl | false ↦ refl ]
 
 live_row : (v t : ℕ) (o : Option Session) → is_live_row v t o ≡ true →
     is_live_row v t (option_map (lapse v t) o) ≡ true
@@ -39,7 +35,7 @@ live_row v t (Some r) h = at (is_open r.state) (nat_lt t (r.touched + 2 * v)) re
 pub live_lapsed : (v t : ℕ) (rows : List Session) (s : List ℕ) → is_live_in v t rows s ≡ true →
     is_live_in v t (map (lapse v t) rows) s ≡ true
 live_lapsed v t rows s h =
-    ap (is_live_row v t) (find-map (is_session s) (lapse v t) rows (lapse_keeps v t s))
+    ap (is_live_row v t) (find-map (is_session s) (lapse v t) rows (lapse-id v t s))
     ∙ live_row v t (session_in s rows) h
 
 later : (v t : ℕ) → 0 < v → nat_lt t (t + 2 * v) ≡ true

@@ -13,14 +13,13 @@ use Rattle.reserving.specs.Sessions.{is_session, session_in, is_live_in}
 use Rattle.reserving.specs.Settlement.{settled_by}
 use Rattle.reserving.specs.Changes.{advanced, settled_by_rows}
 use Rattle.reserving.specs.Rows.{AccountRows, EachIn, AreApart, IsAccount, IsRowsOf}
-use Rattle.reserving.proofs.Lists.{not_both, no_some, some_of}
+use Rattle.reserving.proofs.Lists.{not_both, no_some, some_of, EachIn-weaker}
 use Rattle.reserving.proofs.Keys.{same_number, number_same}
 use Rattle.reserving.proofs.Advancing.{IsRowsOf-advanced, session_in-advanced}
 use Rattle.reserving.proofs.Advanced.{IsAccount-advanced}
 use Rattle.reserving.proofs.kept.Settled.{IsAccount-ended}
 use Rattle.reserving.specs.Left.{LeftRows, placed, merged, joined, AreOfOtherCycles, IsWith}
 use Rattle.reserving.specs.Left.{bucket_in, first_of, only, differing, IsApartSessions}
-use Rattle.reserving.proofs.LeftJoined.{each_in_map}
 use Rattle.reserving.proofs.LeftTests.{written, find_filter}
 use Rattle.reserving.proofs.LeftParted.{one_session, find_both}
 use Rattle.reserving.proofs.LeftFrames.{advanced_joined, settled_by_joined, settled_with_left}
@@ -36,9 +35,10 @@ with_advanced ledger left t a le h =
       apart = record {
         dead = h.apart.dead;
         over = h.apart.over;
-        apart = each_in_map _ _ left.sessions (λ r e. session_in-advanced r.id t a e) h.apart.apart;
+        apart = EachIn-weaker _ _ left.sessions (λ r e. session_in-advanced r.id t a e)
+            h.apart.apart;
         free = h.apart.free;
-        others = each_in_map _ _ left.groups (λ r e. session_in-advanced r.session t a e)
+        others = EachIn-weaker _ _ left.groups (λ r e. session_in-advanced r.session t a e)
             h.apart.others;
         whole = subst IsAccount same (IsAccount-advanced (joined left a) t h.apart.whole);
       };
@@ -147,47 +147,57 @@ before_found y x (z ∷ zs) h e = at (z.number == x.number) e (before_found y x 
     at true k rest = ap (precedes y) (sym (some_of z x k)) ∙ h.0
     at false k rest = rest k
 
+-- Two lists of a kind that tell the same by number are one. Of this kind is what follows the first;
+-- no other has the first one's number; and no two stand first where the other follows.
+module _ (Is : List Row → Type 0) (tail : (x : Row) (xs : List Row) → Is (x ∷ xs) → Is xs)
+    (once : (x : Row) (xs : List Row) → Is (x ∷ xs) → bucket_in x.number xs ≡ None)
+    (no_turn : (x y : Row) (xs ys : List Row) → Is (x ∷ xs) → Is (y ∷ ys) →
+    bucket_in y.number xs ≡ Some y → bucket_in x.number ys ≡ Some x → ⊥) where
+  own : (x : Row) (xs : List Row) → bucket_in x.number (x ∷ xs) ≡ Some x
+  own x xs = ap (λ t. cond t (Some x) (bucket_in x.number xs)) (number_same x.number)
+
+  same_first : (x y : Row) (xs ys : List Row) → Is (x ∷ xs) → Is (y ∷ ys) →
+      bucket_in x.number (y ∷ ys) ≡ Some x → bucket_in y.number (x ∷ xs) ≡ Some y → x ≡ y
+  same_first x y xs ys hx hy e k = at (y.number == x.number) (x.number == y.number) e k
+    where
+      at : (t u : Bool) → cond t (Some y) (bucket_in x.number ys) ≡ Some x →
+          cond u (Some x) (bucket_in y.number xs) ≡ Some y → x ≡ y
+      at true u p q = sym (some_of y x p)
+      at false true p q = some_of x y q
+      at false false p q = absurd (no_turn x y xs ys hx hy q p)
+
+  pub one_by_number : (xs ys : List Row) → Is xs → Is ys →
+      ((n : ℕ) → bucket_in n xs ≡ bucket_in n ys) → xs ≡ ys
+  one_by_number [] [] hx hy h = refl
+  one_by_number [] (y ∷ ys) hx hy h = absurd (no_some y (h y.number ∙ own y ys))
+  one_by_number (x ∷ xs) [] hx hy h = absurd (no_some x (sym (h x.number) ∙ own x xs))
+  one_by_number (x ∷ xs) (y ∷ ys) hx hy h =
+      let first : x ≡ y =
+      same_first x y xs ys hx hy (sym (h x.number) ∙ own x xs) (h y.number ∙ own y ys) in
+      λ i. first i ∷ one_by_number xs ys (tail x xs hx) (tail y ys hy)
+      (λ n. rest n (x.number == n) first refl) i
+    where
+      rest : (n : ℕ) (t : Bool) → x ≡ y → (x.number == n) ≡ t → bucket_in n xs ≡ bucket_in n ys
+      rest n true e k =
+          let at : x.number ≡ n = same_number x.number n k in
+          subst (λ m. bucket_in m xs ≡ None) at (once x xs hx)
+          ∙ sym (subst (λ m. bucket_in m ys ≡ None) (sym (ap (λ (z : Row). z.number) e) ∙ at)
+          (once y ys hy))
+      rest n false e k =
+          sym (ap (λ u. cond u (Some x) (bucket_in n xs)) k) ∙ h n
+          ∙ ap (λ u. cond u (Some y) (bucket_in n ys))
+          (ap (λ (z : Row). z.number == n) (sym e) ∙ k)
+
 no_circle : (x y : Row) → precedes x y ≡ true → precedes y x ≡ true → ⊥
 no_circle x y h k = grind (arith, nat_tests)
 
-own : (x : Row) (xs : List Row) → bucket_in x.number (x ∷ xs) ≡ Some x
-own x xs = ap (λ t. cond t (Some x) (bucket_in x.number xs)) (number_same x.number)
-
-same_first : (x y : Row) (xs ys : List Row) → PrecedesAll x xs → PrecedesAll y ys →
-    bucket_in x.number (y ∷ ys) ≡ Some x → bucket_in y.number (x ∷ xs) ≡ Some y → x ≡ y
-same_first x y xs ys hx hy e k = at (y.number == x.number) (x.number == y.number) e k
-  where
-    at : (t u : Bool) → cond t (Some y) (bucket_in x.number ys) ≡ Some x →
-        cond u (Some x) (bucket_in y.number xs) ≡ Some y → x ≡ y
-    at true u p q = sym (some_of y x p)
-    at false true p q = some_of x y q
-    at false false p q =
-        absurd (no_circle x y (before_found x y xs hx q) (before_found y x ys hy p))
-
-told : (xs ys : List Row) → IsInOrder xs → IsInOrder ys → AreDistinct xs → AreDistinct ys →
-    ((n : ℕ) → bucket_in n xs ≡ bucket_in n ys) → xs ≡ ys
-told [] [] ox oy dx dy h = refl
-told [] (y ∷ ys) ox oy dx dy h = absurd (no_some y (h y.number ∙ own y ys))
-told (x ∷ xs) [] ox oy dx dy h = absurd (no_some x (sym (h x.number) ∙ own x xs))
-told (x ∷ xs) (y ∷ ys) ox oy dx dy h =
-    let first : x ≡ y =
-    same_first x y xs ys ox.0 oy.0 (sym (h x.number) ∙ own x xs) (h y.number ∙ own y ys) in
-    λ i. first i ∷ told xs ys ox.1 oy.1 dx.1 dy.1 (λ n. rest n (x.number == n) first refl) i
-  where
-    rest : (n : ℕ) (t : Bool) → x ≡ y → (x.number == n) ≡ t → bucket_in n xs ≡ bucket_in n ys
-    rest n true e k =
-        let at : x.number ≡ n = same_number x.number n k in
-        subst (λ m. bucket_in m xs ≡ None) at (not_there x.number xs dx.0)
-        ∙ sym (subst (λ m. bucket_in m ys ≡ None) (sym (ap (λ (z : Row). z.number) e) ∙ at)
-        (not_there y.number ys dy.0))
-    rest n false e k =
-        sym (ap (λ u. cond u (Some x) (bucket_in n xs)) k) ∙ h n
-        ∙ ap (λ u. cond u (Some y) (bucket_in n ys))
-        (ap (λ (z : Row). z.number == n) (sym e) ∙ k)
-
 pub are_told : (xs ys : List Row) → IsSound xs → IsSound ys →
     ((n : ℕ) → bucket_in n xs ≡ bucket_in n ys) → xs ≡ ys
-are_told xs ys sx sy h = told xs ys sx.order sy.order sx.distinct sy.distinct h
+are_told xs ys sx sy h =
+    one_by_number (λ zs. IsInOrder zs × AreDistinct zs) (λ x zs is. (is.0.1, is.1.1))
+    (λ x zs is. not_there x.number zs is.1.0)
+    (λ x y us vs hx hy e k. no_circle x y (before_found x y us hx.0.0 e)
+    (before_found y x vs hy.0.0 k)) xs ys (sx.order, sx.distinct) (sy.order, sy.distinct) h
 
 -- ---- what a commit leaves
 

@@ -61,11 +61,22 @@ none_each q (x ∷ xs) e = at (q x) refl e (none_each q xs)
     at true h k rest = absurd (no_some x (sym k))
     at false h k rest = (h, rest k)
 
+pub each_none : {A : Type 0} (q : A → Bool) (xs : List A) → EachIn (λ y. q y ≡ false) xs →
+    find q xs ≡ None
+each_none q [] h = refl
+each_none q (x ∷ xs) h = rw h.0 (each_none q xs h.1)
+
+-- ---- what is first
+
+pub first_alone : {A : Type 0} (o : Option A) → first_of o None ≡ o
+first_alone None = refl
+first_alone (Some x) = refl
+
 -- ---- one row at most has a key
 
 module _ {A : Type 0} (same : A → A → Bool) (q : A → Bool) (one : (x y : A) → q x ≡ true →
     q y ≡ true → same x y ≡ true) where
-  none_more : (x : A) (xs : List A) → q x ≡ true → EachIn (λ y. same x y ≡ false) xs →
+  pub none_more : (x : A) (xs : List A) → q x ≡ true → EachIn (λ y. same x y ≡ false) xs →
       find q xs ≡ None
   none_more x [] e h = refl
   none_more x (y ∷ ys) e h = at (q y) refl (none_more x ys e h.1)

@@ -1,6 +1,6 @@
 -- Rows that are found by a key, put in the place of another, or changed all alike.
 use Rattle.std.proofs.Common.{◌≡◌, ℕ, ◌+◌, ◌<◌, Bool, true, false, cond, List, [], ◌∷◌, ◌++◌, map}
-use Rattle.std.proofs.Common.{length, get_or, set, refl, sym, ap, ◌∙◌, arith, Some, None}
+use Rattle.std.proofs.Common.{length, get_or, set, refl, sym, ap, subst, ◌∙◌, arith, Some, None}
 use Prim.Native.Nat.{suc}
 use Rattle.std.specs.Prelude.{if◌then◌else◌, ◌==◌, option_map}
 pub use Rattle.std.proofs.lemmas.Bool.{false≢true as not_both}
@@ -112,6 +112,21 @@ pub EachIn-map : {A : Type 0} (P Q : A → Type 0) (f : A → A) (xs : List A) �
     ((x : A) → P x → Q (f x)) → EachIn P xs → EachIn Q (map f xs)
 EachIn-map P Q f [] h e = tt
 EachIn-map P Q f (x ∷ xs) h e = (h x e.0, EachIn-map P Q f xs h e.1)
+
+pub EachIn-weaker : {A : Type 0} (P Q : A → Type 0) (xs : List A) → ((x : A) → P x → Q x) →
+    EachIn P xs → EachIn Q xs
+EachIn-weaker P Q [] h e = tt
+EachIn-weaker P Q (x ∷ xs) h e = (h x e.0, EachIn-weaker P Q xs h e.1)
+
+-- what each is, the one that is found is
+pub EachIn-found : {A : Type 0} (P : A → Type 0) (q : A → Bool) (xs : List A) (x : A) →
+    EachIn P xs → find q xs ≡ Some x → P x
+EachIn-found P q [] x h e = absurd (no_some x e)
+EachIn-found P q (y ∷ ys) x h e = at (q y) e (λ k. EachIn-found P q ys x h.1 k)
+  where
+    at : (t : Bool) → cond t (Some y) (find q ys) ≡ Some x → (find q ys ≡ Some x → P x) → P x
+    at true k rest = subst P (some_of y x k) h.0
+    at false k rest = rest k
 
 pub EachIn-put : {A : Type 0} (P : A → Type 0) (p : A → Bool) (x : A) (xs : List A) → P x →
     EachIn P xs → EachIn P (put p x xs)

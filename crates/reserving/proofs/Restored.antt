@@ -4,7 +4,7 @@ use Rattle.std.proofs.Common.{length, Option, None, refl, sym, ap, ◌∙◌, ap
 use Rattle.std.proofs.Common.{ltb-true, lt-ltb, leb-true, eqb-true, eq-eqb}
 use Rattle.std.specs.Prelude.{if◌then◌else◌}
 use Rattle.std.specs.List.{list_all}
-use Rattle.std.proofs.lemmas.Bool.{and_from, and_parts, le-leb}
+use Rattle.std.proofs.lemmas.Bool.{and_from, and_parts, le-leb, not-true}
 use Rattle.std.proofs.lemmas.Bool.Decides.{nat_tests}
 use Rattle.std.proofs.lemmas.List.Sums.{sum_by-cons}
 use Rattle.buckets.specs.declared.holds.Hold.{Hold}
@@ -19,10 +19,6 @@ use Rattle.reserving.specs.Rows.{EachIn, AreApart, IsInOrderOf, AreInOrderOf}
 use Rattle.reserving.specs.Stored.{StoredRows, IsStored}
 use Rattle.reserving.specs.Restored.{are_apart, same_holds, are_along, is_held, are_keys_apart}
 use Rattle.reserving.specs.Restored.{are_in_range, are_holds_kept, is_tested}
-
-is_false : (t : Bool) → not t ≡ true → t ≡ false
-is_false true e = absurd (cc)
-is_false false e = refl
 
 -- ---- lists
 
@@ -45,7 +41,7 @@ apart_told same [] e = tt
 apart_told same (x ∷ xs) e =
     let parts = and_parts (list_all (λ y. not (same x y)) xs) (are_apart same xs) e in (
       all_told (λ y. not (same x y)) (λ y. same x y ≡ false)
-          (λ y n. is_false (same x y) n) xs parts.0,
+          (λ y n. not-true (same x y) n) xs parts.0,
       apart_told same xs parts.1,
     )
 

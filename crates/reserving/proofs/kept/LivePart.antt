@@ -1,6 +1,6 @@
 -- What may still change of an account's rows is an account's rows.
 use Rattle.std.proofs.Common.{◌≡◌, ℕ, ◌+◌, ◌≤◌, Bool, true, false, cond, List, [], ◌∷◌, ◌++◌, refl}
-use Rattle.std.proofs.Common.{ap, ◌∙◌, arith, Option, Some, None}
+use Rattle.std.proofs.Common.{ap, ◌∙◌, arith}
 use Rattle.std.specs.Prelude.{◌==◌, not, filter, is_some}
 use Rattle.buckets.specs.Row.{Row}
 use Rattle.buckets.specs.Spend.{Each, IsBelow}
@@ -10,7 +10,6 @@ use Rattle.buckets.proofs.Filtered.{sound_filter, each_filter}
 use Rattle.tariffs.specs.Books.{Book, IsBook}
 use Rattle.reserving.specs.declared.session.Session.{Session}
 use Rattle.reserving.specs.declared.session.SessionGroup.{SessionGroup}
-use Rattle.reserving.specs.declared.session.Reservation.{Reservation}
 use Rattle.reserving.specs.declared.session.Counter.{Counter}
 use Rattle.reserving.specs.Pricing.{cycle_at}
 use Rattle.reserving.specs.Sessions.{is_session, is_of, is_counter, is_open, session_in, holds_in}
@@ -22,16 +21,13 @@ use Rattle.reserving.specs.Live.{is_live_group, live_part}
 use Rattle.reserving.proofs.LeftTests.{each_append, apart_filter}
 use Rattle.reserving.proofs.LeftTests as tests
 use Rattle.reserving.proofs.InOrder.{order_live}
+use Rattle.reserving.proofs.rows.Complete.{nothing_held}
 
 below_filter : (n : ℕ) (p : Row → Bool) (xs : List Row) → IsBelow n xs → IsBelow n (filter p xs)
 below_filter n p [] h = tt
 below_filter n p (x ∷ xs) h =
     elim (p x) as (λ t. IsBelow n (cond t (x ∷ filter p xs) (filter p xs)))
     [ true ↦ (h.0, below_filter n p xs h.1) | false ↦ below_filter n p xs h.1 ]
-
-nothing_held : (o : Option Reservation) (b : Row) → is_some o ≡ false → held_in (holds_in o) b ≡ 0
-nothing_held None b e = refl
-nothing_held (Some r) b e = cc
 
 -- all that is held is held by what may still change
 pub held_live : (sessions : List Session) (groups : List SessionGroup) (b : Row) →

@@ -1,8 +1,7 @@
 -- What each account keeps is kept when its sessions change, and when one is closed.
-use Rattle.std.proofs.Common.{◌≡◌, ℕ, ◌≤◌, Bool, true, false, cond, List, [], ◌∷◌, ◌++◌, map, refl}
-use Rattle.std.proofs.Common.{sym, ap, ◌∙◌, arith, Some, None}
+use Rattle.std.proofs.Common.{◌≡◌, ℕ, ◌≤◌, Bool, true, false, List, [], ◌∷◌, ◌++◌, map, refl}
+use Rattle.std.proofs.Common.{◌∙◌, arith, None}
 use Rattle.std.specs.Prelude.{if◌then◌else◌, not}
-use Rattle.std.specs.List.{find}
 use Rattle.buckets.specs.Row.{Row, IsBalanced, with_release}
 use Rattle.buckets.specs.Spend.{Each, IsSound}
 use Rattle.buckets.proofs.SharesAlong.{KeepsPlace, with_release_number, with_release_until}
@@ -19,47 +18,22 @@ use Rattle.reserving.specs.Changes.{with_session, touched_account, touched_sessi
 use Rattle.reserving.specs.Changes.{closed_session, is_other, lapse_group, lapsed_in, lapsed_rows}
 use Rattle.reserving.proofs.InOrder.{order_lapsed}
 use Rattle.reserving.proofs.kept.Parts.{IsAccount-with_sessions}
-use Rattle.reserving.proofs.Lists.{no_some, EachIn-map, AreApart-map}
+use Rattle.reserving.proofs.Lists.{EachIn-map, AreApart-map}
 use Rattle.reserving.proofs.rows.Lapsing.{named_lapsed, lapsable_of, lapsed_rows-is, IsBelow-map}
 use Rattle.reserving.proofs.rows.Lapsing.{held_by-lapsed, held_by_number, released_reserved}
 use Rattle.reserving.proofs.Advanced.{lapse_group-keys, lapse_group-used}
 use Rattle.reserving.proofs.Advancing.{held_by-split}
 use Rattle.reserving.proofs.rows.Touching.{same_back}
+use Rattle.reserving.proofs.KeysFound.{put-none}
+use Rattle.reserving.proofs.LeftTests.{each_append, none_each}
 
 -- ---- a new session stands behind the others
-
-pub put_new : {A : Type 0} (p : A → Bool) (x : A) (xs : List A) → find p xs ≡ None →
-    put p x xs ≡ xs ++ x ∷ []
-put_new p x [] h = refl
-put_new p x (y ∷ ys) h = at (p y) h (put_new p x ys)
-  where
-    at : (b : Bool) → cond b (Some y) (find p ys) ≡ None →
-        (find p ys ≡ None → put p x ys ≡ ys ++ x ∷ []) →
-        (if b then x ∷ ys else y ∷ put p x ys) ≡ y ∷ (ys ++ x ∷ [])
-    at true e rest = absurd (no_some y (sym e))
-    at false e rest = ap (λ zs. y ∷ zs) (rest e)
-
-none_passes : {A : Type 0} (p : A → Bool) (xs : List A) → find p xs ≡ None →
-    EachIn (λ y. p y ≡ false) xs
-none_passes p [] h = tt
-none_passes p (y ∷ ys) h = at (p y) refl h (none_passes p ys)
-  where
-    at : (b : Bool) → p y ≡ b → cond b (Some y) (find p ys) ≡ None →
-        (find p ys ≡ None → EachIn (λ z. p z ≡ false) ys) →
-        (p y ≡ false) × EachIn (λ z. p z ≡ false) ys
-    at true e h rest = absurd (no_some y (sym h))
-    at false e h rest = (e, rest h)
-
-EachIn-append : {A : Type 0} (P : A → Type 0) (xs : List A) (x : A) → EachIn P xs → P x →
-    EachIn P (xs ++ x ∷ [])
-EachIn-append P [] x h p = (p, tt)
-EachIn-append P (y ∷ ys) x h p = (h.0, EachIn-append P ys x h.1 p)
 
 AreApart-append : (xs : List Session) (x : Session) → EachIn (λ y. is_session x.id y ≡ false) xs →
     AreApart (λ y z. is_session y.id z) xs → AreApart (λ y z. is_session y.id z) (xs ++ x ∷ [])
 AreApart-append [] x n h = (tt, tt)
 AreApart-append (y ∷ ys) x n h = (
-  EachIn-append (λ z. is_session y.id z ≡ false) ys x h.0 (same_back y.id x.id n.0),
+  each_append (λ z. is_session y.id z ≡ false) ys (x ∷ []) h.0 (same_back y.id x.id n.0, tt),
   AreApart-append ys x n.1 h.1,
 )
 
@@ -68,8 +42,8 @@ pub IsAccount-with_session : (a : AccountRows) (s : List ℕ) (n t : ℕ) (state
 IsAccount-with_session a s n t state new is =
     let row : Session = record { id = s; last_number = n; touched = t; state = state } in
     let apart : AreApart (λ x y. is_session x.id y) (put (is_session s) row a.sessions) =
-    rw (put_new (is_session s) row a.sessions new)
-    (AreApart-append a.sessions row (none_passes (is_session s) a.sessions new) is.sessions) in
+    rw (put-none (is_session s) row a.sessions new)
+    (AreApart-append a.sessions row (none_each (is_session s) a.sessions new) is.sessions) in
     IsAccount-with_sessions a (put (is_session s) row a.sessions) apart is
 
 -- ---- a session's row is written again

@@ -49,7 +49,7 @@ module _ (ledger : Ledger) (w : AccountRows) (rows : IsRowsOf ledger w) where
       (closed_free ledger w rows s g (last_recording s ledger) refl
       (ap is_open_row (sym (rows.sessions s)) ∙ e))
 
-nothing : {A : Type 0} (b : Bool) (o : Option A) → o ≡ None → (if b then o else None) ≡ None
+pub nothing : {A : Type 0} (b : Bool) (o : Option A) → o ≡ None → (if b then o else None) ≡ None
 nothing true o e = e
 nothing false o e = refl
 

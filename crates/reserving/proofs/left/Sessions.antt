@@ -18,7 +18,7 @@ use Rattle.reserving.specs.Changes.{touched_session, touched_account, is_other, 
 use Rattle.reserving.specs.Changes.{closed_account}
 use Rattle.reserving.specs.Rows.{AccountRows, EachIn, IsAccount, IsRowsOf}
 use Rattle.reserving.specs.Left.{LeftRows, merged, joined, IsLeft, NotLeft, IsWith}
-use Rattle.reserving.proofs.Lists.{find-map, find-put_other, no_some, not_both}
+use Rattle.reserving.proofs.Lists.{find-map, find-put_other, no_some, not_both, EachIn-weaker}
 use Rattle.reserving.proofs.Keys.{is_same-sym, number_same}
 use Rattle.reserving.proofs.Holds.{same_from}
 use Rattle.reserving.proofs.Advancing.{held_by-split}
@@ -29,7 +29,7 @@ use Rattle.reserving.proofs.LeftMore.{with_facts}
 use Rattle.reserving.proofs.kept.Sessions.{IsAccount-with_session, IsAccount-touched}
 use Rattle.reserving.proofs.kept.Sessions.{IsAccount-closed}
 use Rattle.reserving.proofs.LeftMerged.{map_merged, each_map, release_none}
-use Rattle.reserving.proofs.LeftJoined.{find_behind, put_behind, map_behind, each_in_map}
+use Rattle.reserving.proofs.LeftJoined.{find_behind, put_behind, map_behind}
 use Rattle.reserving.proofs.LeftJoined.{held_behind}
 use Rattle.reserving.proofs.LeftTests.{none_each, each_with}
 use Rattle.reserving.proofs.LeftFrames.{unheld, lapse_free, differs_from}
@@ -129,7 +129,7 @@ module _ (left : LeftRows) (a : AccountRows) (h : IsLeft left a) (s : List ℕ)
     (alive : is_live_in a.book.validity a.as_of a.sessions s ≡ true) where
   others_there : EachIn (λ r. is_session s r ≡ false) left.sessions
   others_there =
-      each_in_map _ _ left.sessions
+      EachIn-weaker _ _ left.sessions
       (λ r e. differs_from a.book.validity a.as_of a.sessions s r.id alive e) h.apart
 
   -- ---- it is touched
@@ -140,7 +140,7 @@ module _ (left : LeftRows) (a : AccountRows) (h : IsLeft left a) (s : List ℕ)
       let same : map (touched_session s n a.as_of) (left.sessions ++ a.sessions)
       ≡ left.sessions ++ map (touched_session s n a.as_of) a.sessions =
       map_behind (touched_session s n a.as_of) left.sessions a.sessions
-      (each_in_map _ _ left.sessions
+      (EachIn-weaker _ _ left.sessions
       (λ r e. ap (λ b. if b then record r { last_number = n; touched = a.as_of; state = Open }
       else r) e) others_there) in
       λ i. record (joined left a) { sessions = same i }
@@ -161,9 +161,9 @@ module _ (left : LeftRows) (a : AccountRows) (h : IsLeft left a) (s : List ℕ)
   left_touched n = record {
     dead = h.dead;
     over = h.over;
-    apart = each_in_map _ _ left.sessions (λ r e. still_touched n r.id e) h.apart;
+    apart = EachIn-weaker _ _ left.sessions (λ r e. still_touched n r.id e) h.apart;
     free = h.free;
-    others = each_in_map _ _ left.groups (λ r e. still_touched n r.session e) h.others;
+    others = EachIn-weaker _ _ left.groups (λ r e. still_touched n r.session e) h.others;
     whole = subst IsAccount (touched_joined n) (IsAccount-touched (joined left a) s n h.whole);
   }
 
@@ -200,12 +200,12 @@ module _ (left : LeftRows) (a : AccountRows) (h : IsLeft left a) (s : List ℕ)
       let sessions : map (closed_session s) (left.sessions ++ a.sessions)
       ≡ left.sessions ++ map (closed_session s) a.sessions =
       map_behind (closed_session s) left.sessions a.sessions
-      (each_in_map _ _ left.sessions
+      (EachIn-weaker _ _ left.sessions
       (λ r e. ap (λ b. if b then record r { state = Ended } else r) e) others_there) in
       let groups : map (lapse_group (is_other s)) (left.groups ++ a.groups)
       ≡ left.groups ++ map (lapse_group (is_other s)) a.groups =
       map_behind (lapse_group (is_other s)) left.groups a.groups
-      (each_in_map _ _ left.groups (λ r e. lapse_free (is_other s) r e) h.free) in
+      (EachIn-weaker _ _ left.groups (λ r e. lapse_free (is_other s) r e) h.free) in
       λ i. record (joined left a) {
         buckets = closed_buckets i;
         sessions = sessions i;
@@ -227,9 +227,9 @@ module _ (left : LeftRows) (a : AccountRows) (h : IsLeft left a) (s : List ℕ)
   left_closed = record {
     dead = h.dead;
     over = h.over;
-    apart = each_in_map _ _ left.sessions (λ r e. still_closed r.id e) h.apart;
+    apart = EachIn-weaker _ _ left.sessions (λ r e. still_closed r.id e) h.apart;
     free = h.free;
-    others = each_in_map _ _ left.groups (λ r e. still_closed r.session e) h.others;
+    others = EachIn-weaker _ _ left.groups (λ r e. still_closed r.session e) h.others;
     whole = subst IsAccount closed_joined (IsAccount-closed (joined left a) s h.whole);
   }
 

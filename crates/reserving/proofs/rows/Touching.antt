@@ -1,7 +1,7 @@
 -- Requests are recorded, sessions touched: what that leaves of the rows.
 use Rattle.std.proofs.Common.{◌≡◌, ℕ, ◌+◌, ◌*◌, ◌<◌, ◌≤◌, Bool, true, false, List, [], ◌∷◌, map}
 use Rattle.std.proofs.Common.{refl, sym, ap, ◌∙◌, subst, arith, Option, Some, None}
-use Rattle.std.specs.Prelude.{if◌then◌else◌, ◌==◌, nat_lt, option_map}
+use Rattle.std.specs.Prelude.{if◌then◌else◌, ◌==◌, nat_lt, option_map, is_some}
 use Rattle.std.proofs.lemmas.Bool.Decides.{nat_tests}
 use Rattle.buckets.specs.Row.{Row}
 use Rattle.buckets.specs.Share.{parts}
@@ -213,6 +213,12 @@ same_back s x n = at (is_same x s) refl
     at true e =
         absurd (let no : true
         ≡ false = sym (ap (λ y. is_same y x) (sym (same_from x s e)) ∙ same_itself x) ∙ n in cc)
+
+-- a session has a row where it has a record
+pub recorded_row : (s : List ℕ) (state : SessionState) (r : Option Recording) →
+    is_some (session_row s state r) ≡ is_some r
+recorded_row s state None = refl
+recorded_row s state (Some r) = refl
 
 -- a session without a row has no record
 pub unrecorded : (s : List ℕ) (state : SessionState) (r : Option Recording) →

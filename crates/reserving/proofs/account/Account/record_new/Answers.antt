@@ -3,13 +3,13 @@ use Rattle.reserving.specs.declared.session.Session.{Session}
 use Rattle.reserving.specs.Sessions.{is_session, session_in}
 use Rattle.reserving.specs.Rows.{AccountRows}
 use Rattle.reserving.specs.Changes.{with_session}
-use Rattle.reserving.proofs.kept.Sessions.{put_new}
 use Rattle.reserving.specs.Inside.{rows_of}
 use Rattle.reserving.specs.Placed.{IsPriced}
 use Rattle.reserving.proofs.kept.Placed.{IsPriced-with_session}
 use Rattle.reserving.specs.Calm.{IsCalm}
 use Rattle.reserving.proofs.rows.CalmEvents.{calm_recorded}
 use Rattle.reserving.proofs.account.Account.record_new.Goals as goal
+use Rattle.reserving.proofs.KeysFound.{put-none}
 
 abbrev new_row : (c : goal.After-push_reserved) → Session
 new_row c =
@@ -46,7 +46,8 @@ sessions_are c =
       touched = c.args.moment;
       state = c.args.state;
     } ∷ []) c.in_ok-id.ensures
-    ∙ sym (put_new (is_session c.args.session.now) row c.self.inside.rows.sessions.items (is_new c))
+    ∙ sym (put-none (is_session c.args.session.now) row c.self.inside.rows.sessions.items
+    (is_new c))
 
 after_is : (c : goal.After-push_reserved) →
     (let a : AccountRows =
