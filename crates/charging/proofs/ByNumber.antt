@@ -231,6 +231,9 @@ sorted_ascends (x ∷ xs) h once =
           (λ n. omega (arith, count-cons n x xs, once n)),
     )
 
+own : (x : Row) (xs : List Row) → bucket_in x.number (x ∷ xs) ≡ Some x
+own x xs = ap (λ t. cond t (Some x) (bucket_in x.number xs)) (number_same x.number)
+
 -- each is found by its number
 each_own : (all xs : List Row) → ((n : ℕ) (y : Row) → bucket_in n xs ≡ Some y →
     bucket_in n all ≡ Some y) → AreApart same_bucket xs →
