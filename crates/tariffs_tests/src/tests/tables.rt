@@ -8,22 +8,7 @@ use crate::tests::switches::window_of_case;
 use std::alloc::Global;
 use std::process::Abort;
 use std::test::Fail;
-
-/// The text on fewer lines: one that begins with two spaces goes on with the one before it.
-pub(crate) fn joined(alloc: Global, text: &str) -> Result<String, Fail> {
-    Ok(text.replace(alloc, "\n  ", "")?)
-}
-
-/// The document with the changes of a case, joined by `&`, each `OLD -> NEW`.
-fn changed(rt: &impl Abort, alloc: Global, document: &str, changes: &str) -> Result<String, Fail> {
-    let mut text = joined(alloc, document)?;
-    for change in changes.split(" & ") {
-        let (old, new) = change.split_once(" -> ").ok_or("a change")?;
-        assert!(rt; text.as_str().contains(old), "{change}");
-        text = text.as_str().replace(alloc, old, new)?;
-    }
-    Ok(text)
-}
+use worked_book::{changed, joined};
 
 /// What the cases of a table tell.
 #[derive(Clone, Copy)]

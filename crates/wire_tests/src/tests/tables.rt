@@ -7,11 +7,7 @@ use std::alloc::Global;
 use std::process::Abort;
 use std::test::Fail;
 use wire::read_request;
-
-/// The text on fewer lines: one that begins with two spaces goes on with the one before it.
-pub(crate) fn joined(alloc: Global, text: &str) -> Result<String, Fail> {
-    Ok(text.replace(alloc, "\n  ", "")?)
-}
+use worked_book::{changed, joined};
 
 /// How a request is read: `read`, or the fault.
 pub(crate) fn outcome(alloc: Global, body: &[u8]) -> Result<String, Fail> {
@@ -19,17 +15,6 @@ pub(crate) fn outcome(alloc: Global, body: &[u8]) -> Result<String, Fail> {
         Ok(_) => Ok(String::from_str(alloc, "read")?),
         Err(fault) => Ok(format!(in alloc; "{fault}")?),
     }
-}
-
-/// The document with the changes of a case, joined by `&`, each `OLD -> NEW`.
-fn changed(rt: &impl Abort, alloc: Global, document: &str, changes: &str) -> Result<String, Fail> {
-    let mut text = joined(alloc, document)?;
-    for change in changes.split(" & ") {
-        let (old, new) = change.split_once(" -> ").ok_or("a change")?;
-        assert!(rt; text.as_str().contains(old), "{change}");
-        text = text.as_str().replace(alloc, old, new)?;
-    }
-    Ok(text)
 }
 
 /// What the cases of a document say.
