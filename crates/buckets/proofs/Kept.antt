@@ -105,7 +105,7 @@ balanced_end t b h =
     (if e then b else record b { available = 0; expired = b.expired + b.available }))
     [ true ↦ h | false ↦ record { sum = omega arith; most = h.most } ]
 
-eligible_within : (e : Bool) (a m : ℕ) → min (if e then a else 0) m ≤ a
+pub eligible_within : (e : Bool) (a m : ℕ) → min (if e then a else 0) m ≤ a
 eligible_within true a m = omega arith
 eligible_within false a m = omega arith
 

@@ -16,7 +16,7 @@ abbrev pub sum_at : ℕ → List Hold → ℕ
 sum_at n [] = 0
 sum_at n (h ∷ hs) = (if h.bucket == n then h.amount else 0) + sum_at n hs
 
-sum_at_none : (f : Row → ℕ) (n : ℕ) (rows : List Row) → DiffersFromAll n rows →
+pub sum_at_none : (f : Row → ℕ) (n : ℕ) (rows : List Row) → DiffersFromAll n rows →
     sum_at n (parts f rows) ≡ 0
 sum_at_none f n [] h = refl
 sum_at_none f n (b ∷ bs) h = grind (arith, nat_tests, h.0, sum_at_none f n bs h.1)

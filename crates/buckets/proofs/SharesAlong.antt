@@ -13,7 +13,7 @@ use Rattle.buckets.specs.declared.holds.Hold.{Hold}
 use Rattle.buckets.specs.Holding.{held_in, held_sum, IsWithin, IsLeftWithin, charged_rows}
 
 -- what precedes is not preceded
-precedes_asym : (a b : Row) → precedes a b ≡ true → precedes b a ≡ false
+pub precedes_asym : (a b : Row) → precedes a b ≡ true → precedes b a ≡ false
 precedes_asym a b h = grind (arith, nat_tests)
 
 precedes_irrefl : (a : Row) → precedes a a ≡ false

@@ -116,7 +116,8 @@ impl Bucket {
         self.charged
     }
 
-    /// What was neither reserved nor charged when it ended, in micro-units.
+    /// What was neither reserved nor charged when it ended, with what reservations gave up after
+    /// that, in micro-units.
     pub fn expired(&self) -> u64
         ensures amount { result ≡ self.now.expired }
         ensures most { result ≤ 1_000_000_000_000_000 }

@@ -1,7 +1,7 @@
 -- An account's charges, shown page by page.
 use Rattle.std.proofs.Common.{◌≡◌, ℕ, ◌+◌, ◌<◌, ◌≤◌, Bool, true, false, List, [], ◌∷◌, ◌++◌, Some}
 use Rattle.std.proofs.Common.{None, refl, sym, ap, ◌∙◌, subst, arith, take, length}
-use Rattle.std.specs.Prelude.{◌&&◌, nat_le, Option, Result, Ok, Err, IfOk, OnErr}
+use Rattle.std.specs.Prelude.{◌&&◌, nat_le, Option, Result, Ok, Err, IfOk}
 use Rattle.std.specs.Result.{IsErr}
 use Rattle.std.specs.List.{filter}
 use Rattle.std.proofs.Math.Seq.{take-append_seam}
@@ -221,8 +221,3 @@ module _ {K V : Type 0} (content : K → Tables) (failed : K → ℕ) (clean : K
     cleanness = had.cleanness;
     cause = record { kept = had.kept; cause = λ is. absurd (let e = is in cc) };
   }
-
--- what holds anyway holds at an error
-pub on_err : {A E P : Type 0} (r : Result A E) → P → OnErr r P
-on_err (Ok x) h = tt
-on_err (Err e) h = h

@@ -2,9 +2,10 @@
 -- alone: lists of accepted commands that differ in those of others and in sweeps leave it alike.
 use Rattle.std.proofs.Common.{◌≡◌, ℕ, ◌≤◌, List, [], ◌∷◌, Option, Some, None, Bool, true, false}
 use Rattle.std.proofs.Common.{true≢false, refl, sym, ap, subst, ◌∙◌, arith}
-use Rattle.std.specs.Prelude.{if◌then◌else◌, ◌&&◌, ◌||◌, filter, is_some, option_map}
+use Rattle.std.specs.Prelude.{if◌then◌else◌, ◌||◌, filter, is_some, option_map}
 use Rattle.identifiers.specs.Texts.{same_name}
 use Rattle.std.specs.Cmp.Lexicographic.{bytes_decides}
+use Rattle.std.proofs.lemmas.Bool.{and_from, or_left, or_right, or_parts}
 use Rattle.tariffs.specs.Books.{Book, IsBook}
 use Rattle.commands.specs.declared.command.Command.{Command}
 use Rattle.commands.specs.declared.command.Command.TheVariants as command
@@ -17,6 +18,7 @@ use Rattle.reserving.specs.Left.{bucket_in}
 use Rattle.reserving.specs.Stored.{priced, advanced_stored}
 use Rattle.reserving.proofs.Advancing.{IsRowsOf-advanced}
 use Rattle.reserving.proofs.StoredRows.{IsAccount-priced, IsStored-advanced}
+use Rattle.reserving.proofs.Keys.{is_same-refl}
 use Rattle.charging.specs.Histories.{History, no_history, kept_under}
 use Rattle.keepers.specs.Tables.{Head, Rows, Tables, head_of, group_row, held_of, charge_in}
 use Rattle.keepers.specs.Change.{AreRowsAt}
@@ -131,28 +133,9 @@ own_unmoved b own list (d ∷ ds) h =
 
 -- ---- codes
 
-left_true : (x y : Bool) → x ≡ true → (x || y) ≡ true
-left_true true y e = refl
-left_true false y e = absurd (true≢false (sym e))
-
-right_true : (x y : Bool) → y ≡ true → (x || y) ≡ true
-right_true true y e = refl
-right_true false y e = e
-
-left_false : (x y : Bool) → (x || y) ≡ false → x ≡ false
-left_false true y e = e
-left_false false y e = refl
-
 alone_true : (x : Bool) → (x || false) ≡ true → x ≡ true
 alone_true true e = refl
 alone_true false e = e
-
-both_hold : (x y : Bool) → x ≡ true → y ≡ true → (x && y) ≡ true
-both_hold true y e k = k
-both_hold false y e k = absurd (true≢false (sym e))
-
-same_itself : (name : List ℕ) → same_name name name ≡ true
-same_itself name = (bytes_decides name name).1 refl
 
 -- a command redeems for the account one of its codes, and for another account none of them
 record IsFair (a : List ℕ) (mine : List ℕ → Bool) (c : Command) : Type 0 where
@@ -172,14 +155,14 @@ fair_each a mine [] own others = tt
 fair_each a mine (d ∷ ds) own others = (
   record {
     own = λ code e. own code
-        (left_true (is_redemption_of a code d.command) (redeems a code ds) e);
+        (or_left (is_redemption_of a code d.command) (redeems a code ds) e);
     others = λ other code apart e. others other code apart
-        (left_true (is_redemption_of other code d.command) (redeems other code ds) e);
+        (or_left (is_redemption_of other code d.command) (redeems other code ds) e);
   },
   fair_each a mine ds
-      (λ code e. own code (right_true (is_redemption_of a code d.command) (redeems a code ds) e))
+      (λ code e. own code (or_right (is_redemption_of a code d.command) (redeems a code ds) e))
       (λ other code apart e. others other code apart
-      (right_true (is_redemption_of other code d.command) (redeems other code ds) e)),
+      (or_right (is_redemption_of other code d.command) (redeems other code ds) e)),
 )
 
 -- so each command of a run in which no other account redeems the account's codes
@@ -233,8 +216,8 @@ same_standing b a all run alone (command.Unbar n) e fair alike = refl
 same_standing b a all run alone (command.AddVoucher v) e fair alike = alike v.code e
 same_standing b a all run alone (command.Redeem r) e fair alike =
     alike r.code (fair.own r.code
-    (both_hold (same_name r.account a) (same_name r.code r.code)
-    (alone_true (same_name r.account a) e) (same_itself r.code)))
+    (and_from (same_name r.account a) (same_name r.code r.code)
+    (alone_true (same_name r.account a) e) (is_same-refl r.code)))
 same_standing b a all run alone command.Sweep e fair alike = refl
 same_standing b a all run alone (command.Balance n) e fair alike = refl
 
@@ -256,12 +239,12 @@ other_code a all (command.AddVoucher v) e fair code mine = at (same_name v.code 
 other_code a all (command.Redeem r) e fair code mine = at (same_name r.code code) refl
   where
     apart : same_name r.account a ≡ false
-    apart = left_false (same_name r.account a) false e
+    apart = (or_parts (same_name r.account a) false e).0
 
     at : (same : Bool) → same_name r.code code ≡ same → same_name r.code code ≡ false
     at true k = absurd (true≢false (sym mine ∙ fair.others r.account code apart
-        (both_hold (same_name r.account r.account) (same_name r.code code)
-        (same_itself r.account) k)))
+        (and_from (same_name r.account r.account) (same_name r.code code)
+        (is_same-refl r.account) k)))
     at false k = k
 other_code a all command.Sweep e fair code mine = refl
 other_code a all (command.Balance n) e fair code mine = refl
@@ -419,7 +402,7 @@ served_more b a all run alone d ds own false e fair alike rest =
     let there : LeaveAlike b a (λ code. redeems a code all) (after_command b run d) alone =
     alike_other b a (λ code. redeems a code all) run alone
     (record { moment = t; command = d.command }) (accepts b run d.command t)
-    (left_false (names a (concerned_by d.command)) (adds_for a all d.command) e)
+    (or_parts (names a (concerned_by d.command)) (adds_for a all d.command) e).0
     (other_code a all d.command e fair) (moment-later run d.moment) alike in
     let next : IsServedAlike b a all (after_command b run d) alone ds own = rest alone there in
     record {

@@ -17,6 +17,7 @@ use Rattle.reserving.specs.Rows.{EachIn, AreApart}
 use Rattle.reserving.specs.Left.{bucket_in, merged, first_of}
 use Rattle.reserving.proofs.Lists.{no_some, some_of, not_both}
 use Rattle.reserving.proofs.Keys.{same_number, number_same}
+use Rattle.reserving.proofs.LeftMore.{one_by_number}
 use Rattle.keepers.specs.Keyed.{same_bucket}
 use Rattle.keepers.proofs.Found.{bucket_merged, distinct_merged, distinct_placed, distinct_apart}
 use Rattle.charging.specs.Balances.{numbered, by_number, AreByNumber}
@@ -74,45 +75,18 @@ found_one P n (x ∷ xs) y h e = at (x.number == n) refl e (found_one P n xs y h
         (subst P is h.0, subst (λ (z : Row). z.number ≡ n) is (same_number x.number n k))
     at false k e rest = rest e
 
-own : (x : Row) (xs : List Row) → bucket_in x.number (x ∷ xs) ≡ Some x
-own x xs = ap (λ t. cond t (Some x) (bucket_in x.number xs)) (number_same x.number)
-
 -- ---- two lists that ascend and tell the same are one
-
-same_first : (x y : Row) (xs ys : List Row) → IsAscending (x ∷ xs) → IsAscending (y ∷ ys) →
-    bucket_in x.number (y ∷ ys) ≡ Some x → bucket_in y.number (x ∷ xs) ≡ Some y → x ≡ y
-same_first x y xs ys ax ay e k = at (y.number == x.number) (x.number == y.number) e k
-  where
-    at : (t u : Bool) → cond t (Some y) (bucket_in x.number ys) ≡ Some x →
-        cond u (Some x) (bucket_in y.number xs) ≡ Some y → x ≡ y
-    at true u p q = sym (some_of y x p)
-    at false true p q = some_of x y q
-    at false false p q =
-        let one = found_one (λ (z : Row). y.number < z.number) x.number ys x ay.0 p in
-        let two = found_one (λ (z : Row). x.number < z.number) y.number xs y ax.0 q in
-        absurd (let a : y.number < x.number = one.0 in let b : x.number < y.number = two.0 in
-        omega (arith, a, b))
 
 pub one_list : (xs ys : List Row) → IsAscending xs → IsAscending ys →
     ((n : ℕ) → bucket_in n xs ≡ bucket_in n ys) → xs ≡ ys
-one_list [] [] ax ay h = refl
-one_list [] (y ∷ ys) ax ay h = absurd (no_some y (h y.number ∙ own y ys))
-one_list (x ∷ xs) [] ax ay h = absurd (no_some x (sym (h x.number) ∙ own x xs))
-one_list (x ∷ xs) (y ∷ ys) ax ay h =
-    let first : x ≡ y =
-    same_first x y xs ys ax ay (sym (h x.number) ∙ own x xs) (h y.number ∙ own y ys) in
-    λ i. first i ∷ one_list xs ys ax.1 ay.1 (λ n. rest n (x.number == n) first refl) i
-  where
-    rest : (n : ℕ) (t : Bool) → x ≡ y → (x.number == n) ≡ t → bucket_in n xs ≡ bucket_in n ys
-    rest n true e k =
-        let at : x.number ≡ n = same_number x.number n k in
-        subst (λ m. bucket_in m xs ≡ None) at (absent x.number xs (all_greater x.number xs ax.0))
-        ∙ sym (subst (λ m. bucket_in m ys ≡ None) (sym (ap (λ (z : Row). z.number) e) ∙ at)
-        (absent y.number ys (all_greater y.number ys ay.0)))
-    rest n false e k =
-        sym (ap (λ u. cond u (Some x) (bucket_in n xs)) k) ∙ h n
-        ∙ ap (λ u. cond u (Some y) (bucket_in n ys))
-        (ap (λ (z : Row). z.number == n) (sym e) ∙ k)
+one_list = one_by_number IsAscending (λ x zs is. is.1)
+    (λ x zs is. absent x.number zs (all_greater x.number zs is.0))
+    (λ x y us vs ax ay e k.
+    let one = found_one (λ (z : Row). y.number < z.number) x.number vs x ay.0 k in
+    let two = found_one (λ (z : Row). x.number < z.number) y.number us y ax.0 e in
+    let a : y.number < x.number = one.0 in
+    let b : x.number < y.number = two.0 in
+    omega (arith, a, b))
 
 -- ---- by number
 
@@ -256,6 +230,9 @@ sorted_ascends (x ∷ xs) h once =
       sorted_ascends xs (IsNonDecreasingBy-drop (λ (b : Row). b.number) 1 (x ∷ xs) h)
           (λ n. omega (arith, count-cons n x xs, once n)),
     )
+
+own : (x : Row) (xs : List Row) → bucket_in x.number (x ∷ xs) ≡ Some x
+own x xs = ap (λ t. cond t (Some x) (bucket_in x.number xs)) (number_same x.number)
 
 -- each is found by its number
 each_own : (all xs : List Row) → ((n : ℕ) (y : Row) → bucket_in n xs ≡ Some y →

@@ -20,9 +20,10 @@ use Rattle.reserving.specs.Charges.{charge_rows}
 use Rattle.reserving.specs.Requests.{credited, with_bar}
 use Rattle.reserving.specs.Rows.{AccountRows, IsAccount, IsRowsOf}
 use Rattle.reserving.specs.Stored.{StoredRows, stored, priced}
-use Rattle.reserving.specs.Left.{LeftRows, IsWith, left_of, first_of}
+use Rattle.reserving.specs.Left.{LeftRows, IsWith, left_of}
 use Rattle.reserving.proofs.Lists.{no_some}
 use Rattle.reserving.proofs.StoredRows.{IsStored-stored}
+use Rattle.reserving.proofs.LeftTests.{first_alone}
 use Rattle.keepers.specs.declared.key.Key.{Key}
 use Rattle.keepers.specs.declared.key.KeptAnswer.{KeptAnswer}
 use Rattle.keepers.specs.declared.loaded.Change.{Change}
@@ -100,10 +101,6 @@ made_of_nothing before after r none bs cs ss gs = record {
   ended = λ s x e k. absurd (no_some x ((λ i. (sym none i).sessions s) ∙ e));
   free = λ s g x e k. absurd (no_some x ((λ i. (sym none i).groups s g) ∙ e));
 }
-
-first_alone : {A : Type 0} (o : Option A) → first_of o None ≡ o
-first_alone None = refl
-first_alone (Some x) = refl
 
 held_alone : (n : ℕ) (o : Option SessionGroup) → held_over n o 0 ≡ held_of n o
 held_alone n None = refl

@@ -54,16 +54,17 @@ ArePaid-holds b t s g (x ∷ xs) reports ledger h = (tt, ArePaid-holds b t s g x
 
 -- ---- what isn't recorded wasn't touched
 
-abbrev AreRecorded : Ledger → Type 0
-AreRecorded ledger = (s : List ℕ) → last_recording s ledger ≡ None → last_touch s ledger ≡ None
+abbrev pub TouchesAreRecorded : Ledger → Type 0
+TouchesAreRecorded ledger =
+    (s : List ℕ) → last_recording s ledger ≡ None → last_touch s ledger ≡ None
 
 rest-none : {A : Type 0} (x y : Option A) → or_else x y ≡ None → y ≡ None
 rest-none None y e = e
 rest-none (Some x) y e = absurd (no_some x (sym e))
 
-recorded-touched : (t : ℕ) (s : List ℕ) (n : ℕ) (ledger : Ledger) → AreRecorded ledger →
-    AreRecorded (touched t s n ledger)
-recorded-touched t s n ledger h other = at (is_same s other)
+pub touches-touched : (t : ℕ) (s : List ℕ) (n : ℕ) (ledger : Ledger) → TouchesAreRecorded ledger →
+    TouchesAreRecorded (touched t s n ledger)
+touches-touched t s n ledger h other = at (is_same s other)
   where
     own : Recording
     own = record { number = n; at = t }
@@ -73,15 +74,15 @@ recorded-touched t s n ledger h other = at (is_same s other)
     at true e = absurd (no_some own (sym e))
     at false e = h other e
 
-recorded-charges : (t : ℕ) (hs : List Hold) (ledger : Ledger) → AreRecorded ledger →
-    AreRecorded (charge_facts t hs ++ ledger)
-recorded-charges t [] ledger h = h
-recorded-charges t (x ∷ xs) ledger h = recorded-charges t xs ledger h
+touches-charges : (t : ℕ) (hs : List Hold) (ledger : Ledger) → TouchesAreRecorded ledger →
+    TouchesAreRecorded (charge_facts t hs ++ ledger)
+touches-charges t [] ledger h = h
+touches-charges t (x ∷ xs) ledger h = touches-charges t xs ledger h
 
-recorded-holds : (t : ℕ) (s : List ℕ) (g : ℕ) (hs : List Hold) (ledger : Ledger) →
-    AreRecorded ledger → AreRecorded (hold_facts t s g hs ++ ledger)
-recorded-holds t s g [] ledger h = h
-recorded-holds t s g (x ∷ xs) ledger h = recorded-holds t s g xs ledger h
+touches-holds : (t : ℕ) (s : List ℕ) (g : ℕ) (hs : List Hold) (ledger : Ledger) →
+    TouchesAreRecorded ledger → TouchesAreRecorded (hold_facts t s g hs ++ ledger)
+touches-holds t s g [] ledger h = h
+touches-holds t s g (x ∷ xs) ledger h = touches-holds t s g xs ledger h
 
 -- ---- what each ledger of an account keeps
 
@@ -91,7 +92,7 @@ pub record IsPaying (b : Book) (reports : List Report) (ledger : Ledger) : Type 
   pub credits : AreCredited (credits ledger) (next_bucket ledger)
   pub begins : before_charges ledger ≡ ledger
   pub nothing : collected ledger ≡ 0
-  pub recorded : AreRecorded ledger
+  pub recorded : TouchesAreRecorded ledger
   pub paid : ArePaid b reports ledger
 
 paying_quiet : (b : Book) (t : ℕ) (f : Fact) (reports : List Report) (ledger : Ledger) →
@@ -133,7 +134,7 @@ paying_touch b t s n reports ledger h = record {
       (same_credits _ ledger (quiet_credits t (Touch s) ledger refl) h.credits);
   begins = refl;
   nothing = refl;
-  recorded = recorded-touched t s n ledger h.recorded;
+  recorded = touches-touched t s n ledger h.recorded;
   paid = (tt, (tt, h.paid));
 }
 
@@ -247,7 +248,7 @@ paying_settle b t s g (p ∷ ps) reports ledger touches h = record {
       ledger) h.credits;
   begins = refl;
   nothing = refl;
-  recorded = recorded-charges t
+  recorded = touches-charges t
       (parts (paid (holds_at b.validity t s g ledger) g t
       (report_price b t s g (p ∷ ps) ledger).amount.0 (buckets_at b.validity t ledger))
       (buckets_at b.validity t ledger)) ledger h.recorded;
@@ -265,7 +266,7 @@ paying_holds b t s g (x ∷ xs) reports ledger h = record {
       (hold_credits t s g (x ∷ xs) ledger) h.credits;
   begins = refl;
   nothing = refl;
-  recorded = recorded-holds t s g (x ∷ xs) ledger h.recorded;
+  recorded = touches-holds t s g (x ∷ xs) ledger h.recorded;
   paid = (tt, ArePaid-holds b t s g xs reports ledger h.paid);
 }
 
@@ -292,7 +293,7 @@ paying_debit b t s g units reports ledger new covered h = record {
       (record { rows = same.rows; next = omega (arith, same.next) }) h.credits;
   begins = refl;
   nothing = refl;
-  recorded = recorded-charges t hs ledger h.recorded;
+  recorded = touches-charges t hs ledger h.recorded;
   paid = (
     record {
       sum = omega (

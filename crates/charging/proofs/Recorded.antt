@@ -19,16 +19,18 @@ use Rattle.reserving.specs.Debiting.{debited, event_price}
 use Rattle.reserving.specs.Sessions.{holds_at}
 use Rattle.reserving.proofs.Lists.{no_some}
 use Rattle.reserving.proofs.Holds.{same_from}
+use Rattle.reserving.proofs.Keys.{first_true}
 use Rattle.charging.specs.Accepted.{Accepted}
 use Rattle.charging.specs.Served.{history}
 use Rattle.charging.specs.Paid.{is_touched}
 use Rattle.charging.proofs.Steps.{is_quiet, is_touch, granted, Keeps}
 use Rattle.charging.proofs.KeptHistories.{kept_history}
+use Rattle.charging.proofs.Paying.{TouchesAreRecorded, touches-touched}
 
 pub record AreRecorded (ledger : Ledger) : Type 0 where
   pub groups : (s : List ℕ) (g : ℕ) → last_recording s ledger ≡ None → has_group s g ledger ≡ true →
       ⊥
-  pub touches : (s : List ℕ) → last_recording s ledger ≡ None → last_touch s ledger ≡ None
+  pub touches : TouchesAreRecorded ledger
 
 abbrev front : ℕ → Fact → Ledger → Ledger
 front t f ledger = record { at = t; fact = f } ∷ ledger
@@ -131,26 +133,13 @@ named t s f ledger own none same has h = record {
     at x g true p e k = has (ap (λ y. last_recording y ledger) (own x g p) ∙ e)
     at x g false p e k = h.groups x g e k
 
-first : (a b : Bool) → (a && b) ≡ true → a ≡ true
-first true b e = refl
-first false b e = e
-
 touched_kept : (t : ℕ) (s : List ℕ) (n : ℕ) (ledger : Ledger) → AreRecorded ledger →
     AreRecorded (touched t s n ledger)
 touched_kept t s n ledger h = record {
   groups = λ x g e k. h.groups x g
       (no_record (is_same s x) (record { number = n; at = t }) (last_recording x ledger) e) k;
-  touches = λ x e. at x (is_same s x) e (h.touches x);
+  touches = touches-touched t s n ledger h.touches;
 }
-  where
-    at : (x : List ℕ) (b : Bool) →
-        or_else (if b then Some (record { number = n; at = t }) else None)
-        (last_recording x ledger) ≡ None →
-        (last_recording x ledger ≡ None → last_touch x ledger ≡ None) →
-        or_else (if b then Some t else None) (last_touch x ledger) ≡ None
-    at x true e rest = absurd
-        (no_some (let r : Recording = record { number = n; at = t } in r) (sym e))
-    at x false e rest = rest e
 
 -- a session that was touched is recorded
 touched_recorded : (s : List ℕ) (ledger : Ledger) → is_touched s ledger ≡ true →
@@ -167,7 +156,7 @@ settled_kept b t s g (p ∷ ps) ledger touches h =
     (report_price b t s g (p ∷ ps) ledger).amount.0 (buckets_at b.validity t ledger))
     (buckets_at b.validity t ledger) in
     plain t (End s g) _ (end_plain s g)
-    (named t s (Use s g _ _ _ _) _ (λ x y e. same_from s x (first (is_same s x) (g == y) e))
+    (named t s (Use s g _ _ _ _) _ (λ x y e. same_from s x (first_true (is_same s x) (g == y) e))
     (λ x. refl) (λ x. refl)
     (λ e. touched_recorded s ledger touches h (sym (charges_record s t hs ledger) ∙ e))
     (charges t hs ledger h))
@@ -177,7 +166,7 @@ granted_kept : (b : Book) (t : ℕ) (s : List ℕ) (g : ℕ) (asked : Option ℕ
     AreRecorded (granted b t s g asked ledger)
 granted_kept b t s g asked ledger has h =
     holds t s g _ _ (named t s (Grant s g _ _ _) ledger
-    (λ x y e. same_from s x (first (is_same s x) (g == y) e)) (λ x. refl) (λ x. refl) has h)
+    (λ x y e. same_from s x (first_true (is_same s x) (g == y) e)) (λ x. refl) (λ x. refl) has h)
 
 -- ---- an event
 

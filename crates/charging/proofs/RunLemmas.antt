@@ -34,10 +34,14 @@ answers-more b list (e ∷ ds) d =
     ap (λ (given : List Answer). answer_to b list e.command (moment_of list e.moment) ∷ given)
     (answers-more b (after_command b list e) ds d)
 
+pub commands_after : (b : Book) (list : List Accepted) (xs ys : List DatedCommand) →
+    after_commands b list (xs ++ ys) ≡ after_commands b (after_commands b list xs) ys
+commands_after b list [] ys = refl
+commands_after b list (x ∷ xs) ys = commands_after b (after_command b list x) xs ys
+
 pub commands-more : (b : Book) (list : List Accepted) (ds : List DatedCommand) (d : DatedCommand) →
     after_commands b list (ds ++ d ∷ []) ≡ after_command b (after_commands b list ds) d
-commands-more b list [] d = refl
-commands-more b list (e ∷ ds) d = commands-more b (after_command b list e) ds d
+commands-more b list ds d = commands_after b list ds (d ∷ [])
 
 -- ---- so far
 

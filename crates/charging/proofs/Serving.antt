@@ -3,8 +3,6 @@ use Rattle.std.proofs.Common.{◌≡◌, ℕ, ◌+◌, Bool, true, false, true�
 use Rattle.std.proofs.Common.{refl, sym, ap, subst, ◌∙◌, arith, Option, Some, None}
 use Rattle.std.proofs.Math.Nat.{max-eq_left}
 use Rattle.std.specs.Prelude.{if◌then◌else◌, is_some, max, Result, Ok, Err, OnOk}
-use Rattle.std.specs.Cmp.Lexicographic.{bytes_decides}
-use Rattle.identifiers.specs.Texts.{same_name}
 use Rattle.commands.specs.declared.answer.Answer.{Answer}
 use Rattle.commands.specs.declared.command.Command.{Command}
 use Rattle.tariffs.specs.Books.{Book}
@@ -13,6 +11,7 @@ use Rattle.reserving.specs.Rows.{AccountRows, IsAccount}
 use Rattle.reserving.specs.Stored.{StoredRows, stored, priced}
 use Rattle.reserving.specs.Left.{left_of, IsWith}
 use Rattle.reserving.proofs.Lists.{some_of}
+use Rattle.reserving.proofs.Keys.{is_same-refl}
 use Rattle.keepers.specs.declared.key.Key.{Key}
 use Rattle.keepers.specs.declared.key.KeptAnswer.{KeptAnswer}
 use Rattle.keepers.specs.declared.loaded.Change.{Change}
@@ -32,9 +31,6 @@ use Rattle.charging.proofs.NeverOpened.{kept-opened}
 use Rattle.charging.specs.Served.{history, voucher, standing, AreTables, answer_on, answer_to}
 use Rattle.charging.specs.Served.{accepts_on, accepts, with_command, IsServed}
 use Rattle.charging.specs.Stepping.{IsTaken}
-
-name_itself : (a : List ℕ) → same_name a a ≡ true
-name_itself a = (bytes_decides a a).1 refl
 
 -- what an account keeps once a command was accepted
 abbrev pub keeps : Option KeptAnswer → List KeptAnswer → List KeptAnswer
@@ -177,7 +173,7 @@ module _ (b : Book) (list : List Accepted) (c : Command) (t : ℕ) (a : List ℕ
       ap (λ o. if names a o then comes.after else history b a list)
       named
       ∙ ap (λ v. if v then comes.after else history b a list)
-      (name_itself a)
+      (is_same-refl a)
 
   with_accepted : comes.accepted ≡ true →
       with_command b list c t ≡ record { moment = t; command = c } ∷ list

@@ -3,9 +3,8 @@ use Rattle.std.proofs.Common.{◌≡◌, ℕ, List, [], ◌∷◌, Bool, true, f
 use Rattle.std.proofs.Common.{nat_eq}
 use Rattle.std.specs.Prelude.{◌==◌, cond}
 use Rattle.std.specs.List.{find}
-use Rattle.std.specs.Cmp.{unsigned_Decides}
-use Rattle.std.specs.Cmp.Lexicographic.{pointwise, pointwise_decides}
-use Rattle.std.proofs.lemmas.Bool.Decides.{Decides-eqb}
+use Rattle.std.specs.Cmp.Lexicographic.{pointwise}
+use Rattle.std.proofs.lemmas.Bool.{eqb-true as same_number}
 use Rattle.commands.specs.declared.avp.Avp.{Avp}
 use Rattle.commands.specs.declared.avp.Avp.TheVariants as avp
 use Rattle.commands.specs.declared.request.RequestKind.{RequestKind}
@@ -20,6 +19,7 @@ use Rattle.commands.specs.declared.answer.Refusal.{Refusal}
 use Rattle.commands.specs.declared.answer.Refusal.TheVariants as refusal
 use Rattle.units.specs.declared.blocks.TariffChangeUsage.{TariffChangeUsage}
 use Rattle.units.specs.declared.blocks.TariffChangeUsage.TheVariants as usage
+use Rattle.identifiers.proofs.Equality.{equal_names}
 use Rattle.commands.specs.Names.{name_of, all_avps, avp_named}
 use Rattle.commands.specs.Codes.{all_kinds, all_actions, all_service_failures, all_balances}
 use Rattle.commands.specs.Codes.{all_refusals, kind_number, kind_numbered, action_number}
@@ -38,12 +38,6 @@ passes_by p false y x rest e later h = later h
 passes : {X : Type 0} (p : X → Bool) (xs : List X) (x : X) → find p xs ≡ Some x → p x ≡ true
 passes p [] x h = absurd (cc)
 passes p (y ∷ ys) x h = passes_by p (p y) y x (find p ys) refl (passes p ys x) h
-
-same_number : (m n : ℕ) → (m == n) ≡ true → m ≡ n
-same_number m n = (Decides-eqb m n).0
-
-same_text : (s t : List ℕ) → pointwise nat_eq s t ≡ true → s ≡ t
-same_text s t = (pointwise_decides unsigned_Decides s t).0
 
 -- ---- there
 
@@ -121,7 +115,7 @@ names : {A : Type 0} (name : A → List ℕ) (all : List A) →
     IsTable name (λ s. find (λ y. pointwise nat_eq (name y) s) all)
 names name all there = record {
   there = there;
-  back = λ s x h. same_text (name x) s (passes (λ y. pointwise nat_eq (name y) s) all x h);
+  back = λ s x h. equal_names (name x) s (passes (λ y. pointwise nat_eq (name y) s) all x h);
 }
 
 pub are_tables : AreTables

@@ -1,3 +1,4 @@
+pub mod Amounts
 pub mod Differing
 pub mod Exact
 pub mod Inverses

@@ -39,7 +39,8 @@ pub struct Granted {
 pub enum ServiceFailure {
     /// 4010, DIAMETER_END_USER_SERVICE_DENIED: the account is barred.
     EndUserServiceDenied,
-    /// 4012, DIAMETER_CREDIT_LIMIT_REACHED: the account doesn't cover one unit.
+    /// 4012, DIAMETER_CREDIT_LIMIT_REACHED: the account doesn't cover one unit of a grant,
+    /// or the price of a direct debit.
     CreditLimitReached,
     /// 5031, DIAMETER_RATING_FAILED: the rating group is unknown.
     RatingFailed,
@@ -86,7 +87,7 @@ pub enum ServiceOutcome {
     Granted(Granted),
     /// The units of an event were charged.
     Debited(Quantity),
-    /// Units were asked for and not granted.
+    /// Units were asked for and not granted, or the rating group is unknown.
     Failed(ServiceFailure),
 }
 
@@ -179,7 +180,8 @@ pub struct Cost {
 /// Why a request isn't answered 2001.
 #[derive(Clone, Copy, Debug, PartialEq, Eq)]
 pub enum Failure {
-    /// 4010, 4012 or 5031: the request is accepted, and nothing is granted or charged.
+    /// 4010, 4012 or 5031: nothing is granted or charged. The request is accepted, unless it is a
+    /// read.
     Denied(ServiceFailure),
     /// 5002, DIAMETER_UNKNOWN_SESSION_ID: the session isn't open.
     UnknownSessionId,

@@ -24,7 +24,7 @@ pub struct BucketBalance {
     pub reserved: u64,
     /// What was charged.
     pub charged: u64,
-    /// What was left at its end.
+    /// What was left at its end, or given up after it.
     pub expired: u64,
 }
 

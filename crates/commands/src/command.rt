@@ -222,7 +222,8 @@ pub enum Command {
     OpenAccount(AccountNumber),
     /// Gives an account money.
     Credit(Credit),
-    /// Bars an account: it is granted and charged nothing more.
+    /// Bars an account: initial requests and direct debits are denied, and updates are granted
+    /// nothing. What running sessions report is still charged.
     Bar(AccountNumber),
     /// Ends that.
     Unbar(AccountNumber),

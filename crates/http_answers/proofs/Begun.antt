@@ -5,15 +5,12 @@ use Rattle.std.specs.Prelude.{Option, Result, Ok, Err, OnErr}
 use Rattle.std.specs.Io.KnownBytes.{Appends}
 use Rattle.std.proofs.KnownBytes.{Appends-trans}
 use Rattle.std.proofs.Math.Seq.{take-append-add}
+pub use Rattle.std.proofs.lemmas.Result.{on_err_weaker as err_gives}
 use Rattle.http_answers.specs.Texts.{Begins}
 
 pub at_err : {A E P : Type 0} (r : Result A E) → P → OnErr r P
 at_err (Ok x) h = tt
 at_err (Err e) h = h
-
-pub err_gives : {A E P Q : Type 0} (r : Result A E) → (P → Q) → OnErr r P → OnErr r Q
-err_gives (Ok x) f h = tt
-err_gives (Err e) f h = f h
 
 -- a beginning of a text begins the text with more after it
 take_first : (n : ℕ) (text more : List ℕ) → (m : ℕ) × (take m (text ++ more) ≡ take n text)

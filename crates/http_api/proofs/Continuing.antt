@@ -1,20 +1,15 @@
 -- Dated commands come to a list, one after another.
-use Rattle.std.proofs.Common.{◌≡◌, ℕ, List, [], ◌∷◌, ◌++◌, refl, sym, subst, Result, Ok, Err}
+use Rattle.std.proofs.Common.{ℕ, List, [], ◌∷◌, ◌++◌, sym, subst, Result, Ok, Err}
 use Rattle.commands.specs.declared.answer.Answer.{Answer}
 use Rattle.commands.specs.declared.command.Command.{Command}
 use Rattle.tariffs.specs.Books.{Book}
 use Rattle.keepers.specs.declared.fault.StoreFault.{StoreFault}
 use Rattle.keepers.specs.Tables.{Tables}
 use Rattle.charging.specs.Accepted.{Accepted, IsInTime}
-use Rattle.charging.specs.declared.running.DatedCommand.{DatedCommand}
 use Rattle.charging.specs.Served.{AreTables, Serves}
-use Rattle.charging.specs.Runs.{after_command, after_commands}
+use Rattle.charging.specs.Runs.{after_commands}
+use Rattle.charging.proofs.RunLemmas.{commands_after}
 use Rattle.http_api.specs.Replies.{ForEachList, IsContinued}
-
-commands_after : (b : Book) (list : List Accepted) (xs ys : List DatedCommand) →
-    after_commands b list (xs ++ ys) ≡ after_commands b (after_commands b list xs) ys
-commands_after b list [] ys = refl
-commands_after b list (x ∷ xs) ys = commands_after b (after_command b list x) xs ys
 
 -- none
 pub continued_none : (b : Book) (tables : Tables) → ForEachList b tables (IsContinued b tables)

@@ -2,7 +2,8 @@
 use Rattle.std.proofs.Common.{◌≡◌, ℕ, Bool, true, false, List, [], ◌∷◌, refl, sym, ap, subst}
 use Rattle.std.proofs.Common.{◌∙◌, inl, inr, arith, Option, Some, None, Result, Ok, Err}
 use Rattle.std.proofs.KnownBytes.{Appends-nil}
-use Rattle.std.specs.Prelude.{IsErrAnd, OnOk, OnErr}
+use Rattle.std.specs.Prelude.{IsErrAnd, OnErr}
+pub use Rattle.std.proofs.lemmas.Result.{on_ok_weaker as ok_gives, on_err_weaker as err_gives}
 use Rattle.byte_streams.specs.declared.StreamFault.{StreamFault}
 use Rattle.byte_streams.specs.declared.StreamFault.TheVariants as stream
 use Rattle.commands.specs.declared.answer.Answer.{Answer}
@@ -13,6 +14,7 @@ use Rattle.wire_answers.specs.Spelled.{answer_text, fault_text}
 use Rattle.tariffs.specs.Books.{Book}
 use Rattle.keepers.specs.declared.fault.StoreFault.{StoreFault}
 use Rattle.keepers.specs.Tables.{Tables}
+pub use Rattle.keepers.proofs.Placed.{on_err as at_err}
 use Rattle.charging.specs.Accepted.{Accepted}
 use Rattle.charging.specs.Served.{AreTables, Serves, moment_of}
 use Rattle.http_heads.specs.declared.status.Status.{Status}
@@ -30,22 +32,9 @@ use Rattle.http_api.specs.declared.fault.ServeFault.{ServeFault}
 use Rattle.http_api.specs.declared.fault.ServeFault.TheVariants as serve
 use Rattle.http_api.proofs.Unaccepted.{unaccepted_same}
 
--- what follows where all went well, or at an error
-pub ok_gives : {A E P Q : Type 0} (r : Result A E) → (P → Q) → OnOk r P → OnOk r Q
-ok_gives (Ok x) f h = f h
-ok_gives (Err e) f h = tt
-
-pub err_gives : {A E P Q : Type 0} (r : Result A E) → (P → Q) → OnErr r P → OnErr r Q
-err_gives (Ok x) f h = tt
-err_gives (Err e) f h = f h
-
 -- nothing is a beginning of a text
 pub begins_none : (w : Option (List ℕ)) (text : List ℕ) → Begins w w text
 begins_none w text = (0, Appends-nil w)
-
-pub at_err : {A E P : Type 0} (r : Result A E) → P → OnErr r P
-at_err (Ok x) h = tt
-at_err (Err e) h = h
 
 -- which fault was told
 abbrev error_of : {A : Type 0} → Result A ServeFault → ServeFault

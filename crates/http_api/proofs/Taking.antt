@@ -1,17 +1,18 @@
 -- A connection as it goes on: so many requests were taken, and one more, up to its end or to a
 -- fault.
 use Rattle.std.proofs.Common.{◌≡◌, ◌≢◌, ◌≤◌, ◌<◌, ◌+◌, ◌-◌, ◌==◌, ℕ, zero, suc, Bool, true, false}
-use Rattle.std.proofs.Common.{true≢false, List, [], ◌∷◌, ◌++◌, length, take, refl, sym, ap, subst}
-use Rattle.std.proofs.Common.{◌∙◌, inl, inr, arith, Option, Some, None, IfSome}
+use Rattle.std.proofs.Common.{true≢false, List, [], ◌∷◌, ◌++◌, length, refl, sym, ap, subst}
+use Rattle.std.proofs.Common.{◌∙◌, inl, inr, arith, Option, Some, None, IfSome, take}
 use Rattle.std.specs.Io.KnownBytes.{Appends}
 use Rattle.std.proofs.KnownBytes.{Appends-nil, Appends-trans}
-use Rattle.std.proofs.Math.Seq.{take-length, take-append-add}
+use Rattle.std.proofs.Math.Seq.{take-length}
 use Rattle.tariffs.specs.Books.{Book}
 use Rattle.keepers.specs.Tables.{Tables}
 use Rattle.charging.specs.Accepted.{Accepted}
 use Rattle.http_heads.specs.Requests.{Next, asks, refused, ended, IsNext}
 use Rattle.http_answers.specs.Asking.{Asking, refuses, asked_of, IsAsked}
 use Rattle.http_answers.specs.Texts.{Begins}
+use Rattle.http_answers.proofs.Begun.{begun_second}
 use Rattle.http_api.specs.declared.hearing.Heard.{Heard}
 use Rattle.http_api.specs.Clocks.{GivesInTurn}
 use Rattle.http_api.specs.Hearing.{Hears, HearsNext}
@@ -37,14 +38,6 @@ gives-more gives a b c (m ∷ ms) ns f g = (f.0, f.1, gives-more gives f.0 b c m
 
 begins-all : (a b : Option (List ℕ)) (text : List ℕ) → Appends a b text → Begins a b text
 begins-all a b text h = (length text, subst (Appends a b) (sym (take-length text)) h)
-
-begins-after : (a b c : Option (List ℕ)) (text more : List ℕ) → Appends a b text → Begins b c more →
-    Begins a c (text ++ more)
-begins-after a b c text more h k = (
-  length text + k.0,
-  subst (Appends a c) (sym (take-append-add text more k.0))
-      (Appends-trans a b c text (take k.0 more) h k.1),
-)
 
 -- ---- what is heard
 
@@ -350,7 +343,7 @@ module _ {C : Type 0} (gives : C → Option ℕ → C → Type 0) (b : Book) whe
         moments = one.moments;
         given = one.given;
         text = one.text ++ one.more;
-        written = begins-after w0 w1 w2 one.text one.more one.written one.wrote;
+        written = begun_second w0 w1 w2 one.text one.more one.written one.wrote;
         taken = λ list time are. (one.at list time are).taken;
       }
 

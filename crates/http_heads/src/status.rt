@@ -13,7 +13,7 @@ pub enum Status {
     LengthRequired,
     /// 413: a body of more than 65,536 bytes.
     ContentTooLarge,
-    /// 431: a head part of more than 8,192 bytes.
+    /// 431: a head part that doesn't end within 8,192 bytes.
     FieldsTooLarge,
     /// 501: a Transfer-Encoding.
     NotImplemented,

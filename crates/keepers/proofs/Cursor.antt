@@ -1,8 +1,9 @@
 -- Whether a row is among others, by the one that stands at a place.
 use Rattle.std.proofs.Common.{◌≡◌, ℕ, zero, suc, ◌+◌, ◌<◌, Bool, true, false, List, [], ◌∷◌, length}
 use Rattle.std.proofs.Common.{get_or, refl, sym, ap, ◌∙◌, arith}
-use Rattle.std.specs.Prelude.{not, ◌||◌, ◌&&◌, ◌==◌}
+use Rattle.std.specs.Prelude.{not, ◌&&◌, ◌==◌}
 use Rattle.std.specs.List.{list_any}
+use Rattle.std.proofs.lemmas.Bool.{or_from}
 use Rattle.buckets.specs.Row.{Row}
 use Rattle.reserving.specs.declared.session.Session.{Session}
 use Rattle.reserving.specs.declared.session.SessionGroup.{SessionGroup}
@@ -16,27 +17,13 @@ use Rattle.keepers.specs.Keyed.{same_bucket, same_session, same_group, same_coun
 no_less : (n : ℕ) → n < zero → ⊥
 no_less n h = omega (arith, h)
 
-either_true : (a b : Bool) → b ≡ true → (a || b) ≡ true
-either_true true b e = refl
-either_true false b e = e
-
-pub any_at : {A : Type 0} (q : A → Bool) (xs : List A) (i : ℕ) (d : A) → i < length xs →
-    q (get_or xs i d) ≡ true → list_any q xs ≡ true
-any_at q [] i d h e = absurd (no_less i h)
-any_at q (x ∷ xs) zero d h e = ap (λ b. b || list_any q xs) e
-any_at q (x ∷ xs) (suc i) d h e =
-    either_true (q x) (list_any q xs) (any_at q xs i d (omega (arith, h)) e)
-
-neither : (a b : Bool) → a ≡ false → b ≡ false → (a || b) ≡ false
-neither a b e k = ap (λ x. x || b) e ∙ k
-
 -- no row with another key is equal
 none_equal : {A : Type 0} (same : A → A → Bool) (q : A → Bool) (x : A) →
     ((y : A) → same x y ≡ false → q y ≡ false) → (xs : List A) → EachIn (λ y. same x y ≡ false) xs →
     list_any q xs ≡ false
 none_equal same q x k [] h = refl
 none_equal same q x k (y ∷ ys) h =
-    neither (q y) (list_any q ys) (k y h.0) (none_equal same q x k ys h.1)
+    or_from (q y) (list_any q ys) (k y h.0) (none_equal same q x k ys h.1)
 
 at_place : {A : Type 0} (same : A → A → Bool) (x : A) (xs : List A) (i : ℕ) (d : A) →
     i < length xs → EachIn (λ y. same x y ≡ false) xs → same x (get_or xs i d) ≡ false
@@ -63,10 +50,10 @@ pub new_at : {A : Type 0} (same eq : A → A → Bool) → ((x y : A) → same x
     same (get_or xs i d) row ≡ true → eq row (get_or xs i d) ≡ false → list_any (eq row) xs ≡ false
 new_at {A} same eq turn sound row [] i d h a key e = absurd (no_less i h)
 new_at {A} same eq turn sound row (x ∷ xs) zero d h a key e =
-    neither (eq row x) (list_any (eq row) xs) e
+    or_from (eq row x) (list_any (eq row) xs) e
     (none_equal same (eq row) x (other same eq sound row x key) xs a.0)
 new_at {A} same eq turn sound row (x ∷ xs) (suc i) d h a key e =
-    neither (eq row x) (list_any (eq row) xs)
+    or_from (eq row x) (list_any (eq row) xs)
     (other same eq sound row (get_or xs i d) key x
     (turn (get_or xs i d) x ∙ at_place same x xs i d (omega (arith, h)) a.0))
     (new_at same eq turn sound row xs i d (omega (arith, h)) a.1 key e)

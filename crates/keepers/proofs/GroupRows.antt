@@ -1,32 +1,21 @@
 -- A group's row and what is held there, of what a list has of the group; and that they give it
 -- back.
-use Rattle.std.proofs.Common.{◌≡◌, ℕ, Bool, true, false, cond, List, [], ◌∷◌, refl, sym, subst, ◌∙◌}
+use Rattle.std.proofs.Common.{◌≡◌, ℕ, Bool, true, false, List, refl, sym, ◌∙◌}
 use Rattle.std.proofs.Common.{Option, Some, None}
 use Rattle.std.specs.Prelude.{◌==◌, if◌then◌else◌, is_some, option_map}
-use Rattle.std.specs.List.{find}
 use Rattle.buckets.specs.Row.{Row}
 use Rattle.buckets.specs.Share.{parts}
 use Rattle.reserving.specs.declared.session.SessionGroup.{SessionGroup}
 use Rattle.reserving.specs.declared.session.Reservation.{Reservation}
 use Rattle.reserving.specs.Ledger.{is_same}
 use Rattle.reserving.specs.Sessions.{is_of, group_in, holds_in, reservation_of}
-use Rattle.reserving.specs.Rows.{EachIn, IsInOrderOf, AreInOrderOf}
+use Rattle.reserving.specs.Rows.{IsInOrderOf, AreInOrderOf}
 use Rattle.reserving.specs.Left.{first_of}
-use Rattle.reserving.proofs.Lists.{find-passes, no_some, some_of}
+use Rattle.reserving.proofs.Lists.{find-passes, no_some, EachIn-found}
 use Rattle.reserving.proofs.Holds.{same_from}
 use Rattle.reserving.proofs.Keys.{first_true, second_true, same_number}
 use Rattle.keepers.specs.Tables.{GroupRow, group_row, held_at, held_of}
 use Rattle.keepers.specs.Change.{held_over}
-
--- what each is, the one that is found is
-pub among : {A : Type 0} (P : A → Type 0) (q : A → Bool) (xs : List A) (y : A) → EachIn P xs →
-    find q xs ≡ Some y → P y
-among P q [] y h e = absurd (no_some y e)
-among P q (x ∷ xs) y h e = at (q x) e (among P q xs y h.1)
-  where
-    at : (t : Bool) → cond t (Some x) (find q xs) ≡ Some y → (find q xs ≡ Some y → P y) → P y
-    at true k rest = subst P (some_of x y k) h.0
-    at false k rest = rest k
 
 -- ---- what is told of each
 
@@ -102,7 +91,7 @@ group_back s g buckets groups h = at (group_in s g groups) refl
         let group : y.group ≡ g =
         same_number y.group g (second_true (is_same y.session s) (y.group == g) key) in
         let reservation = same_reservation buckets y.reservation
-        (among (λ r. IsInOrderOf buckets (holds_in r.reservation)) (is_of s g) groups y h e)
+        (EachIn-found (λ r. IsInOrderOf buckets (holds_in r.reservation)) (is_of s g) groups y h e)
         in
         λ i. Some (record {
           session = session i;

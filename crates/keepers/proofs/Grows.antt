@@ -1,23 +1,24 @@
 -- A ledger that grows keeps its rows: what isn't found after wasn't found before.
 use Rattle.std.proofs.Common.{◌≡◌, ℕ, ◌+◌, Bool, true, false, cond, List, [], ◌∷◌, ◌++◌, map, refl}
 use Rattle.std.proofs.Common.{sym, ap, subst, ◌∙◌, Option, Some, None}
-use Rattle.std.specs.Prelude.{if◌then◌else◌, ◌==◌, ◌||◌, nat_lt, option_map}
+use Rattle.std.specs.Prelude.{if◌then◌else◌, ◌==◌, nat_lt, option_map}
 use Rattle.std.specs.List.{find}
+use Rattle.std.proofs.lemmas.Bool.{or_parts, cond-false}
 use Rattle.buckets.specs.Row.{Row, new_row}
 use Rattle.buckets.specs.Spend.{inserted}
 use Rattle.reserving.specs.declared.session.Session.{Session}
 use Rattle.reserving.specs.declared.session.SessionGroup.{SessionGroup}
-use Rattle.reserving.specs.declared.session.SessionState.{SessionState}
 use Rattle.reserving.specs.declared.session.Counter.{Counter}
-use Rattle.reserving.specs.Ledger.{Fact, Dated, Ledger, Recording, or_else, newest, any, any_dated}
+use Rattle.reserving.specs.Ledger.{Fact, Dated, Ledger, or_else, newest, any, any_dated}
 use Rattle.reserving.specs.Ledger.{recording_in, last_recording, has_group, names_group}
 use Rattle.reserving.specs.Ledger.{has_counter, counts_group}
 use Rattle.reserving.specs.Ledger.Fact.{Credit, Grant, Hold, End, Use, Charge, Touch, Close}
 use Rattle.reserving.specs.Ledger.Fact.{Recorded, Barred}
 use Rattle.reserving.specs.Balance.{credits, credited_by, bucket_at, buckets_at}
 use Rattle.reserving.specs.Sessions.{session_row, session_at, state_at, group_at, counter_at}
-use Rattle.reserving.proofs.Lists.{find-map, no_some, not_both}
+use Rattle.reserving.proofs.Lists.{find-map, no_some}
 use Rattle.reserving.specs.Left.{bucket_in}
+use Rattle.reserving.proofs.rows.Touching.{unrecorded}
 use Rattle.keepers.specs.Steps.{Extends}
 
 newest_front : {A : Type 0} (f : Dated → Option A) (front old : Ledger) →
@@ -30,34 +31,21 @@ newest_front f (d ∷ ds) old e = at (f d) e (newest_front f ds old)
     at None k rest = rest k
     at (Some x) k rest = absurd (no_some x (sym k))
 
-either_false : (x y : Bool) → (x || y) ≡ false → y ≡ false
-either_false true y e = absurd (not_both (sym e))
-either_false false y e = e
-
 any_front : (p : Fact → Bool) (front old : Ledger) → any p (front ++ old) ≡ false →
     any p old ≡ false
 any_front p [] old e = e
-any_front p (d ∷ ds) old e = any_front p ds old (either_false (p d.fact) (any p (ds ++ old)) e)
+any_front p (d ∷ ds) old e = any_front p ds old (or_parts (p d.fact) (any p (ds ++ old)) e).1
 
 dated_front : (p : Dated → Bool) (front old : Ledger) → any_dated p (front ++ old) ≡ false →
     any_dated p old ≡ false
 dated_front p [] old e = e
-dated_front p (d ∷ ds) old e = dated_front p ds old (either_false (p d) (any_dated p (ds ++ old)) e)
+dated_front p (d ∷ ds) old e = dated_front p ds old (or_parts (p d) (any_dated p (ds ++ old)) e).1
 
 -- ---- rows that the ledger tells
-
-no_row : (s : List ℕ) (state : SessionState) (o : Option Recording) → session_row s state o ≡ None →
-    o ≡ None
-no_row s state None e = refl
-no_row s state (Some r) e = absurd (no_some _ (sym e))
 
 none_of : {A : Type 0} (t : Bool) (x : A) → (if t then Some x else None) ≡ None → t ≡ false
 none_of true x e = absurd (no_some x (sym e))
 none_of false x e = refl
-
-if_none : {A : Type 0} (t : Bool) (x : A) → t ≡ false → (if t then Some x else None) ≡ None
-if_none true x e = absurd (not_both (sym e))
-if_none false x e = refl
 
 inserted_none : (n : ℕ) (b : Row) (xs : List Row) → bucket_in n (inserted b xs) ≡ None →
     bucket_in n xs ≡ None
@@ -114,7 +102,7 @@ module _ (old new : Ledger) (more : Extends old new) where
       session_at v t old s ≡ None
   session_stays v t w u s e =
       let none : last_recording s new ≡ None =
-      no_row s (state_at w u new s) (last_recording s new) e in
+      unrecorded s (state_at w u new s) (last_recording s new) e in
       ap (session_row s (state_at v t old s))
       (newest_front (recording_in s) more.front old
       (subst (λ (l : Ledger). last_recording s l ≡ None) more.is none))
@@ -123,7 +111,7 @@ module _ (old new : Ledger) (more : Extends old new) where
       group_at v t old s g ≡ None
   group_stays v t w u s g e =
       let none : has_group s g new ≡ false = none_of (has_group s g new) _ e in
-      if_none (has_group s g old) _
+      cond-false (has_group s g old) _ None
       (any_front (names_group s g) more.front old
       (subst (λ (l : Ledger). has_group s g l ≡ false) more.is none))
 
@@ -132,7 +120,7 @@ module _ (old new : Ledger) (more : Extends old new) where
   counter_stays cycle_of g c e =
       let none : has_counter cycle_of g c new ≡ false =
       none_of (has_counter cycle_of g c new) _ e in
-      if_none (has_counter cycle_of g c old) _
+      cond-false (has_counter cycle_of g c old) _ None
       (dated_front (counts_group cycle_of g c) more.front old
       (subst (λ (l : Ledger). has_counter cycle_of g c l ≡ false) more.is none))
 

@@ -2,9 +2,9 @@
 use Rattle.std.proofs.Common.{◌≡◌, true, false, sym, subst}
 use Rattle.reserving.specs.Stored.{StoredRows, IsStored}
 use Rattle.reserving.proofs.LeftTests.{each_filter}
-use Rattle.reserving.proofs.LeftJoined.{each_in_map}
 use Rattle.reserving.specs.Sessions.{is_open}
 use Rattle.reserving.specs.Left.{is_dead}
+use Rattle.reserving.proofs.Lists.{EachIn-weaker}
 use Rattle.std.specs.Prelude.{is_some}
 use Rattle.keepers.specs.declared.store.LeftStore.{LeftStore}
 use Rattle.keepers.specs.declared.store.Known.{Known}
@@ -37,16 +37,16 @@ pub kept_known : (live : StoredRows) (left : LeftStore) (was is : Known) → Are
     KnowsMore was is → AreKeptBy live left is
 kept_known live left was is h more = record {
   parts = h.parts;
-  buckets = each_in_map (λ b. (is_dead b ≡ true) × (is_numbered was.numbers b.number ≡ true))
+  buckets = EachIn-weaker (λ b. (is_dead b ≡ true) × (is_numbered was.numbers b.number ≡ true))
       (λ b. (is_dead b ≡ true) × (is_numbered is.numbers b.number ≡ true)) left.buckets.items
       (λ b r. (r.0, more.numbers b.number r.1)) h.buckets;
-  counters = each_in_map (λ c. is_numbered was.cycles c.cycle ≡ true)
+  counters = EachIn-weaker (λ c. is_numbered was.cycles c.cycle ≡ true)
       (λ c. is_numbered is.cycles c.cycle ≡ true) left.counters.items
       (λ c r. more.cycles c.cycle r) h.counters;
-  sessions = each_in_map (λ r. (is_open r.state ≡ false) × (is_named was.names r.id ≡ true))
+  sessions = EachIn-weaker (λ r. (is_open r.state ≡ false) × (is_named was.names r.id ≡ true))
       (λ r. (is_open r.state ≡ false) × (is_named is.names r.id ≡ true)) left.sessions.items
       (λ r x. (x.0, more.names r.id x.1)) h.sessions;
-  groups = each_in_map (λ r. (is_some r.reservation ≡ false)
+  groups = EachIn-weaker (λ r. (is_some r.reservation ≡ false)
       × (is_named was.names r.session ≡ true))
       (λ r. (is_some r.reservation ≡ false) × (is_named is.names r.session ≡ true))
       left.groups.items (λ r x. (x.0, more.names r.session x.1)) h.groups;

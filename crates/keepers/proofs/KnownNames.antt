@@ -7,11 +7,10 @@ use Rattle.identifiers.specs.Texts.{same_name}
 use Rattle.reserving.specs.declared.session.Session.{Session}
 use Rattle.reserving.specs.Sessions.{is_open, is_session, session_in}
 use Rattle.reserving.specs.Left.{first_of}
-use Rattle.reserving.proofs.Lists.{not_both, find-passes}
+use Rattle.reserving.proofs.Lists.{not_both, find-passes, EachIn-found}
 use Rattle.reserving.proofs.Holds.{same_from}
 use Rattle.reserving.proofs.LeftParted.{find_both}
 use Rattle.keepers.specs.Named.{Names, is_named, AreLeftSessions}
-use Rattle.keepers.proofs.GroupRows.{among}
 
 some_behind : {A : Type 0} (l x : Option A) → is_some x ≡ true → true ≡ is_some (first_of l x)
 some_behind None x e = sym e
@@ -39,7 +38,7 @@ unnamed names s left h e = at (session_in s left) refl
     at : (o : Option Session) → session_in s left ≡ o → is_some o ≡ false
     at None f = refl
     at (Some r) f =
-        let known = (among (λ r. (is_open r.state ≡ false) × (is_named names r.id ≡ true))
+        let known = (EachIn-found (λ r. (is_open r.state ≡ false) × (is_named names r.id ≡ true))
         (is_session s) left r h f).1 in
         absurd
         (not_both (sym e ∙ ap (is_named names)

@@ -16,21 +16,21 @@ use Rattle.reserving.specs.Sessions.{is_session, is_of, is_counter, is_open, ses
 use Rattle.reserving.specs.Sessions.{counter_in}
 use Rattle.reserving.specs.Rows.{AccountRows, IsAccount, IsRowsOf}
 use Rattle.reserving.specs.Stored.{stored, priced}
-use Rattle.reserving.specs.Left.{LeftRows, is_dead, IsDead, is_open_row, only, first_of, bucket_in}
+use Rattle.reserving.specs.Left.{LeftRows, is_dead, is_open_row, only, first_of, bucket_in}
 use Rattle.reserving.specs.Left.{merged, joined, left_of, IsWith}
-use Rattle.reserving.proofs.Lists.{no_some, some_of, find-passes}
+use Rattle.reserving.proofs.Lists.{no_some, some_of, find-passes, EachIn-found}
 use Rattle.reserving.proofs.Holds.{same_from}
-use Rattle.reserving.proofs.Keys.{first_true, second_true, same_number}
+use Rattle.reserving.proofs.Keys.{first_true}
 use Rattle.reserving.proofs.StoredRows.{IsStored-stored}
 use Rattle.reserving.proofs.LeftTests.{find_filter}
-use Rattle.reserving.proofs.LeftParted.{one_session, one_group, one_counter, find_both}
+use Rattle.reserving.proofs.LeftParted.{one_session, one_group, one_counter, find_both, dead_parts}
 use Rattle.reserving.proofs.LeftMore.{apart_none}
 use Rattle.keepers.specs.Tables.{Rows, GroupRow, group_row, held_of}
 use Rattle.keepers.specs.Change.{is_loaded, held_over, IsLoadedFrom, AreRowsAt, IsMadeFrom, over}
 use Rattle.keepers.specs.Steps.{Extends}
 use Rattle.keepers.proofs.Found.{told_by_one, bucket_filter, bucket_merged}
 use Rattle.keepers.proofs.Grows.{session_stays, group_stays, counter_stays, bucket_stays}
-use Rattle.keepers.proofs.GroupRows.{among, row_over, held_over_is}
+use Rattle.keepers.proofs.GroupRows.{row_over, held_over_is}
 use Rattle.keepers.proofs.Taking as taking
 
 -- ---- found among two
@@ -55,13 +55,6 @@ held_if false o x m n e k = absurd (no_some x e)
 
 none_both : {A : Type 0} (l x : Option A) → l ≡ None → x ≡ None → first_of l x ≡ None
 none_both l x e k = ap (λ o. first_of o x) e ∙ k
-
-dead_is : (b : Row) → is_dead b ≡ true → IsDead b
-dead_is b e = record {
-  available = same_number b.available 0
-      (first_true (b.available == 0) (b.reserved == 0) e);
-  reserved = same_number b.reserved 0 (second_true (b.available == 0) (b.reserved == 0) e);
-}
 
 not_held : (r : SessionGroup) → is_some r.reservation ≡ false → r.reservation ≡ None
 not_held r e = Rattle.reserving.proofs.KeysFound.is_none_is r.reservation e
@@ -204,7 +197,7 @@ module _ (book : Book) (before after : Ledger) (u t : ℕ) (r : Rows) (a x : Acc
     holds = λ s g n y e. held_if (is_loaded r s g) (r.groups s g) (group_row y) (held_of n (Some y))
         (r.holds s g n) (sym (loads.groups s g) ∙ ap (option_map group_row) e)
         (ap (held_of n) (sym e) ∙ loads.holds s g n);
-    dead = λ n y e k. dead_is y (bucket_gone n y (sym (h.are.buckets n) ∙ e) k);
+    dead = λ n y e k. dead_parts y (bucket_gone n y (sym (h.are.buckets n) ∙ e) k);
     ended = λ s y e k. session_gone s y (sym (h.are.sessions s) ∙ e) k;
     free = λ s g y e k. free_row s g y (group_in s g w.groups) refl (sym (h.are.groups s g) ∙ e) k;
   }
@@ -219,10 +212,10 @@ module _ (book : Book) (before after : Ledger) (u t : ℕ) (r : Rows) (a x : Acc
           let is_left : group_in s g left.groups ≡ Some y = group_is_left s g y there closed in (
             ap (λ (z : GroupRow). z.periods) (sym (some_of (group_row y) row e))
                 ∙ ap (λ (o : Option Reservation). option_map (λ (z : Reservation). z.periods) o)
-                (among (λ z. z.reservation ≡ None) (is_of s g) left.groups y left_with.apart.free
-                is_left),
+                (EachIn-found (λ z. z.reservation ≡ None) (is_of s g) left.groups y
+                left_with.apart.free is_left),
             ap (λ n. session_in n x.sessions) (sym of)
-                ∙ among (λ z. session_in z.session x.sessions ≡ None)
+                ∙ EachIn-found (λ z. session_in z.session x.sessions ≡ None)
                 (is_of s g) left.groups y left_with.apart.others is_left,
           )
 

@@ -4,6 +4,7 @@ use Rattle.std.proofs.Common.{get_or, refl, sym, ap, subst, ◌∙◌, Option, S
 use Rattle.std.specs.Prelude.{if◌then◌else◌, ◌==◌, ◌&&◌, ◌||◌, not, filter, is_some, position}
 use Rattle.std.specs.Prelude.{option_map, nat_lt, ◌*◌, Result, Ok, Err, IfOk}
 use Rattle.std.specs.List.{find}
+use Rattle.std.proofs.lemmas.Bool.{not-true}
 use Rattle.buckets.specs.Row.{Row, IsBalanced, with_release, with_end}
 use Rattle.buckets.specs.Spend.{AreDistinct, Each}
 use Rattle.buckets.proofs.SharesAlong.{with_end_keeps, with_release_number}
@@ -19,13 +20,12 @@ use Rattle.reserving.specs.Changes.{advanced, lapse, lapse_group, lapsed_in}
 use Rattle.reserving.specs.Rows.{AccountRows, EachIn, AreApart}
 use Rattle.reserving.specs.Stored.{StoredRows, IsStored, priced, advanced_stored}
 use Rattle.reserving.specs.Left.{LeftRows, is_dead, bucket_in, none_left, first_of}
-use Rattle.reserving.proofs.Lists.{no_some, not_both, AreApart-map}
+use Rattle.reserving.proofs.Lists.{no_some, not_both, AreApart-map, EachIn-weaker}
 use Rattle.reserving.proofs.Keys.{first_true, second_true}
-use Rattle.reserving.proofs.KeysFound.{placed, unplaced}
+use Rattle.reserving.proofs.KeysFound.{placed, unplaced, is_none_is}
 use Rattle.reserving.proofs.Advancing.{session_in-advanced}
 use Rattle.reserving.proofs.LeftTests.{each_filter, each_passes, each_append, apart_filter}
 use Rattle.reserving.proofs.LeftTests.{apart_append, none_each}
-use Rattle.reserving.proofs.LeftJoined.{each_in_map}
 use Rattle.keepers.specs.Parts.{Parts, AreParts, leaves_bucket, leaves_counter, leaves_session}
 use Rattle.keepers.specs.Parts.{leaves_group, left_after, with_live, advanced_parts}
 use Rattle.keepers.specs.Keyed.{same_bucket, same_session, same_group, same_counter}
@@ -68,10 +68,6 @@ if_ok (Err e) h k = tt
 
 -- ---- what is left once the rows are others
 
-not_is : (t : Bool) → not t ≡ true → t ≡ false
-not_is true e = absurd (not_both e)
-not_is false e = refl
-
 none_of : {A : Type 0} (o : Option A) → not (is_some o) ≡ true → o ≡ None
 none_of None e = refl
 none_of (Some x) e = absurd (not_both e)
@@ -81,7 +77,7 @@ apart_with : {A : Type 0} (same : A → A → Bool) (p : A → Bool) (before aft
     ((y : A) → p y ≡ true → find (same y) after ≡ None) → AreApart same (filter p before ++ after)
 apart_with same p before after hb ha gone =
     apart_append same (filter p before) after (apart_filter same p before hb) ha
-    (each_in_map (λ y. p y ≡ true) (λ y. EachIn (λ z. same y z ≡ false) after) (filter p before)
+    (EachIn-weaker (λ y. p y ≡ true) (λ y. EachIn (λ z. same y z ≡ false) after) (filter p before)
     (λ y e. none_each (same y) after (gone y e)) (each_passes p before))
 
 pub each_in : (P : Row → Type 0) (xs : List Row) → Each P xs → EachIn P xs
@@ -105,20 +101,20 @@ parts_replaced w p is live h = record {
       (λ y e. none_of (group_in y.session y.group w.groups)
       (second_true (not (is_some (session_in y.session w.sessions))) _
       (second_true (not (is_some y.reservation)) _ e)));
-  dead = each_in_map (λ y. leaves_bucket w y ≡ true) (λ y. is_dead y ≡ true)
+  dead = EachIn-weaker (λ y. leaves_bucket w y ≡ true) (λ y. is_dead y ≡ true)
       (left_after w p).buckets (λ y e. first_true (is_dead y) _ e)
       (each_passes (leaves_bucket w) (p.left.buckets ++ p.live.buckets));
-  over = each_in_map (λ y. leaves_session w y ≡ true) (λ y. is_open y.state ≡ false)
+  over = EachIn-weaker (λ y. leaves_session w y ≡ true) (λ y. is_open y.state ≡ false)
       (left_after w p).sessions
-      (λ y e. not_is (is_open y.state) (first_true (not (is_open y.state)) _ e))
+      (λ y e. not-true (is_open y.state) (first_true (not (is_open y.state)) _ e))
       (each_passes (leaves_session w) (p.left.sessions ++ p.live.sessions));
-  free = each_in_map (λ y. leaves_group w y ≡ true) (λ y. is_some y.reservation ≡ false)
+  free = EachIn-weaker (λ y. leaves_group w y ≡ true) (λ y. is_some y.reservation ≡ false)
       (left_after w p).groups (λ y e.
-      not_is (is_some y.reservation) (first_true (not (is_some y.reservation)) _ e))
+      not-true (is_some y.reservation) (first_true (not (is_some y.reservation)) _ e))
       (each_passes (leaves_group w) (p.left.groups ++ p.live.groups));
-  others = each_in_map (λ y. leaves_group w y ≡ true)
+  others = EachIn-weaker (λ y. leaves_group w y ≡ true)
       (λ y. is_some (session_in y.session w.sessions) ≡ false) (left_after w p).groups
-      (λ y e. not_is (is_some (session_in y.session w.sessions))
+      (λ y e. not-true (is_some (session_in y.session w.sessions))
       (first_true (not (is_some (session_in y.session w.sessions))) _
       (second_true (not (is_some y.reservation)) _ e)))
       (each_passes (leaves_group w) (p.left.groups ++ p.live.groups));
@@ -189,9 +185,9 @@ parts_advanced book t p h = record {
   dead = h.dead;
   over = h.over;
   free = h.free;
-  others = each_in_map _ _ p.left.groups
+  others = EachIn-weaker _ _ p.left.groups
       (λ r e. ap is_some (session_in-advanced r.session t a
-      (empty (session_in r.session a.sessions) e))) h.others;
+      (is_none_is (session_in r.session a.sessions) e))) h.others;
   balanced = h.balanced;
   used = h.used;
   counted = h.counted;
@@ -230,7 +226,3 @@ parts_advanced book t p h = record {
 
     group_second : (x y : SessionGroup) → same_group x (lapse_group keeps y) ≡ same_group x y
     group_second x y = by_keep_too x y (keeps y.session)
-
-    empty : (o : Option Session) → is_some o ≡ false → o ≡ None
-    empty None e = refl
-    empty (Some x) e = absurd (not_both (sym e))

@@ -14,18 +14,20 @@ use Rattle.reserving.specs.Rows.{AccountRows}
 use Rattle.reserving.specs.Stored.{IsStored}
 use Rattle.reserving.specs.Left.{is_dead, is_open_row, only, first_of, bucket_in}
 use Rattle.reserving.specs.Live.{is_live_group, live_part}
-use Rattle.reserving.proofs.Lists.{not_both, find-passes}
+use Rattle.reserving.proofs.Lists.{find-passes, EachIn-found}
 use Rattle.reserving.proofs.Holds.{same_from}
 use Rattle.reserving.proofs.Keys.{first_true, second_true, same_number}
 use Rattle.reserving.proofs.LeftTests.{find_filter}
 use Rattle.reserving.proofs.LeftParted.{one_session, one_group, one_counter, find_both}
 use Rattle.reserving.proofs.LeftMore.{apart_none}
+use Rattle.reserving.proofs.left.Loaded.{nothing}
+use Rattle.reserving.proofs.KeysFound.{is_none_is}
 use Rattle.keepers.specs.Tables.{group_row, held_of}
 use Rattle.keepers.specs.Change.{has_reservation, is_loaded, IsLoadedFrom}
 use Rattle.keepers.specs.Parts.{Parts, AreParts, rows_of}
 use Rattle.keepers.specs.Keyed.{same_bucket, same_session, same_group, same_counter}
 use Rattle.keepers.proofs.Found.{one_bucket, bucket_filter}
-use Rattle.keepers.proofs.GroupRows.{among, reserved_row, row_if, held_if}
+use Rattle.keepers.proofs.GroupRows.{reserved_row, row_if, held_if}
 
 -- what was left doesn't pass
 hidden : {A : Type 0} (p : A → Bool) (l x : Option A) →
@@ -33,10 +35,6 @@ hidden : {A : Type 0} (p : A → Bool) (l x : Option A) →
 hidden p None x h = refl
 hidden p (Some y) x h = ap (only p) (h y refl).0
     ∙ sym (ap (λ t. if t then Some y else None) (h y refl).1)
-
-nothing : {A : Type 0} (t : Bool) (o : Option A) → o ≡ None → (if t then o else None) ≡ None
-nothing true o e = e
-nothing false o e = refl
 
 module _ (book : Book) (t : ℕ) (p : Parts) (h : AreParts p) (live : IsStored p.live) where
   abbrev a : AccountRows
@@ -50,7 +48,8 @@ module _ (book : Book) (t : ℕ) (p : Parts) (h : AreParts p) (live : IsStored p
       (λ y e. (
         apart_none same_bucket (λ b. b.number == n) (one_bucket n) p.left.buckets p.live.buckets y
             h.buckets e,
-        ap not (among (λ b. is_dead b ≡ true) (λ b. b.number == n) p.left.buckets y h.dead e),
+        ap not
+            (EachIn-found (λ b. is_dead b ≡ true) (λ b. b.number == n) p.left.buckets y h.dead e),
       ))
       ∙ ap (only (λ b. not (is_dead b)))
       (sym (find_both (λ b. b.number == n) p.left.buckets p.live.buckets))
@@ -65,7 +64,7 @@ module _ (book : Book) (t : ℕ) (p : Parts) (h : AreParts p) (live : IsStored p
       (λ y e. (
         apart_none same_session (is_session s) (one_session s) p.left.sessions p.live.sessions y
             h.sessions e,
-        among (λ r. is_open r.state ≡ false) (is_session s) p.left.sessions y h.over e,
+        EachIn-found (λ r. is_open r.state ≡ false) (is_session s) p.left.sessions y h.over e,
       ))
       ∙ ap (only (λ (r : Session). is_open r.state))
       (sym (find_both (is_session s) p.left.sessions p.live.sessions))
@@ -100,14 +99,10 @@ module _ (book : Book) (t : ℕ) (p : Parts) (h : AreParts p) (live : IsStored p
           is_open_row (session_in s p.live.sessions)
       at None e = refl
       at (Some y) e =
-          among (λ r. is_open r.state ≡ false) (is_session s) p.left.sessions y h.over e
+          EachIn-found (λ r. is_open r.state ≡ false) (is_session s) p.left.sessions y h.over e
           ∙ sym
           (ap is_open_row (apart_none same_session (is_session s)
           (one_session s) p.left.sessions p.live.sessions y h.sessions e))
-
-  empty : (o : Option Session) → is_some o ≡ false → o ≡ None
-  empty None e = refl
-  empty (Some x) e = absurd (not_both (sym e))
 
   group_found : (s : List ℕ) (g : ℕ) → group_in s g a.groups ≡
       (if is_open_row (session_in s (p.left.sessions ++ p.live.sessions)) || has_reservation
@@ -144,11 +139,11 @@ module _ (book : Book) (t : ℕ) (p : Parts) (h : AreParts p) (live : IsStored p
           (find-passes (is_of s g) p.left.groups y e)) in
           let away : session_in s p.live.sessions ≡ None =
           ap (λ n. session_in n p.live.sessions) (sym of)
-          ∙ empty (session_in y.session p.live.sessions)
-          (among (λ r. is_some (session_in r.session p.live.sessions) ≡ false)
+          ∙ is_none_is (session_in y.session p.live.sessions)
+          (EachIn-found (λ r. is_some (session_in r.session p.live.sessions) ≡ false)
           (is_of s g) p.left.groups y h.others e) in
           let free : is_some y.reservation ≡ false =
-          among (λ r. is_some r.reservation ≡ false) (is_of s g) p.left.groups y h.free e in
+          EachIn-found (λ r. is_some r.reservation ≡ false) (is_of s g) p.left.groups y h.free e in
           ap (only (is_live_group p.live.sessions)) none
           ∙ sym (λ i. if is_open_row (away i) || (reserved_row y.reservation ∙ free) i
           then Some y else None)

@@ -1,8 +1,8 @@
 -- As time goes on, what the keeper in memory has of an account stays the rows of each ledger whose
 -- rows it was.
-use Rattle.std.proofs.Common.{◌≡◌, ◌≢◌, ℕ, ◌+◌, ◌<◌, ◌≤◌, Bool, true, false, cond, List, [], ◌∷◌}
+use Rattle.std.proofs.Common.{◌≡◌, ◌≢◌, ℕ, ◌+◌, ◌<◌, ◌≤◌, Bool, true, false, List, [], ◌∷◌}
 use Rattle.std.proofs.Common.{◌++◌, map, refl, sym, ap, subst, ◌∙◌, arith, Option, Some, None}
-use Rattle.std.specs.Prelude.{if◌then◌else◌, ◌==◌, ◌&&◌, ◌||◌, not, filter, is_some, nat_lt}
+use Rattle.std.specs.Prelude.{if◌then◌else◌, ◌==◌, ◌&&◌, ◌||◌, not, filter, nat_lt}
 use Rattle.std.specs.List.{find}
 use Rattle.std.proofs.lemmas.Bool.Decides.{nat_tests}
 use Rattle.buckets.specs.Row.{Row, IsBalanced, precedes}
@@ -23,19 +23,20 @@ use Rattle.reserving.specs.Rows.{AccountRows, EachIn, AreApart, AreInOrderOf, Is
 use Rattle.reserving.specs.Stored.{StoredRows, IsStored, stored, priced}
 use Rattle.reserving.specs.Left.{LeftRows, IsDead, is_dead, first_of, bucket_in, placed, merged}
 use Rattle.reserving.specs.Left.{joined, IsLeft}
-use Rattle.reserving.proofs.Lists.{no_some, some_of, not_both}
+use Rattle.reserving.proofs.Lists.{no_some, some_of, EachIn-weaker}
 use Rattle.reserving.proofs.Keys.{same_number, found_own}
 use Rattle.reserving.proofs.Advancing.{IsRowsOf-advanced}
 use Rattle.reserving.proofs.Advanced.{IsAccount-advanced}
 use Rattle.reserving.proofs.StoredRows.{IsAccount-priced, IsStored-stored}
-use Rattle.reserving.proofs.LeftJoined.{each_in_map, held_behind}
+use Rattle.reserving.proofs.LeftJoined.{held_behind}
 use Rattle.reserving.proofs.LeftMerged.{each_left}
-use Rattle.reserving.proofs.LeftTests.{each_append}
+use Rattle.reserving.proofs.LeftTests.{each_append, each_none}
 use Rattle.reserving.proofs.LeftParted.{one_group, find_both, each_placed, each_merged, row_held}
 use Rattle.reserving.proofs.LeftParted.{none_held, dead_parts}
 use Rattle.reserving.proofs.LeftMore.{are_told, apart_none}
 use Rattle.reserving.proofs.LeftFrames.{advanced_joined}
 use Rattle.reserving.proofs.InOrder.{order_joined}
+use Rattle.reserving.proofs.KeysFound.{is_none_is}
 use Rattle.keepers.specs.Tables.{head_of, held_of, AreListed}
 use Rattle.keepers.specs.Change.{AreRowsAt}
 use Rattle.keepers.specs.Parts.{Parts, AreParts, rows_of, advanced_parts}
@@ -123,16 +124,11 @@ each_second : {A : Type 0} (P : A → Type 0) (xs ys : List A) → EachIn P (xs 
 each_second P [] ys h = h
 each_second P (x ∷ xs) ys h = each_second P xs ys h.1
 
-none_found : {A : Type 0} (q : A → Bool) (ys : List A) → EachIn (λ y. q y ≡ false) ys →
-    find q ys ≡ None
-none_found q [] h = refl
-none_found q (y ∷ ys) h = ap (λ t. cond t (Some y) (find q ys)) h.0 ∙ none_found q ys h.1
-
 away : {A : Type 0} (same : A → A → Bool) (xs ys : List A) → AreApart same (xs ++ ys) →
     EachIn (λ x. find (same x) ys ≡ None) xs
 away same [] ys h = tt
 away same (x ∷ xs) ys h =
-    (none_found (same x) ys (each_second (λ y. same x y ≡ false) xs ys h.0), away same xs ys h.1)
+    (each_none (same x) ys (each_second (λ y. same x y ≡ false) xs ys h.0), away same xs ys h.1)
 
 -- found in either order
 turned : {A : Type 0} (l x : Option A) → ((y : A) → l ≡ Some y → x ≡ None) →
@@ -159,10 +155,6 @@ listed_in_order p book h d = record {
   groups = λ s g. refl;
   holds = λ s g n. refl;
 }
-
-empty : {A : Type 0} (o : Option A) → is_some o ≡ false → o ≡ None
-empty None e = refl
-empty (Some x) e = absurd (not_both (sym e))
 
 module _ (book : Book) (ledger : Ledger) (u t : ℕ) (p : Parts) (ranges : IsBook book)
     (h : AreParts p) (live : IsStored p.live) (le : u ≤ t)
@@ -201,10 +193,10 @@ module _ (book : Book) (ledger : Ledger) (u t : ℕ) (p : Parts) (ranges : IsBoo
       (λ n. sym ((listed_in_order p book h sorted.1).buckets n) ∙ are.are.buckets n)
 
   dead : Each IsDead left.buckets
-  dead = each_of IsDead left.buckets (each_in_map _ _ left.buckets dead_parts h.dead)
+  dead = each_of IsDead left.buckets (EachIn-weaker _ _ left.buckets dead_parts h.dead)
 
   free : EachIn (λ r. r.reservation ≡ None) left.groups
-  free = each_in_map _ _ left.groups (λ r e. empty r.reservation e) h.free
+  free = EachIn-weaker _ _ left.groups (λ r e. is_none_is r.reservation e) h.free
 
   -- what a list holds of a bucket by a group is within what it holds by all
   held_le : (s : List ℕ) (g : ℕ) (b : Row) (o : Option SessionGroup) → group_in s g w.groups ≡ o →
@@ -229,7 +221,7 @@ module _ (book : Book) (ledger : Ledger) (u t : ℕ) (p : Parts) (ranges : IsBoo
       held_by (λ s. true) (left.groups ++ a.groups) b ≡ b.reserved
   held_dead b e d =
       held_behind (λ s. true) left.groups a.groups b free
-      ∙ none_held a.groups b (each_in_map (λ r. group_in r.session r.group a.groups ≡ Some r)
+      ∙ none_held a.groups b (EachIn-weaker (λ r. group_in r.session r.group a.groups ≡ Some r)
       (λ r. held_in (holds_in r.reservation) b ≡ 0) a.groups
       (λ r k.
       let same : held_in (holds_in r.reservation) b ≡
@@ -288,7 +280,7 @@ module _ (book : Book) (ledger : Ledger) (u t : ℕ) (p : Parts) (ranges : IsBoo
     over = h.over;
     apart = away same_session left.sessions a.sessions h.sessions;
     free = free;
-    others = each_in_map _ _ left.groups (λ r e. empty (session_in r.session a.sessions) e)
+    others = EachIn-weaker _ _ left.groups (λ r e. is_none_is (session_in r.session a.sessions) e)
         h.others;
     whole = whole;
   }

@@ -1,8 +1,9 @@
 -- What the keeper in memory has after a commit: the change's rows over those that were there.
-use Rattle.std.proofs.Common.{◌≡◌, ℕ, Bool, true, false, List, [], ◌++◌, refl, sym, ap, ◌∙◌, Option}
+use Rattle.std.proofs.Common.{◌≡◌, ℕ, Bool, true, List, [], ◌++◌, refl, sym, ap, ◌∙◌, Option}
 use Rattle.std.proofs.Common.{Some, None}
 use Rattle.std.specs.Prelude.{if◌then◌else◌, ◌==◌, ◌&&◌, not, filter, is_some, option_map}
 use Rattle.std.specs.List.{find}
+use Rattle.std.proofs.lemmas.Bool.{not_from_false}
 use Rattle.buckets.specs.Row.{Row}
 use Rattle.reserving.specs.declared.session.Session.{Session}
 use Rattle.reserving.specs.declared.session.SessionGroup.{SessionGroup}
@@ -13,7 +14,7 @@ use Rattle.reserving.specs.Sessions.{counter_in}
 use Rattle.reserving.specs.Rows.{AreApart}
 use Rattle.reserving.specs.Stored.{StoredRows, IsStored}
 use Rattle.reserving.specs.Left.{is_dead, IsDead, only, first_of, bucket_in, none_left}
-use Rattle.reserving.proofs.Lists.{no_some, not_both, find-passes}
+use Rattle.reserving.proofs.Lists.{no_some, find-passes}
 use Rattle.reserving.proofs.Holds.{same_from}
 use Rattle.reserving.proofs.Keys.{first_true, second_true, same_number, both_true}
 use Rattle.reserving.proofs.LeftTests.{find_filter}
@@ -46,10 +47,6 @@ replaced same q one p before after hb ha gone =
     (find_filter same q one p before hb) (λ y e. gone y e none))
     (λ y e. apart_none same q one (filter p before) after y ha e)
     ∙ sym (find_both q (filter p before) after)
-
-not_false : (t : Bool) → t ≡ false → not t ≡ true
-not_false true e = absurd (not_both (sym e))
-not_false false e = refl
 
 none_not : {A : Type 0} (o : Option A) → o ≡ None → not (is_some o) ≡ true
 none_not o e = ap (λ x. not (is_some x)) e
@@ -93,7 +90,7 @@ module _ (before w : StoredRows) (p : Parts) (h : AreParts p) (live : IsStored p
       let name : y.id ≡ s = same_from y.id s
       (find-passes (is_session s) (p.left.sessions ++ p.live.sessions) y e) in
       both_true (not (is_open y.state)) (not (is_some (session_in y.id w.sessions)))
-      (not_false (is_open y.state) (made.ended s y e k))
+      (not_from_false (is_open y.state) (made.ended s y e k))
       (none_not (session_in y.id w.sessions) (ap (λ m. session_in m w.sessions) name ∙ k))
 
   gone_group : (s : List ℕ) (g : ℕ) (y : SessionGroup) →

@@ -2,6 +2,7 @@
 use Rattle.std.proofs.Common.{◌≡◌, ℕ, Bool, true, false, cond, List, [], ◌∷◌, ◌++◌, refl, sym, ap}
 use Rattle.std.proofs.Common.{◌∙◌, Option, Some, None}
 use Rattle.std.specs.Prelude.{if◌then◌else◌, ◌==◌, filter}
+use Rattle.std.proofs.lemmas.Bool.{or_parts}
 use Rattle.calendar.specs.declared.cycle.Cycle.{Cycle}
 use Rattle.calendar.specs.declared.cycle.Cycle.TheVariants as Each
 use Rattle.tariffs.specs.Books.{Book}
@@ -11,19 +12,17 @@ use Rattle.reserving.specs.Pricing.{tariff_of, cycle_with, cycle_at}
 use Rattle.reserving.specs.Rows.{EachIn, AreApart}
 use Rattle.reserving.specs.Stored.{StoredRows}
 use Rattle.reserving.specs.Live.{live_part}
-use Rattle.reserving.proofs.Lists.{not_both}
+use Rattle.reserving.proofs.Lists.{not_both, EachIn-weaker}
 use Rattle.reserving.proofs.Keys.{same_number}
-use Rattle.reserving.proofs.LeftJoined.{each_in_map}
 use Rattle.keepers.specs.Keyed.{same_counter}
 use Rattle.keepers.specs.Named.{Numbers, is_numbered, is_left_now, may_go_on, AreLeftCounters}
-use Rattle.keepers.proofs.Replaced.{first_false, second_false}
 
 -- no counter that was left is of a cycle at the moment
 past_cycle : (book : Book) (t : ℕ) (cycles : Numbers) (cycle : Cycle) →
     may_go_on book t cycles ≡ false → is_left_now book t cycles cycle ≡ false
-past_cycle book t cycles Each.None h = first_false _ _ (first_false _ _ h)
-past_cycle book t cycles Each.Day h = second_false _ _ (first_false _ _ h)
-past_cycle book t cycles Each.Month h = second_false _ _ h
+past_cycle book t cycles Each.None h = (or_parts _ _ (or_parts _ _ h).0).0
+past_cycle book t cycles Each.Day h = (or_parts _ _ (or_parts _ _ h).0).1
+past_cycle book t cycles Each.Month h = (or_parts _ _ h).1
 
 past_tariff : (book : Book) (t : ℕ) (cycles : Numbers) (o : Option GroupTariff) →
     may_go_on book t cycles ≡ false →
@@ -64,7 +63,7 @@ loaded_without book t cycles rows live h = at (may_go_on book t cycles) refl
     at true e = refl
     at false e = λ i. record (live_part book t rows live) {
       counters = none_ahead now rows live.counters
-          (each_in_map (λ c. is_numbered cycles c.cycle ≡ true) (λ c. now c ≡ false) rows
+          (EachIn-weaker (λ c. is_numbered cycles c.cycle ≡ true) (λ c. now c ≡ false) rows
           (λ c k. past_counter book t cycles c e k) h) i;
     }
 

@@ -1,8 +1,9 @@
 -- What is left once the rows are others, by what a store in memory does: those that leave stand
 -- behind, and what there are rows of again goes.
 use Rattle.std.proofs.Common.{◌≡◌, ℕ, zero, suc, ◌+◌, ◌<◌, ◌≤◌, Bool, true, false, List, [], ◌∷◌}
-use Rattle.std.proofs.Common.{◌++◌, length, take, get_or, refl, sym, ap, subst, ◌∙◌, arith}
-use Rattle.std.specs.Prelude.{not, filter, is_some, ◌||◌}
+use Rattle.std.proofs.Common.{◌++◌, length, take, get_or, sym, ap, subst, ◌∙◌, arith}
+use Rattle.std.specs.Prelude.{not, filter, is_some}
+use Rattle.std.proofs.lemmas.Bool.{not-true}
 use Rattle.buckets.specs.Row.{Row}
 use Rattle.reserving.specs.declared.session.Session.{Session}
 use Rattle.reserving.specs.declared.session.SessionGroup.{SessionGroup}
@@ -12,8 +13,7 @@ use Rattle.reserving.specs.Stored.{StoredRows}
 use Rattle.reserving.specs.Sessions.{is_open}
 use Rattle.reserving.specs.Left.{is_dead}
 use Rattle.reserving.proofs.Keys.{first_true}
-use Rattle.reserving.proofs.Lists.{not_both}
-use Rattle.reserving.proofs.LeftJoined.{each_in_map}
+use Rattle.reserving.proofs.Lists.{EachIn-weaker}
 use Rattle.reserving.proofs.LeftTests.{each_append, each_passes, each_with}
 use Rattle.keepers.specs.Parts.{leaves_bucket, leaves_session, leaves_group}
 use Rattle.keepers.specs.Named.{Numbers, Names, is_numbered, is_named, AreLeftBuckets}
@@ -25,25 +25,13 @@ pub left_is : {A : Type 0} (p : A → Bool) (old live mid more back new : List A
 left_is p old live mid more back new e f g h = h ∙ ap (filter p) (g ∙ (λ i. e i ++ f i))
     ∙ filter_both p old live
 
-pub not_is : (t : Bool) → not t ≡ true → t ≡ false
-not_is true e = absurd (not_both e)
-not_is false e = refl
-
-pub first_false : (a b : Bool) → (a || b) ≡ false → a ≡ false
-first_false true b e = absurd (not_both (sym e))
-first_false false b e = refl
-
-pub second_false : (a b : Bool) → (a || b) ≡ false → b ≡ false
-second_false true b e = absurd (not_both (sym e))
-second_false false b e = e
-
 -- those behind that were left and those that leave
 both_known : {A : Type 0} (P Q R : A → Type 0) (p : A → Bool) (old live mid more back : List A) →
     ((x : A) → p x ≡ true → Q x → R x) → ((x : A) → P x → R x) → EachIn P old → EachIn Q more →
     mid ≡ old → more ≡ filter p live → back ≡ mid ++ more → EachIn R back
 both_known P Q R p old live mid more back now then h k e f g =
     subst (EachIn R) (sym (g ∙ (λ i. e i ++ more)))
-    (each_append R old more (each_in_map P R old then h)
+    (each_append R old more (EachIn-weaker P R old then h)
     (each_with (λ x. p x ≡ true) Q R more now
     (subst (EachIn (λ x. p x ≡ true)) (sym f) (each_passes p live)) k))
 
@@ -64,7 +52,7 @@ pub counters_known : (was is : Numbers) (old mid more back : List Counter) →
 counters_known was is old mid more back stay h k e g =
     subst (AreLeftCounters is) (sym (g ∙ (λ i. e i ++ more)))
     (each_append (λ c. is_numbered is c.cycle ≡ true) old more
-    (each_in_map (λ c. is_numbered was c.cycle ≡ true) (λ c. is_numbered is c.cycle ≡ true) old
+    (EachIn-weaker (λ c. is_numbered was c.cycle ≡ true) (λ c. is_numbered is c.cycle ≡ true) old
     (λ c r. stay c.cycle r) h) k)
 
 pub sessions_known : (w : StoredRows) (was is : Names) (old live mid more back : List Session) →
@@ -75,7 +63,7 @@ sessions_known w was is old live mid more back stay h k e f g =
     both_known (λ r. (is_open r.state ≡ false) × (is_named was r.id ≡ true))
     (λ r. is_named is r.id ≡ true) (λ r. (is_open r.state ≡ false) × (is_named is r.id ≡ true))
     (leaves_session w) old live mid more back
-    (λ r d n. (not_is (is_open r.state) (first_true (not (is_open r.state)) _ d), n))
+    (λ r d n. (not-true (is_open r.state) (first_true (not (is_open r.state)) _ d), n))
     (λ r x. (x.0, stay r.id x.1)) h k e f g
 
 pub groups_known : (w : StoredRows) (was is : Names) (old live mid more back : List SessionGroup) →
@@ -87,7 +75,7 @@ groups_known w was is old live mid more back stay h k e f g =
     (λ r. is_named is r.session ≡ true)
     (λ r. (is_some r.reservation ≡ false) × (is_named is r.session ≡ true))
     (leaves_group w) old live mid more back
-    (λ r d n. (not_is (is_some r.reservation) (first_true (not (is_some r.reservation)) _ d), n))
+    (λ r d n. (not-true (is_some r.reservation) (first_true (not (is_some r.reservation)) _ d), n))
     (λ r x. (x.0, stay r.session x.1)) h k e f g
 
 -- ---- a list as far as it was walked
@@ -116,4 +104,4 @@ each_whole P (x ∷ xs) (suc i) h le = (h.0, each_whole P xs i h.1 (omega (arith
 -- with more known
 pub each_stays : {A : Type 0} (P Q : A → Type 0) (xs : List A) (i : ℕ) → ((x : A) → P x → Q x) →
     EachIn P (take i xs) → EachIn Q (take i xs)
-each_stays P Q xs i k h = each_in_map P Q (take i xs) k h
+each_stays P Q xs i k h = EachIn-weaker P Q (take i xs) k h

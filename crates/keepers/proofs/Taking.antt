@@ -3,6 +3,7 @@ use Rattle.std.proofs.Common.{◌≡◌, ℕ, Bool, true, false, List, refl, sym
 use Rattle.std.proofs.Common.{Option, Some, None}
 use Rattle.std.specs.Prelude.{if◌then◌else◌, ◌==◌, ◌||◌, not, is_some, option_map, filter}
 use Rattle.tariffs.specs.Books.{Book}
+use Rattle.buckets.proofs.Filtered.{sound_filter}
 use Rattle.reserving.specs.declared.session.Session.{Session}
 use Rattle.reserving.specs.declared.session.SessionGroup.{SessionGroup}
 use Rattle.reserving.specs.declared.session.Reservation.{Reservation}
@@ -23,7 +24,7 @@ use Rattle.reserving.proofs.LeftParted.{loaded_with}
 use Rattle.reserving.proofs.left.Ended.{closed_free}
 use Rattle.keepers.specs.Tables.{Rows, head_of, group_row, held_of}
 use Rattle.keepers.specs.Change.{has_reservation, is_loaded, IsLoadedFrom, AreRowsAt}
-use Rattle.keepers.proofs.Found.{sound_filter, bucket_filter}
+use Rattle.keepers.proofs.Found.{bucket_filter}
 use Rattle.keepers.proofs.GroupRows.{no_row, group_same}
 
 -- ---- a session that isn't open has no reservation

@@ -3,6 +3,7 @@ use Rattle.std.proofs.Common.{◌≡◌, ℕ, Bool, true, false, cond, List, [],
 use Rattle.std.proofs.Common.{◌∙◌, Option, Some, None}
 use Rattle.std.specs.Prelude.{◌==◌, ◌||◌, not, filter, is_some}
 use Rattle.std.specs.List.{find, list_any}
+use Rattle.std.proofs.lemmas.Bool.{not_from_false}
 use Rattle.buckets.specs.Row.{Row}
 use Rattle.reserving.specs.declared.session.Session.{Session}
 use Rattle.reserving.specs.declared.session.SessionGroup.{SessionGroup}
@@ -13,10 +14,9 @@ use Rattle.reserving.specs.Stored.{StoredRows}
 use Rattle.reserving.specs.Sessions.{is_session, is_of, is_counter, is_open, session_in, group_in}
 use Rattle.reserving.specs.Sessions.{counter_in}
 use Rattle.reserving.specs.Left.{is_dead, bucket_in}
-use Rattle.reserving.proofs.Lists.{not_both, some_of, no_some, find-passes}
+use Rattle.reserving.proofs.Lists.{not_both, some_of, no_some, find-passes, EachIn-weaker}
 use Rattle.reserving.proofs.Keys.{first_true, second_true, both_true, same_number}
 use Rattle.reserving.proofs.Holds.{same_from}
-use Rattle.reserving.proofs.LeftJoined.{each_in_map}
 use Rattle.keepers.specs.Parts.{leaves_bucket, leaves_counter, leaves_session, leaves_group}
 use Rattle.keepers.specs.Named.{Numbers, Names, is_numbered, is_named, AreLeftBuckets}
 use Rattle.keepers.specs.Named.{AreLeftCounters, AreLeftSessions, AreLeftGroups}
@@ -51,18 +51,14 @@ none_found {A} q p xs none is = at (find q xs) refl
     at None e = refl
     at (Some x) e = absurd (not_both (sym none ∙ any_found q p xs x e (is x e)))
 
-not_true_is : (t : Bool) → t ≡ false → not t ≡ true
-not_true_is true e = absurd (not_both (sym e))
-not_true_is false e = refl
-
 pub buckets_stay : (w : StoredRows) (numbers : Numbers) (rows : List Row) →
     AreLeftBuckets numbers rows → list_any (λ (b : Row). is_numbered numbers b.number) w.buckets ≡
     false → rows ≡ filter (leaves_bucket w) rows
 buckets_stay w numbers rows h none =
     all_pass (leaves_bucket w) rows
-    (each_in_map (λ b. (is_dead b ≡ true) × (is_numbered numbers b.number ≡ true))
+    (EachIn-weaker (λ b. (is_dead b ≡ true) × (is_numbered numbers b.number ≡ true))
     (λ b. leaves_bucket w b ≡ true) rows
-    (λ b e. both_true (is_dead b) _ e.0 (not_true_is (is_some (bucket_in b.number w.buckets))
+    (λ b e. both_true (is_dead b) _ e.0 (not_from_false (is_some (bucket_in b.number w.buckets))
     (none_found (λ x. x.number == b.number) (λ x. is_numbered numbers x.number) w.buckets none
     (λ x f. ap (is_numbered numbers)
     (same_number x.number b.number (find-passes (λ y. y.number == b.number) w.buckets x f))
@@ -74,8 +70,8 @@ pub counters_stay : (w : StoredRows) (cycles : Numbers) (rows : List Counter) �
     rows ≡ filter (leaves_counter w) rows
 counters_stay w cycles rows h none =
     all_pass (leaves_counter w) rows
-    (each_in_map (λ c. is_numbered cycles c.cycle ≡ true) (λ c. leaves_counter w c ≡ true) rows
-    (λ c e. not_true_is (is_some (counter_in c.group c.cycle w.counters))
+    (EachIn-weaker (λ c. is_numbered cycles c.cycle ≡ true) (λ c. leaves_counter w c ≡ true) rows
+    (λ c e. not_from_false (is_some (counter_in c.group c.cycle w.counters))
     (none_found (is_counter c.group c.cycle) (λ x. is_numbered cycles x.cycle) w.counters none
     (λ x f. ap (is_numbered cycles)
     (same_number x.cycle c.cycle
@@ -94,10 +90,10 @@ pub sessions_stay : (w : StoredRows) (names : Names) (rows : List Session) →
     false → rows ≡ filter (leaves_session w) rows
 sessions_stay w names rows h none =
     all_pass (leaves_session w) rows
-    (each_in_map (λ r. (is_open r.state ≡ false) × (is_named names r.id ≡ true))
+    (EachIn-weaker (λ r. (is_open r.state ≡ false) × (is_named names r.id ≡ true))
     (λ r. leaves_session w r ≡ true) rows
-    (λ r e. both_true (not (is_open r.state)) _ (not_true_is (is_open r.state) e.0)
-    (not_true_is (is_some (session_in r.id w.sessions)) (session_away w names r.id e.1 none)))
+    (λ r e. both_true (not (is_open r.state)) _ (not_from_false (is_open r.state) e.0)
+    (not_from_false (is_some (session_in r.id w.sessions)) (session_away w names r.id e.1 none)))
     h)
 
 pub groups_stay : (w : StoredRows) (names : Names) (rows : List SessionGroup) →
@@ -106,13 +102,13 @@ pub groups_stay : (w : StoredRows) (names : Names) (rows : List SessionGroup) �
     rows ≡ filter (leaves_group w) rows
 groups_stay w names rows h none other =
     all_pass (leaves_group w) rows
-    (each_in_map (λ r. (is_some r.reservation ≡ false) × (is_named names r.session ≡ true))
+    (EachIn-weaker (λ r. (is_some r.reservation ≡ false) × (is_named names r.session ≡ true))
     (λ r. leaves_group w r ≡ true) rows
-    (λ r e. both_true (not (is_some r.reservation)) _ (not_true_is (is_some r.reservation) e.0)
+    (λ r e. both_true (not (is_some r.reservation)) _ (not_from_false (is_some r.reservation) e.0)
     (both_true (not (is_some (session_in r.session w.sessions))) _
-    (not_true_is (is_some (session_in r.session w.sessions))
+    (not_from_false (is_some (session_in r.session w.sessions))
     (session_away w names r.session e.1 none))
-    (not_true_is (is_some (group_in r.session r.group w.groups)) (group_away r e.1)))) h)
+    (not_from_false (is_some (group_in r.session r.group w.groups)) (group_away r e.1)))) h)
   where
     group_away : (r : SessionGroup) → is_named names r.session ≡ true →
         is_some (group_in r.session r.group w.groups) ≡ false

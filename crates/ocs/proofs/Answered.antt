@@ -19,6 +19,7 @@ use Rattle.charging.specs.Accepted.{Accepted, IsInTime}
 use Rattle.charging.specs.declared.running.DatedCommand.{DatedCommand}
 use Rattle.charging.specs.Served.{AreTables, answer_to, moment_of}
 use Rattle.charging.specs.Runs.{after_command, answers_to, after_commands, IsRun, Runs}
+use Rattle.charging.proofs.RunLemmas.{commands_after}
 use Rattle.ocs.specs.declared.input.Input.{Input}
 use Rattle.ocs.specs.Lines.{line_request}
 use Rattle.ocs.specs.Served.{requests_in, opening_for, opening_in, commands_of, faults_in, texts_of}
@@ -30,11 +31,6 @@ use Rattle.office.proofs.Beginnings.{nothing_written, beginning_before}
 use Rattle.ocs.proofs.Texts.{texts_taken}
 
 -- ---- commands one after another
-
-commands_after : (b : Book) (list : List Accepted) (xs ys : List DatedCommand) →
-    after_commands b list (xs ++ ys) ≡ after_commands b (after_commands b list xs) ys
-commands_after b list [] ys = refl
-commands_after b list (x ∷ xs) ys = commands_after b (after_command b list x) xs ys
 
 answers_after : (b : Book) (list : List Accepted) (xs ys : List DatedCommand) →
     answers_to b list (xs ++ ys)

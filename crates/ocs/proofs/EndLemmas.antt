@@ -1,9 +1,10 @@
 -- How the program ends, by what its words say and by why they weren't read.
 use Rattle.std.proofs.Common.{◌≡◌, ℕ, ◌≤◌, ◌+◌, ◌++◌, ◌∷◌, ◌⊎◌, Bool, true, false, List, [], take}
 use Rattle.std.proofs.Common.{sym, ap, subst, ◌∙◌, refl, inl, inr, Option, Some, None, Result, Ok}
-use Rattle.std.proofs.Common.{Err, arith}
+use Rattle.std.proofs.Common.{Err}
 use Rattle.std.specs.Prelude.{IfErr, IfSome, min}
 use Rattle.std.specs.Io.KnownBytes.{Appends, Keeps}
+use Rattle.std.proofs.KnownBytes.{Keeps-refl}
 use Rattle.byte_streams.specs.declared.StreamFault.{StreamFault}
 use Rattle.byte_streams.specs.declared.StreamFault.TheVariants as stream
 use Rattle.clap.specs.Values.{kind_of}
@@ -36,12 +37,9 @@ use Rattle.ocs.specs.declared.fault.LinesFault.{LinesFault}
 use Rattle.ocs.specs.declared.fault.LinesFault.TheVariants.{Read, Store, Both, Write}
 use Rattle.ocs.specs.declared.fault.ProgramFault.{ProgramFault}
 use Rattle.ocs.specs.declared.fault.ProgramFault.TheVariants as program
+use Rattle.ocs.proofs.Answered.{no_cause}
 
 -- ---- lines over a store that never fails
-
--- a count that stays at 0 has no cause
-no_cause : min (0 + 1) max_failures ≤ 0 → ⊥
-no_cause h = omega (arith, h)
 
 pub reached_lines : {A : Type 0} (r : Result A LinesFault) →
     (r ≡ Err (Store store.Store) → min (0 + 1) max_failures ≤ 0) →
@@ -116,12 +114,8 @@ end_said texts said Done h end = inl (record { said = said; says = h })
 end_said texts said Failed h end = tt
 end_said texts said Unread h end = absurd end
 
-keeps_same : (old : Option (List ℕ)) → Keeps old old
-keeps_same None = tt
-keeps_same (Some xs) = refl
-
 keeps_of : (old new : Option (List ℕ)) → new ≡ old → Keeps old new
-keeps_of old new e = subst (Keeps old) (sym e) (keeps_same old)
+keeps_of old new e = subst (Keeps old) (sym e) (Keeps-refl old)
 
 -- nothing is told of what is done, but the faults of connections
 done_said : (texts : List Text) (said : ProgramWords) (old new : Option (List ℕ)) →

@@ -7,7 +7,7 @@ use Rattle.std.proofs.lemmas.List.{drop_all}
 use Rattle.std.specs.List.{slice_get}
 use Rattle.std.specs.Slice.{IsItemAt}
 use Rattle.std.specs.Borrow.{Bor}
-use Rattle.std.proofs.lemmas.Option.{slice_get_past, slice_get_read}
+use Rattle.std.proofs.lemmas.Option.{slice_get_past, slice_get_read, same_Some}
 use Rattle.commands.specs.declared.answer.Answer.{Answer}
 use Rattle.json_fields.specs.declared.fault.WireFault.{WireFault}
 use Rattle.wire_answers.specs.Spelled.{answer_text, fault_text}
@@ -15,13 +15,6 @@ use Rattle.ocs.specs.Served.{texts_of}
 use Rattle.ocs.specs.declared.input.Line.{Line}
 use Rattle.ocs.specs.Input.{told_fault}
 use Rattle.ocs.specs.Output.{line_text}
-
-some_same : (x y : List ℕ) → Some x ≡ Some y → x ≡ y
-some_same x y h = ap (λ o. text_in o) h
-  where
-    text_in : Option (List ℕ) → List ℕ
-    text_in None = []
-    text_in (Some t) = t
 
 abbrev IsThere : Option (List ℕ) → Type 0
 IsThere None = ⊥
@@ -33,7 +26,7 @@ next_answer : (answers : List Answer) (n : ℕ) (faults : List (Option WireFault
 next_answer [] zero faults text h = absurd (subst IsThere h tt)
 next_answer [] (suc n) faults text h = absurd (subst IsThere h tt)
 next_answer (a ∷ answers) zero faults text h =
-    ap (λ t. t ++ 10 ∷ texts_of faults answers) (sym (some_same text (answer_text a) h))
+    ap (λ t. t ++ 10 ∷ texts_of faults answers) (sym (same_Some text (answer_text a) h))
 next_answer (a ∷ answers) (suc n) faults text h = next_answer answers n faults text h
 
 plus_one : (n : ℕ) → suc n ≡ n + 1
@@ -46,7 +39,7 @@ pub next_text : (fault : Option WireFault)
     texts_of (fault ∷ faults) (drop n answers)
     ≡ (text ++ 10 ∷ []) ++ texts_of faults (drop (if is_some fault then n else n + 1) answers)
 next_text (Some fault) faults answers n text h =
-    ap (λ t. t ++ 10 ∷ texts_of faults (drop n answers)) (sym (some_same text (fault_text fault) h))
+    ap (λ t. t ++ 10 ∷ texts_of faults (drop n answers)) (sym (same_Some text (fault_text fault) h))
     ∙ sym (append_assoc text (10 ∷ []) (texts_of faults (drop n answers)))
 next_text None faults answers n text h =
     next_answer answers n faults text h

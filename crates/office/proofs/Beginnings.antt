@@ -4,6 +4,7 @@ use Rattle.std.proofs.Common.{take, drop, take-append-drop, Result, Ok, Err, ref
 use Rattle.std.proofs.KnownBytes.{Appends-nil, Appends-trans}
 use Rattle.std.specs.Prelude.{OnOk, OnErr}
 use Rattle.std.specs.Io.KnownBytes.{Appends}
+pub use Rattle.keepers.proofs.Placed.{on_err}
 use Rattle.office.specs.Written.{WritesBeginning}
 
 -- nothing is written
@@ -47,11 +48,6 @@ beginning_after a b c first text h k =
       written = Appends-trans a b c first k.part h k.written;
       whole = ap (λ l. first ++ l) k.whole ∙ sym (append_assoc first k.part k.rest);
     }
-
--- what holds anyway holds at an error
-pub on_err : {A E P : Type 0} (r : Result A E) → P → OnErr r P
-on_err (Ok x) h = tt
-on_err (Err e) h = h
 
 -- all of a text is written, or a beginning
 pub whole_or_part : {A E : Type 0} (r : Result A E) (a b : Option (List ℕ)) (text : List ℕ) →

@@ -194,7 +194,7 @@ fn account_program<'a>(alloc: Global) -> Result<Command<'a>, AllocError>
     let program = files_program(alloc)?;
     let open = account_command(alloc, "open", "Opens an account")?;
     let program = with_command(program, open)?;
-    let bar = account_command(alloc, "bar", "Bars an account: it is charged nothing more")?;
+    let bar = account_command(alloc, "bar", "Bars an account: it is granted nothing more")?;
     let program = with_command(program, bar)?;
     let unbar = account_command(alloc, "unbar", "Ends that an account is barred")?;
     with_command(program, unbar)

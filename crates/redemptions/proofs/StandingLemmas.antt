@@ -5,6 +5,7 @@ use Rattle.std.specs.Prelude.{◌&&◌, if◌then◌else◌, Result, Err, is_ok,
 use Rattle.std.specs.Option.{option_map}
 use Rattle.std.specs.Cmp.Lexicographic.{bytes_decides}
 use Rattle.identifiers.specs.Texts.{same_name}
+use Rattle.identifiers.proofs.Equality.{names_equal}
 use Rattle.redemptions.specs.declared.terms.VoucherTerms.{VoucherTerms}
 use Rattle.redemptions.specs.declared.voucher.Voucher.{Voucher}
 use Rattle.redemptions.specs.declared.adding.Addition.TheVariants.{Present, Conflicting}
@@ -161,14 +162,11 @@ redeemed_once day_end code (c ∷ cs) vouchers =
     (λ about e. spent_count day_end code cs (with_command day_end c vouchers)
     (spent_by_it day_end c vouchers code about e))
 
-itself : (code : List ℕ) → same_name code code ≡ true
-itself code = (bytes_decides code code).1 refl
-
 pub spent_for_good : (day_end : DayEnds) (vouchers : Vouchers) (code : List ℕ) →
     IsSpent day_end vouchers code
 spent_for_good day_end vouchers code = record {
   redeemed = λ account t r terms under e.
-      chosen (is_about code (Redeems code account t)) _ _ (itself code)
+      chosen (is_about code (Redeems code account t)) _ _ (names_equal code code refl)
       ∙ redemption_spends day_end (vouchers code) terms account t under (ap is_ok e);
   kept = λ cs e. spent_stays day_end cs vouchers code e;
 }

@@ -3,11 +3,12 @@ use Rattle.std.proofs.Common.{◌≡◌, ℕ, ◌+◌, Bool, true, false, List, 
 use Rattle.std.specs.Prelude.{if◌then◌else◌, ◌==◌, ◌&&◌, not}
 pub use Rattle.std.proofs.lemmas.Bool.{and_parts as both}
 use Rattle.std.proofs.lemmas.Bool.Decides.{nat_tests}
-use Rattle.identifiers.proofs.Equality.{equal_names, names_equal}
-pub use Rattle.reserving.proofs.Keys.{same_number as number_from, number_same as number_itself}
+use Rattle.identifiers.proofs.Equality.{equal_names}
 use Rattle.reserving.specs.Ledger.{Fact, Ledger, is_same, counts_before, hold_of, held, only}
 use Rattle.reserving.specs.Ledger.Fact.{Credit, Grant, Hold as HoldFact, End, Use, Charge, Touch}
 use Rattle.reserving.specs.Ledger.Fact.{Close, Recorded, Barred}
+pub use Rattle.reserving.proofs.Keys.{same_number as number_from, number_same as number_itself}
+pub use Rattle.reserving.proofs.Keys.{is_same-refl as same_itself}
 
 abbrev pub one_if : Bool → ℕ
 one_if b = if b then 1 else 0
@@ -106,9 +107,6 @@ one_split live session group h s g =
     split_one (live s) (is_same s session) (g == group) (λ e. ap live (equal_names s session e) ∙ h)
 
 -- ---- names of sessions
-
-pub same_itself : (s : List ℕ) → is_same s s ≡ true
-same_itself s = names_equal s s refl
 
 pub same_from : (a b : List ℕ) → is_same a b ≡ true → a ≡ b
 same_from a b h = equal_names a b h

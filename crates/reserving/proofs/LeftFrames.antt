@@ -27,13 +27,13 @@ use Rattle.reserving.specs.Changes.{with_count, ended_group, ended_rows, settled
 use Rattle.reserving.specs.Changes.{settled_by_rows}
 use Rattle.reserving.specs.Rows.{AccountRows, EachIn, IsRowsOf}
 use Rattle.reserving.proofs.Advancing.{held_by-split, is_live_in-is}
-use Rattle.reserving.proofs.Lists.{not_both}
+use Rattle.reserving.proofs.Lists.{not_both, EachIn-weaker}
 use Rattle.reserving.proofs.Holds.{same_from, number_from}
 use Rattle.reserving.proofs.SettledRows.{IsRowsOf-settled_by}
 use Rattle.reserving.specs.Left.{LeftRows, merged, joined, IsDead, IsLeft, AreOfOtherCycles}
 use Rattle.reserving.proofs.LeftMerged.{map_merged, each_map, each_both, each_left, release_none}
 use Rattle.reserving.proofs.LeftMerged.{end_dead, settled_merged, released_merged}
-use Rattle.reserving.proofs.LeftJoined.{find_behind, put_behind, map_behind, each_in_map}
+use Rattle.reserving.proofs.LeftJoined.{find_behind, put_behind, map_behind}
 use Rattle.reserving.proofs.LeftJoined.{held_behind, live_behind}
 
 -- a group that holds nothing stays as it is
@@ -60,14 +60,14 @@ differs_from v t rows s x alive none = at (is_same x s) refl
 pub not_of_live : (left : LeftRows) (a : AccountRows) (t : ℕ) (s : List ℕ) (g : ℕ) → IsLeft left a →
     is_live_in a.book.validity t a.sessions s ≡ true → EachIn (λ r. is_of s g r ≡ false) left.groups
 not_of_live left a t s g h alive =
-    each_in_map _ _ left.groups
+    EachIn-weaker _ _ left.groups
     (λ r e. ap (λ b. b && r.group == g)
     (differs_from a.book.validity t a.sessions s r.session alive e)) h.others
 
 -- no counter of the cycle was left
 pub not_counted : (book : Book) (t g : ℕ) (rows : List Counter) → AreOfOtherCycles book t rows →
     EachIn (λ r. is_counter g (cycle_at book g t) r ≡ false) rows
-not_counted book t g rows cycles = each_in_map _ _ rows other cycles
+not_counted book t g rows cycles = EachIn-weaker _ _ rows other cycles
   where
     other : (r : Counter) → (r.cycle == cycle_at book r.group t) ≡ false →
         is_counter g (cycle_at book g t) r ≡ false
@@ -146,14 +146,14 @@ module _ (left : LeftRows) (a : AccountRows) (h : IsLeft left a) where
         ≡ left.sessions ++ map (lapse a.book.validity t) a.sessions
     sessions_later =
         map_behind (lapse a.book.validity t) left.sessions a.sessions
-        (each_in_map _ _ left.sessions lapse_over h.over)
+        (EachIn-weaker _ _ left.sessions lapse_over h.over)
 
     groups_later : map (lapse_group whole_keeps) (left.groups ++ a.groups)
         ≡ left.groups ++ map (lapse_group keeps) a.groups
     groups_later =
         (λ i. map (lapse_group (λ s. live t s i)) (left.groups ++ a.groups))
         ∙ map_behind (lapse_group keeps) left.groups a.groups
-        (each_in_map _ _ left.groups (lapse_free keeps) h.free)
+        (EachIn-weaker _ _ left.groups (lapse_free keeps) h.free)
 
   pub advanced_joined' : (t : ℕ) → advanced t (joined left a) ≡ joined left (advanced t a)
   advanced_joined' t =
@@ -230,7 +230,7 @@ module _ (left : LeftRows) (a : AccountRows) (h : IsLeft left a) where
         let groups : map (ended_group s g) (left.groups ++ a.groups)
         ≡ left.groups ++ map (ended_group s g) a.groups =
         map_behind (ended_group s g) left.groups a.groups
-        (each_in_map _ _ left.groups
+        (EachIn-weaker _ _ left.groups
         (λ r e. ap (λ t. if t then record r { reservation = None } else r) e) not_of) in
         λ i. record (joined left a) { buckets = buckets i; groups = groups i }
 

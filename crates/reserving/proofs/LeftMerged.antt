@@ -64,7 +64,7 @@ pub each_both : (P Q R : Row → Type 0) (xs : List Row) → ((b : Row) → P b 
 each_both P Q R [] k h g = tt
 each_both P Q R (x ∷ xs) k h g = (k x h.0 g.0, each_both P Q R xs k h.1 g.1)
 
-if_zero : (t : Bool) (n : ℕ) → n ≡ 0 → (if t then n else 0) ≡ 0
+pub if_zero : (t : Bool) (n : ℕ) → n ≡ 0 → (if t then n else 0) ≡ 0
 if_zero true n e = e
 if_zero false n e = refl
 
@@ -154,7 +154,7 @@ settled_row_merged holds group at amount left rows dead none b =
     ∙ ap (λ n. share (eligible_amount group at) rows (amount - n) b) sum in
     λ i. with_release at (with_charge (with_charge_of_hold b (p i)) (q i)) (held_in holds b - p i)
 
-min_none : (m n : ℕ) → m ≡ 0 → min m n ≡ 0
+pub min_none : (m n : ℕ) → m ≡ 0 → min m n ≡ 0
 min_none m n e = omega (arith, e)
 
 -- a dead bucket pays nothing

@@ -3,16 +3,15 @@ use Rattle.std.proofs.Common.{◌≡◌, ℕ, ◌+◌, ◌-◌, ◌<◌, ◌≤�
 use Rattle.std.proofs.Common.{map, refl, sym, ap, subst, ◌∙◌, arith, Option, Some, None}
 use Rattle.std.specs.Prelude.{if◌then◌else◌, ◌==◌, ◌&&◌, ◌||◌, not, unwrap_or, option_map}
 use Rattle.std.proofs.lemmas.Bool.{or_parts}
-use Rattle.std.proofs.lemmas.Bool.Decides.{nat_tests}
 use Rattle.units.specs.declared.blocks.UsedPart.{UsedPart}
 use Rattle.tariffs.specs.Books.{Book}
 use Rattle.buckets.specs.declared.holds.Hold.{Hold}
-use Rattle.buckets.specs.Row.{Row, with_charge, with_charge_of_hold, with_release}
+use Rattle.buckets.specs.Row.{Row, with_release}
 use Rattle.buckets.specs.Share.{parts}
 use Rattle.buckets.specs.Spend.{IsSound, IsBelow, DiffersFromAll}
-use Rattle.buckets.specs.Holding.{held_in, paid, paid_of_hold, paid_of_rest, settled_row}
+use Rattle.buckets.specs.Holding.{held_in, paid, settled_row}
 use Rattle.buckets.specs.Holding.{settled_rows, released_rows}
-use Rattle.buckets.proofs.Parts.{sum_at}
+use Rattle.buckets.proofs.Parts.{sum_at_none}
 use Rattle.buckets.proofs.SharesAlong.{with_release_number}
 use Rattle.reserving.specs.declared.session.SessionGroup.{SessionGroup}
 use Rattle.reserving.specs.declared.session.Reservation.{Reservation}
@@ -49,6 +48,7 @@ use Rattle.reserving.proofs.SettledFacts.{same_session, same_touched, same_group
 use Rattle.reserving.proofs.ledger.SettledBuckets.{with_end, buckets_at-settled, buckets_at-ended}
 use Rattle.reserving.proofs.ledger.SettledBuckets.{same_sessions-settled, same_sessions-ended}
 use Rattle.reserving.proofs.rows.Complete.{row_with, reserved_in_is}
+use Rattle.reserving.proofs.kept.Settled.{settled_number}
 
 -- ---- what wasn't named is 0
 
@@ -298,13 +298,6 @@ other_settled v t session group units blocks rated ledger s g h =
       );
     }
 
-settled_number : (holds : List Hold) (group t rated : ℕ) (rows : List Row) (b : Row) →
-    (settled_row holds group t rated rows b).number ≡ b.number
-settled_number holds group t rated rows b =
-    with_release_number t
-    (with_charge (with_charge_of_hold b (paid_of_hold holds rated rows b))
-    (paid_of_rest holds group t rated rows b)) (held_in holds b - paid_of_hold holds rated rows b)
-
 either_none : (l : Bool) (hs : List Hold) (p : Option (Option _)) → p ≡ Some None →
     (if l then reservation_of hs (inner p) else None) ≡ None
 either_none true hs p e = ap (λ x. reservation_of hs (inner x)) e
@@ -533,11 +526,6 @@ pub differs_above : (next n : ℕ) (rows : List Row) → IsBelow next rows → n
 differs_above next n [] h le = tt
 differs_above next n (b ∷ bs) h le = let less : b.number < next = h.0 in
     ((λ e. omega arith), differs_above next n bs h.1 le)
-
-pub sum_at_none : (f : Row → ℕ) (n : ℕ) (rows : List Row) → DiffersFromAll n rows →
-    sum_at n (parts f rows) ≡ 0
-sum_at_none f n [] h = refl
-sum_at_none f n (b ∷ bs) h = grind (arith, nat_tests, h.0, sum_at_none f n bs h.1)
 
 -- ---- sessions that aren't known
 

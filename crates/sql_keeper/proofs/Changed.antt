@@ -4,6 +4,7 @@ use Rattle.std.proofs.Common.{subst, Option, Some, None}
 use Rattle.std.specs.Prelude.{if◌then◌else◌, ◌&&◌, ◌+◌, nat_eq, option_map, option_and_then}
 use Rattle.std.specs.Prelude.{unwrap_or, is_some}
 use Rattle.std.proofs.lemmas.Bool.{and_parts}
+use Rattle.std.proofs.lemmas.Option.{same_Some}
 use Rattle.identifiers.specs.Texts.{same_name}
 use Rattle.calendar.specs.declared.week.Period.{Period}
 use Rattle.rating.specs.declared.grant.Periods.{Periods}
@@ -22,6 +23,7 @@ use Rattle.keepers.specs.Keys.{same_key, key_of}
 use Rattle.keepers.specs.Tables.{GroupRow, group_row, charge_in}
 use Rattle.keepers.specs.Tables as tables
 use Rattle.keepers.specs.Change.{IsMadeFrom, over, held_over, kept_after, redeemed_over, changed}
+use Rattle.sql_tables.proofs.Found.{is_some_map}
 use Rattle.sql_rows.specs.Values.{Meta, Group, Kept, request_kind, reference_kind}
 use Rattle.sql_rows.specs.Content.{Rows as Stored, Content, with_rows, with_meta, with_account}
 use Rattle.sql_rows.specs.Content.{with_head, with_answer}
@@ -84,9 +86,6 @@ periods_back names p e f =
 and_true : (b : Bool) → (b && true) ≡ b
 and_true true = refl
 and_true false = refl
-
-same_some : {A : Type 0} {x y : A} → ◌≡◌ {A = Option A} (Some x) (Some y) → x ≡ y
-same_some e = cc
 
 none_reserved : (names : List (List ℕ)) (b : Bool) → content.reserved_in names b None ≡ None
 none_reserved names true = refl
@@ -192,7 +191,7 @@ may_at names sessions (y ∷ ys) h s g x e =
         → (group_in s g ys ≡ Some x → MayStand names sessions s x.reservation)
         → MayStand names sessions s x.reservation
     at true k f rest =
-        let is : y ≡ x = same_some f in
+        let is : y ≡ x = same_Some _ _ f in
         subst (λ z. MayStand names sessions s z.reservation) is
         (subst (λ n. MayStand names sessions n y.reservation)
         (name_from y.session s (and_parts (same_name y.session s) (nat_eq y.group g) k).0) h.0)
@@ -279,10 +278,6 @@ pub same_texts : (a : List ℕ) (k : Key)
     answer_in a k (over_charges cs (over_stored names w r)) ≡ answer_in a k r
 same_texts a (Request s n) names w cs r = refl
 same_texts a (Reference x) names w cs r = refl
-
-is_some_map : {A B : Type 0} (f : A → B) (o : Option A) → is_some (option_map f o) ≡ is_some o
-is_some_map f None = refl
-is_some_map f (Some x) = refl
 
 -- ---- all of it
 

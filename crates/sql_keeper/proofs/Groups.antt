@@ -13,13 +13,15 @@ use Rattle.reserving.specs.declared.session.Reservation.{Reservation}
 use Rattle.reserving.specs.Sessions.{is_of, group_in, holds_in}
 use Rattle.reserving.specs.Rows.{EachIn, AreApart}
 use Rattle.reserving.specs.Left.{first_of}
+use Rattle.reserving.proofs.LeftParted.{one_group}
+use Rattle.reserving.proofs.LeftTests.{none_more, first_alone}
 use Rattle.keepers.specs.Tables.{held_at}
 use Rattle.sql_rows.specs.Values.{Group}
 use Rattle.sql_rows.specs.Content.{Rows, Content, with_rows, with_group, with_hold, without_holds}
 use Rattle.sql_rows.specs.Each.{with_holds}
 use Rattle.sql_keeper.specs.Writes.{columns_of, with_held_group, with_groups}
 use Rattle.sql_keeper.specs.Tests.{MayStand, AreWritable}
-use Rattle.sql_keeper.proofs.Overlays.{number_from, one_group, none_more, with_twice, each}
+use Rattle.sql_keeper.proofs.Overlays.{number_from, with_twice, each}
 use Rattle.sql_keeper.proofs.Overlays.{each_over}
 
 -- what the holds have of a bucket
@@ -141,14 +143,10 @@ put_group names r x = record x {
       then amount_at n (holds_in r.reservation) else x.holds t h n;
 }
 
-first_none : (o : Option ℕ) → first_of o None ≡ o
-first_none None = refl
-first_none (Some x) = refl
-
 held_put : (p : Bool) (o before : Option ℕ) →
     (if p then first_of o (if p then None else before) else (if p then None else before))
     ≡ (if p then o else before)
-held_put true o before = first_none o
+held_put true o before = first_alone o
 held_put false o before = refl
 
 group_put : (a : List ℕ) (names : List (List ℕ)) (r : SessionGroup) (c : Content)

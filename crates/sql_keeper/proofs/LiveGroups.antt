@@ -1,12 +1,13 @@
 -- What a list of sessions has of rating groups, one session after another; and several reads in
 -- turn.
 use Rattle.std.proofs.Common.{◌≡◌, ◌≤◌, ◌<◌, ◌+◌, take, get_or, ℕ, Bool, true, false, List, [], ◌∷◌}
-use Rattle.std.proofs.Common.{◌++◌, Option, Some, None, Result, Ok, Err, IfOk, IsTrue, length, map}
+use Rattle.std.proofs.Common.{◌++◌, Option, Some, None, Result, Ok, IfOk, IsTrue, length, map}
 use Rattle.std.proofs.Common.{refl, sym, ap, subst, ◌∙◌, true≢false}
 use Rattle.std.specs.Prelude.{if◌then◌else◌, ◌&&◌, ◌||◌, option_map, is_some}
 use Rattle.std.specs.Option.{option_or}
 use Rattle.std.proofs.lemmas.List.{take_more, take_all}
 use Rattle.std.proofs.lemmas.List.Folds.{find-append}
+use Rattle.std.proofs.lemmas.Result.{IfOk-weaker}
 use Rattle.sqlite_trees.specs.Tree.{Trees}
 use Rattle.sqlite.specs.Effect.{Database}
 use Rattle.sqlite.specs.State.{State, HasCleanDisk}
@@ -142,11 +143,6 @@ open_loaded names rows sessions xs open_ones told = record {
 
 -- ---- reads in turn
 
-if_ok : {A E : Type 0} (P Q : A → Type 0) (r : Result A E) → ((x : A) → P x → Q x) →
-    IfOk r P → IfOk r Q
-if_ok P Q (Ok x) to h = to x h
-if_ok P Q (Err e) to h = tt
-
 -- what was told of the first state, where nothing changed
 pub told_before : (P : Trees → Type 0) (old mid new : State) → OnlyReads old mid → OnlyReads mid new
     → HasCleanDisk new → IsTrue new.is_open → P mid.now.trees → P old.now.trees
@@ -166,8 +162,8 @@ pub gathered : {V E : Type 0} (items : V → List SessionGroup) (names : List (L
 gathered items names a s buckets cs held old mid new r distinct first second groups holds made =
     gathers_from (λ trees v. AreSessionGroups names (rows_in trees a) s (items v)) old new r
     (have_read_then old mid new first second)
-    (λ clean on. if_ok (λ v. AreGroupsOf names buckets held s (map group_at cs) (items v))
-    (λ v. AreSessionGroups names (rows_in old.now.trees a) s (items v)) r
+    (λ clean on. IfOk-weaker r (λ v. AreGroupsOf names buckets held s (map group_at cs) (items v))
+    (λ v. AreSessionGroups names (rows_in old.now.trees a) s (items v))
     (λ v all. session_groups names (rows_in old.now.trees a) s buckets held (map group_at cs)
     (items v) distinct (groups (second.only.cleanness clean))
     (told_before (λ trees. AreHolds (rows_in trees a) s (map hold_at held)) old mid new first.only

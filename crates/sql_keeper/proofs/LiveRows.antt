@@ -11,6 +11,7 @@ use Rattle.reserving.specs.Left.{is_dead}
 use Rattle.reserving.specs.Sessions.{is_open}
 use Rattle.reserving.specs.Rows.{AccountRows}
 use Rattle.reserving.specs.Stored.{StoredRows, stored}
+use Rattle.reserving.proofs.LeftParted.{either_none}
 use Rattle.sql_rows.specs.Content.{Rows as Stored}
 use Rattle.sql_rows.specs.Lists.{AreBuckets, is_live}
 use Rattle.keepers.specs.declared.loaded.Loaded.{Loaded}
@@ -47,14 +48,10 @@ live_made rows bs (Err e) found is = tt
 
 -- ---- counters
 
-none : {A : Type 0} (b : Bool) (o : Option A) → o ≡ None → o ≡ (if b then o else None)
-none true o e = refl
-none false o e = e
-
 -- a test that tells all rows of a key alike keeps what is found, or none of it
 pub find_kept : {A : Type 0} (q p : A → Bool) (b : Bool) → ((x : A) → q x ≡ true → p x ≡ b)
     → (xs : List A) → find q (filter p xs) ≡ (if b then find q xs else None)
-find_kept q p b same [] = none b (find q []) refl
+find_kept q p b same [] = either_none b (find q []) refl
 find_kept q p b same (x ∷ xs) = at b (p x) (q x) refl refl (same x) (find_kept q p b same xs)
   where
     at : (b u t : Bool) → p x ≡ u → q x ≡ t → (q x ≡ true → p x ≡ b)

@@ -5,6 +5,7 @@ use Rattle.std.specs.Prelude.{if◌then◌else◌, ◌&&◌, ◌+◌, nat_eq, na
 use Rattle.reserving.specs.declared.charge.ChargeRow.{ChargeRow}
 use Rattle.reserving.specs.Rows.{EachIn, AreApart}
 use Rattle.reserving.specs.Left.{first_of}
+use Rattle.reserving.proofs.LeftTests.{first_alone}
 use Rattle.keepers.specs.Tables.{charge_in}
 use Rattle.sql_rows.specs.declared.head.Head.{Head}
 use Rattle.sql_keeper.specs.Content.{is_numbered}
@@ -102,10 +103,6 @@ numbered_apart from next (c ∷ cs) h = let is = h.0 in (
 
 -- ---- what is seen of the charges
 
-first_none : {A : Type 0} (o : Option A) → first_of o None ≡ o
-first_none None = refl
-first_none (Some x) = refl
-
 -- where an account's charges are seen, and where its next one is numbered
 pub record Begins (seen : Bool) (n from : ℕ) : Type 0 where
   pub first : 1 ≤ from
@@ -123,7 +120,7 @@ module _ (n from next : ℕ) (cs : List ChargeRow) (seen : Bool) (h : AreNumbere
 
   under : n < from → 0 < n → after true ≡ first_of old (charge_in n cs)
   unfolding after old
-  under low some = rw (none_below n from next cs h low, b.below some low) (sym (first_none before))
+  under low some = rw (none_below n from next cs h low, b.below some low) (sym (first_alone before))
 
   between : from ≤ n → n < next → after true ≡ first_of old (charge_in n cs)
   unfolding after old

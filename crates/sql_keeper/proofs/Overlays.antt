@@ -1,103 +1,44 @@
 -- Rows that are put one after another, as one change over what was there.
-use Rattle.std.proofs.Common.{◌≡◌, ℕ, Bool, true, false, cond, List, [], ◌∷◌, refl, sym, ap, ap₂}
-use Rattle.std.proofs.Common.{◌∙◌, true≢false, Option, Some, None}
-use Rattle.std.specs.Prelude.{if◌then◌else◌, ◌&&◌, ◌+◌, nat_eq, is_some}
+use Rattle.std.proofs.Common.{◌≡◌, ℕ, Bool, true, false, cond, List, [], ◌∷◌, refl, sym, ap}
+use Rattle.std.proofs.Common.{◌∙◌, true≢false, Option, Some}
+use Rattle.std.specs.Prelude.{if◌then◌else◌, ◌+◌, nat_eq, is_some}
 use Rattle.std.specs.List.{find}
-use Rattle.std.specs.Cmp.{unsigned_Decides}
-use Rattle.std.specs.Cmp.Lexicographic.{bytes_decides}
-use Rattle.std.proofs.lemmas.Bool.{and_parts}
 use Rattle.identifiers.specs.Texts.{same_name}
 use Rattle.buckets.specs.Row.{Row as Bucket}
-use Rattle.buckets.specs.Spend.{DiffersFromAll, AreDistinct}
+use Rattle.buckets.specs.Spend.{AreDistinct}
 use Rattle.reserving.specs.declared.charge.ChargeRow.{ChargeRow}
 use Rattle.reserving.specs.declared.session.Session.{Session}
-use Rattle.reserving.specs.declared.session.SessionGroup.{SessionGroup}
 use Rattle.reserving.specs.declared.session.Counter.{Counter}
-use Rattle.reserving.specs.Sessions.{is_session, session_in, is_of, is_counter, counter_in}
+use Rattle.reserving.specs.Sessions.{is_session, session_in, is_counter, counter_in}
 use Rattle.reserving.specs.Rows.{EachIn, AreApart}
 use Rattle.reserving.specs.Left.{bucket_in, first_of}
+pub use Rattle.reserving.proofs.Holds.{same_from as name_from}
+pub use Rattle.reserving.proofs.Keys.{same_number as number_from, number_same as number_itself}
+use Rattle.reserving.proofs.LeftParted.{one_session, one_counter}
+use Rattle.reserving.proofs.LeftTests.{none_more}
 use Rattle.keepers.specs.Tables.{charge_in}
 use Rattle.keepers.specs.Keyed.{same_bucket, same_session, same_counter}
+use Rattle.keepers.proofs.Found.{one_bucket, distinct_apart}
 use Rattle.sql_rows.specs.Content.{Rows, Content, with_rows, with_bucket, with_counter}
 use Rattle.sql_rows.specs.Content.{with_session, with_charge}
 use Rattle.sql_rows.specs.Each.{with_buckets, with_counters, with_sessions, with_charges}
 
 -- ---- a name and a number that two rows share
 
-pub name_from : (a b : List ℕ) → same_name a b ≡ true → a ≡ b
-name_from a b e = (bytes_decides a b).0 e
-
-pub name_itself : (a : List ℕ) → same_name a a ≡ true
-name_itself a = (bytes_decides a a).1 refl
-
-pub number_from : (n m : ℕ) → nat_eq n m ≡ true → n ≡ m
-number_from n m e = (unsigned_Decides n m).0 e
-
-pub number_itself : (n : ℕ) → nat_eq n n ≡ true
-number_itself n = (unsigned_Decides n n).1 refl
-
-pub both : (a b : Bool) → a ≡ true → b ≡ true → (a && b) ≡ true
-both true b p q = q
-both false b p q = absurd (true≢false (sym p))
-
 pub not_both : {X : Type 0} → true ≡ false → X
 not_both e = absurd (true≢false e)
-
-pub one_session : (s : List ℕ) (x y : Session) → is_session s x ≡ true → is_session s y ≡ true →
-    is_session x.id y ≡ true
-one_session s x y p q = ap (same_name y.id) (name_from x.id s p) ∙ q
-
-pub one_group : (s : List ℕ) (g : ℕ) (x y : SessionGroup) → is_of s g x ≡ true →
-    is_of s g y ≡ true → is_of x.session x.group y ≡ true
-one_group s g x y p q =
-    let a = and_parts (same_name x.session s) (nat_eq x.group g) p in
-    ap₂ (λ n m. same_name y.session n && nat_eq y.group m) (name_from x.session s a.0)
-    (number_from x.group g a.1) ∙ q
-
-one_counter : (g c : ℕ) (x y : Counter) → is_counter g c x ≡ true → is_counter g c y ≡ true →
-    is_counter x.group x.cycle y ≡ true
-one_counter g c x y p q =
-    let a = and_parts (nat_eq x.group g) (nat_eq x.cycle c) p in
-    ap₂ (λ n m. nat_eq y.group n && nat_eq y.cycle m) (number_from x.group g a.0)
-    (number_from x.cycle c a.1) ∙ q
-
-one_bucket : (n : ℕ) (x y : Bucket) → nat_eq x.number n ≡ true → nat_eq y.number n ≡ true →
-    same_bucket x y ≡ true
-one_bucket n x y p q = ap (nat_eq y.number) (number_from x.number n p) ∙ q
-
-distinct_from : (n : ℕ) (xs : List Bucket) → DiffersFromAll n xs →
-    EachIn (λ y. nat_eq y.number n ≡ false) xs
-distinct_from n [] h = tt
-distinct_from n (x ∷ xs) h = (go (nat_eq x.number n) refl, distinct_from n xs h.1)
-  where
-    go : (t : Bool) → nat_eq x.number n ≡ t → nat_eq x.number n ≡ false
-    go true e = absurd (h.0 (number_from x.number n e))
-    go false e = e
-
-pub distinct_apart : (xs : List Bucket) → AreDistinct xs → AreApart same_bucket xs
-distinct_apart [] h = tt
-distinct_apart (x ∷ xs) h = (distinct_from x.number xs h.0, distinct_apart xs h.1)
 
 -- ---- one row over those after it
 
 module _ {X : Type 0} (same : X → X → Bool) (is : X → Bool)
     (one : (x y : X) → is x ≡ true → is y ≡ true → same x y ≡ true) where
-  pub none_more : (x : X) (xs : List X) → is x ≡ true → EachIn (λ y. same x y ≡ false) xs →
-      find is xs ≡ None
-  none_more x [] e h = refl
-  none_more x (y ∷ ys) e h = at (is y) refl (none_more x ys e h.1)
-    where
-      at : (t : Bool) → is y ≡ t → find is ys ≡ None → cond t (Some y) (find is ys) ≡ None
-      at true k rest = not_both (sym (one x y e k) ∙ h.0)
-      at false k rest = rest
-
   pub one_over : (x : X) (xs : List X) (r : Option X) → EachIn (λ y. same x y ≡ false) xs →
       first_of (find is xs) (if is x then Some x else r) ≡ first_of (find is (x ∷ xs)) r
   one_over x xs r h = at (is x) refl
     where
       at : (t : Bool) → is x ≡ t → first_of (find is xs) (if t then Some x else r)
           ≡ first_of (cond t (Some x) (find is xs)) r
-      at true e = ap (λ o. first_of o (Some x)) (none_more x xs e h)
+      at true e = ap (λ o. first_of o (Some x)) (none_more same is one x xs e h)
       at false e = refl
 
 -- ---- an account's rows change, and no other's

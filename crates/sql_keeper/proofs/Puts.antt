@@ -1,6 +1,7 @@
 -- Puts one after another.
-use Rattle.std.proofs.Common.{◌≡◌, ◌∙◌, ap, refl, subst, ℕ, List, arith, Ok, Err, Result, OnOk}
+use Rattle.std.proofs.Common.{◌≡◌, ◌∙◌, ap, refl, subst, ℕ, List, arith, Ok, Err, Result}
 use Rattle.std.proofs.Common.{OnErr}
+use Rattle.std.proofs.lemmas.Result.{on_ok_weaker}
 use Rattle.sqlite.specs.State.{State, KeepsCommit}
 use Rattle.sqlite.proofs.StateLemmas.{survives_then}
 use Rattle.sql_tables.specs.Statements.{Attempts}
@@ -40,17 +41,13 @@ on_err_then : {A E : Type 0} (f : Content → Content) (a b c : State) (r : Resu
 on_err_then f a b c (Ok x) one two = tt
 on_err_then f a b c (Err e) one two = kept_then f a b c one two
 
-on_ok_then : {A E : Type 0} (P Q : Type 0) (r : Result A E) → (P → Q) → OnOk r P → OnOk r Q
-on_ok_then P Q (Ok x) f h = f h
-on_ok_then P Q (Err e) f h = tt
-
 module _ {A B E : Type 0} (f g : Content → Content) (a b c : State) (u : A) (r : Result B E) where
   -- one statement, then another
   pub makes_then : Attempts {A = A} {E = E} (Makes f) a b (Ok u)
       → Attempts {A = B} {E = E} (Makes g) b c r
       → Attempts {A = B} {E = E} (Makes (λ x. g (f x))) a c r
   makes_then one two = record {
-    done = λ clean. on_ok_then (Makes g b c) (Makes (λ x. g (f x)) a c) r
+    done = λ clean. on_ok_weaker {P = Makes g b c} {Q = Makes (λ x. g (f x)) a c} r
         (made_then f g a b c (one.done (omega (arith, two.survives.clean, clean))))
         (two.done clean);
     kept = λ clean. on_err_then f a b c r (one.done (omega (arith, two.survives.clean, clean)))
@@ -66,7 +63,7 @@ module _ {A B E : Type 0} (f g : Content → Content) (a b c : State) (u : A) (r
   makes_all_then one two = record {
     done = λ clean.
         let m = one.done (omega (arith, two.survives.clean, clean)) in
-        on_ok_then (MakesIfOpen g b c) (Makes (λ x. g (f x)) a c) r
+        on_ok_weaker {P = MakesIfOpen g b c} {Q = Makes (λ x. g (f x)) a c} r
         (λ h. made_then f g a b c m (h.made m.shows.is_open)) (two.done clean);
     kept = λ clean. on_err_then f a b c r (one.done (omega (arith, two.survives.clean, clean)))
         (two.kept clean);

@@ -12,8 +12,9 @@ use Rattle.reserving.specs.Left.{left_of}
 use Rattle.reserving.specs.Rows.{EachIn, AreApart, IsAccount}
 use Rattle.reserving.specs.Stored.{StoredRows, IsStored, priced, advanced_stored}
 use Rattle.reserving.proofs.LeftMore.{with_advanced}
-use Rattle.reserving.proofs.Lists.{no_some, some_of}
+use Rattle.reserving.proofs.Lists.{no_some, some_of, EachIn-weaker}
 use Rattle.reserving.proofs.StoredRows.{IsAccount-priced}
+use Rattle.reserving.proofs.LeftTests.{none_more}
 use Rattle.keepers.specs.declared.key.Key.{Key}
 use Rattle.keepers.specs.Tables.{Head, head_of as kept_head}
 use Rattle.keepers.specs.Change.{IsLoadedFrom, AreRowsAt, IsMadeFrom, IsSwept, over}
@@ -32,7 +33,7 @@ use Rattle.sql_keeper.specs.Writes.{head_of, meta_at, with_stored}
 use Rattle.sql_keeper.specs.declared.swept_rows.SweptAccount.{SweptAccount}
 use Rattle.sql_keeper.proofs.Changed.{over_stored, stored_over, rows_read, may_at, same_texts}
 use Rattle.sql_keeper.proofs.LiveRows.{live_loaded}
-use Rattle.sql_keeper.proofs.Overlays.{name_from, none_more, opened}
+use Rattle.sql_keeper.proofs.Overlays.{name_from, opened}
 
 -- ---- one account
 
@@ -185,11 +186,6 @@ module _ (names : List (List ℕ)) where
 
 -- ---- all of it
 
-each_to : {A : Type 0} (P Q : A → Type 0) (xs : List A) → ((x : A) → P x → Q x) →
-    EachIn P xs → EachIn Q xs
-each_to P Q [] to h = tt
-each_to P Q (x ∷ xs) to h = (to x h.0, each_to P Q xs to h.1)
-
 apart_of : (xs : List SweptAccount)
     → AreApart (λ x y. same_name y x) (map (λ (x : SweptAccount). x.number) xs)
     → AreApart same_account xs
@@ -232,10 +228,12 @@ found_one P a (y ∷ ys) x h e = at (same_name y.number a) refl e (found_one P a
 module _ (names : List (List ℕ)) (text : List ℕ) (book : Book) (t : ℕ) (c : Content)
     (xs : List SweptAccount) (ranges : IsBook book) (all : AreAllSwept names book t c xs) where
   may : EachIn (MayBePut names) xs
-  may = each_to (IsSweptOf names book t c) (MayBePut names) xs (λ x h. (h.stored, h.may)) all.each
+  may = EachIn-weaker (IsSweptOf names book t c) (MayBePut names) xs
+      (λ x h. (h.stored, h.may)) all.each
 
   there : EachIn (IsThere c) xs
-  there = each_to (IsSweptOf names book t c) (IsThere c) xs (λ x h. ap is_some h.live.0) all.each
+  there = EachIn-weaker (IsSweptOf names book t c) (IsThere c) xs
+      (λ x h. ap is_some h.live.0) all.each
 
   rows_are : (a : List ℕ) →
       (with_sweep names text t xs c).rows a ≡ row_after names (swept_at a xs) (c.rows a)

@@ -4,12 +4,13 @@ use Rattle.std.proofs.Common.{◌≡◌, ◌<◌, ◌≤◌, ◌+◌, ◌∙◌,
 use Rattle.std.proofs.Common.{◌++◌, length, map, take, get_or, Option, Some, None, Result, Ok, Err}
 use Rattle.std.proofs.Common.{IfOk, IsTrue, arith}
 use Rattle.std.proofs.lemmas.List.{take_more, take_all}
+use Rattle.std.proofs.lemmas.Result.{IfOk-weaker}
 use Rattle.sqlite_trees.specs.Tree.{Trees}
 use Rattle.sqlite.specs.Effect.{Database}
 use Rattle.sqlite.specs.State.{State, HasCleanDisk}
 use Rattle.tariffs.specs.Books.{Book, IsBook}
-use Rattle.reserving.specs.Rows.{EachIn}
 use Rattle.reserving.specs.Stored.{StoredRows}
+use Rattle.reserving.proofs.LeftTests.{each_append}
 use Rattle.keepers.specs.Change.{IsSwept}
 use Rattle.sql_tables.specs.Statements.{HasIdleBook}
 use Rattle.sql_tables.proofs.Keeps.{only_reads_then}
@@ -51,11 +52,6 @@ swept_made names book t c a o (Err e) made live = tt
 
 -- ---- one after another
 
-each_more : {A : Type 0} (P : A → Type 0) (xs : List A) (x : A) → EachIn P xs → P x →
-    EachIn P (xs ++ x ∷ [])
-each_more P [] x h one = (one, tt)
-each_more P (y ∷ ys) x h one = (h.0, each_more P ys x h.1 one)
-
 numbers_more : (xs : List SweptAccount) (x : SweptAccount)
     → map (λ (y : SweptAccount). y.number) (xs ++ x ∷ [])
     ≡ map (λ (y : SweptAccount). y.number) xs ++ x.number ∷ []
@@ -74,7 +70,7 @@ module _ (names : List (List ℕ)) (book : Book) (t : ℕ) where
       → AreSweptOf names book t c (numbers ++ a ∷ []) (xs ++ x ∷ [])
   more_swept c numbers a xs x h one = record {
     numbers_are = numbers_more xs x ∙ (λ i. h.numbers_are i ++ one.number_is i ∷ []);
-    each = each_more (IsSweptOf names book t c) xs x h.each one.swept;
+    each = each_append (IsSweptOf names book t c) xs (x ∷ []) h.each (one.swept, tt);
   }
 
   -- the accounts so far
@@ -124,11 +120,6 @@ module _ (names : List (List ℕ)) (book : Book) (t : ℕ) where
       (λ clean on. subst (λ ns. AreSweptOf names book t (content_of old.now.trees) ns (items v))
       (take_all i numbers end) (h.found clean on))
 
-  if_ok : {A E : Type 0} (P Q : A → Type 0) (r : Result A E) → ((x : A) → P x → Q x) →
-      IfOk r P → IfOk r Q
-  if_ok P Q (Ok x) to h = to x h
-  if_ok P Q (Err e) to h = tt
-
   -- the numbers of all accounts, and then the accounts of these numbers
   pub all_read : {V E : Type 0} (items : V → List SweptAccount) (numbers : List (List ℕ))
       (old mid new : State) (r : Result V E) → HaveRead old mid
@@ -137,8 +128,8 @@ module _ (names : List (List ℕ)) (book : Book) (t : ℕ) where
       → Gathers (λ trees v. AreAllSwept names book t (content_of trees) (items v)) old new r
   all_read items numbers old mid new r first accounts second = record {
     found = λ clean on.
-        if_ok (λ v. AreSweptOf names book t (content_of mid.now.trees) numbers (items v))
-        (λ v. AreAllSwept names book t (content_of old.now.trees) (items v)) r
+        IfOk-weaker r (λ v. AreSweptOf names book t (content_of mid.now.trees) numbers (items v))
+        (λ v. AreAllSwept names book t (content_of old.now.trees) (items v))
         (λ v there.
         let here : AreSweptOf names book t (content_of old.now.trees) numbers (items v) =
         told_before (λ trees. AreSweptOf names book t (content_of trees) numbers (items v)) old mid

@@ -1,12 +1,11 @@
 -- What rowids that rise say of the table.
-use Rattle.std.proofs.Common.{◌≡◌, inl, inr, ℕ, suc, ◌+◌, ◌<◌, length, slice_index_or, ap₂, arith}
+use Rattle.std.proofs.Common.{◌≡◌, ℕ, suc, ◌+◌, ◌<◌, length, slice_index_or, ap₂, arith}
 use Rattle.std.proofs.Common.{List, [], ◌∷◌, map, flat_map, Bool, false, Ordering, Less, Equal}
 use Rattle.std.proofs.Common.{Greater, is_eq, IsTrue, refl, sym, ap, subst, ◌∙◌}
-use Rattle.std.specs.Prelude.{codes, nat_le, ◌^◌}
+use Rattle.std.specs.Prelude.{codes}
 use Rattle.std.specs.List.{AllByRecursion, IsDistinct}
 use Rattle.std.specs.List.Sorted.{IsPermutation, IsSorted, IsSortedBy}
 use Rattle.std.specs.Ordering.{is_lt, ordering_reverse}
-use Rattle.std.proofs.lemmas.Bool.{cases_Bool}
 use Rattle.std.proofs.lemmas.List.{get_or-map, length-map}
 use Rattle.std.proofs.lemmas.List.Sorted.{IsPermutation-map, IsPermutation-sym}
 use Rattle.std.proofs.lemmas.Map.Keys.{IsDistinct-IsPermutation}
@@ -25,14 +24,9 @@ use Rattle.sqlite.proofs.Callers.{reads_as}
 use Rattle.sql_tables.specs.Keyed.{IsStored}
 use Rattle.sqlite_schema.specs.declared.schema.Table.{Table}
 use Rattle.sql_tables.specs.Schema.{book_schema}
+use Rattle.sql_tables.proofs.Steps.{bare}
 use Rattle.sql_opening.specs.Opens.{rowids_of, IsRowids}
 use Rattle.sql_opening.specs.Rises.{AreRising}
-
-bare : (db : Trees) (t : ℕ) → overlay db [] t ≡ db t
-bare db t = elim (cases_Bool (nat_le (2 ^ 31) t)) [
-  | inl e ↦ rw e refl
-  | inr e ↦ rw e refl
-]
 
 kept_ids : (tree : ℕ) (db : Trees) (rows : List Row)
     (a : IsAnswer (rowids_of tree) (overlay db []) [] rows)

@@ -3,7 +3,8 @@ ghost use Rattle.sql_opening.specs.Faults.{number_of};
 
 use thiserror::Error;
 
-/// Why a database isn't opened, in the order in which it is looked for (profile).
+/// Why a database isn't opened (profile). Its tables are looked at first, then the rules of what is
+/// kept once, then the version.
 #[derive(Clone, Copy, Debug, Drop, Error, PartialEq, Eq)]
 pub enum OpenFault {
     /// The database hasn't this system's tables, or has others.

@@ -6,6 +6,7 @@ use Rattle.std.specs.List.{AllByRecursion, IsDistinct}
 use Rattle.std.specs.Ordering.{eq_by_cmp, ordering_reverse}
 use Rattle.std.specs.List.Sorted.{IsPermutation}
 use Rattle.std.proofs.lemmas.Map.Keys.{IsDistinct-IsPermutation}
+use Rattle.std.specs.Cmp.{both_ways}
 use Rattle.sqlite_value.specs.declared.value.Value.{Value}
 use Rattle.sqlite_value.specs.Order.{Row, column, row_cmp, value_cmp}
 use Rattle.sqlite_value.proofs.OrderLemmas.{row_cmp_total, value_cmp_total}
@@ -36,11 +37,6 @@ value_itself v = ap is_eq (self_turned (value_cmp v v) (value_cmp_total.antisymm
 
 row_itself : (v : Row) → eq_by_cmp row_cmp v v ≡ true
 row_itself v = ap is_eq (self_turned (row_cmp v v) (row_cmp_total.antisymm v v))
-
-both_ways : (s t : Bool) → (s ≡ true → t ≡ true) → (t ≡ true → s ≡ true) → s ≡ t
-both_ways true t f g = sym (f refl)
-both_ways false true f g = g refl
-both_ways false false f g = refl
 
 flips : (x y : Row) → eq_by_cmp row_cmp x y ≡ eq_by_cmp row_cmp y x
 flips x y = both_ways _ _ (keys_back x y) (keys_back y x)

@@ -1,10 +1,11 @@
 -- What a selection that was decoded tells of the rows under a key.
 use Rattle.std.proofs.Common.{◌≡◌, ℕ, List, [], ◌∷◌, map, drop, Bool, true, false, ◌&&◌, Some, None}
 use Rattle.std.proofs.Common.{Option, is_eq, refl, sym, ap, ◌∙◌}
-use Rattle.std.specs.Prelude.{Result, Ok, Err, IfOk, option_and_then, option_map}
+use Rattle.std.specs.Prelude.{option_and_then, option_map}
 use Rattle.std.proofs.lemmas.Bool.{and_parts, and_from}
 use Rattle.std.specs.List.{AllByRecursion, find}
 use Rattle.std.specs.Ordering.{eq_by_cmp}
+use Rattle.std.proofs.lemmas.Option.{same_Some}
 use Rattle.sqlite_value.specs.Order.{Row, column, row_cmp}
 use Rattle.sqlite_trees.specs.Tree.{Trees}
 use Rattle.sqlite_sql.specs.Ops.{is_null}
@@ -29,9 +30,6 @@ only_all (Some x) = refl
 first_in : {X : Type 0} (o : Option X) → find (λ x. true) (one_or_none o) ≡ o
 first_in None = refl
 first_in (Some x) = refl
-
-same_some : {X : Type 0} {x y : X} → ◌≡◌ {A = Option X} (Some x) (Some y) → x ≡ y
-same_some e = cc
 
 module _ (table : Table) (tabled : Has book_schema.tables table)
     (listed : Has book_schema.indexes (key_index table)) (guarding : guards (key_index table) table
@@ -75,12 +73,7 @@ module _ (table : Table) (tabled : Has book_schema.tables table)
       (m, ap Some (back x r m same), told x r both.1 same))
       (λ x r m d l.
       let both = and_parts (front r) (rest r) (sym (splits r) ∙ m) in (
-        tests r ∙ and_from _ _ both.0 (lives r m (ap live (same_some d) ∙ l)),
+        tests r ∙ and_from _ _ both.0 (lives r m (ap live (same_Some _ _ d) ∙ l)),
         λ y e. sym (wanted y r (sym e)) ∙ both.1,
       ))
       ∙ ap (only live) (mapped_some of (look table trees key))
-
-pub told_if_ok : {V E : Type 0} {P Q : V → Type 0} (r : Result V E) → ((v : V) → P v → Q v) →
-    IfOk r P → IfOk r Q
-told_if_ok (Ok v) f h = f v h
-told_if_ok (Err e) f h = tt

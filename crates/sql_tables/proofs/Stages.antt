@@ -1,8 +1,9 @@
 -- What each text that makes a table leaves of the stages.
 use Rattle.std.proofs.Common.{◌≡◌, ◌⊎◌, inl, inr, ℕ, zero, suc, List, [], ◌∷◌, take, slice_get}
-use Rattle.std.proofs.Common.{Bool, true, false, Some, None, Option, Ok, Err, Result, OnOk, IsTrue}
+use Rattle.std.proofs.Common.{Bool, true, false, Some, None, Ok, Err, Result, OnOk, IsTrue}
 use Rattle.std.proofs.Common.{refl, sym, ap, subst, ◌∙◌}
 use Rattle.std.specs.List.{AllByRecursion}
+use Rattle.std.proofs.lemmas.Option.{same_Some}
 use Rattle.sqlite_value.specs.Order.{Row}
 use Rattle.sqlite_trees.specs.Tree.{Trees}
 use Rattle.sqlite_schema.specs.declared.schema.Table.{Table}
@@ -19,13 +20,10 @@ use Rattle.sql_tables.proofs.Creates.{IsText, makes}
 use Rattle.sql_tables.proofs.Indexed.{makes_cycle, makes_state}
 use Rattle.sql_tables.proofs.Keeps.{done_as}
 
-same_some : {A : Type 0} {x y : A} → ◌≡◌ {A = Option A} (Some x) (Some y) → x ≡ y
-same_some e = cc
-
 all_take : (P : Table → Type 0) (k : ℕ) (ts : List Table) (t : Table) → slice_get ts k ≡ Some t →
     AllByRecursion P (take k ts) → P t → AllByRecursion P (take (suc k) ts)
 all_take P k [] t e h p = absurd (cc)
-all_take P zero (x ∷ ts) t e h p = (subst P (sym (same_some e)) p, tt)
+all_take P zero (x ∷ ts) t e h p = (subst P (sym (same_Some _ _ e)) p, tt)
 all_take P (suc k) (x ∷ ts) t e h p = (h.0, all_take P k ts t e h.1 p)
 
 still_empty : (ts : List Table) (old new : Trees) → KeepsRows ts old new → AreEmpty ts old →

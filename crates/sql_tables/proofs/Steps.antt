@@ -1,10 +1,11 @@
 -- Small lemmas that the others share.
 use Rattle.std.proofs.Common.{◌≡◌, ◌⊎◌, inl, inr, ℕ, List, [], ◌∷◌, map, Bool, true, false, not}
-use Rattle.std.proofs.Common.{◌&&◌, ◌||◌, cond, Some, None, Ok, Err, Result, refl, sym, ap}
+use Rattle.std.proofs.Common.{◌&&◌, ◌||◌, cond, Some, None, Ok, Err, Result, refl, ap}
 use Rattle.std.specs.Prelude.{nat_le, ◌^◌}
 use Rattle.std.proofs.lemmas.Bool.{cases_Bool}
 use Rattle.std.specs.List.Sorted.{IsPermutation}
 use Rattle.std.proofs.lemmas.List.Sorted.{Contains-permutation}
+pub use Rattle.std.specs.Cmp.{both_ways as same_test}
 use Rattle.sqlite_trees.specs.Tree.{Trees}
 use Rattle.sqlite_sql.specs.Ops.{is_true, from_truth}
 use Rattle.sqlite_sql.specs.Program.{overlay}
@@ -28,11 +29,6 @@ bare db t = elim (cases_Bool (nat_le (2 ^ 31) t)) [
 ]
 
 -- ---- tests
-
-pub same_test : (a b : Bool) → (a ≡ true → b ≡ true) → (b ≡ true → a ≡ true) → a ≡ b
-same_test true b f g = sym (f refl)
-same_test false true f g = g refl
-same_test false false f g = refl
 
 pub truth_told : (b : Bool) → is_true (from_truth (Some b)) ≡ b
 truth_told true = refl

@@ -4,6 +4,7 @@ use Rattle.std.proofs.Common.{Bool, true, false, not, ◌&&◌, ◌||◌, cond, 
 use Rattle.std.proofs.Common.{Ordering, Less, Equal, Greater, is_eq, IsTrue, refl, sym, ap, ap₂}
 use Rattle.std.proofs.Common.{subst, ◌∙◌}
 use Rattle.std.proofs.lemmas.Bool.{cases_Bool, and_parts, and_from, or_left, or_right, not-true}
+use Rattle.std.proofs.lemmas.Bool.{false_from_ne_true}
 use Rattle.std.specs.FinMap.{FinMap, get, insert, get-from_entries, get-insert}
 use Rattle.std.specs.FinMap.Entries.{find, where_key, find-where_key}
 use Rattle.std.specs.List.{AllByRecursion, list_any, list_all}
@@ -46,10 +47,6 @@ swapped false b x y z apart = refl
 covered : {A : Type 0} (b : Bool) (x y z : A) → cond b x (cond b y z) ≡ cond b x z
 covered true x y z = refl
 covered false x y z = refl
-
-false_from : (b : Bool) → (b ≡ true → ⊥) → b ≡ false
-false_from true h = absurd (h refl)
-false_from false h = refl
 
 module _ (places : List ℕ) where
   abbrev at : Row → List Row → Option Row
@@ -195,7 +192,7 @@ module _ (places : List ℕ) (schema : Schema) (table : Table) (tabled : Has sch
     added a =
         let new = Int (next_rowid rows) ∷ values in
         let none : AllByRecursion (λ r. not (tie places r new) ≡ true) rows = all_from _ rows
-        (λ r h. ap not (false_from _ (λ e. a.none r h (meets (next_rowid rows) r ∙ e)))) in
+        (λ r h. ap not (false_from_ne_true _ (λ e. a.none r h (meets (next_rowid rows) r ∙ e)))) in
         record {
           rows = subst (λ k.
               Alike (table_of places (next table.tree)) (insert (table_of places rows) k values))

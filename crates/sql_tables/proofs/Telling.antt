@@ -1,12 +1,12 @@
 -- What a call tells that makes values of the rows of one selection, and of two calls in turn.
 use Rattle.std.proofs.Common.{◌≡◌, ℕ, List, Bool, true, false, true≢false, IsTrue, Result, IfOk}
 use Rattle.std.proofs.Common.{OnOk, refl, subst, sym, arith}
+use Rattle.std.proofs.lemmas.Result.{IfOk-weaker}
 use Rattle.sqlite_value.specs.Order.{Row}
 use Rattle.sqlite_trees.specs.Tree.{Trees}
 use Rattle.sqlite.specs.State.{State, HasCleanDisk, Survives}
 use Rattle.sqlite.proofs.StateLemmas.{survives_then}
 use Rattle.sql_tables.specs.Statements.{Answers, OnlyReads, Reads}
-use Rattle.sql_tables.proofs.ByKey.{told_if_ok}
 use Rattle.sql_tables.proofs.Keeps.{on_ok}
 
 -- what is made of the rows is told by the tables
@@ -19,7 +19,7 @@ pub reads_as : {V E : Type 0} {P : V → Type 0} (told : Trees → V → Type 0)
     → Reads told old new r
 reads_as told sql held params old new rows slice r only survives answers is same made tells =
     record {
-      found = λ clean. told_if_ok r (λ v p. tells v
+      found = λ clean. IfOk-weaker r _ _ (λ v p. tells v
           (subst (λ l. Answers sql params old new l) (sym same)
           (subst (λ w. Answers sql w old new rows) is (answers clean))) p) made;
       only = only;

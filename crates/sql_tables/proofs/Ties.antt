@@ -5,7 +5,8 @@ use Rattle.std.proofs.Common.{ap, ap₂, subst, ◌∙◌}
 use Rattle.std.proofs.lemmas.Cmp.{tied_itself}
 use Rattle.std.specs.FinMap.{int_cmp-IsAntisymmetric}
 use Rattle.std.specs.List.{AllByRecursion}
-use Rattle.std.specs.Ordering.{eq_by_cmp, ordering_then}
+use Rattle.std.specs.Ordering.{eq_by_cmp}
+pub use Rattle.std.specs.Cmp.{tied_then as tie_parts}
 use Rattle.sqlite_value.specs.declared.value.Value.{Value}
 use Rattle.sqlite_value.specs.declared.value.Value.TheVariants.{Null, Int, Real, Text, Blob}
 use Rattle.sqlite_value.specs.declared.keys.Collation.TheVariants.{Binary}
@@ -55,11 +56,6 @@ equals_itself Null p = absurd (cc)
 equals_itself (Real x) p = absurd (cc)
 equals_itself (Text x) p = absurd (cc)
 equals_itself (Blob x) p = absurd (cc)
-
-pub tie_parts : (o p : Ordering) → (is_eq o && is_eq p) ≡ is_eq (ordering_then o p)
-tie_parts Less p = refl
-tie_parts Equal p = refl
-tie_parts Greater p = refl
 
 -- SQL's equality of keys is that of the order, where the key has no NULL
 pub agree_ties : (places : List ℕ) (row new : Row)

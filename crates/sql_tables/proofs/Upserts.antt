@@ -1,10 +1,10 @@
 -- What INSERT .. ON CONFLICT (key) DO UPDATE of one row makes of its table.
 use Rattle.std.proofs.Common.{◌≡◌, ◌≢◌, ◌⊎◌, inl, inr, ℕ, ℤ, pos, negsuc, List, [], ◌∷◌, ◌++◌, map}
-use Rattle.std.proofs.Common.{flat_map, length, slice_get, drop, Bool, true, false, not, ◌&&◌, cond}
+use Rattle.std.proofs.Common.{flat_map, length, slice_get, drop, true, false, not, ◌&&◌, cond}
 use Rattle.std.proofs.Common.{if◌then◌else◌, ◌/◌, ◌<◌, Some, None, Option, Ok, Err, Result, OnOk}
 use Rattle.std.proofs.Common.{IsTrue, refl, sym, ap, subst, ◌∙◌, arith}
 use Rattle.std.specs.Prelude.{nat_le, ◌^◌}
-use Rattle.std.proofs.lemmas.Bool.{cases_Bool, and_parts}
+use Rattle.std.proofs.lemmas.Bool.{cases_Bool, and_parts, not-true}
 use Rattle.std.proofs.lemmas.Cmp.{tied_itself}
 use Rattle.std.proofs.lemmas.List.Sorted.{length_permutation}
 use Rattle.std.specs.List.{AllByRecursion, list_any, list_all}
@@ -71,10 +71,6 @@ pick tree base project = record {
   limit = lit (Int (negsuc 0));
   offset = lit (Int (pos 0));
 }
-
-not_not : (b : Bool) → not b ≡ true → b ≡ false
-not_not true e = absurd (cc)
-not_not false e = refl
 
 -- the table has the new row among these, and each other tree is as it was
 pub record Put (schema : Schema) (table : Table) (new : Row) (before : List Row)
@@ -236,7 +232,7 @@ module _ (limit : Option ℕ) (schema : Schema) (table : Table) (params values :
       let fresh : are_fresh (mid table.tree) (new ∷ []) ≡ true =
       subst (λ n. are_fresh (mid table.tree) n ≡ true) news done.fresh in
       record {
-        fresh = not_not _ (and_parts _ _ fresh).0;
+        fresh = not-true _ (and_parts _ _ fresh).0;
         rows = ap (λ (t : Trees). t table.tree) trees
             ∙ done.rows
             ∙ ap (λ r. put_row r (mid table.tree)) (again _);
@@ -302,7 +298,7 @@ module _ (limit : Option ℕ) (schema : Schema) (table : Table) (params values :
         has = has;
         meets = meets;
         put = record {
-          fresh = not_not _ (and_parts _ _ fresh).0;
+          fresh = not-true _ (and_parts _ _ fresh).0;
           rows = ap (λ (t : Trees). t table.tree) trees
               ∙ done.rows
               ∙ ap (put_all (left_by db edit)) news

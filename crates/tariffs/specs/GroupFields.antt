@@ -44,7 +44,7 @@ most_units Time = 4_294_967_295
 most_units TotalOctets = 1_000_000_000_000_000
 most_units ServiceSpecific = 1_000_000_000_000_000
 
--- `max_grant`: not below the slice, and less than 10^9 blocks
+-- `max_grant`: not below the slice, and less than 10^9 whole blocks
 unfoldable pub max_grant_of : UnitKind → ℕ → ℕ → Members → Result ℕ BookFault
 max_grant_of unit block slice t = do
   most ← number_in (codes "max_grant") 1 1_000_000_000_000_000 t

@@ -64,7 +64,7 @@ impl Tariff {
         self.slice
     }
 
-    /// The greatest number of units of one grant, 1 to 10^15 and less than 10^9 blocks.
+    /// The greatest number of units of one grant, 1 to 10^15 and less than 10^9 whole blocks.
     pub fn max_grant(&self) -> u64
         ensures value { result ≡ self.now.max_grant }
         ensures tariff { IsTariff self.now }

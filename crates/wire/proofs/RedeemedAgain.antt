@@ -1,7 +1,7 @@
 -- What is kept of a redemption is read as that redemption.
-use Rattle.std.proofs.Common.{nat_eq, sym, subst, ◌≡◌, ℕ, ◌<◌, lit≤, List, length, Bool, true, ◌&&◌}
-use Rattle.std.proofs.Common.{◌==◌, Option, Some, None, Result, Ok, Err, refl, ap, ◌∙◌, arith}
-use Rattle.std.proofs.Common.{nat_le, leb-true}
+use Rattle.std.proofs.Common.{nat_eq, sym, subst, ◌≡◌, ℕ, lit≤, List, length, Bool, true, ◌&&◌}
+use Rattle.std.proofs.Common.{◌==◌, Option, Some, None, Result, Ok, Err, refl, ap, ◌∙◌}
+use Rattle.std.proofs.Common.{nat_le}
 use Rattle.std.specs.List.{list_all}
 use Rattle.std.specs.Str.{IsUtf8}
 use Rattle.std.specs.Cmp.Lexicographic.{pointwise, bytes_decides}
@@ -24,7 +24,7 @@ use Rattle.json_fields.proofs.Fit.{Fit, FitMembers, fit_text, fit_object, fit_no
 use Rattle.json_fields.proofs.Fit.{fit_deeper, document_again, ascii_text}
 use Rattle.json_fields.proofs.Kept.{same_value, bind_ok, where_ok}
 use Rattle.json_fields.proofs.Order.{in_order}
-use Rattle.wire_requests.proofs.RequestsAgain.{and_three, visible_small, account_utf8}
+use Rattle.wire_requests.proofs.RequestsAgain.{and_three, visible_small, account_utf8, digit_small}
 use Rattle.wire.specs.Credits.{reference_at}
 use Rattle.wire.specs.Redeemed.{account_at, code_at, redemption_at, kept_redemption_at}
 use Rattle.wire.specs.Redeemed.{redemption_data, redemption_text, IsRedemption}
@@ -48,9 +48,6 @@ redemption_again r is =
       text_found avp.Reference d r.reference refl,
       is.reference,
     ) refl
-
-digit_small : (b : ℕ) → is_digit b ≡ true → b < 128
-digit_small b h = omega (arith, leb-true b 57 (and_parts (nat_le 48 b) (nat_le b 57) h).1)
 
 code_utf8 : (s : List ℕ) → is_voucher_code s ≡ true → IsUtf8 s
 code_utf8 s h = IsUtf8-are_ascii s

@@ -2,7 +2,7 @@
 use Rattle.std.proofs.Common.{subst, ◌≡◌, ℕ, suc, ◌≤◌, ◌<◌, ◌^◌, lit<, lit≤, List, [], ◌∷◌, ◌++◌}
 use Rattle.std.proofs.Common.{length, Bool, true, false, ◌&&◌, Option, Some, None, option_map}
 use Rattle.std.proofs.Common.{IfSome, Result, Ok, Err, refl, sym, ap, ◌∙◌, arith, append_assoc}
-use Rattle.std.proofs.Common.{append-nil, leb-true, le-leb, nat_le}
+use Rattle.std.proofs.Common.{append-nil, leb-true, nat_le}
 use Rattle.std.specs.Prelude.{◌==◌, nat_eq}
 use Rattle.std.specs.List.{AllByRecursion, list_all, find}
 use Rattle.std.specs.Str.{IsUtf8}
@@ -76,9 +76,10 @@ use Rattle.json_fields.proofs.Fit.{fit_perhaps, fit_optional, fit_deeper, fit_mo
 use Rattle.json_fields.proofs.Fit.{document_again, ascii_text}
 use Rattle.wire_requests.specs.Reading.{session_at, kind_at}
 use Rattle.wire_requests.proofs.RequestsAgain.{and_three, session_utf8, visible_small, quantity_low}
-use Rattle.wire_requests.proofs.RequestsAgain.{quantity_high, most_small, session_again, kind_again}
+use Rattle.wire_requests.proofs.RequestsAgain.{quantity_high, session_again, kind_again, unit_ascii}
 use Rattle.wire_requests.proofs.RequestsAgain.{kind_small}
 use Rattle.commands.proofs.Inverses.{are_tables}
+use Rattle.commands.proofs.Amounts.{most_small}
 use Rattle.wire_answers.specs.Members.{number_in, text_in, object_in}
 use Rattle.wire_answers.specs.Spelled.{granted_data, server_data, final_data, final_of, granted_of}
 use Rattle.wire_answers.specs.Spelled.{validity_of, service_code, service_data, service_items}
@@ -86,7 +87,7 @@ use Rattle.wire_answers.specs.Spelled.{failure_named, outcome_named, outcome_cod
 use Rattle.wire_answers.specs.Spelled.{request_answer_data, code_member, answer_data, answer_text}
 use Rattle.wire_answers.specs.SpelledBalances.{balance_data}
 use Rattle.wire_answers.proofs.BalancesAgain.{balance_members, account_balance_again}
-use Rattle.wire_answers.proofs.BalancesAgain.{account_balance_fit}
+use Rattle.wire_answers.proofs.BalancesAgain.{account_balance_fit, number_in_found}
 use Rattle.wire_answers.specs.Rules.{IsFinal, IsGrant, IsServiceOutcome, IsServiceAnswer, IsCost}
 use Rattle.wire_answers.specs.Rules.{IsOutcome, IsRequestAnswer, IsAnswer}
 use Rattle.wire_answers.specs.ReadingAnswers.{redirect_at, final_told, final_in, final_when}
@@ -101,11 +102,6 @@ use Rattle.wire_answers.specs.ReadingAnswers.{answer_when, answer_of, AnswersRea
 use Rattle.wire_answers.specs.ReadingAnswers.{ReadsWritten, AnswersAreInOrder}
 
 -- ---- members
-
-number_in_found : (name : List ℕ) (low high : ℕ) (d : Data) (n : ℕ) → get name d ≡ Some (whole n) →
-    low ≤ n → n ≤ high → number_in name low high d ≡ Ok n
-unfolding number_in
-number_in_found name low high d n e l h = rw (e, le-leb low n l, le-leb n high h) refl
 
 text_in_found : (name : List ℕ) (d : Data) (s : List ℕ) → get name d ≡ Some (string s) →
     text_in name d ≡ Ok s
@@ -436,11 +432,6 @@ request_again a is =
 
 name : (s : List ℕ) → are_ascii s ≡ true → IsUtf8 s
 name = IsUtf8-are_ascii
-
-unit_ascii : (k : UnitKind) → are_ascii (name_of_unit k) ≡ true
-unit_ascii unit.Time = refl
-unit_ascii unit.TotalOctets = refl
-unit_ascii unit.ServiceSpecific = refl
 
 unit_above : (k : UnitKind) → slice_cmp nat_cmp tariff_time_change (name_of_unit k) ≡ Greater
 unit_above unit.Time = refl

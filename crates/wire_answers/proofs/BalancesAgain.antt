@@ -36,8 +36,8 @@ use Rattle.wire_answers.specs.ReadingBalances.{bucket_with, bucket_at, buckets_f
 use Rattle.wire_answers.specs.ReadingBalances.{account_in, balance_at}
 use Rattle.wire_answers.specs.Rules.{IsBucketBalance, IsAccountBalance}
 
-number_in_found : (name : List ℕ) (low high : ℕ) (d : Data) (n : ℕ) → get name d ≡ Some (whole n) →
-    low ≤ n → n ≤ high → number_in name low high d ≡ Ok n
+pub number_in_found : (name : List ℕ) (low high : ℕ) (d : Data) (n : ℕ) →
+    get name d ≡ Some (whole n) → low ≤ n → n ≤ high → number_in name low high d ≡ Ok n
 unfolding number_in
 number_in_found name low high d n e l h = rw (e, le-leb low n l, le-leb n high h) refl
 

@@ -5,7 +5,7 @@ use Rattle.std.proofs.Common.{le-leb, nat_le}
 use Rattle.std.specs.Prelude.{not, ◌==◌, option_and_then}
 use Rattle.std.specs.List.{list_all}
 use Rattle.std.specs.Option.{option_eq}
-use Rattle.std.proofs.lemmas.Bool.{and_parts}
+use Rattle.std.proofs.lemmas.Bool.{and_parts, and_from, not-true}
 use Rattle.serde_json.specs.Data.{Data, Items}
 use Rattle.serde_json.specs.Events.{items_len}
 use Rattle.serde_json.specs.Find.{get, as_object, as_number, as_u64}
@@ -32,13 +32,6 @@ use Rattle.wire_requests.specs.declared.phase.Phase.TheVariants.{Initial, Update
 use Rattle.wire_requests.specs.Reports.{required_at, tag_is_taken, usage_at, part_at, parts_from}
 use Rattle.wire_requests.specs.Phases.{requested_at, used_at, group_is_taken, service_at}
 use Rattle.wire_requests.specs.Phases.{are_objects, fewest, services_of, services_when, services_at}
-
-both : (a b : Bool) → a ≡ true → b ≡ true → (a && b) ≡ true
-both a b p q = rw (p, q) refl
-
-not_taken : (b : Bool) → not b ≡ true → b ≡ false
-not_taken true h = absurd (cc)
-not_taken false h = refl
 
 -- ---- reports
 
@@ -71,7 +64,7 @@ part_ok kind done d p h =
       subst (λ (q : UsedPart). nat_le q.units.0 (most_units kind) ≡ true) is
           (units_ok (Invalid avp.UsedUnit) 0 kind d n.0 n.1),
       subst (λ (q : UsedPart). tag_is_taken done q.change ≡ false) is
-          (not_taken (tag_is_taken done tag.0) test.0),
+          (not-true (tag_is_taken done tag.0) test.0),
     )
 
 abbrev IsPartsSoFar : UnitKind → List UsedPart → Type 0
@@ -124,7 +117,7 @@ content_ok d o h = subst (λ (q : Option Requested). is_none q ≡ true) (where_
 
 fits_ok : (phase : Phase) (d : Data) (s : Service) → requested_at phase d ≡ Ok s.requested →
     used_at phase d ≡ Ok s.used → fits phase s ≡ true
-fits_ok Initial d s r u = both _ _ (asked_ok d s.requested r) (silent_ok d s.used u)
+fits_ok Initial d s r u = and_from _ _ (asked_ok d s.requested r) (silent_ok d s.used u)
 fits_ok Update d s r u = refl
 fits_ok Termination d s r u = content_ok d s.requested r
 
@@ -142,7 +135,7 @@ service_ok phase done d s h =
     let u = bind_ok (used_at phase d) _ s r.2 in
     let is = same_value _ s u.2 in (
       subst (λ (q : Service). group_is_taken done q.group ≡ false) is
-          (not_taken (group_is_taken done g.0) test.0),
+          (not-true (group_is_taken done g.0) test.0),
       subst (λ (q : Service). fits phase q ≡ true) is
           (fits_ok phase d (record { group = g.0; requested = r.0; used = u.0 }) r.1 u.1),
     )

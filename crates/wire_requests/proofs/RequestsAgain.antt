@@ -10,7 +10,7 @@ use Rattle.std.specs.Str.{IsUtf8}
 use Rattle.std.specs.Ordering.{nat_cmp}
 use Rattle.std.specs.declared.cmp.Ordering.TheVariants.{Greater}
 use Rattle.std.specs.Cmp.Lexicographic.{slice_cmp}
-use Rattle.std.proofs.lemmas.Bool.{and_parts}
+use Rattle.std.proofs.lemmas.Bool.{and_parts, not-true}
 use Rattle.json.proofs.Printed.Utf8.{are_ascii, IsUtf8-are_ascii}
 use Rattle.serde_json.specs.Data.{Data, string, array, object, no_items, item, Members, no_members}
 use Rattle.serde_json.specs.Data.{member}
@@ -43,6 +43,7 @@ use Rattle.commands.specs.declared.request.Ask.{Ask}
 use Rattle.commands.specs.declared.request.Ask.TheVariants as ask
 use Rattle.commands.specs.declared.request.Request.{Request}
 use Rattle.commands.specs.Codes.{kind_number, kind_of_ask, action_number}
+use Rattle.commands.proofs.Amounts.{most_small}
 use Rattle.first_fault.specs.Steps.{each}
 use Rattle.json_fields.specs.declared.fault.WireFault.TheVariants.{Invalid}
 use Rattle.json_fields.specs.Gives.{read_each}
@@ -76,14 +77,10 @@ use Rattle.wire_requests.proofs.Kept.{fits}
 no : {X : Type 0} → false ≡ true → X
 no e = absurd (cc)
 
-unlike_by : (b : Bool) → not b ≡ true → b ≡ false
-unlike_by true h = no h
-unlike_by false h = refl
-
 unlike : {A : Type 0} (test : A → Bool) (xs ys : List A) (y : A) →
     list_all (λ z. not (test z)) (xs ++ y ∷ ys) ≡ true → test y ≡ false
 unlike test [] ys y h =
-    unlike_by (test y) (and_parts (not (test y)) (list_all (λ z. not (test z)) ys) h).0
+    not-true (test y) (and_parts (not (test y)) (list_all (λ z. not (test z)) ys) h).0
 unlike test (x ∷ xs) ys y h =
     unlike test xs ys y (and_parts (not (test x)) (list_all (λ z. not (test z)) (xs ++ y ∷ ys)) h).1
 
@@ -515,7 +512,7 @@ account_again d s e h =
 pub visible_small : (b : ℕ) → is_visible b ≡ true → b < 128
 visible_small b h = omega (arith, leb-true b 126 (and_parts (nat_le 33 b) (nat_le b 126) h).1)
 
-digit_small : (b : ℕ) → is_digit b ≡ true → b < 128
+pub digit_small : (b : ℕ) → is_digit b ≡ true → b < 128
 digit_small b h = omega (arith, leb-true b 57 (and_parts (nat_le 48 b) (nat_le b 57) h).1)
 
 pub session_utf8 : (s : List ℕ) → is_session_id s ≡ true → IsUtf8 s
@@ -526,7 +523,7 @@ pub account_utf8 : (s : List ℕ) → is_account_number s ≡ true → IsUtf8 s
 account_utf8 s h = IsUtf8-are_ascii s (ascii_text is_digit digit_small s
     (and_three (nat_le 1 (length s)) (nat_le (length s) 15) (list_all is_digit s) h).2)
 
-unit_ascii : (k : UnitKind) → are_ascii (name_of_unit k) ≡ true
+pub unit_ascii : (k : UnitKind) → are_ascii (name_of_unit k) ≡ true
 unit_ascii unit.Time = refl
 unit_ascii unit.TotalOctets = refl
 unit_ascii unit.ServiceSpecific = refl
@@ -535,11 +532,6 @@ unit_above : (k : UnitKind) → slice_cmp nat_cmp tariff_change_usage (name_of_u
 unit_above unit.Time = refl
 unit_above unit.TotalOctets = refl
 unit_above unit.ServiceSpecific = refl
-
-pub most_small : (k : UnitKind) → most_units k ≤ 1000000000000000000
-most_small unit.Time = lit≤ tt
-most_small unit.TotalOctets = lit≤ tt
-most_small unit.ServiceSpecific = lit≤ tt
 
 requested_fit : (r : Requested) → IsRequested r → Fit 1 (requested_data r)
 requested_fit Slice is = fit_object 0 no_members (fit_none 0)

@@ -1,10 +1,11 @@
 -- The fault of a request is told of a member that is missing or stands.
 use Rattle.std.proofs.Common.{◌≡◌, ℕ, List, [], ◌∷◌, ◌++◌, Bool, true, false, Option, Some, None}
-use Rattle.std.proofs.Common.{is_some, is_none, ◌&&◌, ◌||◌, Result, Ok, Err, refl, sym, ap, ◌∙◌}
+use Rattle.std.proofs.Common.{is_some, is_none, ◌&&◌, Result, Ok, Err, refl, sym, ap, ◌∙◌}
 use Rattle.std.proofs.Common.{subst, nat_le, append_assoc}
 use Rattle.std.specs.Prelude.{pos, negsuc, int_le, nat_eq, option_and_then, ◌==◌, ⊤, if◌then◌else◌}
 use Rattle.std.specs.Prelude.{not}
 use Rattle.std.specs.List.{list_any}
+use Rattle.std.proofs.lemmas.Bool.{or_right}
 use Rattle.serde_json.specs.Data.{Data, Items, no_items, item}
 use Rattle.serde_json.specs.Events.{items_len}
 use Rattle.serde_json.specs.Find.{get, as_number, as_u64, as_i64, as_str, as_array, as_object}
@@ -96,10 +97,6 @@ alone h p e = rw e refl
 
 value_holds : (o : Option Data) (h : Data) → o ≡ Some h → Holds (values o) h
 value_holds o h is = subst (λ (x : Option Data). Holds (values x) h) (sym is) (alone h)
-
-or_right : (a b : Bool) → b ≡ true → (a || b) ≡ true
-or_right true b e = refl
-or_right false b e = e
 
 middle : (pre : List Data) (h : Data) (rest : List Data) → Holds (pre ++ h ∷ rest) h
 middle [] h rest p e = rw e refl

@@ -12,9 +12,9 @@ use Rattle.reserving.specs.Left.{LeftRows, placed, merged, joined, IsLeft, IsWit
 use Rattle.reserving.proofs.Advancing.{session_in-advanced}
 use Rattle.reserving.proofs.Advanced.{IsAccount-advanced}
 use Rattle.reserving.proofs.Crediting.{IsAccount-credited, IsRowsOf-credited}
-use Rattle.reserving.proofs.LeftJoined.{each_in_map}
 use Rattle.reserving.proofs.LeftFrames.{advanced_joined}
 use Rattle.reserving.proofs.LeftMore.{inserted_merged}
+use Rattle.reserving.proofs.Lists.{EachIn-weaker}
 
 below_placed : (n : ℕ) (b : Row) (xs : List Row) → IsBelow n (placed b xs) →
     (b.number < n) × IsBelow n xs
@@ -38,9 +38,9 @@ pub left_advanced : (left : LeftRows) (t : ℕ) (a : AccountRows) → IsLeft lef
 left_advanced left t a h = record {
   dead = h.dead;
   over = h.over;
-  apart = each_in_map _ _ left.sessions (λ r e. session_in-advanced r.id t a e) h.apart;
+  apart = EachIn-weaker _ _ left.sessions (λ r e. session_in-advanced r.id t a e) h.apart;
   free = h.free;
-  others = each_in_map _ _ left.groups (λ r e. session_in-advanced r.session t a e) h.others;
+  others = EachIn-weaker _ _ left.groups (λ r e. session_in-advanced r.session t a e) h.others;
   whole = subst IsAccount (advanced_joined t left a h)
       (IsAccount-advanced (joined left a) t h.whole);
 }

@@ -1,10 +1,10 @@
 -- A grant, and a debit, leave the rows that were left as they are.
-use Rattle.std.proofs.Common.{◌≡◌, ℕ, ◌+◌, true, false, cond, List, [], ◌∷◌, ◌++◌, map, refl, ap}
+use Rattle.std.proofs.Common.{◌≡◌, ℕ, ◌+◌, true, false, List, [], ◌∷◌, ◌++◌, map, refl}
 use Rattle.std.proofs.Common.{◌∙◌, arith, Some}
-use Rattle.std.specs.Prelude.{if◌then◌else◌, nat_lt, min, ◌-◌}
+use Rattle.std.specs.Prelude.{◌-◌}
 use Rattle.rating.specs.declared.grant.Periods.{Periods}
 use Rattle.buckets.specs.declared.holds.Hold.{Hold}
-use Rattle.buckets.specs.Row.{Row, precedes, eligible_amount, with_hold}
+use Rattle.buckets.specs.Row.{Row, eligible_amount, with_hold}
 use Rattle.buckets.specs.Share.{share, parts}
 use Rattle.buckets.specs.Spend.{Each, held_rows}
 use Rattle.buckets.specs.Holding.{holds_of}
@@ -15,37 +15,18 @@ use Rattle.reserving.specs.Pricing.{periods_at}
 use Rattle.reserving.specs.Sessions.{is_of, is_live_in}
 use Rattle.reserving.specs.Changes.{used_in, with_reservation, reserved_account}
 use Rattle.reserving.specs.Rows.{AccountRows, EachIn}
-use Rattle.reserving.specs.Left.{LeftRows, placed, merged, joined, IsDead, IsLeft}
-use Rattle.reserving.proofs.LeftMerged.{map_merged, each_map, share_merged, dead_amount}
+use Rattle.reserving.specs.Left.{LeftRows, merged, joined, IsDead, IsLeft}
+use Rattle.reserving.proofs.LeftMerged.{map_merged, each_map, share_merged, dead_amount, min_none}
 use Rattle.reserving.proofs.LeftJoined.{put_behind}
 use Rattle.reserving.proofs.LeftFrames.{not_of_live, row_same}
+use Rattle.reserving.proofs.InOrder.{parts_placed}
 
 -- ---- shares as holds
-
-parts_first : (f : Row → ℕ) (b : Row) (xs : List Row) → f b ≡ 0 → parts f (b ∷ xs) ≡ parts f xs
-parts_first f b xs e =
-    ap (λ n. cond (nat_lt 0 n) (record { bucket = b.number; amount = n } ∷ parts f xs) (parts f xs))
-    e
-
-parts_placed : (f : Row → ℕ) (b : Row) (xs : List Row) → f b ≡ 0 →
-    parts f (placed b xs) ≡ parts f xs
-parts_placed f b [] e = parts_first f b [] e
-parts_placed f b (x ∷ xs) e =
-    elim (precedes b x) as
-    (λ t. parts f (if t then b ∷ x ∷ xs else x ∷ placed b xs) ≡ parts f (x ∷ xs)) [
-      | true ↦ parts_first f b (x ∷ xs) e
-      | false ↦ ap
-          (λ hs. cond (nat_lt 0 (f x)) (record { bucket = x.number; amount = f x } ∷ hs) hs)
-          (parts_placed f b xs e)
-    ]
 
 parts_merged : (f : Row → ℕ) (left rows : List Row) → Each (λ b. f b ≡ 0) left →
     parts f (merged left rows) ≡ parts f rows
 parts_merged f [] rows h = refl
 parts_merged f (b ∷ bs) rows h = parts_placed f b (merged bs rows) h.0 ∙ parts_merged f bs rows h.1
-
-min_none : (m n : ℕ) → m ≡ 0 → min m n ≡ 0
-min_none m n e = omega (arith, e)
 
 pub holds_merged : (group at amount : ℕ) (left rows : List Row) → Each IsDead left →
     holds_of group at amount (merged left rows) ≡ holds_of group at amount rows

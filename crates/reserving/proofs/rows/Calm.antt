@@ -1,15 +1,15 @@
 -- Calls that leave an account calm, and that such an account is as if it were brought to its
 -- moment.
-use Rattle.std.proofs.Common.{◌≡◌, ℕ, ◌+◌, ◌*◌, ◌-◌, ◌≤◌, Bool, true, false, List, [], ◌∷◌, cond}
+use Rattle.std.proofs.Common.{◌≡◌, ℕ, ◌+◌, ◌*◌, ◌-◌, ◌≤◌, Bool, true, false, List, [], ◌∷◌}
 use Rattle.std.proofs.Common.{map, refl, sym, ap, ◌∙◌, subst, arith, Option, Some, None}
 use Rattle.std.specs.Prelude.{if◌then◌else◌, not, nat_lt, unwrap_or, option_map}
-use Rattle.std.specs.List.{find}
 use Rattle.std.proofs.lemmas.Bool.Decides.{nat_tests}
 use Rattle.buckets.specs.Row.{Row, eligible_amount, with_hold, with_charge, with_charge_of_hold}
 use Rattle.buckets.specs.Row.{with_release, with_end}
 use Rattle.buckets.specs.Share.{share}
 use Rattle.buckets.specs.Spend.{Each}
 use Rattle.buckets.specs.Holding.{held_in, settled_row, paid_of_hold, paid_of_rest}
+use Rattle.buckets.proofs.SharesAlong.{with_release_until}
 use Rattle.reserving.specs.declared.session.Session.{Session}
 use Rattle.reserving.specs.declared.session.SessionGroup.{SessionGroup}
 use Rattle.reserving.specs.declared.session.SessionState.TheVariants.{Open, Ended}
@@ -21,7 +21,8 @@ use Rattle.reserving.specs.Changes.{reserved_account, touched_session, touched_a
 use Rattle.reserving.specs.Prepared.{with_group, with_rows, with_group_row}
 use Rattle.reserving.specs.Rows.{AccountRows, EachIn}
 use Rattle.reserving.specs.Calm.{IsCalm}
-use Rattle.reserving.proofs.Lists.{find-map, EachIn-map, EachIn-put, not_both, no_some, some_of}
+use Rattle.reserving.proofs.Lists.{find-map, EachIn-map, EachIn-put, not_both}
+use Rattle.reserving.proofs.Lists.{EachIn-found, EachIn-weaker}
 use Rattle.reserving.proofs.ledger.Columns.{with_columns}
 use Rattle.reserving.proofs.rows.Lapsing.{released_none}
 use Rattle.reserving.proofs.rows.TwoAdvances.{lapse_twice, live_alike}
@@ -47,15 +48,6 @@ rows_made : (Q : Row → Type 0) (f : Row → Row) (rows : List Row) → ((b : R
     Each Q (map f rows)
 rows_made Q f [] h = tt
 rows_made Q f (b ∷ bs) h = (h b, rows_made Q f bs h)
-
-pub each_found : {A : Type 0} (P : A → Type 0) (q : A → Bool) (xs : List A) (x : A) → EachIn P xs →
-    find q xs ≡ Some x → P x
-each_found P q [] x h e = absurd (no_some x e)
-each_found P q (y ∷ ys) x h e = at (q y) e (λ k. each_found P q ys x h.1 k)
-  where
-    at : (t : Bool) → cond t (Some y) (find q ys) ≡ Some x → (find q ys ≡ Some x → P x) → P x
-    at true k rest = subst P (some_of y x k) h.0
-    at false k rest = rest k
 
 -- ---- nothing ends
 
@@ -173,7 +165,7 @@ or_new P s g rows new h = at (group_in s g rows) refl
   where
     at : (o : Option SessionGroup) → group_in s g rows ≡ o → P (unwrap_or o (new_group s g))
     at None e = new
-    at (Some x) e = each_found P (is_of s g) rows x h e
+    at (Some x) e = EachIn-found P (is_of s g) rows x h e
 
 group_made : (keeps : List ℕ → Bool) (s : List ℕ) (g : ℕ) (rows : List SessionGroup) →
     EachIn (λ r. keeps r.session ≡ false → r.reservation ≡ None) rows →
@@ -207,19 +199,12 @@ released_available t b n e =
     ap (λ p. (if p then record b { reserved = b.reserved - n; available = b.available + n }
     else record b { reserved = b.reserved - n; expired = b.expired + n }).available) e
 
-released_until : (t : ℕ) (b : Row) (n : ℕ) → (with_release t b n).until ≡ b.until
-released_until t b n =
-    elim (nat_lt t b.until) as
-    (λ p. (if p then record b { reserved = b.reserved - n; available = b.available + n }
-    else record b { reserved = b.reserved - n; expired = b.expired + n }).until ≡ b.until)
-    [ true ↦ refl | false ↦ refl ]
-
 pub settled_calm : (t : ℕ) (b : Row) (p q n : ℕ) → (nat_lt t b.until ≡ false → b.available ≡ 0) →
     nat_lt t (with_release t (with_charge (with_charge_of_hold b p) q) n).until ≡ false →
     (with_release t (with_charge (with_charge_of_hold b p) q) n).available ≡ 0
 settled_calm t b p q n h k =
     let ended : nat_lt t b.until ≡ false =
-    ap (nat_lt t) (sym (released_until t (with_charge (with_charge_of_hold b p) q) n)) ∙ k in
+    ap (nat_lt t) (sym (with_release_until t (with_charge (with_charge_of_hold b p) q) n)) ∙ k in
     let none : b.available ≡ 0 = h ended in
     released_available t (with_charge (with_charge_of_hold b p) q) n ended ∙ omega (arith, none)
 
@@ -245,7 +230,7 @@ calm_settled a s g units blocks rated h = record {
 released_calm : (t : ℕ) (b : Row) (n : ℕ) → (nat_lt t b.until ≡ false → b.available ≡ 0) →
     nat_lt t (with_release t b n).until ≡ false → (with_release t b n).available ≡ 0
 released_calm t b n h k =
-    let ended : nat_lt t b.until ≡ false = ap (nat_lt t) (sym (released_until t b n)) ∙ k in
+    let ended : nat_lt t b.until ≡ false = ap (nat_lt t) (sym (with_release_until t b n)) ∙ k in
     released_available t b n ended ∙ h ended
 
 ended_calm : (keeps : List ℕ → Bool) (s : List ℕ) (g : ℕ) (r : SessionGroup) →
@@ -334,18 +319,13 @@ live_before v t s n rows some x k =
     (ap (is_live_row v t)
     (sym (find-map (is_session x) (touched_session s n t) rows (touched_name s x n t))) ∙ k)
 
-pub each_weaker : {A : Type 0} (P Q : A → Type 0) (xs : List A) → ((x : A) → P x → Q x) →
-    EachIn P xs → EachIn Q xs
-each_weaker P Q [] h e = tt
-each_weaker P Q (x ∷ xs) h e = (h x e.0, each_weaker P Q xs h e.1)
-
 pub calm_touched : (a : AccountRows) (s : List ℕ) (n : ℕ) → 60 ≤ a.book.validity → IsCalm a →
     IsCalm (touched_account s n a)
 calm_touched a s n some h = record {
   sessions = EachIn-map (λ r. lapse a.book.validity a.as_of r ≡ r)
       (λ r. lapse a.book.validity a.as_of r ≡ r) (touched_session s n a.as_of) a.sessions
       (λ r e. touched_same a.book.validity a.as_of s n r some e) h.sessions;
-  groups = each_weaker
+  groups = EachIn-weaker
       (λ r. is_live_in a.book.validity a.as_of a.sessions r.session ≡ false → r.reservation ≡ None)
       (λ r. is_live_in a.book.validity a.as_of (map (touched_session s n a.as_of) a.sessions)
       r.session ≡ false → r.reservation ≡ None) a.groups

@@ -17,9 +17,9 @@ use Rattle.reserving.specs.Changes.{lapse, new_group, group_or_new, debited_acco
 use Rattle.reserving.specs.Changes.{with_session}
 use Rattle.reserving.specs.Rows.{AccountRows, EachIn}
 use Rattle.reserving.specs.Calm.{IsCalm}
-use Rattle.reserving.proofs.Lists.{EachIn-put, find-put_other}
+use Rattle.reserving.proofs.Lists.{EachIn-put, find-put_other, EachIn-found, EachIn-weaker}
 use Rattle.reserving.proofs.KeysFound.{found_session}
-use Rattle.reserving.proofs.rows.Calm.{each_found, each_weaker, rows_map, settled_calm}
+use Rattle.reserving.proofs.rows.Calm.{rows_map, settled_calm}
 
 -- ---- an event keeps the group's reservation
 
@@ -32,7 +32,7 @@ kept_reservation keeps s g rows h k = at (group_in s g rows) refl
         (unwrap_or o (new_group s g)).reservation ≡ None
     at None e = refl
     at (Some x) e =
-        each_found (λ r. keeps r.session ≡ false → r.reservation ≡ None) (is_of s g) rows x h e
+        EachIn-found (λ r. keeps r.session ≡ false → r.reservation ≡ None) (is_of s g) rows x h e
         (ap keeps (found_session s g rows x e) ∙ k)
 
 pub calm_debited : (a : AccountRows) (s : List ℕ) (g units blocks rated : ℕ) → IsCalm a →
@@ -87,7 +87,7 @@ pub calm_recorded : (a : AccountRows) (s : List ℕ) (n u : ℕ) (state : Sessio
 calm_recorded a s n u state some le none h = record {
   sessions = EachIn-put (λ r. lapse a.book.validity a.as_of r ≡ r) (is_session s) _ a.sessions
       (new_same a.book.validity a.as_of s n u state some le) h.sessions;
-  groups = each_weaker
+  groups = EachIn-weaker
       (λ r. is_live_in a.book.validity a.as_of a.sessions r.session ≡ false → r.reservation ≡ None)
       (λ r. is_live_in a.book.validity a.as_of (session_put s n u state a.sessions) r.session
       ≡ false → r.reservation ≡ None) a.groups

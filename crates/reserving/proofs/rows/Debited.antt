@@ -8,7 +8,7 @@ use Rattle.buckets.specs.Share.{parts}
 use Rattle.buckets.specs.Spend.{Each, AreDistinct, IsSound, IsBelow}
 use Rattle.buckets.specs.Holding.{held_in, paid, paid_of_hold, paid_of_rest, settled_row}
 use Rattle.buckets.specs.Holding.{settled_rows}
-use Rattle.buckets.proofs.Parts.{sum_at, sum_at-parts}
+use Rattle.buckets.proofs.Parts.{sum_at, sum_at-parts, sum_at_none}
 use Rattle.reserving.specs.declared.session.SessionGroup.{SessionGroup}
 use Rattle.rating.specs.declared.grant.Periods.{Periods}
 use Rattle.reserving.specs.Ledger.{Ledger, charged, open_grant, held, only, used, counter}
@@ -38,7 +38,7 @@ use Rattle.reserving.proofs.rows.Complete.{row_with}
 use Rattle.reserving.proofs.SettledRows.{own_row, own_named, own_used, other_named, other_used}
 use Rattle.reserving.proofs.SettledRows.{next_bucket-charges, next_charge-charges, used_in_is}
 use Rattle.reserving.proofs.SettledRows.{count_in_is, open_none, if_none, counters_used}
-use Rattle.reserving.proofs.SettledRows.{differs_above, sum_at_none, made_in}
+use Rattle.reserving.proofs.SettledRows.{differs_above, made_in}
 
 -- what each bucket pays of an event's price
 abbrev shares : ℕ → ℕ → ℕ → ℕ → Ledger → List Hold

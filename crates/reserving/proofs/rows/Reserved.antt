@@ -1,16 +1,16 @@
 -- What a grant makes of a ledger's buckets, groups and counters, and of an account's rows.
 use Rattle.std.proofs.Common.{◌≡◌, ℕ, ◌+◌, ◌-◌, ◌≤◌, Bool, true, false, List, [], ◌∷◌, ◌++◌, map}
 use Rattle.std.proofs.Common.{refl, sym, ap, subst, ◌∙◌, arith, Option, Some, None}
-use Rattle.std.specs.Prelude.{if◌then◌else◌, ◌==◌, ◌&&◌, ◌||◌, not, nat_lt, min, is_some}
+use Rattle.std.specs.Prelude.{if◌then◌else◌, ◌==◌, ◌&&◌, ◌||◌, not, nat_lt, is_some}
 use Rattle.std.specs.Prelude.{option_map}
 use Rattle.buckets.specs.declared.holds.Hold.{Hold}
 use Rattle.buckets.specs.Row.{Row, eligible_amount, is_eligible, with_hold}
 use Rattle.buckets.specs.Share.{share, parts}
 use Rattle.buckets.specs.Spend.{Each, AreDistinct, IsSound, IsBelow, held_rows}
 use Rattle.buckets.specs.Holding.{held_in, holds_of}
-use Rattle.buckets.proofs.Parts.{sum_at, sum_at-parts, held_in-sum_at}
+use Rattle.buckets.proofs.Parts.{sum_at, sum_at-parts, held_in-sum_at, sum_at_none}
 use Rattle.buckets.proofs.SharesAlong.{by_shares-along}
-use Rattle.buckets.proofs.Kept.{IsSound-hold}
+use Rattle.buckets.proofs.Kept.{IsSound-hold, eligible_within}
 use Rattle.reserving.specs.declared.session.SessionGroup.{SessionGroup}
 use Rattle.reserving.specs.declared.session.Reservation.{Reservation}
 use Rattle.reserving.specs.declared.session.Counter.{Counter}
@@ -44,7 +44,7 @@ use Rattle.reserving.proofs.SettledFacts.{charged-hold_facts, IsMoved, SameSessi
 use Rattle.reserving.proofs.SettledFacts.{same_session, same_live, same_touched, same_group}
 use Rattle.reserving.proofs.ledger.Columns.{balance_by, with_columns}
 use Rattle.reserving.proofs.rows.Complete.{held_free}
-use Rattle.reserving.proofs.SettledRows.{own_row, used_in_is, if_none, differs_above, sum_at_none}
+use Rattle.reserving.proofs.SettledRows.{own_row, used_in_is, if_none, differs_above}
 use Rattle.reserving.proofs.SettledRows.{made_in}
 use Rattle.reserving.proofs.kept.Settled.{held_by-put, held_by_number, AreApart-put, used_le}
 use Rattle.reserving.proofs.kept.Settled.{IsBelow-map}
@@ -57,10 +57,6 @@ balance_by-held true c ch h s q =
     with_columns c _ _ _ _ _ _ _ _ (omega arith) (omega arith) refl refl
 balance_by-held false c ch h s q =
     with_columns c _ _ _ _ _ _ _ _ (omega arith) (omega arith) refl (omega arith)
-
-eligible_le : (e : Bool) (a m : ℕ) → min (if e then a else 0) m ≤ a
-eligible_le true a m = omega arith
-eligible_le false a m = omega arith
 
 abbrev holds_for : Book → ℕ → ℕ → ℕ → Ledger → List Hold
 holds_for book t group amount ledger = holds_of group t amount (buckets_at book.validity t ledger)
@@ -117,7 +113,7 @@ bucket_at-reserved book t session group units amount ledger c live sum =
     omega (arith, charged-hold_facts n t session group hs before) in
     let within : s
     ≤ (if nat_lt t c.until then c.credited - charged n ledger - held all n ledger else 0) =
-    eligible_le (is_eligible group t (bucket_at v t ledger c)) _ _ in
+    eligible_within (is_eligible group t (bucket_at v t ledger c)) _ _ in
     ap (λ x. balance_of t c (charged n (hold_facts t session group hs ++ before)) x) held'
     ∙ ap (λ x. balance_of t c x (s + held all n ledger)) charged'
     ∙ balance_by-held (nat_lt t c.until) c (charged n ledger) (held all n ledger) s within

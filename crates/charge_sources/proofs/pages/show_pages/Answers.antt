@@ -1,8 +1,9 @@
 use Rattle.std.proofs.Common.{arith, subst}
 use Rattle.std.specs.List.{filter}
+use Rattle.keepers.proofs.Placed.{on_err}
 use Rattle.charge_sources.specs.Rows.{is_between}
 use Rattle.charge_sources.specs.Visits.{Shows}
-use Rattle.charge_sources.proofs.Paged.{begun, ended, never, none_shown, on_err, page_shown}
+use Rattle.charge_sources.proofs.Paged.{begun, ended, never, none_shown, page_shown}
 use Rattle.charge_sources.proofs.Paged.{stopped}
 use Rattle.charge_sources.proofs.pages.show_pages.Goals as goal
 

@@ -1,15 +1,12 @@
-use Rattle.std.proofs.Common.{◌≡◌, ◌==◌, ℕ, List, [], refl, ap, subst, ◌∙◌, if◌then◌else◌, Option}
-use Rattle.std.proofs.Common.{Some, None, IfOk, OnErr, IfSome}
+use Rattle.std.proofs.Common.{◌≡◌, ◌==◌, ℕ, List, [], ap, subst, ◌∙◌, if◌then◌else◌, Option}
+use Rattle.std.proofs.Common.{None, IfOk, OnErr, IfSome}
 use Rattle.std.specs.declared.io.buffered.BufReader.{BufReader}
 use Rattle.std.specs.Io.Buffered.{reader_remaining, reader_capacity, reader_buffer, reader_inner}
 use Rattle.std.specs.Io.KnownBytes.{prepend_known}
+use Rattle.std.proofs.KnownBytes.{prepend_known-nil}
 use Rattle.http_api.specs.Connections.{IsServed, IsBegun, IsOutOfMemory, IsUnread, IsCutOff}
 use Rattle.http_api.proofs.Taking.{begun_none, short_none}
 use Rattle.http_api.proofs.serving.serve.Goals as goal
-
-nothing_before : (known : Option (List ℕ)) → prepend_known [] known ≡ known
-nothing_before None = refl
-nothing_before (Some xs) = refl
 
 -- a new buffer has what its reader has
 unread : {T A : Type 0} (r : BufReader T A) (inner : T) (remaining : T → Option (List ℕ)) →
@@ -19,7 +16,7 @@ unread r inner remaining capacity empty is =
     ap (λ (n : ℕ). if n == 0 then None else prepend_known (reader_buffer r) (remaining r.inner))
     capacity
     ∙ ap (λ (b : List ℕ). prepend_known b (remaining r.inner)) empty
-    ∙ nothing_before (remaining r.inner)
+    ∙ prepend_known-nil (remaining r.inner)
     ∙ ap remaining is
 
 pub returns-in_default-clause-begun : goal.returns-in_default-clause-begun

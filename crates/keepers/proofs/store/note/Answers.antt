@@ -1,6 +1,6 @@
 use Rattle.std.proofs.Common.{◌≡◌, true, subst, rules}
 use Rattle.reserving.specs.Rows.{EachIn}
-use Rattle.reserving.proofs.LeftJoined.{each_in_map}
+use Rattle.reserving.proofs.Lists.{EachIn-weaker}
 use Rattle.keepers.specs.Named.{is_numbered, is_named, AreLeftCounters}
 use Rattle.keepers.proofs.store.note.Goals as goal
 
@@ -22,7 +22,7 @@ returns-clause-noted c =
           c.in_ok-note_buckets.ensures.noted;
       counters = subst (AreLeftCounters c.note_counters.new.cycles) counters
           c.in_ok-note_counters.ensures.noted;
-      sessions = each_in_map (λ r. is_named c.note_sessions.new.names r.id ≡ true)
+      sessions = EachIn-weaker (λ r. is_named c.note_sessions.new.names r.id ≡ true)
           (λ r. is_named c.note_groups.new.names r.id ≡ true) c.args.rows.now.sessions.items
           (λ r h. c.note_groups.ensures.stay r.id h)
           (subst (EachIn (λ r. is_named c.note_sessions.new.names r.id ≡ true)) sessions

@@ -1,5 +1,5 @@
+use Rattle.std.proofs.lemmas.Result.{IfOk-weaker}
 use Rattle.sql_rows.specs.Content.{rows_in}
-use Rattle.sql_tables.proofs.ByKey.{told_if_ok}
 use Rattle.sql_keeper.proofs.InTurn.{gathers_made}
 use Rattle.sql_keeper.proofs.Repeating.{counters_joined}
 use Rattle.sql_keeper.proofs.live_rows.read_counters_at.Goals as goal
@@ -8,7 +8,7 @@ pub returns : goal.returns
 returns g c =
     gathers_made _ _ _ _ c.in_ok-counters.counters c.joined_counters.result c.in_ok-counters.ensures
     (λ trees found.
-    told_if_ok c.joined_counters.result (λ xs is. counters_joined c.args.book.now c.args.moment
+    IfOk-weaker c.joined_counters.result _ _ (λ xs is. counters_joined c.args.book.now c.args.moment
     (rows_in trees c.args.account.now) c.in_ok-counters.counters.never.items
     c.in_ok-counters.counters.daily.items
     c.in_ok-counters.counters.monthly.items xs.items found is) c.joined_counters.ensures)

@@ -1,9 +1,9 @@
 use Rattle.std.proofs.Common.{rules, ◌≡◌, arith}
+use Rattle.std.proofs.lemmas.Result.{IfOk-weaker}
 use Rattle.sql_tables.proofs.Columns.{row_is}
-use Rattle.sql_tables.proofs.ByKey.{told_if_ok}
 use Rattle.sql_rows.proofs.account_rows.account_from.Goals as goal
 
 pub returns : goal.returns
-returns c = told_if_ok c.account_at.result
+returns c = IfOk-weaker c.account_at.result _ _
     (λ a is. row_is c.args.row.now _ (omega (arith, c.has_columns.ensures)) (is, tt))
     c.account_at.ensures
