@@ -64,7 +64,7 @@ pub(crate) fn try_changes(
     for line in cases.as_str().lines() {
         let line = line.replace(alloc, "|", "\n")?;
         let (fault, changes) = line.as_str().split_once(": ").ok_or("a case")?;
-        let text = changed(rt, alloc, document, changes)?;
+        let text = changed(alloc, document, changes)?;
         let told = outcome(alloc, text.as_str().as_bytes());
         assert_eq!(rt; told, fault.parse::<u8>()?, "{changes}");
     }

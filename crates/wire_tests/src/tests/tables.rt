@@ -31,16 +31,10 @@ pub(crate) enum Case {
 }
 
 /// The body of a case.
-fn body_of(
-    rt: &impl Abort,
-    alloc: Global,
-    what: Case,
-    document: &str,
-    text: &str,
-) -> Result<String, Fail> {
+fn body_of(alloc: Global, what: Case, document: &str, text: &str) -> Result<String, Fail> {
     match what {
         Case::Text => Ok(document.replace(alloc, "HERE", text)?),
-        Case::Changes => changed(rt, alloc, document, text),
+        Case::Changes => changed(alloc, document, text),
         Case::Credit | Case::Redemption => Ok(String::from_str(alloc, text)?),
     }
 }
@@ -65,7 +59,7 @@ pub(crate) fn try_cases(
     let cases = joined(alloc, cases)?;
     for line in cases.as_str().lines() {
         let (expected, text) = line.split_once(": ").ok_or("a case")?;
-        let body = body_of(rt, alloc, what, document, text)?;
+        let body = body_of(alloc, what, document, text)?;
         let found = outcome_of(alloc, what, body.as_str().as_bytes())?;
         assert_eq!(rt; found.as_str(), expected, "{text}");
     }
