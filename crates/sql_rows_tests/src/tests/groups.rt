@@ -46,6 +46,7 @@ fn hold(bucket: u32, amount: u64) -> Hold {
 }
 
 /// A rating group of an account's session.
+#[derive(Clone, Copy)]
 struct GroupOf<'a> {
     account: &'a AccountNumber,
     session: &'a SessionId,
