@@ -91,6 +91,14 @@ impl<S: Alter> Keeper for SqlKeeper<S> {
         SqlKeeper::commit(self, change)
     }
 
+    fn abandon<'b>(&mut self, loaded: Loaded<'b>) {
+        let Loaded {
+            number: _,
+            account: _,
+            before: _,
+        } = loaded;
+    }
+
     fn sweep(&mut self, book: &TariffBook, moment: Moment) -> Result<u64, StoreFault> {
         SqlKeeper::sweep(self, book, moment)
     }
