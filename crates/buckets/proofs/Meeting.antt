@@ -1,6 +1,6 @@
 -- What a walk along holds and buckets meets is what the holds have of each bucket.
 use Rattle.std.proofs.Common.{◌≡◌, ◌≢◌, ℕ, ◌+◌, ◌-◌, ◌<◌, Bool, true, false, List, [], ◌∷◌, length}
-use Rattle.std.proofs.Common.{get_or, set, drop, refl, sym, ap, ◌∙◌, subst, arith}
+use Rattle.std.proofs.Common.{◌≤◌, get_or, set, drop, refl, sym, ap, ◌∙◌, subst, arith}
 use Rattle.std.specs.Prelude.{if◌then◌else◌, ◌==◌}
 use Rattle.std.proofs.lemmas.Bool.{eqb-true}
 use Rattle.std.proofs.lemmas.List.{drop_more, drop-set-lt}
@@ -10,6 +10,13 @@ use Rattle.buckets.specs.Row.{Row}
 use Rattle.buckets.specs.Spend.{Each, DiffersFromAll, AreDistinct}
 use Rattle.buckets.specs.Holding.{held_in, held_sum, IsWithin, IsLeftWithin}
 use Rattle.buckets.specs.Merged.{first_held, next_of, unmet, AreMet}
+
+-- where a walk stands: at a place of the holds and at one of the rows, from which on they are met
+-- where the holds stand in order
+pub record IsWalk (holds : List Hold) (place : ℕ) (in_order : Bool) (rows : List Row) (i : ℕ) :
+    Type 0 where
+  pub within : place ≤ length holds
+  pub met : in_order ≡ true → AreMet holds (drop place holds) (drop i rows)
 
 held_more : (h : Hold) (hs : List Hold) (b : Row) →
     held_in (h ∷ hs) b ≡ (if h.bucket == b.number then h.amount else 0) + held_in hs b
@@ -86,10 +93,13 @@ each_same holds (b ∷ bs) = (refl, each_same holds bs)
 
 -- ---- at the beginning of a walk, and at each bucket
 
-pub met_first : (holds : List Hold) (rows : List Row) → AreDistinct rows → unmet holds rows ≡ [] →
-    AreMet holds (drop 0 holds) (drop 0 rows)
-met_first holds rows distinct met =
-    record { met = met; same = each_same holds rows; distinct = distinct }
+pub walk_first : (holds : List Hold) (in_order : Bool) (rows : List Row) → AreDistinct rows →
+    (in_order ≡ true → unmet holds rows ≡ []) → IsWalk holds 0 in_order rows 0
+walk_first holds in_order rows distinct met = record {
+  within = omega arith;
+  met = λ order.
+      record { met = met order; same = each_same holds rows; distinct = distinct };
+}
 
 one_met : (holds rest : List Hold) (b : Row) (bs : List Row) → AreMet holds rest (b ∷ bs) →
     held_in holds b ≡ first_held b rest
@@ -103,22 +113,25 @@ others_met holds rest b bs h = record {
   distinct = h.distinct.1;
 }
 
-pub met_at : (holds rest : List Hold) (rows : List Row) (i : ℕ) (d : Row) → i < length rows →
-    AreMet holds rest (drop i rows) →
-    held_in holds (get_or rows i d) ≡ first_held (get_or rows i d) rest
-met_at holds rest rows i d lt h =
-    one_met holds rest (get_or rows i d) (drop (i + 1) rows)
-    (subst (AreMet holds rest) (drop_more rows i d lt) h)
+pub met_at : {holds : List Hold} {place : ℕ} {in_order : Bool} {rows : List Row} {i : ℕ}
+    (d : Row) → IsWalk holds place in_order rows i → i < length rows → in_order ≡ true →
+    held_in holds (get_or rows i d) ≡ first_held (get_or rows i d) (drop place holds)
+met_at {holds} {place} {in_order} {rows} {i} d walk lt order =
+    one_met holds (drop place holds) (get_or rows i d) (drop (i + 1) rows)
+    (subst (AreMet holds (drop place holds)) (drop_more rows i d lt) (walk.met order))
 
 -- ---- behind a bucket, whatever is written there
 
-pub met_after : (holds rest after : List Hold) (rows : List Row) (i : ℕ) (d new : Row) →
-    i < length rows → after ≡ next_of (get_or rows i d) rest → AreMet holds rest (drop i rows) →
-    AreMet holds after (drop (i + 1) (set rows i new))
-met_after holds rest after rows i d new lt is h =
-    rw (drop-set-lt (i + 1) rows i new (omega arith), is)
-    (others_met holds rest (get_or rows i d) (drop (i + 1) rows)
-    (subst (AreMet holds rest) (drop_more rows i d lt) h))
+pub walk_after : {holds : List Hold} {place after : ℕ} {in_order : Bool} {rows : List Row} {i : ℕ}
+    (d new : Row) → IsWalk holds place in_order rows i → after ≤ length holds →
+    drop after holds ≡ next_of (get_or rows i d) (drop place holds) → i < length rows →
+    IsWalk holds after in_order (set rows i new) (i + 1)
+walk_after {holds} {place} {after} {in_order} {rows} {i} d new walk within is lt = record {
+  within = within;
+  met = λ order. rw (drop-set-lt (i + 1) rows i new (omega arith), is)
+      (others_met holds (drop place holds) (get_or rows i d) (drop (i + 1) rows)
+      (subst (AreMet holds (drop place holds)) (drop_more rows i d lt) (walk.met order)));
+}
 
 pub within_after : (holds : List Hold) (rows : List Row) (i : ℕ) (d new : Row) → i < length rows →
     IsWithin holds (drop i rows) → IsWithin holds (drop (i + 1) (set rows i new))

@@ -1,9 +1,10 @@
 -- A ledger only grows, at its front.
-use Rattle.std.proofs.Common.{ℕ, List, [], ◌∷◌, ◌++◌, refl, ap}
+use Rattle.std.proofs.Common.{ℕ, List, [], ◌∷◌, ◌++◌, Option, refl, ap}
 use Rattle.commands.specs.declared.request.Request.{Request}
 use Rattle.tariffs.specs.Books.{Book}
 use Rattle.units.specs.declared.blocks.UsedPart.{UsedPart}
 use Rattle.reserving.specs.Ledger.{Dated, Ledger}
+use Rattle.reserving.specs.Requests.{credited}
 use Rattle.reserving.specs.Settlement.{settled_by}
 use Rattle.decisions.specs.Decisions.{decision}
 use Rattle.keepers.specs.Steps.{Extends}
@@ -39,6 +40,11 @@ same ledger = record { front = []; is = refl }
 -- one fact more
 pub one_more : (d : Dated) (ledger : Ledger) → Extends ledger (d ∷ ledger)
 one_more d ledger = more ledger ledger d (same ledger)
+
+-- one credit more
+pub one_credit : (t from until : ℕ) (scope : Option ℕ) (amount : ℕ) (ledger : Ledger) →
+    Extends ledger (credited t from until scope amount ledger)
+one_credit t from until scope amount ledger = one_more _ ledger
 
 -- by a request
 pub grown : (b : Book) (t : ℕ) (r : Request) (ledger : Ledger) →

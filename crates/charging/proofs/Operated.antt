@@ -3,7 +3,8 @@ use Rattle.std.proofs.Common.{◌≡◌, ℕ, ◌+◌, ◌≤◌, Bool, true, fa
 use Rattle.std.proofs.Common.{refl, sym, ap, subst, ◌∙◌, Option, Some, None}
 use Rattle.std.proofs.lemmas.List.{append-nil}
 use Rattle.std.specs.Prelude.{max, is_some, option_map, ◌||◌, IfOk, IfSome, Result, Ok, Err}
-use Rattle.std.specs.Prelude.{if◌then◌else◌}
+use Rattle.std.specs.Prelude.{if◌then◌else◌, Vec}
+use Rattle.std.specs.Global.{Global}
 use Rattle.commands.specs.declared.answer.Answer.{Answer}
 use Rattle.commands.specs.declared.answer.Answer.TheVariants as answer
 use Rattle.commands.specs.declared.answer.Refusal.TheVariants.{AccountExists, AccountUnknown}
@@ -13,9 +14,10 @@ use Rattle.commands.specs.declared.command.Content.TheVariants as content
 use Rattle.commands.specs.declared.command.Credit.{Credit}
 use Rattle.redemptions.specs.declared.voucher.Voucher.{Voucher}
 use Rattle.tariffs.specs.Books.{Book}
+use Rattle.reserving.specs.declared.charge.ChargeRow.{ChargeRow}
 use Rattle.reserving.specs.declared.session.SessionGroup.{SessionGroup}
 use Rattle.reserving.specs.Ledger.{Ledger, next_bucket}
-use Rattle.reserving.specs.Ledger.Fact.{Credit as Bucket, Barred}
+use Rattle.reserving.specs.Ledger.Fact.{Barred}
 use Rattle.reserving.specs.Charges.{charge_rows}
 use Rattle.reserving.specs.Requests.{credited, with_bar}
 use Rattle.reserving.specs.Rows.{AccountRows, IsAccount, IsRowsOf}
@@ -43,7 +45,7 @@ use Rattle.charging.specs.Stepping.{IsTaken, Credits, Makes, bar_command}
 use Rattle.charging.proofs.AcceptedTables.{tables_swept}
 use Rattle.charging.proofs.NeverOpened.{unopened-ledger}
 use Rattle.charging.proofs.KeptKeys.{credit-repeated, credit-fresh}
-use Rattle.charging.proofs.Grows.{one_more}
+use Rattle.charging.proofs.Grows.{one_credit, one_more}
 use Rattle.charging.proofs.Serving.{IsOpened, is_opened, keeps-none, keeps-some, none-spent}
 use Rattle.charging.proofs.Serving.{served-told, served-done, served-loaded, is-there, not-opened}
 use Rattle.charging.proofs.Serving.{outcome-unopened, outcome-opened, outcome-kept}
@@ -228,6 +230,32 @@ pub record Tells (change : Change) (found : Loaded) (x : AccountRows) (kept : Op
   pub kept_is : change.kept ≡ kept
   pub redeemed_is : change.redeemed ≡ redeemed
 
+-- what a commit makes of an account as it stands
+abbrev pub made_change : Loaded → AccountRows → Vec ChargeRow Global → Option KeptAnswer →
+    Option Redeemed → Change
+made_change found x charges kept redeemed = record {
+  moment = x.as_of;
+  number = found.number;
+  after = stored x;
+  before = found.before;
+  charges = charges;
+  kept = kept;
+  redeemed = redeemed;
+}
+
+pub made_tells : (found : Loaded) (x : AccountRows) (charges : Vec ChargeRow Global)
+    (kept told : Option KeptAnswer) (redeemed spent : Option Redeemed) → charges.items ≡ [] →
+    kept ≡ told → redeemed ≡ spent →
+    Tells (made_change found x charges kept redeemed) found x told spent
+made_tells found x charges kept told redeemed spent none kept_is redeemed_is = record {
+  number = refl;
+  moment = refl;
+  after = refl;
+  charges = none;
+  kept_is = kept_is;
+  redeemed_is = redeemed_is;
+}
+
 pub bar-done : (b : Book) (list : List Accepted) (n : List ℕ) (barred : Bool) (t m : ℕ)
     (found : Loaded) (x : AccountRows) (change : Change) (old new : Tables) → IsInTime list →
     last_moment list ≤ t → AreTables b list old → IsTaken b t n old found →
@@ -376,11 +404,7 @@ module _ (b : Book) (list : List Accepted) (c : Credit) (t : ℕ) (old new : Tab
       (record {
         book = book;
         at_moment = as_of ∙ now;
-        grows = one_more (record {
-          at = t;
-          fact = Bucket (next_bucket h.ledger) (from_of c t) (until_of c) c.scope c.amount;
-        })
-            h.ledger;
+        grows = one_credit t (from_of c t) (until_of c) c.scope c.amount h.ledger;
         rows = subst (λ (u : ℕ). IsWith
             (credited u (from_of c u) (until_of c) c.scope c.amount h.ledger) left u x) now done.2;
         opened = account.opened;

@@ -22,7 +22,6 @@ use Rattle.redemptions.specs.Adding.{same_terms, addition}
 use Rattle.redemptions.specs.Redeeming.{redemption, after_redemption}
 use Rattle.tariffs.specs.Books.{Book}
 use Rattle.reserving.specs.Ledger.{Ledger, next_bucket}
-use Rattle.reserving.specs.Ledger.Fact.{Credit as Bucket}
 use Rattle.reserving.specs.Charges.{charge_rows}
 use Rattle.reserving.specs.Requests.{credited}
 use Rattle.reserving.specs.Rows.{AccountRows}
@@ -43,7 +42,7 @@ use Rattle.charging.specs.Served.{history, voucher, standing, AreTables, with_co
 use Rattle.charging.specs.Stepping.{IsTaken, Makes}
 use Rattle.charging.proofs.AcceptedTables.{tables_added}
 use Rattle.charging.proofs.KeptKeys.{redemption-repeated, redemption-fresh}
-use Rattle.charging.proofs.Grows.{one_more}
+use Rattle.charging.proofs.Grows.{one_credit}
 use Rattle.charging.proofs.Operated.{Tells}
 use Rattle.charging.proofs.Serving.{IsOpened, is_opened, in-time, AreSpent, keeps-some, served-told}
 use Rattle.charging.proofs.Serving.{served-loaded, is-there, outcome-unopened, outcome-opened}
@@ -262,11 +261,7 @@ module _ (b : Book) (list : List Accepted) (r : VoucherRedemption) (t : ℕ) (ol
       (record {
         book = book;
         at_moment = as_of ∙ now;
-        grows = one_more (record {
-          at = t;
-          fact = Bucket (next_bucket h.ledger) y.from y.until y.scope y.amount;
-        })
-            h.ledger;
+        grows = one_credit t y.from y.until y.scope y.amount h.ledger;
         rows = subst (λ (u : ℕ). IsWith
             (credited u y.from y.until y.scope y.amount h.ledger) left u x) now done.2;
         opened = account.opened;

@@ -6,6 +6,7 @@ pub mod Served
 pub mod Stepping
 pub mod States
 pub mod Runs
+pub mod Continued
 pub mod SessionReports
 pub mod Paid
 pub mod Quotas

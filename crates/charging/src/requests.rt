@@ -8,7 +8,6 @@ ghost use Rattle.commands.specs.declared.command.Command.TheVariants.{Ccr};
 ghost use Rattle.commands.specs.declared.command.Content.TheVariants as content;
 ghost use Rattle.tariffs.specs.Books.{Book};
 ghost use Rattle.reserving.specs.Stored.{stored};
-ghost use Rattle.decisions.specs.Decisions.{is_read};
 ghost use Rattle.keepers.specs.Change.{IsLoad, IsMadeFrom, changed};
 ghost use Rattle.keepers.specs.Keeping.{Keeps, Reads};
 ghost use Rattle.charging.specs.Outcomes.{failed, repeated};
@@ -16,8 +15,8 @@ ghost use Rattle.charging.specs.Stepping.{Answers, ServesAt, is_known, kept_of_r
 
 use crate::committing::{commit, moment_on};
 use crate::repetition::repeated;
-use commands::{Answer, Ask, Avp, Content, EventAction, Failure, Outcome, Request, RequestAnswer};
-use decisions::{Decided, begins_session, decide, read};
+use commands::{Answer, Avp, Content, Failure, Outcome, Request, RequestAnswer};
+use decisions::{Decided, begins_session, decide, is_read, read};
 use keepers::{Keeper, KeptAnswer, Key, Loaded, StoreFault, copy_answer};
 use std::alloc::{AllocError, Global};
 use tariffs::TariffBook;
@@ -62,16 +61,6 @@ fn is_known<K: Keeper>(keeper: &mut K, request: &Request) -> Result<bool, StoreF
         keeper.knows_session(&request.account, &request.session)
     } else {
         Ok(false)
-    }
-}
-
-/// Whether the request is a read: it is answered anew each time.
-fn is_read(ask: &Ask) -> bool
-    ensures { result ≡ is_read ask.now }
-{
-    match ask {
-        Ask::Event(event) => event.action != EventAction::DirectDebiting,
-        _ => false,
     }
 }
 

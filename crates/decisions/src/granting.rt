@@ -17,7 +17,7 @@ use crate::answering::granted_outcome;
 use crate::looking::{is_known, tariff_of};
 use crate::reports::{asked_units, requested_units};
 use crate::request_head::Asked;
-use crate::ruling::{Ruling, deny};
+use crate::ruling::{Ruled, Ruling, deny};
 use commands::{Outcome, Service, ServiceAnswer, ServiceAnswers, ServiceFailure, ServiceOutcome};
 use reserving::{Account, Granted};
 use std::alloc::{AllocError, Global};
@@ -176,7 +176,7 @@ pub(crate) fn open_unless_barred(
     account: &mut Account,
     asked: &Asked,
     services: &[Service],
-) -> Result<Ruling, AllocError>
+) -> Ruled
     requires apart { groups_differ services.now ≡ true }
     requires later { account.old.as_of ≤ asked.now.moment }
     requires new { session_in asked.now.session.now account.old.sessions ≡ None }

@@ -7,9 +7,9 @@ use Rattle.keepers.specs.declared.fault.StoreFault.{StoreFault}
 use Rattle.keepers.specs.Tables.{Tables}
 use Rattle.charging.specs.Accepted.{Accepted, IsInTime}
 use Rattle.charging.specs.Served.{AreTables, Serves}
+use Rattle.charging.specs.Continued.{ForEachList, IsContinued}
 use Rattle.charging.specs.Runs.{after_commands}
 use Rattle.charging.proofs.RunLemmas.{commands_after}
-use Rattle.http_api.specs.Replies.{ForEachList, IsContinued}
 
 -- none
 pub continued_none : (b : Book) (tables : Tables) → ForEachList b tables (IsContinued b tables)

@@ -16,6 +16,7 @@ use Rattle.keepers.specs.declared.fault.StoreFault.{StoreFault}
 use Rattle.keepers.specs.Tables.{Tables}
 pub use Rattle.keepers.proofs.Placed.{on_err as at_err}
 use Rattle.charging.specs.Accepted.{Accepted}
+use Rattle.charging.specs.Continued.{ForEachList}
 use Rattle.charging.specs.Served.{AreTables, Serves, moment_of}
 use Rattle.http_heads.specs.declared.status.Status.{Status}
 use Rattle.http_heads.specs.declared.status.Status.TheVariants as status
@@ -25,7 +26,7 @@ use Rattle.http_answers.specs.declared.asking.Asked.TheVariants as told
 use Rattle.http_answers.specs.Texts.{response, no_members, unable, Begins, TellsRefusal, TellsFault}
 use Rattle.http_api.specs.Clocks.{GivesInTurn}
 use Rattle.http_api.specs.Faults.{serve_fault}
-use Rattle.http_api.specs.Replies.{refusal, unserved, reply_at, IsDue, MayAsk, ForEachList, Replies}
+use Rattle.http_api.specs.Replies.{refusal, unserved, reply_at, IsDue, MayAsk, Replies}
 use Rattle.http_api.specs.Told.{TellsAnswer, Owes}
 use Rattle.http_api.specs.Unaccepted.{is_read_command, is_unaccepted}
 use Rattle.http_api.specs.declared.fault.ServeFault.{ServeFault}
@@ -64,6 +65,12 @@ pub not_memory : {A X : Type 0} (r : Result A StreamFault) → OnErr r (r ≡ Er
     r ≡ Err stream.Memory → X
 not_memory (Ok x) only e = absurd (cc)
 not_memory (Err fault) only e = let both = sym e ∙ only in absurd (cc)
+
+-- nor of a reader
+pub not_read : {A : Type 0} (r : Result A StreamFault) → OnErr r (r ≡ Err stream.Write) →
+    r ≡ Err stream.Read → ⊥
+not_read (Ok x) only e = absurd (cc)
+not_read (Err fault) only e = let both = sym e ∙ only in absurd (cc)
 
 -- one that is no other is of the writer
 pub write_alone : {A : Type 0} (r : Result A StreamFault) → ¬ (r ≡ Err stream.Memory) →

@@ -1,7 +1,9 @@
 -- The reply to a request for a statement.
 use Rattle.std.proofs.Common.{◌≡◌, ◌∙◌, ℕ, Bool, true, false, List, [], ◌∷◌, refl, sym, ap, subst}
-use Rattle.std.proofs.Common.{inl, inr, arith, Option, Some, None}
-use Rattle.std.specs.Prelude.{if◌then◌else◌}
+use Rattle.std.proofs.Common.{inl, inr, arith, Option, Some, None, Result, Err, ◌≤◌}
+use Rattle.std.specs.Prelude.{if◌then◌else◌, OnErr}
+use Rattle.byte_streams.specs.declared.StreamFault.{StreamFault}
+use Rattle.byte_streams.specs.declared.StreamFault.TheVariants as stream
 use Rattle.commands.specs.declared.answer.Answer.TheVariants.{Refused}
 use Rattle.commands.specs.declared.answer.Refusal.TheVariants.{AccountUnknown}
 use Rattle.wire_answers.specs.Spelled.{answer_text}
@@ -12,6 +14,7 @@ use Rattle.keepers.specs.Tables.{Tables}
 use Rattle.charge_sources.specs.Rows.{AreCharges}
 use Rattle.charge_sources.proofs.Numbered.{charges_rise}
 use Rattle.charging.specs.Accepted.{Accepted, IsInTime}
+use Rattle.charging.specs.Continued.{ForEachList, IsContinued}
 use Rattle.charging.specs.Histories.{History}
 use Rattle.charging.specs.Served.{AreTables, history, moment_of}
 use Rattle.charging.specs.States.{IsState, IsStateAt, TellsState}
@@ -24,11 +27,10 @@ use Rattle.http_answers.specs.declared.text.Media.TheVariants.{Text}
 use Rattle.http_answers.specs.Texts.{response, response_of, unable, TellsText}
 use Rattle.charging.specs.Balances.{by_number}
 use Rattle.reserving.specs.Balance.{buckets_at}
-use Rattle.http_api.specs.Replies.{unserved, MayAsk, statement_media}
-use Rattle.http_api.specs.Replies.{statement_reply, reply_text, ForEachList, IsReplied, IsContinued}
-use Rattle.http_api.specs.Replies.{Replies}
+use Rattle.http_api.specs.Replies.{unserved, MayAsk, GoesOn, statement_media, statement_reply}
+use Rattle.http_api.specs.Replies.{reply_text, IsReplied, Replies}
 use Rattle.http_api.specs.Told.{IsTold, TellsAnswer, TellsCharges}
-use Rattle.http_api.proofs.RequestReplies.{unserved_reply}
+use Rattle.http_api.proofs.RequestReplies.{not_memory, not_read, unserved_reply}
 
 -- the charges of the tables are those of the ledger
 are_charges : (b : Book) (a : List ℕ) (list : List Accepted) (tables : Tables) →
@@ -42,6 +44,21 @@ pub continued_same : (b : Book) (old new : Tables) → new ≡ old →
     ForEachList b old (IsContinued b new)
 continued_same b old new same = λ list time are.
     record { commands = []; tables = subst (AreTables b list) (sym same) are; time = time }
+
+-- where the tables stay, and the writer alone fails
+pub goes_on_same : {A K : Type 0} (b : Book) (empty full : Option (List ℕ)) (content : K → Tables)
+    (failed : K → ℕ) (clean : K → Type 0) (old new : K) (result : Result A StreamFault) →
+    OnErr result (result ≡ Err stream.Write) → (clean new → content new ≡ content old) →
+    (clean new → clean old) → failed old ≤ failed new →
+    GoesOn b empty full content failed clean old new result
+goes_on_same b empty full content failed clean old new result only same cleanness failures =
+    record {
+      unwritten = λ e. not_memory result only e;
+      read = not_read result only;
+      continued = λ whole. continued_same b (content old) (content new) (same whole);
+      cleanness = cleanness;
+      failures = failures;
+    }
 
 once : (m : Option ℕ) (q : StatementAsked) → MayAsk (states q) (m ∷ [])
 once m q = omega arith

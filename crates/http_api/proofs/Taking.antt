@@ -1,27 +1,31 @@
 -- A connection as it goes on: so many requests were taken, and one more, up to its end or to a
 -- fault.
 use Rattle.std.proofs.Common.{◌≡◌, ◌≢◌, ◌≤◌, ◌<◌, ◌+◌, ◌-◌, ◌==◌, ℕ, zero, suc, Bool, true, false}
-use Rattle.std.proofs.Common.{true≢false, List, [], ◌∷◌, ◌++◌, length, refl, sym, ap, subst}
-use Rattle.std.proofs.Common.{◌∙◌, inl, inr, arith, Option, Some, None, IfSome, take}
+use Rattle.std.proofs.Common.{true≢false, List, [], ◌∷◌, ◌++◌, length, take, refl, sym, ap}
+use Rattle.std.proofs.Common.{subst}
+use Rattle.std.proofs.Common.{◌∙◌, inl, inr, arith, le_refl, Option, Some, None, IfSome, Err}
 use Rattle.std.specs.Io.KnownBytes.{Appends}
 use Rattle.std.proofs.KnownBytes.{Appends-nil, Appends-trans}
 use Rattle.std.proofs.Math.Seq.{take-length}
 use Rattle.tariffs.specs.Books.{Book}
 use Rattle.keepers.specs.Tables.{Tables}
 use Rattle.charging.specs.Accepted.{Accepted}
+use Rattle.charging.specs.Continued.{ForEachList}
 use Rattle.http_heads.specs.Requests.{Next, asks, refused, ended, IsNext}
 use Rattle.http_answers.specs.Asking.{Asking, refuses, asked_of, IsAsked}
 use Rattle.http_answers.specs.Texts.{Begins}
 use Rattle.http_answers.proofs.Begun.{begun_second}
+use Rattle.http_api.specs.declared.fault.ServeFault.TheVariants as fault
 use Rattle.http_api.specs.declared.hearing.Heard.{Heard}
 use Rattle.http_api.specs.Clocks.{GivesInTurn}
 use Rattle.http_api.specs.Hearing.{Hears, HearsNext}
-use Rattle.http_api.specs.Replies.{reply_text, ForEachList, IsReplied, Replies}
+use Rattle.http_api.specs.Replies.{reply_text, IsReplied, Replies}
 use Rattle.http_api.specs.Connections.{Connection, new_connection, left_after, after_reply}
 use Rattle.http_api.specs.Connections.{IsAnswered, Takes, IsTurn, Turns, IsTaken, IsOver, IsServed}
 use Rattle.http_api.specs.Connections.{IsBegun, OwesNext, IsOutOfMemory, IsUnread}
-use Rattle.http_api.specs.Connections.{IsTakenWith, IsCutOff}
+use Rattle.http_api.specs.Connections.{IsTakenWith, IsCutOff, ServesConnection}
 use Rattle.http_api.specs.Told.{Owes}
+use Rattle.http_api.proofs.Continuing.{continued_none}
 
 plus_one : (n : ℕ) → suc n ≡ n + 1
 plus_one n = omega arith
@@ -197,7 +201,7 @@ module _ {C : Type 0} (gives : C → Option ℕ → C → Type 0) (b : Book) whe
   }
 
   -- one request more, with its answer written whole or in part
-  record IsOneMore (stream : List ℕ) (count left : ℕ) (closes : Bool)
+  pub record IsOneMore (stream : List ℕ) (count left : ℕ) (closes : Bool)
       (r : Option (List ℕ)) (c0 c1 : C) (w0 w1 : Option (List ℕ)) (Writes : List ℕ → Type 0)
       (old new : Tables) : Type 0 where
     rest : List ℕ
@@ -248,40 +252,36 @@ module _ {C : Type 0} (gives : C → Option ℕ → C → Type 0) (b : Book) whe
       }
 
   -- the same, of what is known of a call
-  one_more_of : (stream : List ℕ) (count left next : ℕ) (flag : Bool) (r1 r2 : Option (List ℕ))
+  pub taken_one : (count left next : ℕ) (flag : Bool) (r0 r1 r2 : Option (List ℕ))
       (c0 c1 c2 : C) (w0 w1 : Option (List ℕ)) (Writes : List ℕ → Type 0) (old mid new : Tables)
       (o : Option Heard) (heard : Heard) →
       0 < left → o ≡ Some heard → next ≡ left_after heard.closes left → flag ≡ (next == 0) →
-      IsSoFar stream count left r1 c0 c1 w0 w1 old mid → IfSome r1 (λ s. Hears s o r2) →
+      IfSome r0 (λ stream. IsSoFar stream count left r1 c0 c1 w0 w1 old mid) →
+      IfSome r1 (λ s. Hears s o r2) →
       ((asking : Asking) →
       IsAsked asking heard.asked → Replies gives b asking flag c1 c2 Writes mid new) →
-      IsOneMore stream count left heard.closes r2 c0 c2 w0 w1 Writes old new
-  one_more_of stream count left next flag r1 r2 c0 c1 c2 w0 w1 Writes old mid new o heard some is
-      next_is flag_is so hears replies =
+      IfSome r0 (λ stream. IsOneMore stream count left heard.closes r2 c0 c2 w0 w1 Writes old new)
+  taken_one count left next flag None r1 r2 c0 c1 c2 w0 w1 Writes old mid new o heard some is
+      next_is flag_is so hears replies = tt
+  taken_one count left next flag (Some stream) r1 r2 c0 c1 c2 w0 w1 Writes old mid new o heard some
+      is next_is flag_is so hears replies =
       one_more stream count left r1 r2 c0 c1 c2 w0 w1 Writes old mid new heard some so
       (subst (λ (x : Option Heard). IfSome r1 (λ s. Hears s x r2)) is hears)
       (λ asking asked. subst (λ f. Replies gives b asking f c1 c2 Writes mid new)
       (flag_is ∙ ap (λ n. n == 0) next_is) (replies asking asked))
 
   -- and the connection goes on
-  pub so_far-more : (count left next : ℕ) (flag : Bool) (r0 r1 r2 : Option (List ℕ)) (c0 c1 c2 : C)
-      (w0 w1 w2 : Option (List ℕ)) (old mid new : Tables) (o : Option Heard) (heard : Heard) →
-      0 < left → o ≡ Some heard → next ≡ left_after heard.closes left → flag ≡ (next == 0) →
-      next ≢ 0 → IfSome r0 (λ stream. IsSoFar stream count left r1 c0 c1 w0 w1 old mid) →
-      IfSome r1 (λ s. Hears s o r2) →
-      ((asking : Asking) →
-      IsAsked asking heard.asked → Replies gives b asking flag c1 c2 (Appends w1 w2) mid new) →
+  pub so_far-more : (count left next : ℕ) (closes : Bool) (r0 r2 : Option (List ℕ)) (c0 c2 : C)
+      (w0 w1 w2 : Option (List ℕ)) (old new : Tables) →
+      next ≡ left_after closes left → next ≢ 0 →
+      IfSome r0
+      (λ stream. IsOneMore stream count left closes r2 c0 c2 w0 w1 (Appends w1 w2) old new) →
       IfSome r0 (λ stream. IsSoFar stream (count + 1) next r2 c0 c2 w0 w2 old new)
-  so_far-more count left next flag None r1 r2 c0 c1 c2 w0 w1 w2 old mid new o heard some is next_is
-      flag_is goes so hears replies = tt
-  so_far-more count left next flag (Some stream) r1 r2 c0 c1 c2 w0 w1 w2 old mid new o heard some is
-      next_is flag_is goes so hears replies =
-      let one : IsOneMore stream count left heard.closes r2 c0 c2 w0 w1 (Appends w1 w2) old new =
-      one_more_of stream count left next flag r1 r2 c0 c1 c2 w0 w1
-      (Appends w1 w2) old mid new o heard some is next_is flag_is so hears replies in
+  so_far-more count left next closes None r2 c0 c2 w0 w1 w2 old new next_is goes one = tt
+  so_far-more count left next closes (Some stream) r2 c0 c2 w0 w1 w2 old new next_is goes one =
       record {
         rest = one.rest;
-        rest_is = one.rest_is (not_closed heard.closes left (subst (λ n. n ≢ 0) next_is goes));
+        rest_is = one.rest_is (not_closed closes left (subst (λ n. n ≢ 0) next_is goes));
         moments = one.moments;
         given = one.given;
         text = one.text ++ one.more;
@@ -291,91 +291,63 @@ module _ {C : Type 0} (gives : C → Option ℕ → C → Type 0) (b : Book) whe
       }
 
   -- or it ends
-  pub so_far-closed : (count total left next : ℕ) (flag : Bool) (r0 r1 r2 : Option (List ℕ))
-      (c0 c1 c2 : C) (w0 w1 w2 : Option (List ℕ)) (old mid new : Tables) (o : Option Heard)
-      (heard : Heard) →
-      total ≡ count + 1 →
-      0 < left → o ≡ Some heard → next ≡ left_after heard.closes left → flag ≡ (next == 0) →
-      next ≡ 0 → IfSome r0 (λ stream. IsSoFar stream count left r1 c0 c1 w0 w1 old mid) →
-      IfSome r1 (λ s. Hears s o r2) →
-      ((asking : Asking) →
-      IsAsked asking heard.asked → Replies gives b asking flag c1 c2 (Appends w1 w2) mid new) →
+  pub so_far-closed : (count total left next : ℕ) (closes : Bool) (r0 r2 : Option (List ℕ))
+      (c0 c2 : C) (w0 w1 w2 : Option (List ℕ)) (old new : Tables) →
+      total ≡ count + 1 → next ≡ left_after closes left → next ≡ 0 →
+      IfSome r0
+      (λ stream. IsOneMore stream count left closes r2 c0 c2 w0 w1 (Appends w1 w2) old new) →
       IfSome r0 (λ stream. IsServed gives b stream total c0 c2 w0 w2 old new)
-  so_far-closed count total left next flag None r1 r2 c0 c1 c2 w0 w1 w2 old mid new o heard count_is
-      some is next_is flag_is over so hears replies = tt
-  so_far-closed count total left next flag (Some stream) r1 r2 c0 c1 c2 w0 w1 w2 old mid new o heard
-      count_is some is next_is flag_is over so hears replies =
-      let one : IsOneMore stream count left heard.closes r2 c0 c2 w0 w1 (Appends w1 w2) old new =
-      one_more_of stream count left next flag r1 r2 c0 c1 c2 w0 w1
-      (Appends w1 w2) old mid new o heard some is next_is flag_is so hears replies in
+  so_far-closed count total left next closes None r2 c0 c2 w0 w1 w2 old new count_is next_is over
+      one = tt
+  so_far-closed count total left next closes (Some stream) r2 c0 c2 w0 w1 w2 old new count_is
+      next_is over one =
       let whole : IsServed gives b stream (count + 1) c0 c2 w0 w2 old new = record {
         moments = one.moments;
         given = one.given;
         text = one.text ++ one.more;
         written = Appends-trans w0 w1 w2 one.text one.more one.written one.wrote;
         whole = λ list time are.
-            let at : IsAt b stream (count + 1) (left_after heard.closes left) one.rest one.moments
+            let at : IsAt b stream (count + 1) (left_after closes left) one.rest one.moments
             (one.text ++ one.more) new list = one.at list time are in
             record { taken = at.taken; over = inl (at.left_is ∙ sym next_is ∙ over) };
       } in
       subst (λ n. IsServed gives b stream n c0 c2 w0 w2 old new) (sym count_is) whole
 
   -- or its answer isn't written to its end
-  pub so_far-broken : (count left next : ℕ) (flag : Bool) (r0 r1 r2 : Option (List ℕ))
-      (c0 c1 c2 : C) (w0 w1 w2 : Option (List ℕ)) (old mid new : Tables) (o : Option Heard)
-      (heard : Heard) →
-      0 < left → o ≡ Some heard → next ≡ left_after heard.closes left → flag ≡ (next == 0) →
-      count < 1000 → IfSome r0 (λ stream. IsSoFar stream count left r1 c0 c1 w0 w1 old mid) →
-      IfSome r1 (λ s. Hears s o r2) →
-      ((asking : Asking) →
-      IsAsked asking heard.asked → Replies gives b asking flag c1 c2 (Begins w1 w2) mid new) →
+  pub so_far-broken : (count left : ℕ) (closes : Bool) (r0 r2 : Option (List ℕ)) (c0 c2 : C)
+      (w0 w1 w2 : Option (List ℕ)) (old new : Tables) → count < 1000 →
+      IfSome r0
+      (λ stream. IsOneMore stream count left closes r2 c0 c2 w0 w1 (Begins w1 w2) old new) →
       IfSome r0 (λ stream. IsBegun gives b stream c0 c2 w0 w2 old new)
-  so_far-broken count left next flag None r1 r2 c0 c1 c2 w0 w1 w2 old mid new o heard some is
-      next_is flag_is few so hears replies = tt
-  so_far-broken count left next flag (Some stream) r1 r2 c0 c1 c2 w0 w1 w2 old mid new o heard some
-      is next_is flag_is few so hears replies =
-      let one : IsOneMore stream count left heard.closes r2 c0 c2 w0 w1 (Begins w1 w2) old new =
-      one_more_of stream count left next flag r1 r2 c0 c1 c2 w0 w1
-      (Begins w1 w2) old mid new o heard some is next_is flag_is so hears replies in
-      record {
-        count = count + 1;
-        bounded = omega (arith, few);
-        moments = one.moments;
-        given = one.given;
-        text = one.text ++ one.more;
-        written = begun_second w0 w1 w2 one.text one.more one.written one.wrote;
-        taken = λ list time are. (one.at list time are).taken;
-      }
+  so_far-broken count left closes None r2 c0 c2 w0 w1 w2 old new few one = tt
+  so_far-broken count left closes (Some stream) r2 c0 c2 w0 w1 w2 old new few one = record {
+    count = count + 1;
+    bounded = omega (arith, few);
+    moments = one.moments;
+    given = one.given;
+    text = one.text ++ one.more;
+    written = begun_second w0 w1 w2 one.text one.more one.written one.wrote;
+    taken = λ list time are. (one.at list time are).taken;
+  }
 
   -- of its answer a beginning is written
-  pub so_far-cut : (count left next : ℕ) (flag : Bool) (r0 r1 r2 : Option (List ℕ))
-      (c0 c1 c2 : C) (w0 w1 w2 : Option (List ℕ)) (old mid new : Tables) (o : Option Heard)
-      (heard : Heard) →
-      0 < left → o ≡ Some heard → next ≡ left_after heard.closes left → flag ≡ (next == 0) →
-      count < 1000 → IfSome r0 (λ stream. IsSoFar stream count left r1 c0 c1 w0 w1 old mid) →
-      IfSome r1 (λ s. Hears s o r2) →
-      ((asking : Asking) →
-      IsAsked asking heard.asked → Replies gives b asking flag c1 c2 (Begins w1 w2) mid new) →
+  pub so_far-cut : (count left : ℕ) (closes : Bool) (r0 r2 : Option (List ℕ)) (c0 c2 : C)
+      (w0 w1 w2 : Option (List ℕ)) (old new : Tables) → count < 1000 →
+      IfSome r0
+      (λ stream. IsOneMore stream count left closes r2 c0 c2 w0 w1 (Begins w1 w2) old new) →
       IfSome r0 (λ stream. IsCutOff gives b stream c0 c2 w0 w2 old new)
-  so_far-cut count left next flag None r1 r2 c0 c1 c2 w0 w1 w2 old mid new o heard some is next_is
-      flag_is few so hears replies = tt
-  so_far-cut count left next flag (Some stream) r1 r2 c0 c1 c2 w0 w1 w2 old mid new o heard some is
-      next_is flag_is few so hears replies =
-      let one : IsOneMore stream count left heard.closes r2 c0 c2 w0 w1 (Begins w1 w2) old new =
-      one_more_of stream count left next flag r1 r2 c0 c1 c2 w0 w1
-      (Begins w1 w2) old mid new o heard some is next_is flag_is so hears replies in
-      record {
-        count = count;
-        bounded = few;
-        moments = one.moments;
-        given = one.given;
-        text = one.text;
-        more = one.more;
-        begun = one.wrote.0;
-        written = Appends-trans w0 w1 w2 one.text (take one.wrote.0 one.more) one.written
-            one.wrote.1;
-        taken = one.turned;
-      }
+  so_far-cut count left closes None r2 c0 c2 w0 w1 w2 old new few one = tt
+  so_far-cut count left closes (Some stream) r2 c0 c2 w0 w1 w2 old new few one = record {
+    count = count;
+    bounded = few;
+    moments = one.moments;
+    given = one.given;
+    text = one.text;
+    more = one.more;
+    begun = one.wrote.0;
+    written = Appends-trans w0 w1 w2 one.text (take one.wrote.0 one.more) one.written one.wrote.1;
+    taken = one.turned;
+  }
 
   -- what was taken so far is all, where the connection is over
   served_over : (stream : List ℕ) (count left : ℕ) (r1 : Option (List ℕ)) (c0 c1 : C)
@@ -523,16 +495,23 @@ module _ {C : Type 0} (gives : C → Option ℕ → C → Type 0) (b : Book) whe
         next = inr (owes_next here.next so.rest heard r2 c1 c2 mid here.is_next here.hears owes);
       }
 
-  -- nothing is read
-  pub short_none : (r : Option (List ℕ)) (c : C) (w : Option (List ℕ)) (tables : Tables) →
-      IfSome r (λ stream. IsOutOfMemory gives b stream c c w w tables tables)
-  short_none r c w tables =
-      so_far-short 0 1000 r r c c w w tables tables (so_far-none r c w tables)
-
-  pub begun_none : (r : Option (List ℕ)) (c : C) (w : Option (List ℕ)) (tables : Tables) →
-      IfSome r (λ stream. IsBegun gives b stream c c w w tables tables)
-  begun_none r c w tables =
-      so_far-begun 0 1000 r r c c w w tables tables (omega arith) (so_far-none r c w tables)
+  -- nothing is read, since memory is refused
+  pub none_served : {K : Type 0} (r : Option (List ℕ)) (c : C) (w : Option (List ℕ))
+      (content : K → Tables) (failed : K → ℕ) (clean : K → Type 0) (k : K) →
+      ServesConnection gives b r c c w w content failed clean k k (Err fault.Memory)
+  none_served r c w content failed clean k = record {
+    served = λ is_clean. tt;
+    begun = λ is_clean. so_far-begun 0 1000 r r c c w w (content k) (content k) (omega arith)
+        (so_far-none r c w (content k));
+    memory = λ is_clean e. so_far-short 0 1000 r r c c w w (content k) (content k)
+        (so_far-none r c w (content k));
+    read = λ is_clean e. absurd (cc);
+    write = λ is_clean e. absurd (cc);
+    bounded = tt;
+    continued = λ is_clean. continued_none b (content k);
+    cleanness = λ is_clean. is_clean;
+    failures = le_refl (failed k);
+  }
 
 -- ---- how many requests are left
 

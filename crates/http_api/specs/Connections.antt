@@ -3,18 +3,21 @@
 -- Source: RFC 9112 sections 2.1, 6 and 9.3; the bounds: profile.
 use Rattle.std.specs.Prelude.{◌≡◌, ◌<◌, ◌≤◌, ◌-◌, ◌==◌, ℕ, zero, suc, Bool, true, if◌then◌else◌}
 use Rattle.std.specs.Prelude.{List, [], ◌++◌, take, Option, ◌⊎◌, Result, IfOk, OnErr, IfSome}
+use Rattle.std.specs.Prelude.{IsErrOf}
 use Rattle.std.specs.Io.KnownBytes.{Appends}
 use Rattle.tariffs.specs.Books.{Book}
 use Rattle.keepers.specs.Tables.{Tables}
 use Rattle.charging.specs.Accepted.{Accepted, IsInTime}
+use Rattle.charging.specs.Continued.{ForEachList, Continues}
 use Rattle.charging.specs.Served.{AreTables}
 use Rattle.http_heads.specs.Requests.{Ask, Next, asks, refused, ended, IsNext}
 use Rattle.http_answers.specs.Asking.{Asking, refuses, asked_of}
 use Rattle.http_answers.specs.Texts.{Begins}
 use Rattle.http_api.specs.Clocks.{GivesInTurn}
-use Rattle.http_api.specs.Replies.{Reply, reply_text, IsReply, ForEachList}
+use Rattle.http_api.specs.Replies.{Reply, reply_text, IsReply}
 use Rattle.http_api.specs.Told.{Owes}
 use Rattle.http_api.specs.declared.fault.ServeFault.{ServeFault}
+use Rattle.http_api.specs.declared.fault.ServeFault.TheVariants.{Memory, Read, Write}
 use Rattle.http_api.specs.declared.serving.Served.{Served}
 
 -- how many requests a connection still takes, what it has still to read, the accepted commands, the
@@ -190,18 +193,24 @@ pub record IsCutOff {C : Type 0} (gives : C → Option ℕ → C → Type 0) (b 
   pub written : Appends empty full (text ++ take begun more)
   pub taken : ForEachList b old (IsTakenWith b stream count moments text more new)
 
--- what comes of a stream, where the reader tells its bytes: it is served to the end of the
--- connection
-abbrev pub Serves : {C : Type 0} → (C → Option ℕ → C → Type 0) → Book → Option (List ℕ) → C → C →
-    Option (List ℕ) →
-    Option (List ℕ) → Tables → Tables → Result Served ServeFault → Type 0
-Serves gives b bytes before after empty full old new result =
-    IfOk result (λ done. IfSome bytes (λ stream.
-    IsServed gives b stream done.requests before after empty full old new))
-
--- or a beginning of it is
-abbrev pub Starts : {C : Type 0} → (C → Option ℕ → C → Type 0) → Book → Option (List ℕ) → C → C →
-    Option (List ℕ) →
-    Option (List ℕ) → Tables → Tables → Result Served ServeFault → Type 0
-Starts gives b bytes before after empty full old new result = OnErr result (IfSome bytes (λ stream.
-    IsBegun gives b stream before after empty full old new))
+-- what comes of a connection over a keeper that stays clean, where the reader tells its bytes: it
+-- is served to its end, or a beginning of it is, and each fault says which; at most 1,000 requests
+-- are answered, and the accepted commands go on
+pub record ServesConnection {C K : Type 0} (gives : C → Option ℕ → C → Type 0) (b : Book)
+    (bytes : Option (List ℕ)) (before after : C) (empty full : Option (List ℕ))
+    (content : K → Tables) (failed : K → ℕ) (clean : K → Type 0) (old new : K)
+    (result : Result Served ServeFault) : Type 0 where
+  pub served : clean new → IfOk result (λ done. IfSome bytes (λ stream.
+      IsServed gives b stream done.requests before after empty full (content old) (content new)))
+  pub begun : clean new → OnErr result (IfSome bytes (λ stream.
+      IsBegun gives b stream before after empty full (content old) (content new)))
+  pub memory : clean new → IsErrOf result Memory → IfSome bytes (λ stream.
+      IsOutOfMemory gives b stream before after empty full (content old) (content new))
+  pub read : clean new → IsErrOf result Read → IfSome bytes (λ stream.
+      IsUnread gives b stream before after empty full (content old) (content new))
+  pub write : clean new → IsErrOf result Write → IfSome bytes (λ stream.
+      IsCutOff gives b stream before after empty full (content old) (content new))
+  pub bounded : IfOk result (λ done. done.requests ≤ 1000)
+  pub continued : clean new → Continues b (content old) (content new)
+  pub cleanness : clean new → clean old
+  pub failures : failed old ≤ failed new

@@ -1,7 +1,9 @@
 -- What a request is answered after a list of accepted commands, and the list after it.
 -- Source: profile; the statuses: RFC 9110 section 15.
 use Rattle.std.specs.Prelude.{◌≡◌, ◌≤◌, ℕ, Bool, true, false, if◌then◌else◌, List, [], ◌∷◌, length}
-use Rattle.std.specs.Prelude.{Option, Some, None, Ok, Err, ◌⊎◌}
+use Rattle.std.specs.Prelude.{Option, Some, None, Result, Ok, Err, IsErrOf, ◌⊎◌}
+use Rattle.byte_streams.specs.declared.StreamFault.{StreamFault}
+use Rattle.byte_streams.specs.declared.StreamFault.TheVariants.{Memory, Read}
 use Rattle.commands.specs.declared.answer.Answer.TheVariants.{Refused}
 use Rattle.commands.specs.declared.answer.Refusal.TheVariants.{AccountUnknown}
 use Rattle.commands.specs.declared.command.Command.{Command}
@@ -12,11 +14,10 @@ use Rattle.reserving.specs.Charges.{charge_rows}
 use Rattle.keepers.specs.Tables.{Tables}
 use Rattle.statements.specs.Texts.{statement_text}
 use Rattle.charging.specs.Accepted.{Accepted, IsInTime}
-use Rattle.charging.specs.declared.running.DatedCommand.{DatedCommand}
 use Rattle.charging.specs.Balances.{by_number}
+use Rattle.charging.specs.Continued.{ForEachList, Continues}
 use Rattle.charging.specs.Histories.{History}
 use Rattle.charging.specs.Served.{AreTables, history, moment_of, answer_to, with_command}
-use Rattle.charging.specs.Runs.{after_commands}
 use Rattle.http_heads.specs.declared.status.Status.{Status}
 use Rattle.http_heads.specs.declared.status.Status.TheVariants as status
 use Rattle.http_answers.specs.Asking.{Asking, refuses, reads, states}
@@ -107,22 +108,6 @@ IsReply b list asking moments reply = IsDue b list asking moments reply
 
 -- ---- over a keeper
 
--- this is so of every list of accepted commands whose tables these are
-abbrev pub ForEachList : Book → Tables → (List Accepted → Type 0) → Type 0
-ForEachList b tables says = (list : List Accepted) → IsInTime list →
-    AreTables b list tables → says list
-
--- some dated commands came to the list, in time, and these are its tables then
-pub record IsContinued (b : Book) (content : Tables) (list : List Accepted) : Type 0 where
-  pub commands : List DatedCommand
-  pub tables : AreTables b (after_commands b list commands) content
-  pub time : IsInTime (after_commands b list commands)
-
--- whatever list the tables before are of, commands came to it, and the tables after are those of
--- the longer list
-abbrev pub Continues : Book → Tables → Tables → Type 0
-Continues b old new = ForEachList b old (IsContinued b new)
-
 -- the text is that of a reply, and the tables are those of the list after it
 pub record IsReplied (b : Book) (asking : Asking) (closes : Bool) (moments : List (Option ℕ))
     (text : List ℕ) (content : Tables) (list : List Accepted) : Type 0 where
@@ -140,3 +125,14 @@ pub record Replies {C : Type 0} (gives : C → Option ℕ → C → Type 0) (b :
   pub text : List ℕ
   pub written : Writes text
   pub replied : ForEachList b old (IsReplied b asking closes moments text new)
+
+-- what answering a request leaves, whatever it asks: nothing is written where memory is refused, no
+-- reader fails, and the accepted commands go on
+pub record GoesOn {A K : Type 0} (b : Book) (empty full : Option (List ℕ)) (content : K → Tables)
+    (failed : K → ℕ) (clean : K → Type 0) (old new : K) (result : Result A StreamFault) :
+    Type 0 where
+  pub unwritten : IsErrOf result Memory → full ≡ empty
+  pub read : IsErrOf result Read → ⊥
+  pub continued : clean new → Continues b (content old) (content new)
+  pub cleanness : clean new → clean old
+  pub failures : failed old ≤ failed new

@@ -7,6 +7,7 @@ use Rattle.commands.specs.declared.command.Command.{Command}
 use Rattle.wire_answers.specs.Spelled.{answer_text}
 use Rattle.tariffs.specs.Books.{Book}
 use Rattle.keepers.specs.Tables.{Tables}
+use Rattle.charging.specs.Continued.{ForEachList}
 use Rattle.charging.specs.Served.{moment_of, answer_to}
 use Rattle.reserving.specs.ChargeColumns.{ChargeColumns}
 use Rattle.charge_sources.specs.Rows.{AreCharges}
@@ -14,7 +15,6 @@ use Rattle.http_heads.specs.declared.status.Status.TheVariants.{Ok, Unavailable}
 use Rattle.http_answers.specs.declared.text.Media.TheVariants.{Text}
 use Rattle.http_answers.specs.Asking.{Asking, reads}
 use Rattle.http_answers.specs.Texts.{response, response_of, unable}
-use Rattle.http_api.specs.Replies.{ForEachList}
 use Rattle.http_api.specs.Unaccepted.{is_read_command, is_unaccepted}
 
 -- an answer is told, to a read or to another command; or that there is no memory, where no accepted

@@ -1,8 +1,8 @@
-ghost use Rattle.std.specs.Prelude.{◌≡◌, ◌≤◌, ℕ, Ok, IsErrOf, OnOk, OnErr};
+ghost use Rattle.std.specs.Prelude.{Ok, IsErrOf, OnOk, OnErr};
 ghost use Rattle.std.specs.Io.KnownBytes.{Appends};
 ghost use Rattle.http_answers.specs.Asking.{Asking, reads, IsAsked};
 ghost use Rattle.http_answers.specs.Texts.{Begins};
-ghost use Rattle.http_api.specs.Replies.{Continues, Replies};
+ghost use Rattle.http_api.specs.Replies.{GoesOn, Replies};
 ghost use Rattle.http_api.specs.Told.{Owes};
 
 use crate::clock::Clock;
@@ -24,6 +24,7 @@ use tariffs::TariffBook;
 /// `Memory` where memory is refused for the text of an answer that an accepted command may get,
 /// `Write` where the writer failed: what is accepted stays so, and a beginning of the answer is
 /// written.
+#[tactic(auto, using(crate::proofs::StatementReplies::goes_on_same))]
 pub(crate) fn answer_request<W: Write, K: ChargeSource, C: Clock>(
     alloc: Global,
     writer: &mut W,
@@ -44,13 +45,8 @@ pub(crate) fn answer_request<W: Write, K: ChargeSource, C: Clock>(
     ensures memory { K.clean keeper.new → IsErrOf result StreamFault.Memory → (asking : Asking) →
         IsAsked asking asked →
         Owes C.gives book.now asking clock.old clock.new (K.content keeper.old) }
-    ensures unwritten { IsErrOf result StreamFault.Memory →
-        W.contents writer.new ≡ W.contents writer.old }
-    ensures read { IsErrOf result StreamFault.Read → ⊥ }
-    ensures continued { K.clean keeper.new →
-        Continues book.now (K.content keeper.old) (K.content keeper.new) }
-    ensures cleanness { K.clean keeper.new → K.clean keeper.old }
-    ensures failures { K.failed keeper.old ≤ K.failed keeper.new }
+    ensures goes_on { GoesOn book.now (W.contents writer.old) (W.contents writer.new)
+        K.content K.failed K.clean keeper.old keeper.new result }
 {
     match asked {
         Asked::Refused(status) => tell_refusal(alloc, writer, status, closes),
@@ -63,6 +59,7 @@ pub(crate) fn answer_request<W: Write, K: ChargeSource, C: Clock>(
 }
 
 /// Serves a command at the clock's moment, and writes its answer.
+#[tactic(auto, using(crate::proofs::StatementReplies::goes_on_same))]
 fn serve_command<W: Write, K: ChargeSource, C: Clock>(
     alloc: Global,
     writer: &mut W,
@@ -82,13 +79,8 @@ fn serve_command<W: Write, K: ChargeSource, C: Clock>(
         (K.content keeper.old) (K.content keeper.new)) }
     ensures memory { K.clean keeper.new → IsErrOf result StreamFault.Memory →
         Owes C.gives book.now (reads (Ok command)) clock.old clock.new (K.content keeper.old) }
-    ensures unwritten { IsErrOf result StreamFault.Memory →
-        W.contents writer.new ≡ W.contents writer.old }
-    ensures read { IsErrOf result StreamFault.Read → ⊥ }
-    ensures continued { K.clean keeper.new →
-        Continues book.now (K.content keeper.old) (K.content keeper.new) }
-    ensures cleanness { K.clean keeper.new → K.clean keeper.old }
-    ensures failures { K.failed keeper.old ≤ K.failed keeper.new }
+    ensures goes_on { GoesOn book.now (W.contents writer.old) (W.contents writer.new)
+        K.content K.failed K.clean keeper.old keeper.new result }
 {
     let Some(moment) = clock.now() else {
         return tell_unable(writer, closes);

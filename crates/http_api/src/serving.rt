@@ -1,9 +1,6 @@
-ghost use Rattle.std.specs.Prelude.{◌≡◌, ◌≤◌, ◌<◌, ◌+◌, ◌*◌, length, IfOk, OnErr, IfSome};
-ghost use Rattle.std.specs.Prelude.{IsErrOf};
+ghost use Rattle.std.specs.Prelude.{◌≡◌, ◌≤◌, ◌<◌, ◌+◌, ◌*◌, length};
 ghost use Rattle.http_answers.specs.Routes.{table};
-ghost use Rattle.http_api.specs.Replies.{Continues};
-ghost use Rattle.http_api.specs.Connections.{left_after, IsServed, IsBegun, Serves, Starts};
-ghost use Rattle.http_api.specs.Connections.{IsOutOfMemory, IsUnread, IsCutOff};
+ghost use Rattle.http_api.specs.Connections.{left_after, ServesConnection};
 
 use crate::answering::answer_request;
 use crate::clock::Clock;
@@ -45,30 +42,9 @@ pub fn serve<R: Read, W: Write, K: ChargeSource, C: Clock>(
     book: &TariffBook,
     clock: &mut C,
 ) -> Result<Served, ServeFault>
-    ensures served { K.clean keeper.new →
-        IfOk result (λ done. IfSome (R.remaining reader.old) (λ stream.
-        IsServed C.gives book.now stream done.requests clock.old clock.new (W.contents writer.old)
-        (W.contents writer.new) (K.content keeper.old) (K.content keeper.new))) }
-    ensures begun { K.clean keeper.new → OnErr result (IfSome (R.remaining reader.old) (λ stream.
-        IsBegun C.gives book.now stream clock.old clock.new (W.contents writer.old)
-        (W.contents writer.new) (K.content keeper.old) (K.content keeper.new))) }
-    ensures memory { K.clean keeper.new → IsErrOf result ServeFault.Memory →
-        IfSome (R.remaining reader.old) (λ stream. IsOutOfMemory C.gives book.now stream
-        clock.old clock.new (W.contents writer.old) (W.contents writer.new)
-        (K.content keeper.old) (K.content keeper.new)) }
-    ensures read { K.clean keeper.new → IsErrOf result ServeFault.Read →
-        IfSome (R.remaining reader.old) (λ stream. IsUnread C.gives book.now stream
-        clock.old clock.new (W.contents writer.old) (W.contents writer.new)
-        (K.content keeper.old) (K.content keeper.new)) }
-    ensures write { K.clean keeper.new → IsErrOf result ServeFault.Write →
-        IfSome (R.remaining reader.old) (λ stream. IsCutOff C.gives book.now stream
-        clock.old clock.new (W.contents writer.old) (W.contents writer.new)
-        (K.content keeper.old) (K.content keeper.new)) }
-    ensures bounded { IfOk result (λ done. done.requests ≤ 1000) }
-    ensures continued { K.clean keeper.new →
-        Continues book.now (K.content keeper.old) (K.content keeper.new) }
-    ensures cleanness { K.clean keeper.new → K.clean keeper.old }
-    ensures failures { K.failed keeper.old ≤ K.failed keeper.new }
+    ensures { ServesConnection C.gives book.now (R.remaining reader.old) clock.old clock.new
+        (W.contents writer.old) (W.contents writer.new)
+        K.content K.failed K.clean keeper.old keeper.new result }
 {
     let Ok(router) = known_router(alloc) else {
         return Err(ServeFault::Memory);
@@ -122,29 +98,9 @@ fn serve_requests<R: BufRead, W: Write, K: ChargeSource, C: Clock>(
 ) -> Result<Served, ServeFault>
     requires router { router.now ≡ table }
     requires room { 8192 ≤ 3 * length room.old }
-    ensures served { K.clean keeper.new → Serves C.gives book.now (R.remaining reader.old)
-        clock.old clock.new (W.contents writer.old) (W.contents writer.new)
-        (K.content keeper.old) (K.content keeper.new) result }
-    ensures begun { K.clean keeper.new → Starts C.gives book.now (R.remaining reader.old)
-        clock.old clock.new (W.contents writer.old) (W.contents writer.new)
-        (K.content keeper.old) (K.content keeper.new) result }
-    ensures memory { K.clean keeper.new → IsErrOf result ServeFault.Memory →
-        IfSome (R.remaining reader.old) (λ stream. IsOutOfMemory C.gives book.now stream
-        clock.old clock.new (W.contents writer.old) (W.contents writer.new)
-        (K.content keeper.old) (K.content keeper.new)) }
-    ensures read { K.clean keeper.new → IsErrOf result ServeFault.Read →
-        IfSome (R.remaining reader.old) (λ stream. IsUnread C.gives book.now stream
-        clock.old clock.new (W.contents writer.old) (W.contents writer.new)
-        (K.content keeper.old) (K.content keeper.new)) }
-    ensures write { K.clean keeper.new → IsErrOf result ServeFault.Write →
-        IfSome (R.remaining reader.old) (λ stream. IsCutOff C.gives book.now stream
-        clock.old clock.new (W.contents writer.old) (W.contents writer.new)
-        (K.content keeper.old) (K.content keeper.new)) }
-    ensures bounded { IfOk result (λ done. done.requests ≤ 1000) }
-    ensures continued { K.clean keeper.new →
-        Continues book.now (K.content keeper.old) (K.content keeper.new) }
-    ensures cleanness { K.clean keeper.new → K.clean keeper.old }
-    ensures failures { K.failed keeper.old ≤ K.failed keeper.new }
+    ensures { ServesConnection C.gives book.now (R.remaining reader.old) clock.old clock.new
+        (W.contents writer.old) (W.contents writer.new)
+        K.content K.failed K.clean keeper.old keeper.new result }
 {
     let mut left = MAX_REQUESTS;
     for served in 0..MAX_REQUESTS {

@@ -1,5 +1,5 @@
 ghost use Rattle.std.specs.Prelude.{◌≡◌, ◌≤◌, IfOk};
-ghost use Rattle.http_api.specs.Replies.{Continues};
+ghost use Rattle.charging.specs.Continued.{Continues};
 
 use crate::clock::Clock;
 use crate::fault::ServeFault;

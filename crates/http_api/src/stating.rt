@@ -21,7 +21,7 @@ use charging::{AccountState, account_state};
 use commands::{Answer, Refusal};
 use http_answers::{StatementAsked, tell_text, tell_unable};
 use http_heads::Status;
-use statements::{StatementFault, statement};
+use statements::{AccountMonth, StatementFault, statement};
 use std::alloc::Global;
 use std::io::Write;
 use tariffs::TariffBook;
@@ -110,16 +110,12 @@ fn statement_of<K: ChargeSource>(
 {
     let mut text = Vec::new(alloc);
     let buckets = state.buckets.as_slice();
-    statement(
-        alloc,
-        keeper,
-        &mut text,
+    let month = AccountMonth {
+        account: &asked.account,
+        month: asked.month,
         book,
-        &asked.account,
-        asked.month,
-        state.moment,
-        buckets,
-    )?;
+    };
+    statement(alloc, keeper, &mut text, &month, state.moment, buckets)?;
     Ok(text)
 }
 

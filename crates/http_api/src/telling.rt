@@ -3,7 +3,6 @@
 ghost use Rattle.std.specs.Prelude.{◌≡◌, IfOk, IsErrOf, OnOk, OnErr, false, string_bytes};
 ghost use Rattle.std.specs.Io.KnownBytes.{Appends};
 ghost use Rattle.wire_answers.specs.Spelled.{answer_text};
-ghost use Rattle.decisions.specs.Decisions.{is_read};
 ghost use Rattle.http_heads.specs.declared.status.Status.TheVariants.{Ok};
 ghost use Rattle.http_answers.specs.Texts.{response, Begins};
 ghost use Rattle.http_api.specs.Told.{TellsAnswer};
@@ -11,22 +10,13 @@ ghost use Rattle.http_api.specs.Unaccepted.{is_read_command, is_refusing, is_ref
 ghost use Rattle.http_api.specs.Unaccepted.{is_unaccepted};
 
 use byte_streams::StreamFault;
-use commands::{Answer, Ask, Command, EventAction, Failure, Outcome};
+use commands::{Answer, Command, Failure, Outcome};
+use decisions::is_read;
 use http_answers::{response, tell_unable, write_text};
 use http_heads::Status;
 use std::alloc::{AllocError, Global};
 use std::io::Write;
 use wire::write_answer;
-
-/// Whether a request is a check or an enquiry.
-fn is_read(ask: &Ask) -> bool
-    ensures { result ≡ is_read ask.now }
-{
-    match ask {
-        Ask::Event(event) => event.action != EventAction::DirectDebiting,
-        _ => false,
-    }
-}
 
 /// Whether a command is a read: it is answered anew each time, and never accepted.
 pub(crate) fn is_read_command(command: &Command) -> bool

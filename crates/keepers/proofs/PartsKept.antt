@@ -40,7 +40,8 @@ some_found : {A : Type 0} (q : A → Bool) (ys : List A) (n : ℕ) → position 
     true ≡ is_some (find q ys)
 some_found q [] n e = absurd (no_some n e)
 some_found q (y ∷ ys) n e =
-    some_is (find q (y ∷ ys)) (get_or (y ∷ ys) n y) ((placed q y n (y ∷ ys) e).found y)
+    some_is (find q (y ∷ ys)) (get_or (y ∷ ys) n y)
+    ((placed (λ x z. false) q y n (y ∷ ys) e).found y)
 
 pub placed_found : {A : Type 0} (q : A → Bool) (xs : List A) →
     is_some (position q xs) ≡ is_some (find q xs)

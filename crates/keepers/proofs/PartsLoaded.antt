@@ -1,7 +1,7 @@
 -- What the keeper in memory loads is what may still change of the account's rows.
 use Rattle.std.proofs.Common.{◌≡◌, ℕ, Bool, true, false, List, [], ◌++◌, refl, sym, ap, ◌∙◌, Option}
 use Rattle.std.proofs.Common.{Some, None}
-use Rattle.std.specs.Prelude.{if◌then◌else◌, ◌==◌, ◌||◌, not, is_some, option_map}
+use Rattle.std.specs.Prelude.{if◌then◌else◌, ◌==◌, ◌||◌, not, is_some, option_map, filter}
 use Rattle.tariffs.specs.Books.{Book}
 use Rattle.reserving.specs.declared.session.Session.{Session}
 use Rattle.reserving.specs.declared.session.SessionGroup.{SessionGroup}
@@ -9,7 +9,7 @@ use Rattle.reserving.specs.declared.session.Counter.{Counter}
 use Rattle.reserving.specs.Ledger.{is_same}
 use Rattle.reserving.specs.Pricing.{cycle_at}
 use Rattle.reserving.specs.Sessions.{is_session, is_of, is_counter, is_open, session_in, group_in}
-use Rattle.reserving.specs.Sessions.{counter_in}
+use Rattle.reserving.specs.Sessions.{counter_in, counter_before}
 use Rattle.reserving.specs.Rows.{AccountRows}
 use Rattle.reserving.specs.Stored.{IsStored}
 use Rattle.reserving.specs.Left.{is_dead, is_open_row, only, first_of, bucket_in}
@@ -17,7 +17,8 @@ use Rattle.reserving.specs.Live.{is_live_group, live_part}
 use Rattle.reserving.proofs.Lists.{find-passes, EachIn-found}
 use Rattle.reserving.proofs.Holds.{same_from}
 use Rattle.reserving.proofs.Keys.{first_true, second_true, same_number}
-use Rattle.reserving.proofs.LeftTests.{find_filter}
+use Rattle.reserving.proofs.LeftTests.{find_filter, apart_filter}
+use Rattle.reserving.proofs.Reordered.{find_reordered, arranged_reordered}
 use Rattle.reserving.proofs.LeftParted.{one_session, one_group, one_counter, find_both}
 use Rattle.reserving.proofs.LeftMore.{apart_none}
 use Rattle.reserving.proofs.left.Loaded.{nothing}
@@ -84,7 +85,13 @@ module _ (book : Book) (t : ℕ) (p : Parts) (h : AreParts p) (live : IsStored p
   counter_found : (g c : ℕ) → counter_in g c a.counters ≡
       (if c == cycle_at book g t then counter_in g c (p.left.counters ++ p.live.counters) else None)
   counter_found g c =
-      find_filter same_counter (is_counter g c) (one_counter g c)
+      sym (find_reordered same_counter (is_counter g c) (one_counter g c)
+      (filter (λ r. r.cycle == cycle_at book r.group t) (p.left.counters ++ p.live.counters)) _
+      (arranged_reordered counter_before
+      (filter (λ r. r.cycle == cycle_at book r.group t) (p.left.counters ++ p.live.counters)))
+      (apart_filter same_counter (λ r. r.cycle == cycle_at book r.group t)
+      (p.left.counters ++ p.live.counters) h.counters))
+      ∙ find_filter same_counter (is_counter g c) (one_counter g c)
       (λ r. r.cycle == cycle_at book r.group t) (p.left.counters ++ p.live.counters) h.counters
       ∙ by_cycle g c (counter_in g c (p.left.counters ++ p.live.counters)) refl
 

@@ -9,6 +9,8 @@ use Rattle.tariffs.specs.Books.{Book}
 use Rattle.tariffs.specs.Tariffs.{GroupTariff}
 use Rattle.reserving.specs.declared.session.Counter.{Counter}
 use Rattle.reserving.specs.Pricing.{tariff_of, cycle_with, cycle_at}
+use Rattle.reserving.specs.Keyed.{arranged}
+use Rattle.reserving.specs.Sessions.{counter_before}
 use Rattle.reserving.specs.Rows.{EachIn, AreApart}
 use Rattle.reserving.specs.Stored.{StoredRows}
 use Rattle.reserving.specs.Live.{live_part}
@@ -62,9 +64,9 @@ loaded_without book t cycles rows live h = at (may_go_on book t cycles) refl
         live_part book t (if b then rows else []) live ≡ live_part book t rows live
     at true e = refl
     at false e = λ i. record (live_part book t rows live) {
-      counters = none_ahead now rows live.counters
+      counters = arranged counter_before (none_ahead now rows live.counters
           (EachIn-weaker (λ c. is_numbered cycles c.cycle ≡ true) (λ c. now c ≡ false) rows
-          (λ c k. past_counter book t cycles c e k) h) i;
+          (λ c k. past_counter book t cycles c e k) h) i);
     }
 
 apart_behind : (xs ys : List Counter) → AreApart same_counter (xs ++ ys) →

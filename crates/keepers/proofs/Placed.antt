@@ -12,8 +12,9 @@ use Rattle.std.proofs.lemmas.Iterator.Adapters.{position_from-zero}
 use Rattle.std.specs.Cmp.Lexicographic.{bytes_decides}
 use Rattle.identifiers.specs.Texts.{same_name}
 use Rattle.reserving.specs.Keyed.{put}
-use Rattle.reserving.proofs.Lists.{find-passes, find-put, find-put_other, no_some, not_both}
-use Rattle.reserving.proofs.KeysFound.{placed, unplaced, put-none}
+use Rattle.reserving.proofs.Lists.{find-passes, find-put, find-put_other, put_first, no_some}
+use Rattle.reserving.proofs.Lists.{not_both}
+use Rattle.reserving.proofs.KeysFound.{placed, unplaced}
 use Rattle.keepers.specs.declared.entries.Entry.{Entry}
 use Rattle.reserving.specs.declared.charge.ChargeRow.{ChargeRow}
 use Rattle.reserving.specs.Left.{first_of}
@@ -21,8 +22,23 @@ use Rattle.reserving.proofs.LeftParted.{find_both}
 use Rattle.keepers.specs.Tables.{charge_in}
 use Rattle.keepers.specs.Memory.{is_entry, entry_in, rows_of_entry, charges_of_entry}
 
+-- a new account stands behind the others
+abbrev never : {A : Type 0} → A → A → Bool
+never x y = false
+
+put_last : {A : Type 0} (p : A → Bool) (x : A) (xs : List A) → find p xs ≡ None →
+    put never p x xs ≡ xs ++ x ∷ []
+put_last p x [] h = refl
+put_last p x (y ∷ ys) h = at (p y) refl h (put_last p x ys)
+  where
+    at : (t : Bool) → p y ≡ t → cond t (Some y) (find p ys) ≡ None →
+        (find p ys ≡ None → put never p x ys ≡ ys ++ x ∷ []) →
+        put never p x (y ∷ ys) ≡ y ∷ (ys ++ x ∷ [])
+    at true e g rest = absurd (no_some y (sym g))
+    at false e g rest = put_first never p x y ys false false e refl ∙ (λ i. y ∷ rest g i)
+
 length-put : {A : Type 0} (p : A → Bool) (x : A) (xs : List A) →
-    length (put p x xs) ≡ (if is_some (find p xs) then length xs else length xs + 1)
+    length (put never p x xs) ≡ (if is_some (find p xs) then length xs else length xs + 1)
 length-put p x [] = refl
 length-put p x (y ∷ ys) = at (p y) (length-put p x ys)
   where
@@ -30,9 +46,9 @@ length-put p x (y ∷ ys) = at (p y) (length-put p x ys)
     more true n = refl
     more false n = omega arith
 
-    at : (t : Bool) → length (put p x ys) ≡
+    at : (t : Bool) → length (put never p x ys) ≡
         (if is_some (find p ys) then length ys else length ys + 1) →
-        length (if t then x ∷ ys else y ∷ put p x ys) ≡
+        length (if t then x ∷ ys else y ∷ put never p x ys) ≡
         (if is_some (cond t (Some y) (find p ys)) then length (y ∷ ys) else length (y ∷ ys) + 1)
     at true r = refl
     at false r = ap suc r ∙ more (is_some (find p ys)) (length ys)
@@ -70,7 +86,7 @@ pub record IsFound (n : List ℕ) (e : Entry) (xs : List Entry) : Type 0 where
 pub found_at : (n : List ℕ) (place : ℕ) (xs : List Entry) (e : Entry) →
     position (is_entry n) xs ≡ Some place → e ≡ get_or xs place e → IsFound n e xs
 found_at n place xs e h is =
-    let found : entry_in n xs ≡ Some e = (placed (is_entry n) e place xs h).found e
+    let found : entry_in n xs ≡ Some e = (placed never (is_entry n) e place xs h).found e
     ∙ ap Some (sym is) in
     record {
       number = (bytes_decides e.number n).0 (find-passes (is_entry n) xs e found);
@@ -78,24 +94,25 @@ found_at n place xs e h is =
     }
 
 entry_put : (n a : List ℕ) (e : Entry) (xs : List Entry) → e.number ≡ n →
-    entry_in a (put (is_entry n) e xs) ≡ (if same_name n a then Some e else entry_in a xs)
+    entry_in a (put never (is_entry n) e xs) ≡ (if same_name n a then Some e else entry_in a xs)
 entry_put n a e xs number = at (same_name n a) refl
   where
     other : same_name n a ≡ false → (y : Entry) → is_entry n y ≡ true → is_entry a y ≡ false
     other h y e = ap (λ m. same_name m a) ((bytes_decides y.number n).0 e) ∙ h
 
-    at : (t : Bool) → same_name n a ≡ t → entry_in a (put (is_entry n) e xs) ≡
+    at : (t : Bool) → same_name n a ≡ t → entry_in a (put never (is_entry n) e xs) ≡
         (if t then Some e else entry_in a xs)
     at true h =
-        ap (λ m. entry_in m (put (is_entry n) e xs)) (sym ((bytes_decides n a).0 h))
-        ∙ find-put (is_entry n) e xs ((bytes_decides e.number n).1 number)
-    at false h = find-put_other (is_entry n) (is_entry a) e xs (ap (λ m. same_name m a) number ∙ h)
+        ap (λ m. entry_in m (put never (is_entry n) e xs)) (sym ((bytes_decides n a).0 h))
+        ∙ find-put never (is_entry n) e xs ((bytes_decides e.number n).1 number)
+    at false h =
+        find-put_other never (is_entry n) (is_entry a) e xs (ap (λ m. same_name m a) number ∙ h)
         (other h)
 
 -- what is seen of the accounts, once one is put that is seen as a change of the one that was there
 pub seen_put : {V : Type 0} (see : Option Entry → V) (change : V → V) (n a : List ℕ) (e : Entry)
     (xs : List Entry) → e.number ≡ n → see (Some e) ≡ change (see (entry_in n xs)) →
-    see (entry_in a (put (is_entry n) e xs)) ≡
+    see (entry_in a (put never (is_entry n) e xs)) ≡
     (if same_name n a then change (see (entry_in a xs)) else see (entry_in a xs))
 seen_put see change n a e xs number is = ap see (entry_put n a e xs number)
     ∙ at (same_name n a) refl
@@ -107,7 +124,7 @@ seen_put see change n a e xs number is = ap see (entry_put n a e xs number)
 
 pub same_put : {V : Type 0} (see : Option Entry → V) (n a : List ℕ) (e : Entry) (xs : List Entry) →
     e.number ≡ n → see (Some e) ≡ see (entry_in n xs) →
-    see (entry_in a (put (is_entry n) e xs)) ≡ see (entry_in a xs)
+    see (entry_in a (put never (is_entry n) e xs)) ≡ see (entry_in a xs)
 same_put see n a e xs number is = seen_put see (λ v. v) n a e xs number is ∙ at (same_name n a)
   where
     at : (t : Bool) → (if t then see (entry_in a xs) else see (entry_in a xs)) ≡ see (entry_in a xs)
@@ -122,8 +139,8 @@ module _ {V : Type 0} (see : Option Entry → V) (n : List ℕ) (place : ℕ) (x
   there : IsFound n old xs
   there = found_at n place xs old at is
 
-  set_put : set xs place e ≡ put (is_entry n) e xs
-  set_put = sym (placed (is_entry n) e place xs at).put
+  set_put : set xs place e ≡ put never (is_entry n) e xs
+  set_put = sym (placed never (is_entry n) e place xs at).put
 
   pub seen_written : (change : V → V) (a : List ℕ) → see (Some e) ≡ change (see (Some old)) →
       see (entry_in a (set xs place e)) ≡
@@ -140,15 +157,15 @@ module _ {V : Type 0} (see : Option Entry → V) (n : List ℕ) (place : ℕ) (x
 pub count_written : (n : List ℕ) (place : ℕ) (xs : List Entry) (e : Entry) →
     position (is_entry n) xs ≡ Some place →
     length (set xs place e) ≡ (if is_some (entry_in n xs) then length xs else length xs + 1)
-count_written n place xs e at = ap length (sym (placed (is_entry n) e place xs at).put)
+count_written n place xs e at = ap length (sym (placed never (is_entry n) e place xs at).put)
     ∙ length-put (is_entry n) e xs
 
 -- ---- a new account
 
 module _ (n : List ℕ) (xs : List Entry) (e : Entry) (none : position (is_entry n) xs ≡ None)
     (number : e.number ≡ n) where
-  push_put : xs ++ e ∷ [] ≡ put (is_entry n) e xs
-  push_put = sym (put-none (is_entry n) e xs (unplaced (is_entry n) xs none))
+  push_put : xs ++ e ∷ [] ≡ put never (is_entry n) e xs
+  push_put = sym (put_last (is_entry n) e xs (unplaced (is_entry n) xs none))
 
   pub seen_added : {V : Type 0} (see : Option Entry → V) (change : V → V) (a : List ℕ) →
       see (Some e) ≡ change (see None) → see (entry_in a (xs ++ e ∷ [])) ≡
@@ -172,8 +189,9 @@ pub read_at : {A : Type 0} (p : A → Bool) (i : ℕ) (xs : List A) (r : Option 
     position p xs ≡ Some i → (i < length xs → IsSome r) →
     IfSome r (λ x. x.now ≡ get_or xs i x.now) → option_copied r ≡ find p xs
 read_at p i [] None h some same = absurd (no_some i h)
-read_at p i (y ∷ ys) None h some same = absurd (not_both (some (placed p y i (y ∷ ys) h).within))
-read_at p i xs (Some x) h some same = ap Some same ∙ sym ((placed p x.now i xs h).found x.now)
+read_at p i (y ∷ ys) None h some same =
+    absurd (not_both (some (placed never p y i (y ∷ ys) h).within))
+read_at p i xs (Some x) h some same = ap Some same ∙ sym ((placed never p x.now i xs h).found x.now)
 
 pub place_written : (a : List ℕ) (place : ℕ) (xs : List Entry) (old e : Entry) →
     old ≡ get_or xs place old → e.number ≡ old.number →

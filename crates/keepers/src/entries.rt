@@ -67,11 +67,10 @@ pub(crate) fn load_entry<'b>(
         IsLoad book.now moment number.now
         (rows_of_entry (entry_in number.now accounts.now.entries.items)) found) }
 {
-    let Some(entry) = accounts.find(number) else {
+    let Some(account) = view_entry(accounts, book, number, moment)? else {
         return Ok(None);
     };
     let number = number.clone()?;
-    let account = entry.rows.load(book, moment)?;
     let before = account.copy()?.into_stored();
     Ok(Some(Loaded {
         number,

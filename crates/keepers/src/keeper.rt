@@ -119,7 +119,14 @@ pub trait Keeper {
 
     /// Gives a loaded account up: nothing changes.
     fn abandon<'b>(&mut self, loaded: Loaded<'b>)
-        ensures { self.new ≡ self.old };
+        ensures { self.new ≡ self.old }
+    {
+        let Loaded {
+            number: _,
+            account: _,
+            before: _,
+        } = loaded;
+    }
 
     /// Brings each account to the moment, in one transaction, and answers how many there are. At a
     /// fault nothing has changed.

@@ -180,14 +180,6 @@ impl Keeper for MemoryKeeper {
         Ok(())
     }
 
-    fn abandon<'b>(&mut self, loaded: Loaded<'b>) {
-        let Loaded {
-            number: _,
-            account: _,
-            before: _,
-        } = loaded;
-    }
-
     fn sweep(&mut self, book: &TariffBook, moment: Moment) -> Result<u64, StoreFault> {
         self.accounts.advance(book, moment);
         self.last = moment;

@@ -16,6 +16,7 @@ use Rattle.keepers.specs.Tables.{Tables, no_tables}
 use Rattle.charging.proofs.AcceptedTables.{tables_none}
 use Rattle.charging.specs.Outcomes.{book_days, outcome}
 use Rattle.charging.specs.Accepted.{Accepted, IsInTime}
+use Rattle.charging.specs.Continued.{ForEachList, IsContinued}
 use Rattle.charging.specs.declared.running.DatedCommand.{DatedCommand}
 use Rattle.charging.specs.Served.{AreTables, answer_to, moment_of}
 use Rattle.charging.specs.Runs.{after_command, answers_to, after_commands, IsRun, Runs}
@@ -23,8 +24,8 @@ use Rattle.charging.proofs.RunLemmas.{commands_after}
 use Rattle.ocs.specs.declared.input.Input.{Input}
 use Rattle.ocs.specs.Lines.{line_request}
 use Rattle.ocs.specs.Served.{requests_in, opening_for, opening_in, commands_of, faults_in, texts_of}
-use Rattle.ocs.specs.Served.{text_of, text_to, once_text, ForEachList, IsContinued, IsAnswered}
-use Rattle.ocs.specs.Served.{IsStopped, IsBegun, IsCut, IsRunOpened, IsUntold}
+use Rattle.ocs.specs.Served.{text_of, text_to, once_text, IsAnswered}
+use Rattle.ocs.specs.Served.{IsShort, IsBegun, IsRunOpened, IsUntold}
 use Rattle.ocs.specs.Input.{told_fault, IsInput}
 use Rattle.office.specs.Written.{WritesBeginning}
 use Rattle.office.proofs.Beginnings.{nothing_written, beginning_before}
@@ -220,49 +221,27 @@ module _ (b : Book) (amount : Option ℕ) (w0 w1 : Option (List ℕ)) where
           written = subst (WritesBeginning w0 w1) (text_is stream list h run) written;
         }
 
-  module _ {F : Type 0} (input : Input) (opening : List DatedCommand) (given : List Answer)
-      (old new : Tables) where
-    -- it is, up to a fault
-    pub stopped-run : (f : F) (r : Option (List ℕ)) →
-        IfSome r (λ stream. IsInput (map line_request (lines_of stream)) input) →
-        opening ≡ opening_for amount input.requests.items →
-        ForEachList b old (IsRunOpened b opening input.requests.items new given (Some f)) →
-        Appends w0 w1 (texts_of (map told_fault input.lines.items) given) →
-        IfSome r (λ stream. ForEachList b old (IsStopped b amount stream w0 w1 new))
-    stopped-run f None h opened runs written = tt
-    stopped-run f (Some stream) h opened runs written = λ list time tables.
-        let fault : Option F = Some f in
-        let run : IsRunOpened b (opening_in amount stream)
-        (requests_in stream) new given fault list =
-        run_in input opening given fault old new stream h opened runs list time tables in
-        record {
-          count = run.count;
-          few = run.few;
-          tables = run.tables;
-          written = subst (Appends w0 w1)
-              (text_is input opening given fault old new stream list h run) written;
-        }
-
-    -- up to a fault, and not whole
-    pub cut-run : (f : F) (r : Option (List ℕ)) →
-        IfSome r (λ stream. IsInput (map line_request (lines_of stream)) input) →
-        opening ≡ opening_for amount input.requests.items →
-        ForEachList b old (IsRunOpened b opening input.requests.items new given (Some f)) →
-        WritesBeginning w0 w1 (texts_of (map told_fault input.lines.items) given) →
-        IfSome r (λ stream. ForEachList b old (IsCut b amount stream w0 w1 new))
-    cut-run f None h opened runs written = tt
-    cut-run f (Some stream) h opened runs written = λ list time tables.
-        let fault : Option F = Some f in
-        let run : IsRunOpened b (opening_in amount stream)
-        (requests_in stream) new given fault list =
-        run_in input opening given fault old new stream h opened runs list time tables in
-        record {
-          count = run.count;
-          few = run.few;
-          tables = run.tables;
-          written = subst (WritesBeginning w0 w1)
-              (text_is input opening given fault old new stream list h run) written;
-        }
+  -- the commands were run up to a fault
+  pub short-run : {F : Type 0} (Writes : List ℕ → Type 0) (input : Input)
+      (opening : List DatedCommand) (given : List Answer) (old new : Tables) (f : F)
+      (r : Option (List ℕ)) →
+      IfSome r (λ stream. IsInput (map line_request (lines_of stream)) input) →
+      opening ≡ opening_for amount input.requests.items →
+      ForEachList b old (IsRunOpened b opening input.requests.items new given (Some f)) →
+      Writes (texts_of (map told_fault input.lines.items) given) →
+      IfSome r (λ stream. ForEachList b old (IsShort b amount stream Writes new))
+  short-run Writes input opening given old new f None h opened runs written = tt
+  short-run {F = F} Writes input opening given old new f (Some stream) h opened runs written =
+      λ list time tables.
+      let fault : Option F = Some f in
+      let run : IsRunOpened b (opening_in amount stream) (requests_in stream) new given fault list =
+      run_in input opening given fault old new stream h opened runs list time tables in
+      record {
+        count = run.count;
+        few = run.few;
+        tables = run.tables;
+        written = subst Writes (text_is input opening given fault old new stream list h run) written;
+      }
 
   -- all commands were run, and what is answered isn't written whole
   pub untold-run : {F : Type 0} (input : Input) (opening : List DatedCommand)

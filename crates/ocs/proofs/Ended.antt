@@ -1,6 +1,6 @@
 -- What answering lines ends with, by the keeper's fault and by what became of writing the answers.
 use Rattle.std.proofs.Common.{◌≡◌, ℕ, List, map, refl, sym, ap, subst, ◌∙◌, Option, Some, None}
-use Rattle.std.proofs.Common.{IfSome, Result, Ok, Err}
+use Rattle.std.proofs.Common.{IfSome, Result, Ok, Err, le_refl}
 use Rattle.std.proofs.lemmas.Option.{none-some}
 use Rattle.std.specs.Prelude.{OnOk, OnErr}
 use Rattle.std.specs.Io.KnownBytes.{Appends}
@@ -10,18 +10,20 @@ use Rattle.commands.specs.declared.answer.Answer.{Answer}
 use Rattle.tariffs.specs.Books.{Book}
 use Rattle.keepers.specs.Tables.{Tables}
 use Rattle.keepers.specs.declared.fault.StoreFault.{StoreFault}
+use Rattle.charging.specs.Continued.{ForEachList}
 use Rattle.charging.specs.declared.running.DatedCommand.{DatedCommand}
 use Rattle.office.specs.Written.{WritesBeginning}
-use Rattle.office.proofs.Beginnings.{whole_or_begun}
+use Rattle.office.proofs.Beginnings.{on_err, whole_or_begun}
 use Rattle.ocs.specs.declared.fault.LinesFault.{LinesFault}
 use Rattle.ocs.specs.declared.fault.LinesFault.TheVariants.{Read, Store, Both, Write}
 use Rattle.ocs.specs.declared.input.Input.{Input}
 use Rattle.ocs.specs.Faults.{ended_as}
 use Rattle.ocs.specs.Input.{told_fault, IsInput}
 use Rattle.ocs.specs.Lines.{line_request}
-use Rattle.ocs.specs.Served.{opening_for, texts_of, ForEachList, IsAnswered, IsBegun, IsCut}
+use Rattle.ocs.specs.Served.{opening_for, texts_of, AnswersLines, IsAnswered, IsBegun, IsCut}
 use Rattle.ocs.specs.Served.{IsRunOpened, IsStopped, IsUntold}
-use Rattle.ocs.proofs.Answered.{answered-run, begun-run, cut-run, stopped-run, untold-run}
+use Rattle.ocs.proofs.Answered.{answered-run, begun-none, begun-run, continued-same, short-run}
+use Rattle.ocs.proofs.Answered.{untold-run}
 
 -- ---- which fault it is
 
@@ -148,8 +150,8 @@ module _ {A : Type 0} (b : Book) (amount : Option ℕ) (w0 w1 r : Option (List �
   stopped None (Ok x) f k h = absurd (none-some f k)
   stopped None (Err g) f k h = absurd (none-some f k)
   stopped (Some n) (Ok x) f k h =
-      stopped-run b amount w0 w1 h.input h.opening h.given old new n r h.read h.opened h.runs
-      h.whole
+      short-run b amount w0 w1 (Appends w0 w1) h.input h.opening h.given old new n r h.read
+      h.opened h.runs h.whole
   stopped (Some n) (Err g) f k h = absurd (none-some f k)
 
   pub ended-stopped : (fault : Option StoreFault) (written : Result A StreamFault)
@@ -169,7 +171,8 @@ module _ {A : Type 0} (b : Book) (amount : Option ℕ) (w0 w1 r : Option (List �
   cut None (Err g) f k h = absurd (none-some f k)
   cut (Some n) (Ok x) f k h = absurd (none-some f k)
   cut (Some n) (Err g) f k h =
-      cut-run b amount w0 w1 h.input h.opening h.given old new n r h.read h.opened h.runs h.part
+      short-run b amount w0 w1 (WritesBeginning w0 w1) h.input h.opening h.given old new n r
+      h.read h.opened h.runs h.part
 
   pub ended-cut : (fault : Option StoreFault) (written : Result A StreamFault)
       (result : Result A LinesFault) (f : StoreFault) → result ≡ ended_as fault written →
@@ -194,3 +197,25 @@ module _ {A : Type 0} (b : Book) (amount : Option ℕ) (w0 w1 r : Option (List �
       IfSome r (λ stream. ForEachList b old (IsUntold b amount stream w0 w1 new))
   ended-untold fault written result f e k h =
       untold fault written (subst IsWrite (sym k ∙ e) tt) h
+
+-- ---- before the lines are read
+
+-- nothing was run and nothing was written
+pub none_answered : {A K : Type 0} (b : Book) (amount : Option ℕ) (r w : Option (List ℕ))
+    (content : K → Tables) (failed : K → ℕ) (clean : K → Type 0) (keeper : K)
+    (result : Result A LinesFault) (f : StreamFault) → result ≡ Err (Read f) →
+    AnswersLines b amount r w w content failed clean keeper keeper result
+none_answered {A = A} b amount r w content failed clean keeper result f is = record {
+  answered = λ whole. subst (λ (res : Result A LinesFault).
+      OnOk res (IfSome r (λ stream. ForEachList b (content keeper)
+      (IsAnswered b amount stream w w (content keeper))))) (sym is) tt;
+  begun = λ whole. on_err result (begun-none b amount w w r (content keeper));
+  stopped = λ fault no whole. absurd (subst IsRead (sym is ∙ no) tt);
+  both = λ fault no whole. absurd (subst IsRead (sym is ∙ no) tt);
+  untold = λ fault no whole. absurd (subst IsRead (sym is ∙ no) tt);
+  continued = λ whole. continued-same b (content keeper);
+  cleanness = λ whole. whole;
+  failures = le_refl (failed keeper);
+  cause = λ no. absurd (subst IsRead (sym is ∙ no) tt);
+  cause_of_both = λ no. absurd (subst IsRead (sym is ∙ no) tt);
+}

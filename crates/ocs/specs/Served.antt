@@ -2,21 +2,29 @@
 -- is told.
 -- Source: profile.
 use Rattle.std.specs.Prelude.{ℕ, List, [], ◌∷◌, ◌++◌, codes, length, map, take, drop, Option, Some}
-use Rattle.std.specs.Prelude.{None, IfNone, IfSome, Result, Ok, Err, ◌≡◌, ◌<◌}
+use Rattle.std.specs.Prelude.{None, IfNone, IfSome, Result, Ok, Err, ◌≡◌, ◌<◌, ◌≤◌, ◌+◌, min}
+use Rattle.std.specs.Prelude.{OnOk, OnErr}
 use Rattle.std.specs.Io.KnownBytes.{Appends}
 use Rattle.byte_streams.specs.Lines.{lines_of}
+use Rattle.byte_streams.specs.declared.StreamFault.{StreamFault}
 use Rattle.commands.specs.declared.answer.Answer.{Answer}
 use Rattle.commands.specs.declared.command.Command.{Command}
 use Rattle.commands.specs.declared.command.Command.TheVariants.{Ccr, OpenAccount, Credit}
 use Rattle.json_fields.specs.declared.fault.WireFault.{WireFault}
 use Rattle.wire_answers.specs.Spelled.{answer_text, fault_text}
 use Rattle.tariffs.specs.Books.{Book}
+use Rattle.keepers.specs.Faults.{max_failures}
 use Rattle.keepers.specs.Tables.{Tables}
+use Rattle.keepers.specs.declared.fault.StoreFault.{StoreFault}
+use Rattle.keepers.specs.declared.fault.StoreFault.TheVariants.{Store as StoreFailed}
 use Rattle.charging.specs.Accepted.{Accepted, IsInTime}
+use Rattle.charging.specs.Continued.{ForEachList, Continues}
 use Rattle.charging.specs.declared.running.DatedCommand.{DatedCommand}
 use Rattle.charging.specs.Served.{AreTables}
 use Rattle.charging.specs.Runs.{answers_to, after_commands}
 use Rattle.ocs.specs.Lines.{line_request}
+use Rattle.ocs.specs.declared.fault.LinesFault.{LinesFault}
+use Rattle.ocs.specs.declared.fault.LinesFault.TheVariants.{Both, Store, Write}
 use Rattle.office.specs.Written.{WritesBeginning}
 
 -- ---- commands
@@ -115,17 +123,6 @@ BeginsOnce b credit bytes old new =
 
 -- ---- a run
 
--- this is so of every list of accepted commands whose tables these are
-abbrev pub ForEachList : Book → Tables → (List Accepted → Type 0) → Type 0
-ForEachList b tables says = (list : List Accepted) → IsInTime list →
-    AreTables b list tables → says list
-
--- some commands came to the list, in time, and these are its tables then
-pub record IsContinued (b : Book) (content : Tables) (list : List Accepted) : Type 0 where
-  pub commands : List DatedCommand
-  pub tables : AreTables b (after_commands b list commands) content
-  pub time : IsInTime (after_commands b list commands)
-
 -- all is written, and the tables are those of all commands
 pub record IsAnswered (b : Book) (opening : Option ℕ) (stream : List ℕ) (old new : Option (List ℕ))
     (content : Tables) (list : List Accepted) : Type 0 where
@@ -138,22 +135,26 @@ pub record IsUntold (b : Book) (opening : Option ℕ) (stream : List ℕ) (old n
   pub tables : AreTables b (after_commands b list (commands_of opening stream)) content
   pub written : WritesBeginning old new (text_of b list opening stream)
 
--- the tables are those of fewer commands than there are, and the text is written as far as these
--- are answered
-pub record IsStopped (b : Book) (opening : Option ℕ) (stream : List ℕ) (old new : Option (List ℕ))
+-- the tables are those of fewer commands than there are, and what is written is of the text as far
+-- as these are answered
+pub record IsShort (b : Book) (opening : Option ℕ) (stream : List ℕ) (Writes : List ℕ → Type 0)
     (content : Tables) (list : List Accepted) : Type 0 where
   pub count : ℕ
   pub few : count < length (commands_of opening stream)
   pub tables : AreTables b (after_commands b list (take count (commands_of opening stream))) content
-  pub written : Appends old new (text_to count b list opening stream)
+  pub written : Writes (text_to count b list opening stream)
 
--- or a beginning of that text is
-pub record IsCut (b : Book) (opening : Option ℕ) (stream : List ℕ) (old new : Option (List ℕ))
-    (content : Tables) (list : List Accepted) : Type 0 where
-  pub count : ℕ
-  pub few : count < length (commands_of opening stream)
-  pub tables : AreTables b (after_commands b list (take count (commands_of opening stream))) content
-  pub written : WritesBeginning old new (text_to count b list opening stream)
+-- all of that text
+abbrev pub IsStopped : Book → Option ℕ → List ℕ → Option (List ℕ) → Option (List ℕ) → Tables →
+    List Accepted → Type 0
+IsStopped b opening stream old new content list =
+    IsShort b opening stream (Appends old new) content list
+
+-- or a beginning of it
+abbrev pub IsCut : Book → Option ℕ → List ℕ → Option (List ℕ) → Option (List ℕ) → Tables →
+    List Accepted → Type 0
+IsCut b opening stream old new content list =
+    IsShort b opening stream (WritesBeginning old new) content list
 
 -- the same, where all commands may have been run
 pub record IsBegun (b : Book) (opening : Option ℕ) (stream : List ℕ) (old new : Option (List ℕ))
@@ -175,3 +176,30 @@ pub record IsRunOpened {F : Type 0} (b : Book) (opening requests : List DatedCom
   pub answers : given ≡ drop (length opening) (answers_to b list (take count (opening ++ requests)))
   pub whole : IfNone fault (take count (opening ++ requests) ≡ opening ++ requests)
   pub few : IfSome fault (λ _. count < length (opening ++ requests))
+
+-- ---- over a keeper, a reader and a writer
+
+-- what answering lines leaves of a keeper that stays clean, where the reader tells its bytes: all
+-- are answered, or a beginning of them, and the faults of the keeper and of the writer say which
+pub record AnswersLines {A K : Type 0} (b : Book) (opening : Option ℕ)
+    (bytes empty full : Option (List ℕ)) (content : K → Tables) (failed : K → ℕ)
+    (clean : K → Type 0) (old new : K) (result : Result A LinesFault) : Type 0 where
+  pub answered : clean new → OnOk result (IfSome bytes (λ stream. ForEachList b (content old)
+      (IsAnswered b opening stream empty full (content new))))
+  pub begun : clean new → OnErr result (IfSome bytes (λ stream. ForEachList b (content old)
+      (IsBegun b opening stream empty full (content new))))
+  pub stopped : (fault : StoreFault) → result ≡ Err (Store fault) → clean new →
+      IfSome bytes (λ stream. ForEachList b (content old)
+      (IsStopped b opening stream empty full (content new)))
+  pub both : (fault : StoreFault) → result ≡ Err (Both fault) → clean new →
+      IfSome bytes (λ stream. ForEachList b (content old)
+      (IsCut b opening stream empty full (content new)))
+  pub untold : (fault : StreamFault) → result ≡ Err (Write fault) → clean new →
+      IfSome bytes (λ stream. ForEachList b (content old)
+      (IsUntold b opening stream empty full (content new)))
+  pub continued : clean new → Continues b (content old) (content new)
+  pub cleanness : clean new → clean old
+  pub failures : failed old ≤ failed new
+  pub cause : result ≡ Err (Store StoreFailed) → min (failed old + 1) max_failures ≤ failed new
+  pub cause_of_both : result ≡ Err (Both StoreFailed) →
+      min (failed old + 1) max_failures ≤ failed new

@@ -1,12 +1,11 @@
-ghost use Rattle.std.specs.Prelude.{◌≡◌, ◌≤◌, ◌+◌, ◌++◌, Err, Some, min, OnOk, OnErr, IfSome};
+ghost use Rattle.std.specs.Prelude.{◌≡◌, ◌≤◌, ◌+◌, Err, Some, min};
 ghost use Rattle.byte_streams.specs.declared.StreamFault.{StreamFault};
+ghost use Rattle.charging.specs.Continued.{ForEachList};
 ghost use Rattle.keepers.specs.Faults.{max_failures};
-ghost use Rattle.keepers.specs.declared.fault.StoreFault.{StoreFault};
 ghost use Rattle.keepers.specs.declared.fault.StoreFault.TheVariants.{Store as StoreFailed};
-ghost use Rattle.ocs.specs.declared.fault.LinesFault.TheVariants.{Both, Read, Store, Write};
+ghost use Rattle.ocs.specs.declared.fault.LinesFault.TheVariants.{Read};
 ghost use Rattle.ocs.specs.Faults.{ended_as};
-ghost use Rattle.ocs.specs.Served.{ForEachList, IsContinued, IsAnswered, IsStopped, IsBegun, IsCut};
-ghost use Rattle.ocs.specs.Served.{IsRunOpened, IsUntold};
+ghost use Rattle.ocs.specs.Served.{AnswersLines, IsRunOpened};
 
 use crate::fault::LinesFault;
 use crate::input::{Input, read_input};
@@ -40,46 +39,20 @@ pub fn lines<K: Keeper, R: Read, W: Write>(
     reader: &mut R,
     writer: &mut W,
 ) -> Result<(), LinesFault>
-    ensures answered { K.clean keeper.new → OnOk result (IfSome (R.remaining reader.old) (λ stream.
-        ForEachList book.now (K.content keeper.old)
-        (IsAnswered book.now opening stream (W.contents writer.old) (W.contents writer.new)
-        (K.content keeper.new)))) }
-    ensures begun { K.clean keeper.new → OnErr result (IfSome (R.remaining reader.old) (λ stream.
-        ForEachList book.now (K.content keeper.old)
-        (IsBegun book.now opening stream (W.contents writer.old) (W.contents writer.new)
-        (K.content keeper.new)))) }
-    ensures stopped { (fault : StoreFault) → result ≡ Err (Store fault) →
-        K.clean keeper.new →
-        IfSome (R.remaining reader.old) (λ stream. ForEachList book.now (K.content keeper.old)
-        (IsStopped book.now opening stream (W.contents writer.old) (W.contents writer.new)
-        (K.content keeper.new))) }
-    ensures both { (fault : StoreFault) → result ≡ Err (Both fault) →
-        K.clean keeper.new →
-        IfSome (R.remaining reader.old) (λ stream. ForEachList book.now (K.content keeper.old)
-        (IsCut book.now opening stream (W.contents writer.old) (W.contents writer.new)
-        (K.content keeper.new))) }
-    ensures untold { (fault : StreamFault) → result ≡ Err (Write fault) →
-        K.clean keeper.new →
-        IfSome (R.remaining reader.old) (λ stream. ForEachList book.now (K.content keeper.old)
-        (IsUntold book.now opening stream (W.contents writer.old) (W.contents writer.new)
-        (K.content keeper.new))) }
+    ensures answers { AnswersLines book.now opening (R.remaining reader.old)
+        (W.contents writer.old) (W.contents writer.new)
+        K.content K.failed K.clean keeper.old keeper.new result }
     ensures unread { (fault : StreamFault) → result ≡ Err (Read fault) → keeper.new ≡ keeper.old }
     ensures unwritten { (fault : StreamFault) → result ≡ Err (Read fault) →
         writer.new ≡ writer.old }
-    ensures continued { K.clean keeper.new →
-        ForEachList book.now (K.content keeper.old) (IsContinued book.now (K.content keeper.new)) }
-    ensures cleanness { K.clean keeper.new → K.clean keeper.old }
-    ensures failures { K.failed keeper.old ≤ K.failed keeper.new }
-    ensures cause { result ≡ Err (Store StoreFailed) →
-        min (K.failed keeper.old + 1) max_failures ≤ K.failed keeper.new }
-    ensures cause_of_both { result ≡ Err (Both StoreFailed) →
-        min (K.failed keeper.old + 1) max_failures ≤ K.failed keeper.new }
 {
     let Input { lines, requests } = match read_input(alloc, reader) {
         Ok(input) => input,
         Err(fault) => return Err(LinesFault::Read(fault)),
     };
-    let opening = open_first(alloc, opening, &requests)?;
+    let Ok(opening) = open_first(alloc, opening, &requests) else {
+        return Err(LinesFault::Read(StreamFault::Memory));
+    };
     let Run { answers, fault } = run_opened(alloc, keeper, book, opening, requests);
     let written = write_output(alloc, writer, &lines, &answers);
     ended_as(fault, written)

@@ -1,20 +1,13 @@
 //! What words say that work over a database.
 
-ghost use Rattle.std.specs.Prelude.{◌≡◌, ◌≤◌, ◌+◌, ◌++◌, ◌∷◌, [], codes, min, Err, IfErr, IfOk};
-ghost use Rattle.std.specs.Prelude.{IfSome, None, OnErr, OnOk};
+ghost use Rattle.std.specs.Prelude.{◌≡◌, ◌++◌, ◌∷◌, [], codes, IfErr, IfOk, None, OnErr, OnOk};
 ghost use Rattle.std.specs.Io.KnownBytes.{Appends};
-ghost use Rattle.byte_streams.specs.declared.StreamFault.{StreamFault};
 ghost use Rattle.database_office.specs.Opening.{IsUnanswered, IsUnasked};
-ghost use Rattle.keepers.specs.Faults.{max_failures};
-ghost use Rattle.keepers.specs.declared.fault.StoreFault.{StoreFault};
-ghost use Rattle.keepers.specs.declared.fault.StoreFault.TheVariants.{Store as StoreFailed};
 ghost use Rattle.office.specs.Months.{unknown_line};
 ghost use Rattle.office.specs.Printed.{IsEnded, PrintsAnswer, PrintsCounts};
 ghost use Rattle.office.specs.Written.{WritesBeginning};
 ghost use Rattle.office.specs.declared.status.Status.TheVariants.{Failed};
-ghost use Rattle.ocs.specs.declared.fault.LinesFault.TheVariants.{Both, Store, Write};
-ghost use Rattle.ocs.specs.Served.{ForEachList, IsAnswered, IsBegun, IsContinued, IsCut, IsStopped};
-ghost use Rattle.ocs.specs.Served.{IsUntold};
+ghost use Rattle.ocs.specs.Served.{AnswersLines};
 ghost use Rattle.ocs.specs.Told.{IfDatabase, IfLines, IfStream, IsReached, IsReachedByLines};
 ghost use Rattle.ocs.specs.Told.{AreUnread};
 
@@ -154,37 +147,9 @@ fn answer_requests<K: Keeper, R: Read, O: Write>(
     ensures reached { IfErr result (IsReachedByLines (Unit {0})) }
     ensures unwritten { IfErr result (λ fault. AreUnread fault → output.new ≡ output.old) }
     ensures unread { IfErr result (λ fault. AreUnread fault → keeper.new ≡ keeper.old) }
-    ensures answered { K.clean keeper.new → OnOk result (IfSome (R.remaining reader.old) (λ stream.
-        ForEachList book.now (K.content keeper.old)
-        (IsAnswered book.now None stream (O.contents output.old) (O.contents output.new)
-        (K.content keeper.new)))) }
-    ensures begun { K.clean keeper.new → OnErr result (IfSome (R.remaining reader.old) (λ stream.
-        ForEachList book.now (K.content keeper.old)
-        (IsBegun book.now None stream (O.contents output.old) (O.contents output.new)
-        (K.content keeper.new)))) }
-    ensures stopped { (fault : StoreFault) → result ≡ Err (Store fault) →
-        K.clean keeper.new →
-        IfSome (R.remaining reader.old) (λ stream. ForEachList book.now (K.content keeper.old)
-        (IsStopped book.now None stream (O.contents output.old) (O.contents output.new)
-        (K.content keeper.new))) }
-    ensures both { (fault : StoreFault) → result ≡ Err (Both fault) →
-        K.clean keeper.new →
-        IfSome (R.remaining reader.old) (λ stream. ForEachList book.now (K.content keeper.old)
-        (IsCut book.now None stream (O.contents output.old) (O.contents output.new)
-        (K.content keeper.new))) }
-    ensures untold { (fault : StreamFault) → result ≡ Err (Write fault) →
-        K.clean keeper.new →
-        IfSome (R.remaining reader.old) (λ stream. ForEachList book.now (K.content keeper.old)
-        (IsUntold book.now None stream (O.contents output.old) (O.contents output.new)
-        (K.content keeper.new))) }
-    ensures continued { K.clean keeper.new →
-        ForEachList book.now (K.content keeper.old) (IsContinued book.now (K.content keeper.new)) }
-    ensures cleanness { K.clean keeper.new → K.clean keeper.old }
-    ensures failures { K.failed keeper.old ≤ K.failed keeper.new }
-    ensures cause { result ≡ Err (Store StoreFailed) →
-        min (K.failed keeper.old + 1) max_failures ≤ K.failed keeper.new }
-    ensures cause_of_both { result ≡ Err (Both StoreFailed) →
-        min (K.failed keeper.old + 1) max_failures ≤ K.failed keeper.new }
+    ensures answers { AnswersLines book.now None (R.remaining reader.old)
+        (O.contents output.old) (O.contents output.new)
+        K.content K.failed K.clean keeper.old keeper.new result }
 {
     lines(alloc, keeper, book, None, reader, output)
 }

@@ -1,6 +1,6 @@
 -- What is told of an account's month is its ledger's.
 use Rattle.std.proofs.Common.{◌≡◌, ℕ, Bool, true, false, List, Option, None, Some, refl, sym, ap}
-use Rattle.std.proofs.Common.{subst, ◌∙◌, Result, Ok, Err}
+use Rattle.std.proofs.Common.{subst, ◌∙◌, ◌≤◌, Result, Ok, Err, arith}
 use Rattle.std.specs.Prelude.{if◌then◌else◌, IfOk, OnErr}
 use Rattle.std.specs.Io.KnownBytes.{Appends}
 use Rattle.buckets.specs.Row.{Row}
@@ -8,6 +8,7 @@ use Rattle.tariffs.specs.Books.{Book}
 use Rattle.reserving.specs.ChargeColumns.{ChargeColumns}
 use Rattle.reserving.specs.Charges.{charge_rows}
 use Rattle.keepers.specs.Tables.{Tables}
+use Rattle.keepers.specs.declared.fault.StoreFault.TheVariants as store
 use Rattle.charging.specs.Accepted.{Accepted, IsInTime}
 use Rattle.charging.specs.Histories.{History}
 use Rattle.charging.specs.Served.{AreTables, history, moment_of}
@@ -15,18 +16,20 @@ use Rattle.charging.specs.States.{IsState, IsStateAt, TellsState}
 use Rattle.charging.specs.declared.balances.AccountState.{AccountState}
 use Rattle.charge_sources.specs.Rows.{AreCharges}
 use Rattle.charge_sources.proofs.Numbered.{charges_rise}
-use Rattle.statements.specs.Charges.{Writes}
+use Rattle.statements.specs.Charges.{Asks, Writes}
 use Rattle.statements.specs.Texts.{export_text, statement_text}
 use Rattle.statements.specs.Texts as month
 use Rattle.statements.specs.declared.fault.StatementFault.{StatementFault}
-use Rattle.office.specs.Months.{IsMonthTold, Tells, ledger_text, month_status, month_text}
-use Rattle.office.specs.Months.{rows_text, unknown_line}
+use Rattle.statements.specs.declared.fault.StatementFault.TheVariants as statement
+use Rattle.office.specs.Months.{IsMonthTold, OnlyReads, Tells, ledger_text, month_ended}
+use Rattle.office.specs.Months.{month_status, month_text, rows_text, unknown_line}
 use Rattle.office.specs.Printed.{IsEnded}
 use Rattle.office.specs.Written.{WritesBeginning}
 use Rattle.office.specs.declared.fault.OfficeFault.{OfficeFault}
+use Rattle.office.specs.declared.fault.OfficeFault.TheVariants.{Store}
 use Rattle.office.specs.declared.stating.MonthQuery.{MonthQuery}
 use Rattle.office.specs.declared.status.Status.{Status}
-use Rattle.office.specs.declared.status.Status.TheVariants.{Done, Failed, Unread}
+use Rattle.office.specs.declared.status.Status.TheVariants.{Done, Failed}
 
 -- ---- charges and buckets
 
@@ -73,18 +76,47 @@ begun : {old new : Option (List ℕ)} {text : List ℕ} → month.WritesBeginnin
     WritesBeginning old new text
 begun h = record { part = h.part; rest = h.rest; written = h.written; whole = h.whole }
 
-pub tells_whole : {T : Type 0} (charges : ℕ → Option ChargeColumns) (old new : Option (List ℕ))
-    (text : List ChargeColumns → List ℕ) (x : T) → Writes {T = T} charges old new text (Ok x) →
-    (rows : List ChargeColumns) → AreCharges charges rows → Tells Done old new (text rows) (Ok Done)
-tells_whole charges old new text x w rows are =
+pub tells_ended : {T : Type 0} (charges : ℕ → Option ChargeColumns) (old new : Option (List ℕ))
+    (text : List ChargeColumns → List ℕ) (r : Result T StatementFault) →
+    Writes charges old new text r → (rows : List ChargeColumns) → AreCharges charges rows →
+    Tells Done old new (text rows) (month_ended r)
+tells_ended charges old new text (Ok x) w rows are =
     record { whole = (refl, w.whole rows are); beginning = tt }
-
-pub tells_begun : {T : Type 0} (charges : ℕ → Option ChargeColumns) (old new : Option (List ℕ))
-    (text : List ChargeColumns → List ℕ) (e : StatementFault) (f : OfficeFault) →
-    Writes {T = T} charges old new text (Err e) →
-    (rows : List ChargeColumns) → AreCharges charges rows → Tells Done old new (text rows) (Err f)
-tells_begun charges old new text e f w rows are =
+tells_ended charges old new text (Err e) w rows are =
     record { whole = tt; beginning = begun (w.beginning rows are) }
+
+done : {T : Type 0} (r : Result T StatementFault) (Refused : Type 0) →
+    IfOk (month_ended r) (IsEnded Refused)
+done (Ok x) Refused = tt
+done (Err e) Refused = tt
+
+pub ended_done : {T : Type 0} (r : Result T StatementFault) (result : Result Status OfficeFault)
+    (Refused : Type 0) → result ≡ month_ended r → IfOk result (IsEnded Refused)
+ended_done r result Refused is =
+    subst (λ (x : Result Status OfficeFault). IfOk x (IsEnded Refused)) (sym is) (done r Refused)
+
+-- ---- what is read
+
+store_failed : {T : Type 0} (r : Result T StatementFault) →
+    month_ended r ≡ Err (Store store.Store) → r ≡ Err statement.Store
+store_failed (Ok x) is = absurd (cc)
+store_failed (Err statement.Memory) is = absurd (cc)
+store_failed (Err statement.Store) is = refl
+store_failed (Err statement.Write) is = absurd (cc)
+
+-- asked after a read, the source is as it was
+pub reads_asked : {T K : Type 0} (content : K → Tables) (failed : K → ℕ) (clean : K → Type 0)
+    (old mid new : K) (r : Result T StatementFault) → (clean mid → content mid ≡ content old) →
+    (clean mid → clean old) → failed old ≤ failed mid → Asks content failed clean mid new r →
+    OnlyReads content failed clean old new (month_ended r)
+reads_asked content failed clean old mid new r same cleanness kept asks = record {
+  same = λ whole. asks.same whole ∙ same (asks.cleanness whole);
+  cleanness = λ whole. cleanness (asks.cleanness whole);
+  kept = omega (arith, kept, asks.kept);
+  cause = λ is.
+      let raised = asks.cause (store_failed r is) in
+      omega (arith, kept, raised);
+}
 
 -- ---- by the ledger
 
@@ -142,11 +174,3 @@ pub nothing_told : (b : Book) (q : MonthQuery) (t : ℕ) (old : Tables) (before 
     ((text : List ℕ) → WritesBeginning before before text) →
     IsMonthTold b q t old before before (Err f)
 nothing_told b q t old before f none = λ list time tables. record { whole = tt; beginning = none _ }
-
--- an account whose month is told isn't refused
-pub ended_so : (r : Result Status OfficeFault) (Refused : Type 0) → IfOk r (IsEnded ⊥) →
-    IfOk r (IsEnded Refused)
-ended_so (Ok Done) Refused ended = tt
-ended_so (Ok Failed) Refused ended = absurd ended
-ended_so (Ok Unread) Refused ended = absurd ended
-ended_so (Err f) Refused ended = tt

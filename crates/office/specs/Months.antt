@@ -1,7 +1,7 @@
 -- What is told of an account's month: a statement or an export of it, or that there is no account.
 -- Source: profile.
 use Rattle.std.specs.Prelude.{◌≡◌, ◌+◌, ◌≤◌, ℕ, Bool, List, Option, Result, if◌then◌else◌, IfOk}
-use Rattle.std.specs.Prelude.{IsErrOf, OnErr, min}
+use Rattle.std.specs.Prelude.{Ok, Err, IsErrOf, OnErr, min}
 use Rattle.std.specs.Io.KnownBytes.{Appends}
 use Rattle.byte_streams.specs.declared.StreamFault.TheVariants as stream
 use Rattle.buckets.specs.Row.{Row}
@@ -78,6 +78,11 @@ abbrev pub month_fault : StatementFault → OfficeFault
 month_fault statement.Memory = Write stream.Memory
 month_fault statement.Store = Store store.Store
 month_fault statement.Write = Write stream.Write
+
+-- what writing a month ends with
+abbrev pub month_ended : {A : Type 0} → Result A StatementFault → Result Status OfficeFault
+month_ended (Ok written) = Ok Done
+month_ended (Err fault) = Err (month_fault fault)
 
 -- the tables are as before, and store fault 2 comes only with a cause
 pub record OnlyReads {K : Type 0} (content : K → Tables) (failed : K → ℕ) (clean : K → Type 0)

@@ -1,16 +1,16 @@
 //! Vouchers that are added, each by a command of its own.
 
-ghost use Rattle.std.specs.Prelude.{◌≡◌, ◌≤◌, ◌+◌, Err, IfOk, OnErr, OnOk, length, min};
+ghost use Rattle.std.specs.Prelude.{◌≡◌, Err, IfOk, OnErr, OnOk, length};
 ghost use Rattle.std.specs.Io.KnownBytes.{Appends};
 ghost use Rattle.byte_streams.specs.declared.StreamFault.{StreamFault};
-ghost use Rattle.keepers.specs.Faults.{HasCause, max_failures};
+ghost use Rattle.keepers.specs.Faults.{HasCause};
 ghost use Rattle.keepers.specs.Keeping.{Keeps};
 ghost use Rattle.keepers.specs.declared.fault.StoreFault.{StoreFault};
-ghost use Rattle.keepers.specs.declared.fault.StoreFault.TheVariants.{Store as StoreFailed};
 ghost use Rattle.office.specs.Counts.{counts_line, total};
 ghost use Rattle.office.specs.Imports.{Adds, BeginsImport, Imports, TellsImport, addition_at};
 ghost use Rattle.office.specs.Imports.{additions};
 ghost use Rattle.office.specs.Printed.{PrintsCounts};
+ghost use Rattle.office.specs.Stored.{StopsAtStore};
 ghost use Rattle.office.specs.Written.{WritesBeginning};
 ghost use Rattle.office.specs.declared.fault.OfficeFault.TheVariants.{Store, Write};
 
@@ -103,12 +103,8 @@ pub fn serve_import<K: Keeper, W: Write>(
     ensures unserved { (fault : StoreFault) → result ≡ Err (Store fault) → K.clean keeper.new →
         BeginsImport book.now (additions moment rows.items) (K.content keeper.old)
         (K.content keeper.new) }
-    ensures unwritten { (fault : StoreFault) → result ≡ Err (Store fault) →
-        writer.new ≡ writer.old }
-    ensures cleanness { K.clean keeper.new → K.clean keeper.old }
-    ensures failures { K.failed keeper.old ≤ K.failed keeper.new }
-    ensures cause { result ≡ Err (Store StoreFailed) →
-        min (K.failed keeper.old + 1) max_failures ≤ K.failed keeper.new }
+    ensures stops { StopsAtStore K.failed K.clean keeper.old keeper.new writer.old writer.new
+        result }
 {
     let counts = match import(alloc, keeper, book, rows, moment) {
         Ok(counts) => counts,

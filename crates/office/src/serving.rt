@@ -1,11 +1,10 @@
-ghost use Rattle.std.specs.Prelude.{◌≡◌, ◌≤◌, ◌+◌, Err, IfOk, min};
+ghost use Rattle.std.specs.Prelude.{◌≡◌, Err, IfOk};
 ghost use Rattle.std.specs.Io.KnownBytes.{Appends};
 ghost use Rattle.byte_streams.specs.declared.StreamFault.{StreamFault};
-ghost use Rattle.keepers.specs.Faults.{max_failures};
 ghost use Rattle.keepers.specs.declared.fault.StoreFault.{StoreFault};
-ghost use Rattle.keepers.specs.declared.fault.StoreFault.TheVariants.{Store as StoreFailed};
 ghost use Rattle.office.specs.Carried.{IsCarriedOut};
 ghost use Rattle.office.specs.Printed.{PrintsAnswer};
+ghost use Rattle.office.specs.Stored.{StopsAtStore};
 ghost use Rattle.office.specs.Told.{answer_line, status_of};
 ghost use Rattle.office.specs.Written.{WritesBeginning};
 ghost use Rattle.office.specs.declared.fault.OfficeFault.TheVariants.{Store, Write};
@@ -51,12 +50,8 @@ pub fn serve_office<K: Keeper, W: Write>(
         WritesBeginning (W.contents writer.old) (W.contents writer.new) (answer_line answer)) }
     ensures unserved { (fault : StoreFault) → result ≡ Err (Store fault) → K.clean keeper.new →
         K.content keeper.new ≡ K.content keeper.old }
-    ensures unwritten { (fault : StoreFault) → result ≡ Err (Store fault) →
-        writer.new ≡ writer.old }
-    ensures cleanness { K.clean keeper.new → K.clean keeper.old }
-    ensures failures { K.failed keeper.old ≤ K.failed keeper.new }
-    ensures cause { result ≡ Err (Store StoreFailed) →
-        min (K.failed keeper.old + 1) max_failures ≤ K.failed keeper.new }
+    ensures stops { StopsAtStore K.failed K.clean keeper.old keeper.new writer.old writer.new
+        result }
 {
     let answer = match step(alloc, keeper, book, command.into_command(), moment) {
         Ok(answer) => answer,

@@ -2,17 +2,14 @@
 
 ghost use Rattle.std.specs.Prelude.{◌≡◌, IfOk, OnOk, OnErr, IsErrOf};
 ghost use Rattle.std.specs.Io.KnownBytes.{Appends};
-ghost use Rattle.charge_sources.specs.Rows.{AreCharges};
 ghost use Rattle.keepers.specs.declared.fault.StoreFault.TheVariants.{Store as StoreFailed};
-ghost use Rattle.reserving.specs.ChargeColumns.{ChargeColumns};
 ghost use Rattle.statements.specs.Charges.{Asks, Writes};
-ghost use Rattle.office.specs.Months.{IsMonthTold, OnlyReads, Tells, month_fault, rows_text};
-ghost use Rattle.office.specs.Months.{unknown_line};
+ghost use Rattle.office.specs.Months.{IsMonthTold, OnlyReads, Tells, month_ended, month_fault};
+ghost use Rattle.office.specs.Months.{rows_text, unknown_line};
 ghost use Rattle.office.specs.Printed.{IsEnded};
 ghost use Rattle.office.specs.Written.{WritesBeginning};
 ghost use Rattle.office.specs.declared.fault.OfficeFault.TheVariants.{Store};
-ghost use Rattle.office.specs.declared.status.Status.TheVariants.{Done, Failed};
-ghost use Rattle.std.specs.Prelude.{List};
+ghost use Rattle.office.specs.declared.status.Status.TheVariants.{Failed};
 
 use crate::fault::OfficeFault;
 use crate::status::Status;
@@ -24,7 +21,7 @@ use commands::{Answer, Refusal};
 use identifiers::AccountNumber;
 use keepers::StoreFault;
 use operator::Month;
-use statements::{StatementFault, export, statement};
+use statements::{AccountMonth, StatementFault, export, statement};
 use std::alloc::Global;
 use std::io::Write;
 use tariffs::TariffBook;
@@ -68,34 +65,12 @@ pub fn serve_statement<K: ChargeSource, W: Write>(
         Err(fault) => return Err(OfficeFault::Store(fault)),
     };
     match state {
-        Some(state) => tell_month(alloc, keeper, book, query, &state, writer),
+        Some(state) => month_ended(write_month(alloc, keeper, book, query, &state, writer)),
         None => tell_unknown(alloc, writer),
     }
 }
 
-/// Writes the month of an account whose state was found.
-fn tell_month<K: ChargeSource, W: Write>(
-    alloc: Global,
-    keeper: &mut K,
-    book: &TariffBook,
-    query: &MonthQuery,
-    state: &AccountState,
-    writer: &mut W,
-) -> Result<Status, OfficeFault>
-    ensures told { K.clean keeper.new → (rows : List ChargeColumns) →
-        AreCharges ((K.content keeper.old).charges query.now.account) rows →
-        Tells Done (W.contents writer.old) (W.contents writer.new)
-        (rows_text book.now query.now state.now.moment rows state.now.buckets.items) result }
-    ensures ended { IfOk result (IsEnded ⊥) }
-    ensures reads { OnlyReads K.content K.failed K.clean keeper.old keeper.new result }
-{
-    match write_month(alloc, keeper, book, query, state, writer) {
-        Ok(()) => Ok(Status::Done),
-        Err(fault) => Err(month_fault(fault)),
-    }
-}
-
-/// Writes a statement or an export.
+/// Writes the month of an account whose state was found: a statement or an export.
 fn write_month<K: ChargeSource, W: Write>(
     alloc: Global,
     keeper: &mut K,
@@ -116,20 +91,26 @@ fn write_month<K: ChargeSource, W: Write>(
         month,
         csv,
     } = query;
+    let asked = AccountMonth {
+        account,
+        month: *month,
+        book,
+    };
     if *csv {
-        return export(alloc, keeper, writer, book, account, *month);
+        return export(alloc, keeper, writer, &asked);
     }
     let buckets = state.buckets.as_slice();
-    statement(
-        alloc,
-        keeper,
-        writer,
-        book,
-        account,
-        *month,
-        state.moment,
-        buckets,
-    )
+    statement(alloc, keeper, writer, &asked, state.moment, buckets)
+}
+
+/// What writing a month ends with.
+fn month_ended(written: Result<(), StatementFault>) -> Result<Status, OfficeFault>
+    ensures { result ≡ month_ended written }
+{
+    match written {
+        Ok(()) => Ok(Status::Done),
+        Err(fault) => Err(month_fault(fault)),
+    }
 }
 
 /// A fault of a statement among those of an office.

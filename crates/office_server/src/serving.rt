@@ -1,7 +1,7 @@
 //! Connections of a listener, one after another.
 
 ghost use Rattle.std.specs.Prelude.{◌≡◌, ◌≤◌};
-ghost use Rattle.http_api.specs.Replies.{Continues};
+ghost use Rattle.charging.specs.Continued.{Continues};
 ghost use Rattle.office_server.specs.Told.{TellsFaults};
 
 use crate::telling::tell_fault;

@@ -1,62 +1,54 @@
 -- What a row that is found by its key tells, and what is written to it.
-use Rattle.std.proofs.Common.{◌≡◌, ℕ, Bool, true, false, cond, List, [], ◌∷◌, ◌++◌, map, get_or}
+use Rattle.std.proofs.Common.{◌≡◌, ℕ, Bool, true, false, cond, List, [], ◌∷◌, map, get_or}
 use Rattle.std.proofs.Common.{set, refl, sym, ap, subst, ◌∙◌, arith, Option, Some, None}
-use Rattle.std.specs.Prelude.{if◌then◌else◌, is_some, unwrap_or, option_map, position}
-use Rattle.std.specs.List.{find}
+use Rattle.std.specs.Prelude.{if◌then◌else◌, is_some, unwrap_or, option_map, position, not, ◌&&◌}
+use Rattle.std.specs.List.{find, list_any, insert}
 use Rattle.std.proofs.lemmas.Iterator.Adapters.{position_from-zero}
 use Rattle.buckets.specs.declared.holds.Hold.{Hold}
+use Rattle.reserving.specs.declared.session.Session.{Session}
 use Rattle.reserving.specs.declared.session.SessionGroup.{SessionGroup}
 use Rattle.reserving.specs.declared.session.Reservation.{Reservation}
 use Rattle.reserving.specs.declared.session.Counter.{Counter}
-use Rattle.reserving.specs.Keyed.{put}
+use Rattle.reserving.specs.Keyed.{put, IsGap}
 use Rattle.reserving.specs.Sessions.{is_of, group_in, is_counter, counter_in, holds_in}
+use Rattle.reserving.specs.Sessions.{is_session, session_in, session_before}
 use Rattle.reserving.specs.Changes.{new_group, used_in, reserved_in, periods_in, count_in}
 use Rattle.reserving.specs.Changes.{ended_group}
 use Rattle.reserving.specs.Prepared.{with_group, with_counter}
 use Rattle.reserving.specs.Rows.{EachIn, AreApart}
+use Rattle.reserving.specs.Sessions.{group_before, counter_before}
 use Rattle.reserving.proofs.Lists.{IsPlace, IsPlaceFrom, position_is, position_none, find-passes}
-use Rattle.reserving.proofs.Lists.{some_of, no_some}
+use Rattle.reserving.proofs.Lists.{some_of, no_some, any_found, put_first, put_later}
+pub use Rattle.reserving.proofs.Lists.{put-same}
 use Rattle.reserving.proofs.Keys.{is_key, key_session, key_group, cycle_group, cycle_cycle}
-
--- a row that is put where it was
-pub put-same : {A : Type 0} (p : A → Bool) (x : A) (xs : List A) → find p xs ≡ Some x →
-    put p x xs ≡ xs
-put-same p x [] h = absurd (no_some x h)
-put-same p x (y ∷ ys) h = by_test (p y) refl h (λ g. put-same p x ys g)
-  where
-    by_test : (t : Bool) → p y ≡ t → cond t (Some y) (find p ys) ≡ Some x →
-        (find p ys ≡ Some x → put p x ys ≡ ys) → put p x (y ∷ ys) ≡ y ∷ ys
-    by_test true e g rest =
-        (λ i. if e i then x ∷ ys else y ∷ put p x ys) ∙ (λ i. sym (some_of y x g) i ∷ ys)
-    by_test false e g rest = (λ i. if e i then x ∷ ys else y ∷ put p x ys) ∙ (λ i. y ∷ rest g i)
-
-pub put-none : {A : Type 0} (p : A → Bool) (x : A) (xs : List A) → find p xs ≡ None →
-    put p x xs ≡ xs ++ x ∷ []
-put-none p x [] h = refl
-put-none p x (y ∷ ys) h = by_test (p y) refl h (λ g. put-none p x ys g)
-  where
-    by_test : (t : Bool) → p y ≡ t → cond t (Some y) (find p ys) ≡ None →
-        (find p ys ≡ None → put p x ys ≡ ys ++ x ∷ []) → put p x (y ∷ ys) ≡ y ∷ (ys ++ x ∷ [])
-    by_test true e g rest = absurd (no_some y (sym g))
-    by_test false e g rest = (λ i. if e i then x ∷ ys else y ∷ put p x ys) ∙ (λ i. y ∷ rest g i)
+use Rattle.reserving.proofs.Keys.{own_key, own_cycle}
 
 -- ---- the row at a place
 
-pub placed : {A : Type 0} (p : A → Bool) (x : A) (place : ℕ) (xs : List A) →
-    position p xs ≡ Some place → IsPlace p x xs place
-placed p x place xs h =
-    let r : IsPlaceFrom p x 0 place xs =
-    position_is p x 0 place xs (sym (position_from-zero p xs) ∙ h) in
+pub placed : {A : Type 0} (b : A → A → Bool) (p : A → Bool) (x : A) (place : ℕ) (xs : List A) →
+    position p xs ≡ Some place → IsPlace b p x xs place
+placed b p x place xs h =
+    let r : IsPlaceFrom b p x 0 place xs =
+    position_is b p x 0 place xs (sym (position_from-zero p xs) ∙ h) in
     let same : r.steps ≡ place = omega (arith, r.sum) in
-    subst (IsPlace p x xs) same r.place
+    subst (IsPlace b p x xs) same r.place
 
 pub unplaced : {A : Type 0} (p : A → Bool) (xs : List A) → position p xs ≡ None → find p xs ≡ None
 unplaced p [] h = refl
-unplaced p (x ∷ xs) h = (position_none p x 0 (x ∷ xs) (sym (position_from-zero p (x ∷ xs)) ∙ h)).0
+unplaced p (x ∷ xs) h = position_none p 0 (x ∷ xs) (sym (position_from-zero p (x ∷ xs)) ∙ h)
 
 pub is_none_is : {A : Type 0} (o : Option A) → is_some o ≡ false → o ≡ None
 is_none_is None h = refl
 is_none_is (Some x) h = cc
+
+-- ---- a session
+
+-- where a row was found
+pub session_there : (s : List ℕ) (place : ℕ) (rows : List Session) (d : Session) →
+    position (is_session s) rows ≡ Some place → session_in s rows ≡ None → ⊥
+session_there s place rows d h none =
+    no_some (get_or rows place d)
+    (sym none ∙ (placed session_before (is_session s) d place rows h).found d)
 
 -- ---- a session's group
 
@@ -68,7 +60,7 @@ place_is s g r e is = ap (position (is_of s g)) (sym r) ∙ sym e ∙ is
 
 pub found_group : (s : List ℕ) (g place : ℕ) (rows : List SessionGroup) (d : SessionGroup) →
     position (is_of s g) rows ≡ Some place → group_in s g rows ≡ Some (get_or rows place d)
-found_group s g place rows d h = (placed (is_of s g) d place rows h).found d
+found_group s g place rows d h = (placed group_before (is_of s g) d place rows h).found d
 
 pub used_at : (s : List ℕ) (g place : ℕ) (rows : List SessionGroup) (d : SessionGroup) →
     position (is_of s g) rows ≡ Some place → (get_or rows place d).used ≡ used_in s g rows
@@ -132,7 +124,7 @@ pub put_at : (s : List ℕ) (g place : ℕ) (rows : List SessionGroup) (now : Se
       used = used;
       reservation = reservation;
     })
-    ≡ put (is_of s g)
+    ≡ put group_before (is_of s g)
     (record { session = s; group = g; used = used; reservation = reservation }) rows
 put_at s g place rows now used reservation is h =
     let key : is_of s g now ≡ true = ap (is_of s g) is ∙ key_at s g place rows now h in
@@ -142,7 +134,7 @@ put_at s g place rows now used reservation is h =
     record { session = s; group = g; used = used; reservation = reservation } in
     (λ i. set rows place
     (record { session = es i; group = eg i; used = used; reservation = reservation }))
-    ∙ sym (placed (is_of s g) x place rows h).put
+    ∙ sym (placed group_before (is_of s g) x place rows h).put
 
 pub not_there : (s : List ℕ) (g : ℕ) (rows : List SessionGroup) → position (is_of s g) rows ≡ None →
     is_some (group_in s g rows) ≡ true → ⊥
@@ -164,18 +156,18 @@ taken_is s g place rows now taken holds at is t h =
     ∙ reserved_at s g place rows now at
 
 -- a row is made where there is none
-pub made_group : (s : List ℕ) (g : ℕ) (rows : List SessionGroup) →
-    position (is_of s g) rows ≡ None → rows ++ new_group s g ∷ [] ≡ with_group s g rows
-made_group s g rows h =
-    let none : group_in s g rows ≡ None = unplaced (is_of s g) rows h in
-    sym (ap (λ o. put (is_of s g) (unwrap_or o (new_group s g)) rows) none
-    ∙ put-none (is_of s g) (new_group s g) rows none)
+pub made_group : (s : List ℕ) (g place : ℕ) (rows : List SessionGroup) →
+    IsGap group_before (is_of s g) rows place →
+    insert rows place (new_group s g) ≡ with_group s g rows
+made_group s g place rows gap =
+    sym (ap (λ o. put group_before (is_of s g) (unwrap_or o (new_group s g)) rows)
+    (unplaced (is_of s g) rows gap.none) ∙ gap.makes (new_group s g) (own_key s g))
 
 pub kept_group : (s : List ℕ) (g : ℕ) (rows : List SessionGroup) (x : SessionGroup) →
     group_in s g rows ≡ Some x → rows ≡ with_group s g rows
 kept_group s g rows x h =
-    sym (ap (λ o. put (is_of s g) (unwrap_or o (new_group s g)) rows) h
-    ∙ put-same (is_of s g) x rows h)
+    sym (ap (λ o. put group_before (is_of s g) (unwrap_or o (new_group s g)) rows) h
+    ∙ put-same group_before (is_of s g) x rows h)
 
 pub there_kept : (s : List ℕ) (g : ℕ) (rows : List SessionGroup) →
     is_some (position (is_of s g) rows) ≡ true → rows ≡ with_group s g rows
@@ -225,25 +217,28 @@ others_of s g x (y ∷ ys) k h = (
 
 pub ended_put : (s : List ℕ) (g : ℕ) (x : SessionGroup) (rows : List SessionGroup) →
     AreApart (λ x y. is_of x.session x.group y) rows → group_in s g rows ≡ Some x →
-    map (ended_group s g) rows ≡ put (is_of s g) (record x { reservation = None }) rows
+    map (ended_group s g) rows ≡ put group_before (is_of s g) (record x { reservation = None }) rows
 ended_put s g x [] apart h = absurd (no_some x h)
 ended_put s g x (y ∷ ys) apart h = by_test (is_of s g y) refl h (λ q. ended_put s g x ys apart.1 q)
   where
     by_test : (t : Bool) → is_of s g y ≡ t → cond t (Some y) (group_in s g ys) ≡ Some x →
         (group_in s g ys ≡ Some x →
-        map (ended_group s g) ys ≡ put (is_of s g) (record x { reservation = None }) ys) →
-        map (ended_group s g) (y ∷ ys) ≡ put (is_of s g) (record x { reservation = None }) (y ∷ ys)
+        map (ended_group s g) ys
+        ≡ put group_before (is_of s g) (record x { reservation = None }) ys) →
+        map (ended_group s g) (y ∷ ys)
+        ≡ put group_before (is_of s g) (record x { reservation = None }) (y ∷ ys)
     by_test true e q rest =
         let same : y ≡ x = some_of y x q in
+        let ended : SessionGroup = record x { reservation = None } in
         (λ i. (if e i then record y { reservation = None } else y)
         ∷ ended_others s g ys (others_of s g y ys e apart.0) i)
         ∙ (λ i. record (same i) { reservation = None } ∷ ys)
-        ∙ sym (λ i. if e i then record x { reservation = None } ∷ ys
-        else y ∷ put (is_of s g) (record x { reservation = None }) ys)
+        ∙ sym (put_first group_before (is_of s g) ended y ys true
+        (group_before ended y && not (list_any (is_of s g) ys)) e refl)
     by_test false e q rest =
+        let ended : SessionGroup = record x { reservation = None } in
         (λ i. (if e i then record y { reservation = None } else y) ∷ rest q i)
-        ∙ sym (λ i. if e i then record x { reservation = None } ∷ ys
-        else y ∷ put (is_of s g) (record x { reservation = None }) ys)
+        ∙ sym (put_later group_before (is_of s g) ended y ys e (any_found (is_of s g) ys x q))
 
 pub ended_at : (s : List ℕ) (g place : ℕ) (rows : List SessionGroup) (now : SessionGroup) →
     AreApart (λ x y. is_of x.session x.group y) rows →
@@ -251,14 +246,14 @@ pub ended_at : (s : List ℕ) (g place : ℕ) (rows : List SessionGroup) (now : 
     set rows place (record now { reservation = None }) ≡ map (ended_group s g) rows
 ended_at s g place rows now apart is h =
     let x : SessionGroup = record now { reservation = None } in
-    sym ((placed (is_of s g) x place rows h).put)
+    sym ((placed group_before (is_of s g) x place rows h).put)
     ∙ sym (ended_put s g now rows apart (found_group s g place rows now h ∙ ap Some (sym is)))
 
 -- ---- a counter
 
 pub found_counter : (g c place : ℕ) (rows : List Counter) (d : Counter) →
     position (is_counter g c) rows ≡ Some place → counter_in g c rows ≡ Some (get_or rows place d)
-found_counter g c place rows d h = (placed (is_counter g c) d place rows h).found d
+found_counter g c place rows d h = (placed counter_before (is_counter g c) d place rows h).found d
 
 pub count_at : (g c place : ℕ) (rows : List Counter) (d : Counter) →
     position (is_counter g c) rows ≡ Some place → (get_or rows place d).blocks ≡ count_in g c rows
@@ -275,7 +270,7 @@ uncounted g c rows h =
 pub put_counter_at : (g c place : ℕ) (rows : List Counter) (now : Counter) (blocks : ℕ) →
     now ≡ get_or rows place now → position (is_counter g c) rows ≡ Some place →
     set rows place (record { group = now.group; cycle = now.cycle; blocks = blocks })
-    ≡ put (is_counter g c) (record { group = g; cycle = c; blocks = blocks }) rows
+    ≡ put counter_before (is_counter g c) (record { group = g; cycle = c; blocks = blocks }) rows
 put_counter_at g c place rows now blocks is h =
     let key : is_counter g c now ≡ true =
     ap (is_counter g c) is
@@ -285,20 +280,20 @@ put_counter_at g c place rows now blocks is h =
     let ec : now.cycle ≡ c = cycle_cycle now.group now.cycle g c key in
     let x : Counter = record { group = g; cycle = c; blocks = blocks } in
     (λ i. set rows place (record { group = eg i; cycle = ec i; blocks = blocks }))
-    ∙ sym (placed (is_counter g c) x place rows h).put
+    ∙ sym (placed counter_before (is_counter g c) x place rows h).put
 
 pub counter_not_there : (g c : ℕ) (rows : List Counter) → position (is_counter g c) rows ≡ None →
     is_some (counter_in g c rows) ≡ true → ⊥
 counter_not_there g c rows h e = let none : is_some (counter_in g c rows) ≡ false =
     ap is_some (unplaced (is_counter g c) rows h) in cc
 
-pub made_counter : (g c : ℕ) (rows : List Counter) → position (is_counter g c) rows ≡ None →
-    rows ++ record { group = g; cycle = c; blocks = 0 } ∷ [] ≡ with_counter g c rows
-made_counter g c rows h =
-    let none : counter_in g c rows ≡ None = unplaced (is_counter g c) rows h in
+pub made_counter : (g c place : ℕ) (rows : List Counter) →
+    IsGap counter_before (is_counter g c) rows place →
+    insert rows place (record { group = g; cycle = c; blocks = 0 }) ≡ with_counter g c rows
+made_counter g c place rows gap =
     let new : Counter = record { group = g; cycle = c; blocks = 0 } in
-    sym (ap (λ o. put (is_counter g c) (unwrap_or o new) rows) none
-    ∙ put-none (is_counter g c) new rows none)
+    sym (ap (λ o. put counter_before (is_counter g c) (unwrap_or o new) rows)
+    (unplaced (is_counter g c) rows gap.none) ∙ gap.makes new (own_cycle g c))
 
 pub counter_there_kept : (g c : ℕ) (rows : List Counter) →
     is_some (position (is_counter g c) rows) ≡ true → rows ≡ with_counter g c rows
@@ -309,8 +304,8 @@ counter_there_kept g c rows h = by_place (position (is_counter g c) rows) refl h
 
     kept : (x : Counter) → counter_in g c rows ≡ Some x → rows ≡ with_counter g c rows
     kept x q =
-        sym (ap (λ o. put (is_counter g c) (unwrap_or o new) rows) q
-        ∙ put-same (is_counter g c) x rows q)
+        sym (ap (λ o. put counter_before (is_counter g c) (unwrap_or o new) rows) q
+        ∙ put-same counter_before (is_counter g c) x rows q)
 
     by_place : (o : Option ℕ) → position (is_counter g c) rows ≡ o → is_some o ≡ true →
         rows ≡ with_counter g c rows

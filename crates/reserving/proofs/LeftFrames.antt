@@ -2,6 +2,8 @@
 use Rattle.std.proofs.Common.{◌≡◌, ℕ, ◌+◌, ◌≤◌, Bool, true, false, List, [], ◌∷◌, ◌++◌, map, refl}
 use Rattle.std.proofs.Common.{sym, ap, subst, ◌∙◌, arith, Some, None}
 use Rattle.std.specs.Prelude.{if◌then◌else◌, ◌==◌, ◌&&◌, not, unwrap_or, option_map}
+use Rattle.std.specs.List.Sorted.{IsPermutation}
+use Rattle.std.proofs.lemmas.List.Sorted.{IsPermutation-refl}
 use Rattle.units.specs.declared.blocks.UsedPart.{UsedPart}
 use Rattle.buckets.specs.declared.holds.Hold.{Hold}
 use Rattle.buckets.specs.Row.{Row, with_release, with_end}
@@ -31,9 +33,13 @@ use Rattle.reserving.proofs.Lists.{not_both, EachIn-weaker}
 use Rattle.reserving.proofs.Holds.{same_from, number_from}
 use Rattle.reserving.proofs.SettledRows.{IsRowsOf-settled_by}
 use Rattle.reserving.specs.Left.{LeftRows, merged, joined, IsDead, IsLeft, AreOfOtherCycles}
+use Rattle.reserving.specs.Sessions.{group_before, counter_before}
 use Rattle.reserving.proofs.LeftMerged.{map_merged, each_map, each_both, each_left, release_none}
 use Rattle.reserving.proofs.LeftMerged.{end_dead, settled_merged, released_merged}
-use Rattle.reserving.proofs.LeftJoined.{find_behind, put_behind, map_behind}
+use Rattle.reserving.proofs.LeftJoined.{find_behind, map_behind}
+use Rattle.reserving.proofs.Reordered.{put_behind}
+use Rattle.reserving.proofs.order.SameRows.{IsReordered, reordered_none, keys_settled}
+use Rattle.reserving.proofs.order.SameRows.{IsRowsOf-reordered}
 use Rattle.reserving.proofs.LeftJoined.{held_behind, live_behind}
 
 -- a group that holds nothing stays as it is
@@ -172,22 +178,23 @@ module _ (left : LeftRows) (a : AccountRows) (h : IsLeft left a) where
         ap (λ o. unwrap_or o (new_group s g)) (find_behind (is_of s g) left.groups a.groups not_of)
 
     pub use_joined : (units : ℕ) →
-        with_use s g units (left.groups ++ a.groups) ≡ left.groups ++ with_use s g units a.groups
+        IsPermutation (with_use s g units (left.groups ++ a.groups))
+        (left.groups ++ with_use s g units a.groups)
     use_joined units =
-        (λ i. put (is_of s g)
+        let row : SessionGroup =
+        record { session = s; group = g; used = used_in s g a.groups + units; reservation = None }
+        in
+        let same : with_use s g units (left.groups ++ a.groups)
+        ≡ put group_before (is_of s g) row (left.groups ++ a.groups) =
+        (λ i. put group_before (is_of s g)
         (record {
           session = s;
           group = g;
           used = (row_same i).used + units;
           reservation = None;
-        }) (left.groups ++ a.groups))
-        ∙ put_behind (is_of s g)
-        (record {
-          session = s;
-          group = g;
-          used = used_in s g a.groups + units;
-          reservation = None;
-        }) left.groups a.groups not_of
+        }) (left.groups ++ a.groups)) in
+        subst (λ xs. IsPermutation xs (left.groups ++ with_use s g units a.groups)) (sym same)
+        (put_behind group_before (is_of s g) row left.groups a.groups not_of)
 
     abbrev holds : List Hold
     holds = reserved_in s g a.groups
@@ -240,34 +247,38 @@ module _ (left : LeftRows) (a : AccountRows) (h : IsLeft left a) where
       count_same = count_beside a.book a.as_of g left.counters a.counters cycles
 
       pub count_joined : (blocks : ℕ) →
-          with_count g (cycle_at a.book g a.as_of) blocks (left.counters ++ a.counters)
-          ≡ left.counters ++ with_count g (cycle_at a.book g a.as_of) blocks a.counters
+          IsPermutation
+          (with_count g (cycle_at a.book g a.as_of) blocks (left.counters ++ a.counters))
+          (left.counters ++ with_count g (cycle_at a.book g a.as_of) blocks a.counters)
       count_joined blocks =
-          (λ i. put (is_counter g (cycle_at a.book g a.as_of))
-          (record {
-            group = g;
-            cycle = cycle_at a.book g a.as_of;
-            blocks = count_same i + blocks;
-          }) (left.counters ++ a.counters))
-          ∙ put_behind (is_counter g (cycle_at a.book g a.as_of))
-          (record {
-            group = g;
-            cycle = cycle_at a.book g a.as_of;
-            blocks = count_in g (cycle_at a.book g a.as_of) a.counters + blocks;
-          }) left.counters
-          a.counters (not_counted a.book a.as_of g left.counters cycles)
+          let c : ℕ = cycle_at a.book g a.as_of in
+          let row : Counter =
+          record { group = g; cycle = c; blocks = count_in g c a.counters + blocks } in
+          let same : with_count g c blocks (left.counters ++ a.counters)
+          ≡ put counter_before (is_counter g c) row (left.counters ++ a.counters) =
+          (λ i. put counter_before (is_counter g c)
+          (record { group = g; cycle = c; blocks = count_same i + blocks })
+          (left.counters ++ a.counters)) in
+          subst (λ xs. IsPermutation xs (left.counters ++ with_count g c blocks a.counters))
+          (sym same)
+          (put_behind counter_before (is_counter g c) row left.counters a.counters
+          (not_counted a.book a.as_of g left.counters cycles))
 
       pub settled_joined : (units blocks rated : ℕ) →
-          settled_account s g units blocks rated (joined left a)
-          ≡ joined left (settled_account s g units blocks rated a)
-      settled_joined units blocks rated =
-          λ i. record (joined left a) {
-            buckets = settled_buckets rated i;
-            counters = count_joined blocks i;
-            groups = use_joined units i;
-            next_charge =
-                a.next_charge + 1;
-          }
+          IsReordered (settled_account s g units blocks rated (joined left a))
+          (joined left (settled_account s g units blocks rated a))
+      settled_joined units blocks rated = record {
+        same = λ i. record (joined left a) {
+          buckets = settled_buckets rated i;
+          counters = left.counters
+              ++ with_count g (cycle_at a.book g a.as_of) blocks a.counters;
+          groups = left.groups ++ with_use s g units a.groups;
+          next_charge = a.next_charge + 1;
+        };
+        counters = count_joined blocks;
+        sessions = IsPermutation-refl (left.sessions ++ a.sessions);
+        groups = use_joined units;
+      }
 
       price_same : (used_parts : List UsedPart) →
           price_in s g a.as_of used_parts (joined left a) ≡ price_in s g a.as_of used_parts a
@@ -277,14 +288,17 @@ module _ (left : LeftRows) (a : AccountRows) (h : IsLeft left a) where
           (row_same i).used (count_same i) used_parts
 
       pub by_parts : (used_parts : List UsedPart) →
-          settled_by_rows s g used_parts (joined left a)
-          ≡ joined left (settled_by_rows s g used_parts a)
-      by_parts [] = ended_joined
+          IsReordered (settled_by_rows s g used_parts (joined left a))
+          (joined left (settled_by_rows s g used_parts a))
+      by_parts [] = reordered_none (ended_rows s g (joined left a))
+          (joined left (ended_rows s g a)) ended_joined
       by_parts (p ∷ ps) =
           let x : Rated = price_in s g a.as_of (p ∷ ps) a in
-          (λ i. settled_account s g (reported (p ∷ ps)) (price_same (p ∷ ps) i).blocks
-          (price_same (p ∷ ps) i).amount.0 (joined left a))
-          ∙ settled_joined (reported (p ∷ ps)) x.blocks x.amount.0
+          subst (λ (y : Rated). IsReordered
+          (settled_account s g (reported (p ∷ ps)) y.blocks y.amount.0 (joined left a))
+          (joined left (settled_account s g (reported (p ∷ ps)) x.blocks x.amount.0 a)))
+          (sym (price_same (p ∷ ps)))
+          (settled_joined (reported (p ∷ ps)) x.blocks x.amount.0)
 
 pub advanced_joined : (t : ℕ) (left : LeftRows) (a : AccountRows) → IsLeft left a →
     advanced t (joined left a) ≡ joined left (advanced t a)
@@ -293,8 +307,8 @@ advanced_joined t left a h = advanced_joined' left a h t
 pub settled_by_joined : (left : LeftRows) (a : AccountRows) (s : List ℕ) (g : ℕ)
     (used_parts : List UsedPart) → IsLeft left a → AreOfOtherCycles a.book a.as_of left.counters →
     is_live_in a.book.validity a.as_of a.sessions s ≡ true →
-    settled_by_rows s g used_parts (joined left a)
-    ≡ joined left (settled_by_rows s g used_parts a)
+    IsReordered (settled_by_rows s g used_parts (joined left a))
+    (joined left (settled_by_rows s g used_parts a))
 settled_by_joined left a s g used_parts h cycles alive =
     by_parts left a h s g (not_of_live left a a.as_of s g h alive) cycles used_parts
 
@@ -309,6 +323,9 @@ settled_with_left ledger left a s g used_parts h cycles alive rows =
     let whole_live : is_live a.book.validity a.as_of ledger s ≡ true =
     sym (is_live_in-is ledger (joined left a) a.as_of s rows now) ∙ live left a h a.as_of s
     ∙ alive in
-    subst (IsRowsOf (settled_by a.book a.as_of s g used_parts ledger))
+    IsRowsOf-reordered (settled_by a.book a.as_of s g used_parts ledger)
+    (settled_by_rows s g used_parts (joined left a))
+    (joined left (settled_by_rows s g used_parts a))
     (settled_by_joined left a s g used_parts h cycles alive)
+    (keys_settled s g used_parts (joined left a) h.whole)
     (IsRowsOf-settled_by ledger (joined left a) s g used_parts h.whole rows whole_live)

@@ -29,6 +29,7 @@ use Rattle.reserving.specs.Prepared.{with_group, with_group_row, reservation_in}
 use Rattle.reserving.specs.Rows.{AccountRows, IsAccount, IsRowsOf}
 use Rattle.reserving.specs.Results.{IsGrantOf, IsWithin}
 use Rattle.reserving.specs.Placed.{AreOfBook}
+use Rattle.reserving.specs.Sessions.{group_before}
 use Rattle.reserving.proofs.Lists.{find-map, some_of, no_some}
 use Rattle.reserving.proofs.Advancing.{is_live_in-is, IsRowsOf-advanced}
 use Rattle.reserving.proofs.Advanced.{IsAccount-advanced}
@@ -77,7 +78,7 @@ reserved_later a s g t amount =
     (map (lapse_group keeps) (with_group s g a.groups))
     ≡ with_reservation s g p (holds_of g t amount (advanced t a).buckets)
     (map (lapse_group keeps) a.groups) =
-    (λ i. put (is_of s g)
+    (λ i. put group_before (is_of s g)
     (record {
       session = s;
       group = g;
@@ -93,7 +94,7 @@ reserved_later a s g t amount =
       reservation =
           Some (record { periods = p; holds = holds_of g t amount (advanced t a).buckets });
     })
-    a.groups in
+    a.groups refl refl in
     λ i. record x { buckets = held_rows g t amount (same i); groups = groups i }
 
 lapsed_free : (t : Bool) (r : SessionGroup) → r.reservation ≡ None →

@@ -36,6 +36,7 @@ use Rattle.reserving.specs.Changes.{with_use, with_count, ended_group, ended_row
 use Rattle.reserving.specs.Changes.{settled_by_rows}
 use Rattle.reserving.specs.SoundLedger.{IsUnknown, IsSoundLedger}
 use Rattle.reserving.specs.Rows.{AccountRows, IsAccount, IsRowsOf}
+use Rattle.reserving.specs.Sessions.{group_before, counter_before}
 use Rattle.reserving.proofs.Lists.{find-put, find-put_other, find-map}
 use Rattle.reserving.proofs.Keys.{is_key, own_key, key_session, key_group, key_of, other_row}
 use Rattle.reserving.proofs.Keys.{is_cycle, own_cycle, cycle_group, cycle_cycle, other_counter}
@@ -353,7 +354,7 @@ groups-settled v t session group units blocks rated ledger does rows moved so_fa
     }
 
     by_test : (e : Bool) → is_key session group s g ≡ e →
-        group_in s g (put (is_of session group) row rows) ≡ group_at v t after s g
+        group_in s g (put group_before (is_of session group) row rows) ≡ group_at v t after s g
     by_test true q =
         let es : session ≡ s = key_session session group s g q in
         let eg : group ≡ g = key_group session group s g q in
@@ -378,13 +379,14 @@ groups-settled v t session group units blocks rated ledger does rows moved so_fa
           used = so_far i + units;
           reservation = None;
         } in
-        (λ i. group_in (sym es i) (sym eg i) (put (is_of session group) row rows))
-        ∙ find-put (is_of session group) row rows (own_key session group)
+        (λ i. group_in (sym es i) (sym eg i) (put group_before (is_of session group) row rows))
+        ∙ find-put group_before (is_of session group) row rows (own_key session group)
         ∙ (λ i. Some (used_is i))
         ∙ sym (own_settled v t session group units blocks rated ledger)
         ∙ (λ i. group_at v t after (es i) (eg i))
     by_test false q =
-        find-put_other (is_of session group) (is_of s g) row rows q (other_row session group s g q)
+        find-put_other group_before (is_of session group) (is_of s g) row rows q
+        (other_row session group s g q)
         ∙ h s g
         ∙ sym (same_group does v t ledger after s g moved
         (same_sessions-settled v t session group units blocks rated ledger)
@@ -477,12 +479,14 @@ counters_used cycle_of t group blocks ledger after rows counts names so_far h g 
         λ i. (if named i then Some (same i) else None)
 
     by_test : (e : Bool) → is_cycle group cycle g c ≡ e →
-        counter_in g c (put (is_counter group cycle) row rows) ≡ counter_at (cycle_of g) after g c
+        counter_in g c (put counter_before (is_counter group cycle) row rows)
+        ≡ counter_at (cycle_of g) after g c
     by_test true q =
         let eg : group ≡ g = cycle_group group cycle g c q in
         let ec : cycle ≡ c = cycle_cycle group cycle g c q in
-        (λ i. counter_in (sym eg i) (sym ec i) (put (is_counter group cycle) row rows))
-        ∙ find-put (is_counter group cycle) row rows (own_cycle group cycle)
+        (λ i. counter_in (sym eg i) (sym ec i)
+        (put counter_before (is_counter group cycle) row rows))
+        ∙ find-put counter_before (is_counter group cycle) row rows (own_cycle group cycle)
         ∙ sym own
         ∙ (λ i. counter_at (cycle_of (eg i)) after (eg i) (ec i))
     by_test false q =
@@ -500,7 +504,7 @@ counters_used cycle_of t group blocks ledger after rows counts names so_far h g 
         ≡ (let r : Counter =
         record { group = g; cycle = c; blocks = counter (cycle_of g) g c ledger } in r) =
         λ i. record { group = g; cycle = c; blocks = count i } in
-        find-put_other (is_counter group cycle) (is_counter g c) row rows q
+        find-put_other counter_before (is_counter group cycle) (is_counter g c) row rows q
         (other_counter group cycle g c q)
         ∙ h g c
         ∙ sym (λ i. (if named i then Some (same i) else None))

@@ -23,6 +23,7 @@ use Rattle.reserving.specs.Sessions.{is_live_in, held_by, holds_in}
 use Rattle.reserving.specs.Settlement.{reported, price_of}
 use Rattle.reserving.specs.Debiting.{untagged}
 use Rattle.reserving.specs.Rows.{AccountRows}
+use Rattle.reserving.specs.Sessions.{group_before, session_before, counter_before}
 
 -- ---- time goes on: sessions whose supervision time is over end, what they held is given up, and
 -- what is left of buckets that ended is expired
@@ -54,7 +55,8 @@ advanced t a = record a {
 
 abbrev pub session_put : List ℕ → ℕ → ℕ → SessionState → List Session → List Session
 session_put s number t state rows =
-    put (is_session s) (record { id = s; last_number = number; touched = t; state = state }) rows
+    put session_before (is_session s)
+    (record { id = s; last_number = number; touched = t; state = state }) rows
 
 abbrev pub with_session : List ℕ → ℕ → ℕ → SessionState → AccountRows → AccountRows
 with_session s number t state a = record a { sessions = session_put s number t state a.sessions }
@@ -86,12 +88,13 @@ count_in g c rows = unwrap_or (option_map (λ r. r.blocks) (counter_in g c rows)
 
 abbrev pub with_use : List ℕ → ℕ → ℕ → List SessionGroup → List SessionGroup
 with_use s g units rows =
-    put (is_of s g)
+    put group_before (is_of s g)
     (record { session = s; group = g; used = used_in s g rows + units; reservation = None }) rows
 
 abbrev pub with_count : ℕ → ℕ → ℕ → List Counter → List Counter
 with_count g c blocks rows =
-    put (is_counter g c) (record { group = g; cycle = c; blocks = count_in g c rows + blocks }) rows
+    put counter_before (is_counter g c)
+    (record { group = g; cycle = c; blocks = count_in g c rows + blocks }) rows
 
 -- ---- settlement
 
@@ -139,7 +142,7 @@ event_price_in g units t a =
 -- an event's use leaves the group's reservation as it is
 abbrev pub with_event : List ℕ → ℕ → ℕ → List SessionGroup → List SessionGroup
 with_event s g units rows =
-    put (is_of s g)
+    put group_before (is_of s g)
     (record {
       session = s;
       group = g;
@@ -160,7 +163,7 @@ debited_account s g units blocks rated a = record a {
 abbrev pub with_reservation : List ℕ → ℕ → Periods → List Hold → List SessionGroup →
     List SessionGroup
 with_reservation s g periods holds rows =
-    put (is_of s g)
+    put group_before (is_of s g)
     (record {
       session = s;
       group = g;

@@ -1,12 +1,13 @@
-ghost use Rattle.std.specs.Prelude.{◌≡◌, ◌≤◌, ℕ, [], None, false};
+ghost use Rattle.std.specs.Prelude.{◌≡◌, ◌≤◌, ℕ, [], None, false, option_copied};
 ghost use Rattle.reserving.specs.Ledger.{Ledger, is_barred, is_live as is_live_at};
-ghost use Rattle.reserving.specs.Sessions.{is_live_in};
+ghost use Rattle.reserving.specs.Sessions.{is_live_in, session_in, group_in};
 ghost use Rattle.reserving.specs.Rows.{AccountRows, IsAccount, IsRowsOf};
 ghost use Rattle.reserving.specs.Left.{LeftRows, IsWith};
 ghost use Rattle.reserving.specs.Placed.{ArePlaced};
 
 use crate::advance::is_live;
 use crate::kept_rows::KeptRows;
+use crate::searching::{group_row, session_row};
 use crate::session::{Counter, Session, SessionGroup};
 use buckets::Purse;
 use identifiers::SessionId;
@@ -109,11 +110,25 @@ impl<'b> Account<'b> {
         self.rows.sessions.as_slice()
     }
 
+    /// The row of a session.
+    pub fn session(&self, id: &SessionId) -> Option<&Session>
+        ensures { option_copied result ≡ session_in id.now self.now.sessions }
+    {
+        session_row(&self.rows.sessions, id)
+    }
+
     /// What its sessions have of rating groups.
     pub fn groups(&self) -> &[SessionGroup]
         ensures { result.now ≡ self.now.groups }
     {
         self.rows.groups.as_slice()
+    }
+
+    /// What a session has of a rating group.
+    pub fn group(&self, session: &SessionId, group: u32) -> Option<&SessionGroup>
+        ensures { option_copied result ≡ group_in session.now group self.now.groups }
+    {
+        group_row(&self.rows.groups, session, group)
     }
 
     /// Its counters.

@@ -4,14 +4,14 @@ ghost use Rattle.buckets.specs.Row.{eligible_amount, is_eligible};
 ghost use Rattle.buckets.specs.Holding.{held_in};
 ghost use Rattle.reserving.specs.Ledger.{Ledger};
 ghost use Rattle.reserving.specs.Balance.{buckets_at};
-ghost use Rattle.reserving.specs.Sessions.{held_by, is_live_in, is_session};
-ghost use Rattle.reserving.specs.Rows.{AreApart, IsRowsOf};
+ghost use Rattle.reserving.specs.Sessions.{held_by, is_live_in, session_before};
+ghost use Rattle.reserving.specs.Rows.{AreAscending, IsRowsOf};
 ghost use Rattle.reserving.specs.Left.{LeftRows, IsWith};
 ghost use Rattle.reserving.specs.Changes.{advanced};
 ghost use Rattle.reserving.specs.Lapsed.{held_for, lapsed_for, lapsed_funds};
 
 use crate::account::Account;
-use crate::following::is_live_from;
+use crate::advance::is_live;
 use crate::session::{Session, SessionGroup};
 use buckets::{Bucket, Holds};
 use units::{Amount, Moment};
@@ -78,41 +78,39 @@ fn lapsed_funds(
 ) -> u128
     requires sound { IsSound buckets.now }
     requires held { Each (λ b. held_by (λ s. true) groups.now b ≡ b.reserved) buckets.now }
-    requires apart { AreApart (λ x y. is_session x.id y) sessions.now }
+    requires order { AreAscending session_before sessions.now }
     ensures value { result
         ≡ lapsed_funds (is_live_in validity at sessions.now) group at groups.now buckets.now }
     ensures most { result < 2 ^ 126 }
 {
     let _count = buckets.len();
     let mut total = 0;
-    let mut place = 0;
     for row in groups {
-        total += lapsed_of(buckets, row, sessions, &mut place, group, validity, at);
+        total += lapsed_of(buckets, row, sessions, group, validity, at);
     }
     total
 }
 
 /// What a group's reservation holds of the eligible buckets, where its session has ended by the
-/// moment. The session's row is looked for from a place on.
+/// moment.
 fn lapsed_of(
     buckets: &[Bucket],
     row: &SessionGroup,
     sessions: &[Session],
-    place: &mut usize,
     group: u32,
     validity: u32,
     at: Moment,
 ) -> u128
     requires within { lapsed_for (is_live_in validity at sessions.now) group at row.now buckets.now
         < 2 ^ 126 }
-    requires apart { AreApart (λ x y. is_session x.id y) sessions.now }
+    requires order { AreAscending session_before sessions.now }
     ensures { result ≡ lapsed_for (is_live_in validity at sessions.now) group at row.now
         buckets.now }
 {
     let Some(reservation) = &row.reservation else {
         return 0;
     };
-    if is_live_from(sessions, place, &row.session, validity, at) {
+    if is_live(sessions, &row.session, validity, at) {
         return 0;
     }
     held_for(buckets, &reservation.holds, group, at)

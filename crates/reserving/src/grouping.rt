@@ -3,11 +3,13 @@
 ghost use Rattle.std.specs.Prelude.{◌≡◌, ℕ, ◌+◌, ◌≤◌, ◌^◌, ◌<◌, true, is_some, OnOk, OnErr};
 ghost use Rattle.std.specs.Prelude.{position, map, option_map, length, vec_len, vec_capacity};
 ghost use Rattle.reserving.specs.Sessions.{is_of, group_in, is_counter, counter_in, holds_in};
-ghost use Rattle.reserving.specs.Rows.{AreApart};
+ghost use Rattle.reserving.specs.Sessions.{group_before, counter_before};
+ghost use Rattle.reserving.specs.Rows.{AreApart, AreAscending};
 ghost use Rattle.reserving.specs.Changes.{used_in, reserved_in, periods_in, count_in, with_use};
 ghost use Rattle.reserving.specs.Changes.{with_event, with_count, with_reservation, ended_group};
 ghost use Rattle.reserving.specs.Prepared.{with_group, with_counter};
 
+use crate::searching::{seek_counter, seek_group};
 use crate::session::{Counter, Reservation, SessionGroup};
 use buckets::Holds;
 use identifiers::SessionId;
@@ -16,24 +18,29 @@ use std::alloc::{AllocError, Global};
 
 /// The place of the row of a session's group.
 fn place_of(groups: &[SessionGroup], session: &SessionId, group: u32) -> Option<usize>
+    requires { AreAscending group_before groups.now }
     ensures { result ≡ position (is_of session.now group) groups.now }
 {
-    groups
-        .iter()
-        .position(|row| row.session == *session && row.group == group)
+    match seek_group(groups, session, group) {
+        Ok(place) => Some(place),
+        Err(_) => None,
+    }
 }
 
 /// The place of the row of a counter.
 fn counter_place(counters: &[Counter], group: u32, cycle: u32) -> Option<usize>
+    requires { AreAscending counter_before counters.now }
     ensures { result ≡ position (is_counter group cycle) counters.now }
 {
-    counters
-        .iter()
-        .position(|row| row.group == group && row.cycle == cycle)
+    match seek_counter(counters, group, cycle) {
+        Ok(place) => Some(place),
+        Err(_) => None,
+    }
 }
 
 /// The units that a session used of a group so far.
 pub(crate) fn used_of(groups: &[SessionGroup], session: &SessionId, group: u32) -> u64
+    requires { AreAscending group_before groups.now }
     ensures { result ≡ used_in session.now group groups.now }
 {
     let Some(place) = place_of(groups, session, group) else {
@@ -48,6 +55,7 @@ pub(crate) fn periods_of(
     session: &SessionId,
     group: u32,
 ) -> Option<Periods>
+    requires { AreAscending group_before groups.now }
     ensures { result ≡ periods_in session.now group groups.now }
 {
     let Some(place) = place_of(groups, session, group) else {
@@ -68,6 +76,7 @@ fn periods_in(row: &SessionGroup) -> Option<Periods>
 
 /// The blocks that a counter has counted.
 pub(crate) fn count_of(counters: &[Counter], group: u32, cycle: u32) -> u64
+    requires { AreAscending counter_before counters.now }
     ensures { result ≡ count_in group cycle counters.now }
 {
     let Some(place) = counter_place(counters, group, cycle) else {
@@ -82,34 +91,43 @@ pub(crate) fn add_group(
     session: &SessionId,
     group: u32,
 ) -> Result<(), AllocError>
+    requires { AreAscending group_before groups.old.items }
     ensures ok { OnOk result (groups.new.items ≡ with_group session.now group groups.old.items) }
     ensures err { OnErr result (groups.new.items ≡ groups.old.items) }
 {
-    if place_of(groups, session, group).is_some() {
+    let Err(place) = seek_group(groups, session, group) else {
         return Ok(());
-    }
+    };
     let session = session.clone()?;
-    groups.push(SessionGroup {
+    let row = SessionGroup {
         session,
         group,
         used: 0,
         reservation: None,
-    })?;
+    };
+    let Ok(()) = groups.insert(place, row) else {
+        return Err(AllocError);
+    };
     Ok(())
 }
 
 /// Makes the row of a counter where there is none, in memory that was taken before.
 pub(crate) fn add_counter(counters: &mut Vec<Counter>, group: u32, cycle: u32)
-    requires { vec_len counters.old < vec_capacity counters.old }
+    requires room { vec_len counters.old < vec_capacity counters.old }
+    requires order { AreAscending counter_before counters.old.items }
     ensures { counters.new.items ≡ with_counter group cycle counters.old.items }
 {
-    if counter_place(counters, group, cycle).is_none() {
-        counters.push_reserved(Counter {
-            group,
-            cycle,
-            blocks: 0,
-        });
-    }
+    let Err(place) = seek_counter(counters, group, cycle) else {
+        return;
+    };
+    let row = Counter {
+        group,
+        cycle,
+        blocks: 0,
+    };
+    let Ok(()) = counters.insert(place, row) else {
+        unreachable!();
+    };
 }
 
 /// What a reservation that is over held.
@@ -131,6 +149,7 @@ pub(crate) fn use_group(
     units: u64,
 ) -> Holds
     requires there { is_some (group_in session.now group groups.old.items) ≡ true }
+    requires order { AreAscending group_before groups.old.items }
     requires fits { used_in session.now group groups.old.items + units < 2 ^ 64 }
     ensures groups { groups.new.items ≡ with_use session.now group units groups.old.items }
     ensures holds { result ≡ reserved_in session.now group groups.old.items }
@@ -151,6 +170,7 @@ pub(crate) fn count_units(
     units: u64,
 )
     requires there { is_some (group_in session.now group groups.old.items) ≡ true }
+    requires order { AreAscending group_before groups.old.items }
     requires fits { used_in session.now group groups.old.items + units < 2 ^ 64 }
     ensures { groups.new.items ≡ with_event session.now group units groups.old.items }
 {
@@ -163,6 +183,7 @@ pub(crate) fn count_units(
 /// Counts the blocks of a use in the row of a counter.
 pub(crate) fn count_blocks(counters: &mut Vec<Counter>, group: u32, cycle: u32, blocks: u64)
     requires there { is_some (counter_in group cycle counters.old.items) ≡ true }
+    requires order { AreAscending counter_before counters.old.items }
     requires fits { count_in group cycle counters.old.items + blocks < 2 ^ 64 }
     ensures { counters.new.items ≡ with_count group cycle blocks counters.old.items }
 {
@@ -180,7 +201,8 @@ pub(crate) fn end_group(
     session: &SessionId,
     group: u32,
 ) -> Holds
-    requires { AreApart (λ x y. is_of x.session x.group y) groups.old.items }
+    requires apart { AreApart (λ x y. is_of x.session x.group y) groups.old.items }
+    requires order { AreAscending group_before groups.old.items }
     ensures groups { groups.new.items ≡ map (ended_group session.now group) groups.old.items }
     ensures holds { result ≡ reserved_in session.now group groups.old.items }
 {
@@ -199,7 +221,8 @@ pub(crate) fn reserve_group(
     periods: Periods,
     holds: Holds,
 )
-    requires { is_some (group_in session.now group groups.old.items) ≡ true }
+    requires there { is_some (group_in session.now group groups.old.items) ≡ true }
+    requires order { AreAscending group_before groups.old.items }
     ensures { groups.new.items ≡ with_reservation session.now group periods holds groups.old.items }
 {
     let Some(place) = place_of(groups, session, group) else {

@@ -2,21 +2,25 @@
 
 ghost use Rattle.std.specs.Prelude.{◌≡◌, ◌≤◌, ◌==◌, ◌++◌, filter, IfOk, is_some, Err};
 ghost use Rattle.reserving.specs.Pricing.{cycle_at};
-ghost use Rattle.reserving.specs.Sessions.{is_open, is_session, is_counter};
+ghost use Rattle.reserving.specs.Keyed.{arranged};
+ghost use Rattle.reserving.specs.Sessions.{is_open, session_in, is_counter, session_before};
+ghost use Rattle.reserving.specs.Sessions.{counter_before};
 ghost use Rattle.reserving.specs.Ledger.{Ledger};
-ghost use Rattle.reserving.specs.Rows.{EachIn, AreApart, IsRowsOf};
-ghost use Rattle.reserving.specs.Left.{left_of, IsWith};
+ghost use Rattle.reserving.specs.Rows.{EachIn, AreApart, AreAscending, IsRowsOf};
+ghost use Rattle.reserving.specs.Left.{left_of, is_open_row, IsWith};
 ghost use Rattle.reserving.specs.Live.{is_live_group, live_part, with_counters};
 ghost use Rattle.reserving.specs.Placed.{ArePlaced};
 
 use crate::account::Account;
 use crate::copy::{copy_of_purse, copy_of_sessions};
 use crate::fault::LoadFault;
-use crate::following::is_open_from;
 use crate::kept_rows::KeptRows;
 use crate::placing::are_placed;
+use crate::searching::session_row;
 use crate::session::{Counter, Session, SessionGroup, SessionState};
+use crate::sorting::sort_counters;
 use crate::stored::StoredAccount;
+use identifiers::SessionId;
 use std::alloc::{AllocError, Global};
 use tariffs::TariffBook;
 use units::Moment;
@@ -24,8 +28,8 @@ use units::Moment;
 impl StoredAccount {
     /// A copy of the rows that may still change at the moment, as an account that the book prices:
     /// what is left is dead buckets, sessions that aren't open with their groups, and counters of
-    /// other cycles than those at the moment. Further counters, which a store keeps apart, stand
-    /// before the account's own.
+    /// other cycles than those at the moment. Further counters, which a store keeps apart, are
+    /// loaded with the account's own.
     ///
     /// # Errors
     /// As of `load`.
@@ -91,12 +95,23 @@ fn copy_of_group(group: &SessionGroup) -> Result<SessionGroup, AllocError>
     group.clone()
 }
 
-/// Whether a group may still change. Its session's row is looked for from a place on.
-fn is_live_group(group: &SessionGroup, sessions: &[Session], place: &mut usize) -> bool
-    requires { AreApart (λ x y. is_session x.id y) sessions.now }
+/// Whether the session is open.
+fn is_open(sessions: &[Session], id: &SessionId) -> bool
+    requires { AreAscending session_before sessions.now }
+    ensures { result ≡ is_open_row (session_in id.now sessions.now) }
+{
+    match session_row(sessions, id) {
+        Some(row) => row.state == SessionState::Open,
+        None => false,
+    }
+}
+
+/// Whether a group may still change.
+fn is_live_group(group: &SessionGroup, sessions: &[Session]) -> bool
+    requires { AreAscending session_before sessions.now }
     ensures { result ≡ is_live_group sessions.now group.now }
 {
-    is_open_from(sessions, place, &group.session) || group.reservation.is_some()
+    is_open(sessions, &group.session) || group.reservation.is_some()
 }
 
 /// A copy of the groups that may still change.
@@ -105,13 +120,12 @@ fn live_groups(
     groups: &[SessionGroup],
     sessions: &[Session],
 ) -> Result<Vec<SessionGroup>, AllocError>
-    requires { AreApart (λ x y. is_session x.id y) sessions.now }
+    requires { AreAscending session_before sessions.now }
     ensures { IfOk result (λ rows. rows.items ≡ filter (is_live_group sessions.now) groups.now) }
 {
     let mut rows = Vec::with_capacity(alloc, groups.len())?;
-    let mut place = 0;
     for group in groups {
-        if is_live_group(group, sessions, &mut place) {
+        if is_live_group(group, sessions) {
             rows.push(copy_of_group(group)?)?;
         }
     }
@@ -128,7 +142,7 @@ fn cycle_of(book: &TariffBook, group: u32, moment: Moment) -> u32
     }
 }
 
-/// A copy of the counters of the cycles at a moment.
+/// A copy of the counters of the cycles at a moment, in order.
 fn live_counters(
     alloc: Global,
     book: &TariffBook,
@@ -136,12 +150,15 @@ fn live_counters(
     counters: &[Counter],
     others: &[Counter],
 ) -> Result<Vec<Counter>, AllocError>
+    requires { AreApart (λ x y. is_counter x.group x.cycle y) (others.now ++ counters.now) }
     ensures { IfOk result
         (λ rows. rows.items
-        ≡ filter (λ r. r.cycle == cycle_at book.now r.group moment) (others.now ++ counters.now)) }
+        ≡ arranged counter_before
+        (filter (λ r. r.cycle == cycle_at book.now r.group moment) (others.now ++ counters.now))) }
 {
     let mut rows = Vec::from_slice(alloc, others)?;
     rows.extend_from_slice(counters)?;
     rows.retain(|row| row.cycle == cycle_of(book, row.group, moment));
+    sort_counters(&mut rows);
     Ok(rows)
 }

@@ -1,17 +1,21 @@
 //! The rows of an account as a store gives them, tested.
 
-ghost use Rattle.std.specs.Prelude.{◌≡◌, ◌==◌, ◌&&◌, not, nat_lt, nat_le, IfSome, IfNone, drop};
+ghost use Rattle.std.specs.Prelude.{◌≡◌, ◌==◌, ◌&&◌, nat_lt, nat_le, IfSome, IfNone, drop};
 ghost use Rattle.std.specs.List.{list_all};
 ghost use Rattle.buckets.specs.Holding.{held_in};
 ghost use Rattle.buckets.specs.Spend.{IsSound};
 ghost use Rattle.buckets.specs.Share.{parts};
-ghost use Rattle.reserving.specs.Restored.{are_along, are_apart, are_holds_kept, are_in_range};
-ghost use Rattle.reserving.specs.Restored.{are_keys_apart, given, is_held, is_tested, same_holds};
-ghost use Rattle.reserving.specs.Sessions.{holds_in, is_counter, is_of, is_session};
+ghost use Rattle.reserving.specs.Restored.{are_along, are_ascending, are_holds_kept, are_in_range};
+ghost use Rattle.reserving.specs.Restored.{are_keys_ascending, given, in_key_order};
+ghost use Rattle.reserving.specs.Restored.{is_before_first};
+ghost use Rattle.reserving.specs.Restored.{is_held, is_tested, same_holds, FindsSame, IsSortedOf};
+ghost use Rattle.reserving.specs.Sessions.{holds_in, session_before, group_before, counter_before};
 ghost use Rattle.reserving.specs.Stored.{IsStored};
 
 use crate::kept_rows::KeptRows;
+use crate::searching::compare_names;
 use crate::session::{Counter, Session, SessionGroup};
+use crate::sorting::{sort_counters, sort_groups, sort_sessions};
 use crate::stored::StoredAccount;
 use buckets::{Bucket, Hold, Holds, Purse};
 use std::alloc::Global;
@@ -49,60 +53,78 @@ fn later<T>(rows: &[T]) -> &[T]
     }
 }
 
-fn is_other_session(row: &Session, others: &[Session]) -> bool
-    ensures { result ≡ list_all (λ y. not (is_session row.now.id y)) others.now }
+/// Whether a session stands before the first of those after it.
+fn is_session_before(row: &Session, others: &[Session]) -> bool
+    ensures { result ≡ is_before_first session_before row.now others.now }
 {
-    others.iter().all(|other| other.id != row.id)
+    match others.first() {
+        Some(other) => compare_names(&row.id, &other.id).is_lt(),
+        None => true,
+    }
 }
 
-/// Whether no two sessions have one name.
-fn are_sessions_apart(rows: &[Session]) -> bool
-    ensures { result ≡ are_apart (λ x y. is_session x.id y) rows.now }
+/// Whether each session stands before the next.
+fn are_sessions_ascending(rows: &[Session]) -> bool
+    ensures { result ≡ are_ascending session_before rows.now }
 {
     let mut others = rows;
     'rows: for row in rows {
         others = later(others);
-        if !is_other_session(row, others) {
+        if !is_session_before(row, others) {
             return false;
         }
     }
     true
 }
 
-fn is_other_group(row: &SessionGroup, others: &[SessionGroup]) -> bool
-    ensures { result ≡ list_all (λ y. not (is_of row.now.session row.now.group y)) others.now }
+/// Whether a group stands before the first of those after it.
+fn is_group_before(row: &SessionGroup, others: &[SessionGroup]) -> bool
+    ensures { result ≡ is_before_first group_before row.now others.now }
 {
-    others.iter().all(|other| !(other.session == row.session && other.group == row.group))
+    match others.first() {
+        Some(other) => compare_names(&row.session, &other.session)
+            .then(row.group.cmp(&other.group))
+            .is_lt(),
+        None => true,
+    }
 }
 
-/// Whether no two rows are of one session and group.
-fn are_groups_apart(rows: &[SessionGroup]) -> bool
-    ensures { result ≡ are_apart (λ x y. is_of x.session x.group y) rows.now }
+/// Whether each group stands before the next.
+fn are_groups_ascending(rows: &[SessionGroup]) -> bool
+    ensures { result ≡ are_ascending group_before rows.now }
 {
     let mut others = rows;
     'rows: for row in rows {
         others = later(others);
-        if !is_other_group(row, others) {
+        if !is_group_before(row, others) {
             return false;
         }
     }
     true
 }
 
-fn is_other_counter(row: &Counter, others: &[Counter]) -> bool
-    ensures { result ≡ list_all (λ y. not (is_counter row.now.group row.now.cycle y)) others.now }
+/// Whether a counter stands before the first of those after it.
+fn is_counter_before(row: &Counter, others: &[Counter]) -> bool
+    ensures { result ≡ is_before_first counter_before row.now others.now }
 {
-    others.iter().all(|other| !(other.group == row.group && other.cycle == row.cycle))
+    match others.first() {
+        Some(other) => row
+            .group
+            .cmp(&other.group)
+            .then(row.cycle.cmp(&other.cycle))
+            .is_lt(),
+        None => true,
+    }
 }
 
-/// Whether no two counters are of one group and cycle.
-fn are_counters_apart(rows: &[Counter]) -> bool
-    ensures { result ≡ are_apart (λ x y. is_counter x.group x.cycle y) rows.now }
+/// Whether each counter stands before the next.
+fn are_counters_ascending(rows: &[Counter]) -> bool
+    ensures { result ≡ are_ascending counter_before rows.now }
 {
     let mut others = rows;
     'rows: for row in rows {
         others = later(others);
-        if !is_other_counter(row, others) {
+        if !is_counter_before(row, others) {
             return false;
         }
     }
@@ -209,13 +231,13 @@ fn are_all_along(groups: &[SessionGroup], buckets: &[Bucket]) -> bool
     groups.iter().all(|group| are_along(buckets, group))
 }
 
-/// Whether no two rows have one key.
-fn are_keys_apart(rows: &GivenRows) -> bool
-    ensures { result ≡ are_keys_apart (given rows.now) }
+/// Whether each row stands before the next: so no two have one key.
+fn are_keys_ascending(rows: &GivenRows) -> bool
+    ensures { result ≡ are_keys_ascending (given rows.now) }
 {
-    are_sessions_apart(&rows.sessions)
-        && are_groups_apart(&rows.groups)
-        && are_counters_apart(&rows.counters)
+    are_sessions_ascending(&rows.sessions)
+        && are_groups_ascending(&rows.groups)
+        && are_counters_ascending(&rows.counters)
 }
 
 /// Whether each number is in its range.
@@ -243,16 +265,29 @@ fn are_tested(rows: &GivenRows) -> bool
     ensures sound { IsSound rows.now.purse }
 {
     let _sound = rows.purse.buckets();
-    are_keys_apart(rows) && are_in_range(rows) && are_holds_kept(rows)
+    are_keys_ascending(rows) && are_in_range(rows) && are_holds_kept(rows)
+}
+
+/// The same rows, sorted by their keys.
+fn in_order(mut rows: GivenRows) -> GivenRows
+    ensures { IsSortedOf (given rows) (given result) }
+{
+    sort_sessions(&mut rows.sessions);
+    sort_groups(&mut rows.groups);
+    sort_counters(&mut rows.counters);
+    rows
 }
 
 impl StoredAccount {
-    /// The account of these rows. None where two rows have one key, a number is out of its range,
-    /// or what is reserved of the buckets isn't what the reservations hold, in their order.
+    /// The account of these rows, in the order of their keys. None where two rows have one key, a
+    /// number is out of its range, or what is reserved of the buckets isn't what the reservations
+    /// hold, in their order.
     pub fn from_rows(alloc: Global, rows: GivenRows) -> Option<Self>
-        ensures rows { IfSome result (λ account. account ≡ given rows) }
+        ensures rows { IfSome result (λ account. account ≡ in_key_order (given rows)) }
+        ensures found { IfSome result (FindsSame (given rows)) }
         ensures refused { IfNone result (IsStored (given rows) → ⊥) }
     {
+        let rows = in_order(rows);
         if !are_tested(&rows) {
             return None;
         }

@@ -1,8 +1,9 @@
 ghost use Rattle.std.specs.Prelude.{◌≡◌, ◌≤◌, map, not, true, None, OnOk, OnErr, IfOk};
 ghost use Rattle.reserving.specs.declared.session.SessionState.TheVariants.{Open, NeverOpened};
 ghost use Rattle.reserving.specs.Ledger.{Ledger};
-ghost use Rattle.reserving.specs.Sessions.{session_in, is_live_in};
-ghost use Rattle.reserving.specs.Rows.{IsRowsOf};
+ghost use Rattle.reserving.specs.Keyed.{put};
+ghost use Rattle.reserving.specs.Sessions.{is_session, session_in, is_live_in, session_before};
+ghost use Rattle.reserving.specs.Rows.{AreAscending, IsRowsOf};
 ghost use Rattle.reserving.specs.Left.{LeftRows, NotLeft, IsWith};
 ghost use Rattle.reserving.specs.Changes.{advanced, with_session, touched_account, touched_session};
 ghost use Rattle.reserving.specs.Changes.{is_other, closed_account, closed_session, lapse_group};
@@ -12,6 +13,7 @@ ghost use Rattle.reserving.specs.Requests.{recorded, touched, closed};
 use crate::account::Account;
 use crate::advance::lapse_reservation;
 use crate::fault::AccountFault;
+use crate::searching::seek_session;
 use crate::session::{Session, SessionGroup, SessionState};
 use buckets::Purse;
 use identifiers::SessionId;
@@ -120,15 +122,32 @@ impl<'b> Account<'b> {
         ensures err { OnErr result (self.new ≡ self.old) }
     {
         let id = copy_of(session)?;
-        self.rows.sessions.reserve(1)?;
-        self.rows.sessions.push_reserved(Session {
+        let row = Session {
             id,
             last_number: number,
             touched: moment,
             state,
-        });
+        };
+        add_session(&mut self.rows.sessions, row)?;
         Ok(())
     }
+}
+
+/// Adds the row of a session that has none. At a fault nothing has changed.
+fn add_session(sessions: &mut Vec<Session>, row: Session) -> Result<(), AllocError>
+    requires new { session_in row.id sessions.old.items ≡ None }
+    requires order { AreAscending session_before sessions.old.items }
+    ensures ok { OnOk result
+        (sessions.new.items ≡ put session_before (is_session row.id) row sessions.old.items) }
+    ensures err { OnErr result (sessions.new.items ≡ sessions.old.items) }
+{
+    let Err(place) = seek_session(sessions, &row.id) else {
+        unreachable!();
+    };
+    let Ok(()) = sessions.insert(place, row) else {
+        return Err(AllocError);
+    };
+    Ok(())
 }
 
 /// The same name once more.

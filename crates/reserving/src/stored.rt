@@ -21,7 +21,7 @@ pub struct StoredAccount {
 }
 
 impl Model for StoredAccount {
-    ghost use Rattle.reserving.specs.Stored.{StoredRows, IsStored};
+    ghost use Rattle.reserving.specs.Stored.{StoredRows, IsStoredInOrder};
 
     ghost Value = { StoredRows };
 
@@ -29,7 +29,7 @@ impl Model for StoredAccount {
 
     ghost view = { λ a. stored_of a.rows };
 
-    ghost invariant = { λ a. IsStored (stored_of a.rows) };
+    ghost invariant = { λ a. IsStoredInOrder (stored_of a.rows) };
 }
 
 impl StoredAccount {

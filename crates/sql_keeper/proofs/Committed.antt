@@ -20,9 +20,10 @@ use Rattle.sql_keeper.specs.Commits.{CommitsChange, CommitsWhole}
 use Rattle.sql_keeper.specs.Content.{tables_of}
 use Rattle.sql_keeper.specs.Inside.{KeeperState, IsClean, StaysOpen, IsKeeper, tables_in, failed_in}
 use Rattle.sql_keeper.specs.Inside.{clean_in}
-use Rattle.sql_keeper.specs.Stops.{IsWhole, MayLeave, trees_in}
+use Rattle.sql_keeper.specs.Stops.{IsWhole, trees_in}
 use Rattle.sql_keeper.specs.Sweeps.{BecomesSwept}
 use Rattle.sql_keeper.proofs.Asked.{cause_at_most, none_more, open_of}
+use Rattle.sql_keeper.proofs.Whole.{IsSettled, settled_now, stopped}
 
 -- only a failure of the disk shuts the connection
 pub stays_survived : (old new : State) (P : Trees → Type 0) → StaysOpen old →
@@ -114,17 +115,13 @@ module _ {S A : Type 0} (g : Ghosts S) (old new : KeeperState S)
 
   -- what a stop leaves
   pub whole : (r : Result A StoreFault) → CommitsIn r → text ≡ old.text
-      → (HasCleanDisk (state g new.connection) →
-      IsTrue (state g old.connection).is_open → (db : Trees)
-      → MayLeave g new db → (db ≡ trees_in g old) ⊎ Become text (trees_in g old) db)
-      → (HasCleanDisk (state g new.connection) →
-      IsTrue (state g new.connection).is_open → (db : Trees)
-      → MayLeave g new db → db ≡ trees_in g new)
+      → IsSettled (state g old.connection) → IsSettled (state g new.connection)
       → IsWhole g old new (Become old.text (trees_in g old))
-  whole r commits is stop settled =
+  whole r commits is before after =
       subst (λ t. IsWhole g old new (Become t (trees_in g old))) is (record {
-        stop = λ clean was db may.
-            stop clean (open_of (state g old.connection) keeper.stays was) db may;
-        settled = λ clean db may. settled clean.disk
-            (open_of (state g new.connection) (stays_in r commits) clean) db may;
+        stop = λ clean was. stopped (Become text) (state g old.connection)
+            (state g new.connection) r before keeper.idle commits clean
+            (open_of (state g old.connection) keeper.stays was);
+        settled = λ clean. settled_now (state g new.connection) after commits.idle clean.disk
+            (open_of (state g new.connection) (stays_in r commits) clean);
       })

@@ -2,7 +2,7 @@
 use Rattle.std.proofs.Common.{◌≡◌, ℕ, Bool, true, false, not, List, [], ◌∷◌, Option, Some, None}
 use Rattle.std.proofs.Common.{Result, Ok, Err, IfOk, IsErrOf, cond, refl, sym, ap, ◌∙◌, subst}
 use Rattle.std.proofs.Common.{true≢false}
-use Rattle.std.specs.Prelude.{if◌then◌else◌, filter, option_map}
+use Rattle.std.specs.Prelude.{if◌then◌else◌, filter, option_map, is_some}
 use Rattle.std.specs.List.{find}
 use Rattle.buckets.specs.Row.{Row}
 use Rattle.tariffs.specs.Books.{Book}
@@ -11,6 +11,8 @@ use Rattle.reserving.specs.Left.{is_dead}
 use Rattle.reserving.specs.Sessions.{is_open}
 use Rattle.reserving.specs.Rows.{AccountRows}
 use Rattle.reserving.specs.Stored.{StoredRows, stored}
+use Rattle.reserving.specs.Restored.{in_key_order, FindsSame}
+use Rattle.keepers.specs.Tables.{group_row, held_of}
 use Rattle.reserving.proofs.LeftParted.{either_none}
 use Rattle.sql_rows.specs.Content.{Rows as Stored}
 use Rattle.sql_rows.specs.Lists.{AreBuckets, is_live}
@@ -22,7 +24,11 @@ use Rattle.keepers.specs.Change.{IsLoadedFrom, IsLoad, IsView}
 use Rattle.keepers.specs.Keeping.{Reads}
 use Rattle.sql_keeper.specs.Content.{head_in, rows_of}
 use Rattle.sql_keeper.specs.LiveRows.{AreLiveBuckets, AreLiveRowsLoaded, IsAccountOf, IsLiveAccount}
-use Rattle.sql_keeper.specs.LiveRows.{IsLoadOf}
+use Rattle.sql_keeper.specs.LiveRows.{IsLoadOf, IsReadAccount, account_with}
+use Rattle.sql_keeper.specs.LiveGroups.{AreLiveGroups}
+use Rattle.sql_keeper.specs.Content.{group_in as group_told, is_reserved, held_in}
+use Rattle.sql_keeper.specs.Writes.{head_of}
+use Rattle.sql_keeper.specs.declared.live_rows.ReadRows.{ReadRows}
 use Rattle.sql_keeper.proofs.DeadRows.{those_are, spent_is_dead}
 use Rattle.sql_keeper.proofs.LiveGroups.{open_loaded}
 
@@ -66,6 +72,33 @@ find_kept q p b same (x ∷ xs) = at b (p x) (q x) refl refl (same x) (find_kept
     at b false false e k is rest = rest
 
 -- ---- all of it
+
+-- an account that finds under each key what was read
+pub live_read : (names : List (List ℕ)) (book : Book) (t : ℕ) (told : Stored) (x : ReadRows)
+    (w : StoredRows) → IsReadAccount names book t told (Some x)
+    → w ≡ in_key_order (account_with x.head x.rows x.counters.items)
+    → FindsSame (account_with x.head x.rows x.counters.items) w
+    → IsLiveAccount names book t told (Some w)
+live_read names book t told x w (head, live, counters) is found =
+    let groups : AreLiveGroups names told w.sessions w.groups = record {
+      groups = λ s g.
+          ap (option_map group_row) (found.groups s g) ∙ live.groups.groups s g
+          ∙ ap (λ o. if is_some o then option_map (group_told names true) (told.groups s g)
+          else None) (sym (found.sessions s));
+      holds = λ s g n.
+          ap (held_of n) (found.groups s g) ∙ live.groups.holds s g n
+          ∙ ap (λ o. if is_some o then held_in (is_reserved (told.groups s g)) (told.holds s g n)
+          else 0) (sym (found.sessions s));
+    } in (
+      head ∙ ap Some (sym (ap head_of is)),
+      record {
+        buckets = subst (AreLiveBuckets told)
+            (sym (ap (λ (v : StoredRows). v.buckets) is)) live.buckets;
+        sessions = λ s. found.sessions s ∙ live.sessions s;
+        groups = groups;
+      },
+      (λ g c. found.counters g c ∙ counters g c),
+    )
 
 pub live_loaded : AreLiveRowsLoaded
 live_loaded names book t rows w (head, live, counters) =

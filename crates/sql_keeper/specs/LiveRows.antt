@@ -21,6 +21,7 @@ use Rattle.sql_keeper.specs.Content.{rows_of}
 use Rattle.sql_keeper.specs.LiveGroups.{AreLiveGroups}
 use Rattle.sql_keeper.specs.Writes.{head_of}
 use Rattle.sql_keeper.specs.declared.live_rows.LiveRows.{LiveRows}
+use Rattle.sql_keeper.specs.declared.live_rows.ReadRows.{ReadRows}
 
 -- the buckets that aren't dead: each by its number, and no other
 abbrev pub AreLiveBuckets : Stored → List Row → Type 0
@@ -51,6 +52,15 @@ account_with h x cs = record {
   next_bucket = h.next_bucket;
   next_charge = h.next_charge;
 }
+
+-- what is read of an account: its head, and all of it that may still change at the moment; there is
+-- none where it has no head
+abbrev pub IsReadAccount : List (List ℕ) → Book → ℕ → Stored → Option ReadRows → Type 0
+IsReadAccount names book t rows None = rows.head ≡ None
+IsReadAccount names book t rows (Some x) =
+    (rows.head ≡ Some x.head)
+    × AreLiveRows names rows x.rows.purse x.rows.sessions.items x.rows.groups.items
+    × AreCountersAt book t rows x.counters.items
 
 -- the account, with all of it that may still change at the moment; there is none where it has no
 -- head

@@ -1,8 +1,7 @@
 //! A voucher that is added, in one transaction: all of it or nothing, also over a stop.
 
-ghost use Rattle.std.specs.Prelude.{◌≡◌, ◌≤◌, ◌⊎◌, false, IsTrue, OnOk};
+ghost use Rattle.std.specs.Prelude.{◌≡◌, false, OnOk};
 ghost use Rattle.keepers.specs.Change.{with_voucher as with_added};
-ghost use Rattle.keepers.specs.Faults.{HasCause, max_failures};
 ghost use Rattle.keepers.specs.Keeping.{Keeps};
 ghost use Rattle.sql_rows.specs.Makes.{Makes};
 ghost use Rattle.sql_tables.specs.Statements.{Attempts, HasBook, HasIdleBook};
@@ -11,15 +10,13 @@ ghost use Rattle.sql_keeper.specs.Commits.{CommitsWhole, Transacts};
 ghost use Rattle.sql_keeper.specs.Inside.{clean_in, failed_in, tables_in};
 ghost use Rattle.sql_keeper.specs.Stops.{IsWhole, trees_in};
 ghost use Rattle.sqlite.specs.Held.{state};
-ghost use Rattle.sqlite.specs.State.{HasCleanDisk};
-ghost use Rattle.sqlite_trees.specs.Tree.{Trees};
 
 use crate::faults::counted;
 use crate::keeper::SqlKeeper;
 use identifiers::VoucherCode;
 use keepers::StoreFault;
 use redemptions::VoucherTerms;
-use sql_rows::{put_meta, put_voucher_unspent};
+use sql_rows::{put_meta, put_voucher};
 use sql_tables::ReadFault;
 use sqlite::{Alter, Connection, Error, Transaction};
 use units::Moment;
@@ -39,7 +36,7 @@ fn put_addition<S: Alter>(
 {
     put_meta(tx, 1, text, moment)?;
     let code = code.as_str();
-    put_voucher_unspent(tx, code, terms.amount(), terms.days(), terms.scope())
+    put_voucher(tx, code, terms.amount(), terms.days(), terms.scope(), None)
 }
 
 /// Writes a voucher in one transaction.
@@ -61,6 +58,8 @@ fn write_addition<S: Alter>(
     tx.commit()
 }
 
+/// Adds a voucher, in one transaction: the tables become those with it, or at a fault they are as
+/// before. Whatever a stop leaves is one of the two.
 fn make_addition<S: Alter>(
     conn: &mut Connection<S>,
     text: &str,
@@ -77,40 +76,6 @@ fn make_addition<S: Alter>(
     let _moment = moment.seconds();
     write_addition(conn, text, code, terms, moment)?;
     Ok(())
-}
-
-/// Adds a voucher, in one transaction: the tables become those with it, or at a fault they are as
-/// before. Whatever a stop leaves is one of the two.
-///
-/// # Errors
-/// Out of memory. The store failed: this is counted.
-fn commit_addition<S: Alter>(
-    conn: &mut Connection<S>,
-    failures: &mut u64,
-    text: &str,
-    code: &VoucherCode,
-    terms: VoucherTerms,
-    moment: Moment,
-) -> Result<(), StoreFault>
-    requires plain { conn.old.in_transaction ≡ false }
-    requires idle { HasIdleBook (state S.Store conn.old) }
-    requires bounded { failures.old ≤ max_failures }
-    ensures plain { conn.new.in_transaction ≡ false }
-    ensures bounded { failures.new ≤ max_failures }
-    ensures commits { CommitsWhole (BecomesAdded text.now code.now terms moment)
-        (state S.Store conn.old) (state S.Store conn.new) result }
-    ensures stop { HasCleanDisk (state S.Store conn.new) → IsTrue (state S.Store conn.old).is_open →
-        (db : Trees) → (state S.Store conn.new).may_leave db →
-        (db ≡ (state S.Store conn.old).now.trees) ⊎
-        BecomesAdded text.now code.now terms moment (state S.Store conn.old).now.trees db }
-    ensures settled { HasCleanDisk (state S.Store conn.new) →
-        IsTrue (state S.Store conn.new).is_open →
-        (db : Trees) → (state S.Store conn.new).may_leave db →
-        db ≡ (state S.Store conn.new).now.trees }
-    ensures cause { HasCause failures.old failures.new result }
-{
-    let made = make_addition(conn, text, code, terms, moment);
-    counted(failures, made)
 }
 
 impl<S: Alter> SqlKeeper<S> {
@@ -133,13 +98,8 @@ impl<S: Alter> SqlKeeper<S> {
         ensures whole { IsWhole S.Store self.old self.new
             (BecomesAdded self.old.text code terms moment (trees_in S.Store self.old)) }
     {
-        commit_addition(
-            &mut self.connection,
-            &mut self.failures,
-            self.text.as_str(),
-            &code,
-            terms,
-            moment,
-        )
+        let text = self.text.as_str();
+        let made = make_addition(&mut self.connection, text, &code, terms, moment);
+        counted(&mut self.failures, made)
     }
 }

@@ -2,7 +2,7 @@
 
 ghost use Rattle.std.specs.Prelude.{◌≡◌, IfOk};
 ghost use Rattle.charge_sources.specs.Pages.{IsPage};
-ghost use Rattle.sql_keeper.specs.ChargePages.{IsPageRead, end_of_page, last_number};
+ghost use Rattle.sql_keeper.specs.ChargePages.{end_of_page, last_number};
 ghost use Rattle.sql_keeper.specs.Content.{charge_of};
 ghost use Rattle.sql_keeper.specs.LiveGroups.{Gathers};
 ghost use Rattle.sql_rows.specs.Content.{rows_in};
@@ -53,6 +53,7 @@ fn read_last_number<S: Alter>(
     last_number(&head)
 }
 
+/// The charges of an account beyond this number, as many as a page has.
 fn read_page<S: Alter>(
     conn: &mut Connection<S>,
     alloc: Global,
@@ -60,7 +61,8 @@ fn read_page<S: Alter>(
     after: u32,
 ) -> Result<ChargePage, ReadFault>
     requires idle { HasIdleBook (state S.Store conn.old) }
-    ensures { Gathers (λ trees page. IsPageRead (rows_in trees account.now) after page)
+    ensures { Gathers (λ trees page.
+        IsPage (λ n. charge_of n (rows_in trees account.now)) after page)
         (state S.Store conn.old) (state S.Store conn.new) result }
 {
     let number = read_last_number(conn, account)?;
@@ -74,21 +76,6 @@ fn read_page<S: Alter>(
     })
 }
 
-fn page_of<S: Alter>(
-    conn: &mut Connection<S>,
-    alloc: Global,
-    account: &AccountNumber,
-    after: u32,
-) -> Result<ChargePage, ReadFault>
-    requires idle { HasIdleBook (state S.Store conn.old) }
-    ensures { Gathers (λ trees page.
-        IsPage (λ n. charge_of n (rows_in trees account.now)) after page)
-        (state S.Store conn.old) (state S.Store conn.new) result }
-{
-    let page = read_page(conn, alloc, account, after)?;
-    Ok(page)
-}
-
 /// A page goes over 256 numbers. Each is read outside any transaction.
 impl<S: Alter> ChargePages for SqlKeeper<S> {
     ghost use Rattle.sql_keeper.specs.ChargePages.{none_first};
@@ -96,7 +83,7 @@ impl<S: Alter> ChargePages for SqlKeeper<S> {
     ghost numbered = { λ k a. none_first _ _ };
 
     fn page(&mut self, account: &AccountNumber, after: u32) -> Result<ChargePage, StoreFault> {
-        let read = page_of(&mut self.connection, self.alloc, account, after);
+        let read = read_page(&mut self.connection, self.alloc, account, after);
         counted(&mut self.failures, read)
     }
 }

@@ -1,8 +1,7 @@
 //! A change in one transaction: all of it or nothing, also over a stop.
 
-ghost use Rattle.std.specs.Prelude.{◌≡◌, ◌≤◌, ◌⊎◌, false, option_map, IsTrue, OnOk};
+ghost use Rattle.std.specs.Prelude.{◌≡◌, false, option_map, OnOk};
 ghost use Rattle.keepers.specs.Change.{IsMadeFrom, changed};
-ghost use Rattle.keepers.specs.Faults.{HasCause, max_failures};
 ghost use Rattle.keepers.specs.Keeping.{Keeps};
 ghost use Rattle.sql_rows.specs.Texts.{kept_of};
 ghost use Rattle.sql_tables.specs.Statements.{HasIdleBook};
@@ -11,8 +10,6 @@ ghost use Rattle.sql_keeper.specs.Inside.{clean_in, failed_in, tables_in};
 ghost use Rattle.sql_keeper.specs.Stops.{IsWhole, trees_in};
 ghost use Rattle.sql_keeper.specs.Writes.{meta_with, with_change};
 ghost use Rattle.sqlite.specs.Held.{state};
-ghost use Rattle.sqlite.specs.State.{HasCleanDisk};
-ghost use Rattle.sqlite_trees.specs.Tree.{Trees};
 
 use crate::faults::counted;
 use crate::keeper::SqlKeeper;
@@ -46,7 +43,8 @@ fn write_change<S: Alter>(
     tx.commit()
 }
 
-/// Tests a change, and writes it if it may be written.
+/// Tests a change, and writes it in one transaction if it may be written: the tables become those
+/// with the change, or at a fault they are as before. Whatever a stop leaves is one of the two.
 #[tactic(auto, using(crate::proofs::Whole::refused))]
 fn make_change<S: Alter>(
     conn: &mut Connection<S>,
@@ -72,40 +70,6 @@ fn make_change<S: Alter>(
     Ok(())
 }
 
-/// Commits a change, in one transaction: the tables become those with the change, or at a fault
-/// they are as before. Whatever a stop leaves is one of the two.
-///
-/// # Errors
-/// Out of memory. The store failed, or the change isn't one that may be written: these are counted.
-pub(crate) fn commit_change<S: Alter>(
-    conn: &mut Connection<S>,
-    failures: &mut u64,
-    alloc: Global,
-    book: &TariffBook,
-    text: &str,
-    change: &Change,
-) -> Result<(), StoreFault>
-    requires plain { conn.old.in_transaction ≡ false }
-    requires idle { HasIdleBook (state S.Store conn.old) }
-    requires bounded { failures.old ≤ max_failures }
-    ensures plain { conn.new.in_transaction ≡ false }
-    ensures bounded { failures.new ≤ max_failures }
-    ensures commits { CommitsChange book.now.periods text.now change.now
-        (state S.Store conn.old) (state S.Store conn.new) result }
-    ensures stop { HasCleanDisk (state S.Store conn.new) → IsTrue (state S.Store conn.old).is_open →
-        (db : Trees) → (state S.Store conn.new).may_leave db →
-        (db ≡ (state S.Store conn.old).now.trees) ⊎
-        Becomes book.now.periods text.now change.now (state S.Store conn.old).now.trees db }
-    ensures settled { HasCleanDisk (state S.Store conn.new) →
-        IsTrue (state S.Store conn.new).is_open →
-        (db : Trees) → (state S.Store conn.new).may_leave db →
-        db ≡ (state S.Store conn.new).now.trees }
-    ensures cause { HasCause failures.old failures.new result }
-{
-    let made = make_change(conn, alloc, book, text, change);
-    counted(failures, made)
-}
-
 impl<S: Alter> SqlKeeper<S> {
     /// Makes the change, in one transaction: the account's rows, the charges, the kept answer, the
     /// voucher that is redeemed and the moment together. At a fault nothing has changed, and
@@ -124,13 +88,8 @@ impl<S: Alter> SqlKeeper<S> {
         ensures whole { IsWhole S.Store self.old self.new
             (Becomes self.old.names self.old.text change (trees_in S.Store self.old)) }
     {
-        commit_change(
-            &mut self.connection,
-            &mut self.failures,
-            self.alloc,
-            &self.book,
-            self.text.as_str(),
-            &change,
-        )
+        let text = self.text.as_str();
+        let made = make_change(&mut self.connection, self.alloc, &self.book, text, &change);
+        counted(&mut self.failures, made)
     }
 }

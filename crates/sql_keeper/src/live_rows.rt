@@ -1,15 +1,17 @@
 //! What may still change of an account, read from the tables.
 
-ghost use Rattle.std.specs.Prelude.{◌≡◌, ◌++◌, map, filter, IfOk};
+ghost use Rattle.std.specs.Prelude.{◌≡◌, ℕ, List, ◌++◌, map, filter, IfOk};
 ghost use Rattle.calendar.specs.contracts.cycle.CyclePartialEq.TheImpl.{ghosts as cycles};
 ghost use Rattle.sql_keeper.specs.LiveGroups.{Gathers};
 ghost use Rattle.sql_keeper.specs.Repeating.{AreEachRepeating, AreRepeating, repeats_in};
 ghost use Rattle.sql_keeper.specs.LiveRows.{account_with, AreCountersAt, AreLiveBuckets};
-ghost use Rattle.sql_keeper.specs.LiveRows.{AreLiveRows, IsLiveAccount};
-ghost use Rattle.sql_rows.specs.Content.{rows_in};
+ghost use Rattle.sql_keeper.specs.LiveRows.{AreLiveRows, IsReadAccount, IsLiveAccount};
+ghost use Rattle.reserving.specs.Restored.{in_key_order, FindsSame};
+ghost use Rattle.sql_rows.specs.Content.{Rows as Stored, rows_in};
 ghost use Rattle.sql_rows.specs.Texts.{bucket_row};
 ghost use Rattle.sql_tables.specs.Statements.{HasIdleBook, Reads};
 ghost use Rattle.sqlite.specs.Held.{state};
+ghost use Rattle.tariffs.specs.Books.{Book};
 
 use crate::live_groups::read_live_groups;
 use crate::rebuilding::buckets_of;
@@ -35,6 +37,17 @@ pub(crate) struct LiveRows {
     pub sessions: Vec<Session>,
     /// What they have of rating groups.
     pub groups: Vec<SessionGroup>,
+}
+
+/// What may still change of an account at a moment, as it is read.
+#[derive(Drop)]
+pub(crate) struct ReadRows {
+    /// The account itself.
+    pub head: Head,
+    /// What may still change whatever the moment.
+    pub rows: LiveRows,
+    /// The counters of the cycles at the moment.
+    pub counters: Vec<Counter>,
 }
 
 /// The purse of these rows. They are out of the rules where they don't stand in the order of their
@@ -192,6 +205,32 @@ fn read_live_rows<S: Alter>(
     })
 }
 
+/// What may still change of the account of this number at a moment; None where there is no account.
+fn read_rows_at<S: Alter>(
+    conn: &mut Connection<S>,
+    alloc: Global,
+    account: &AccountNumber,
+    names: &TariffBook,
+    book: &TariffBook,
+    moment: Moment,
+) -> Result<Option<ReadRows>, ReadFault>
+    requires idle { HasIdleBook (state S.Store conn.old) }
+    ensures { Gathers (λ trees o. IsReadAccount names.now.periods book.now moment
+        (rows_in trees account.now) o)
+        (state S.Store conn.old) (state S.Store conn.new) result }
+{
+    let Some(head) = read_account(conn, account)? else {
+        return Ok(None);
+    };
+    let rows = read_live_rows(conn, alloc, account, names)?;
+    let counters = read_counters_at(conn, alloc, account, book, moment)?;
+    Ok(Some(ReadRows {
+        head,
+        rows,
+        counters,
+    }))
+}
+
 /// The account of a head and these rows; rows that are no account's are out of the rules.
 fn account_of(
     alloc: Global,
@@ -199,7 +238,9 @@ fn account_of(
     rows: LiveRows,
     counters: Vec<Counter>,
 ) -> Result<StoredAccount, ReadFault>
-    ensures { IfOk result (λ account. account ≡ account_with head.now rows counters.items) }
+    ensures rows { IfOk result (λ account. account
+        ≡ in_key_order (account_with head.now rows counters.items)) }
+    ensures found { IfOk result (FindsSame (account_with head.now rows counters.items)) }
 {
     let given = GivenRows {
         as_of: head.as_of,
@@ -215,6 +256,26 @@ fn account_of(
         Some(account) => Ok(account),
         None => Err(ReadFault::Rules),
     }
+}
+
+/// The account of what is read, where there is one.
+fn live_account_of(
+    alloc: Global,
+    read: Option<ReadRows>,
+) -> Result<Option<StoredAccount>, ReadFault>
+    ensures { (names : List (List ℕ)) (book : Book) (t : ℕ) (rows : Stored) →
+        IsReadAccount names book t rows read → IfOk result (IsLiveAccount names book t rows) }
+{
+    let Some(read) = read else {
+        return Ok(None);
+    };
+    let ReadRows {
+        head,
+        rows,
+        counters,
+    } = read;
+    let account = account_of(alloc, &head, rows, counters)?;
+    Ok(Some(account))
 }
 
 /// The account of this number with all of it that may still change at a moment; None where there
@@ -236,11 +297,6 @@ pub(crate) fn read_live_account<S: Alter>(
         (rows_in trees account.now) o)
         (state S.Store conn.old) (state S.Store conn.new) result }
 {
-    let Some(head) = read_account(conn, account)? else {
-        return Ok(None);
-    };
-    let rows = read_live_rows(conn, alloc, account, names)?;
-    let counters = read_counters_at(conn, alloc, account, book, moment)?;
-    let account = account_of(alloc, &head, rows, counters)?;
-    Ok(Some(account))
+    let read = read_rows_at(conn, alloc, account, names, book, moment)?;
+    live_account_of(alloc, read)
 }

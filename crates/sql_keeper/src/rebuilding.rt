@@ -3,7 +3,7 @@
 ghost use Rattle.std.specs.Prelude.{◌≡◌, map, IfOk};
 ghost use Rattle.sql_rows.specs.Texts.{bucket_row};
 
-use buckets::{Bucket, Columns};
+use buckets::Bucket;
 use sql_rows::BucketColumns;
 use sql_tables::ReadFault;
 use std::alloc::Global;
@@ -12,18 +12,7 @@ use std::alloc::Global;
 fn bucket_of(row: &BucketColumns) -> Result<Bucket, ReadFault>
     ensures { IfOk result (λ b. b ≡ bucket_row row.now) }
 {
-    let columns = Columns {
-        number: row.number,
-        from: row.starts,
-        until: row.ends,
-        scope: row.scope,
-        credited: row.credited,
-        available: row.available,
-        reserved: row.reserved,
-        charged: row.charged,
-        expired: row.expired,
-    };
-    match Bucket::from_columns(&columns) {
+    match Bucket::from_columns(row) {
         Some(bucket) => Ok(bucket),
         None => Err(ReadFault::Rules),
     }

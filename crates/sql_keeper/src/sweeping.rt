@@ -1,8 +1,7 @@
 //! A sweep in one transaction: each account at the moment, or nothing is changed, also over a stop.
 
-ghost use Rattle.std.specs.Prelude.{◌≡◌, ◌≤◌, ◌⊎◌, false, IfOk, IsTrue, OnOk};
+ghost use Rattle.std.specs.Prelude.{◌≡◌, false, IfOk, OnOk};
 ghost use Rattle.keepers.specs.Change.{IsSwept};
-ghost use Rattle.keepers.specs.Faults.{HasCause, max_failures};
 ghost use Rattle.keepers.specs.Keeping.{Keeps};
 ghost use Rattle.sql_rows.specs.Content.{content_of};
 ghost use Rattle.sql_rows.specs.Makes.{Makes, MakesIfOpen};
@@ -13,7 +12,6 @@ ghost use Rattle.sql_keeper.specs.Stops.{IsWhole, trees_in};
 ghost use Rattle.sql_keeper.specs.Sweeps.{BecomesSwept, with_accounts, with_sweep};
 ghost use Rattle.sqlite.specs.Held.{state};
 ghost use Rattle.sqlite.specs.State.{HasCleanDisk};
-ghost use Rattle.sqlite_trees.specs.Tree.{Trees};
 
 use crate::faults::counted;
 use crate::keeper::SqlKeeper;
@@ -81,7 +79,9 @@ fn write_sweep<S: Alter>(
     tx.commit()
 }
 
-/// Reads each account, brings it to the moment, and writes all; how many there are.
+/// Reads each account, brings it to the moment, and writes all in one transaction; how many there
+/// are. The tables become those of the sweep, or at a fault they are as before, and whatever a stop
+/// leaves is one of the two.
 fn make_sweep<S: Alter>(
     conn: &mut Connection<S>,
     alloc: Global,
@@ -103,44 +103,6 @@ fn make_sweep<S: Alter>(
     let accounts = read_sweep(conn, alloc, names, book, moment)?;
     write_sweep(conn, names, text, moment, &accounts)?;
     Ok(accounts.len() as u64)
-}
-
-/// Brings each account to a moment, in one transaction: the tables become those of the sweep, or at
-/// a fault they are as before. Whatever a stop leaves is one of the two.
-///
-/// # Errors
-/// Out of memory. The store failed, or an account's rows are out of the rules: these are counted.
-pub(crate) fn sweep_accounts<S: Alter>(
-    conn: &mut Connection<S>,
-    failures: &mut u64,
-    alloc: Global,
-    names: &TariffBook,
-    text: &str,
-    book: &TariffBook,
-    moment: Moment,
-) -> Result<u64, StoreFault>
-    requires plain { conn.old.in_transaction ≡ false }
-    requires idle { HasIdleBook (state S.Store conn.old) }
-    requires bounded { failures.old ≤ max_failures }
-    ensures plain { conn.new.in_transaction ≡ false }
-    ensures bounded { failures.new ≤ max_failures }
-    ensures commits { CommitsWhole (BecomesSwept names.now.periods text.now book.now moment)
-        (state S.Store conn.old) (state S.Store conn.new) result }
-    ensures count { HasCleanDisk (state S.Store conn.new) →
-        IfOk result (λ n. n ≡ (content_of (state S.Store conn.old).now.trees).count) }
-    ensures stop { HasCleanDisk (state S.Store conn.new) → IsTrue (state S.Store conn.old).is_open →
-        (db : Trees) → (state S.Store conn.new).may_leave db →
-        (db ≡ (state S.Store conn.old).now.trees) ⊎
-        BecomesSwept names.now.periods text.now book.now moment
-        (state S.Store conn.old).now.trees db }
-    ensures settled { HasCleanDisk (state S.Store conn.new) →
-        IsTrue (state S.Store conn.new).is_open →
-        (db : Trees) → (state S.Store conn.new).may_leave db →
-        db ≡ (state S.Store conn.new).now.trees }
-    ensures cause { HasCause failures.old failures.new result }
-{
-    let made = make_sweep(conn, alloc, names, text, book, moment);
-    counted(failures, made)
 }
 
 impl<S: Alter> SqlKeeper<S> {
@@ -166,14 +128,9 @@ impl<S: Alter> SqlKeeper<S> {
             (BecomesSwept self.old.names self.old.text book.now moment
             (trees_in S.Store self.old)) }
     {
-        sweep_accounts(
-            &mut self.connection,
-            &mut self.failures,
-            self.alloc,
-            &self.book,
-            self.text.as_str(),
-            book,
-            moment,
-        )
+        let text = self.text.as_str();
+        let (alloc, names) = (self.alloc, &self.book);
+        let made = make_sweep(&mut self.connection, alloc, names, text, book, moment);
+        counted(&mut self.failures, made)
     }
 }

@@ -4,7 +4,7 @@ ghost use Rattle.std.specs.Prelude.{◌≡◌, IfOk};
 ghost use Rattle.sql_tables.specs.Statements.{HasIdleBook};
 ghost use Rattle.sql_rows.specs.Content.{content_of};
 ghost use Rattle.sql_keeper.specs.LiveGroups.{Gathers};
-ghost use Rattle.sql_keeper.specs.Sweeps.{AreAllSwept, AreSweptOf, IsSweptAs, IsSweptFrom, rows_at};
+ghost use Rattle.sql_keeper.specs.Sweeps.{AreAllSwept, AreSweptOf, IsSweptFrom, rows_at};
 ghost use Rattle.sqlite.specs.Held.{state};
 
 use crate::live_rows::read_live_account;
@@ -62,26 +62,8 @@ fn swept_of(
     Ok(SweptAccount { number, rows })
 }
 
-/// An account at a moment. The periods of reservations have the names of one book, and counters the
-/// cycles of the other.
-fn read_swept<S: Alter>(
-    conn: &mut Connection<S>,
-    alloc: Global,
-    account: &AccountNumber,
-    names: &TariffBook,
-    book: &TariffBook,
-    moment: Moment,
-) -> Result<SweptAccount, ReadFault>
-    requires idle { HasIdleBook (state S.Store conn.old) }
-    ensures { Gathers (λ trees x. IsSweptAs names.now.periods book.now moment (content_of trees)
-        account.now x)
-        (state S.Store conn.old) (state S.Store conn.new) result }
-{
-    let rows = read_live_account(conn, alloc, account, names, book, moment)?;
-    swept_of(account, rows, names, book, moment)
-}
-
-/// The accounts of these numbers at a moment, in turn.
+/// The accounts of these numbers at a moment, in turn. The periods of reservations have the names
+/// of one book, and counters the cycles of the other.
 fn read_each<S: Alter>(
     conn: &mut Connection<S>,
     alloc: Global,
@@ -97,7 +79,8 @@ fn read_each<S: Alter>(
 {
     let mut swept = Vec::new(alloc);
     'accounts: for account in accounts {
-        let next = read_swept(conn, alloc, account, names, book, moment)?;
+        let rows = read_live_account(conn, alloc, account, names, book, moment)?;
+        let next = swept_of(account, rows, names, book, moment)?;
         let Ok(()) = swept.push(next) else {
             return Err(ReadFault::Memory);
         };

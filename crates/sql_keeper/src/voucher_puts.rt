@@ -10,7 +10,6 @@ ghost use Rattle.sqlite.specs.Held.{state};
 use identifiers::VoucherCode;
 use keepers::Redeemed;
 use redemptions::Voucher;
-use sql_rows::{put_voucher_spent, put_voucher_unspent};
 use sqlite::{Alter, Error, Transaction};
 
 /// Puts a voucher under its code, as it stands.
@@ -27,10 +26,8 @@ pub(crate) fn put_voucher<S: Alter>(
     let code = code.as_str();
     let terms = voucher.terms;
     let (amount, days, scope) = (terms.amount(), terms.days(), terms.scope());
-    match &voucher.redeemer {
-        None => put_voucher_unspent(tx, code, amount, days, scope),
-        Some(account) => put_voucher_spent(tx, code, amount, days, scope, account),
-    }
+    let redeemer = voucher.redeemer.as_ref();
+    sql_rows::put_voucher(tx, code, amount, days, scope, redeemer)
 }
 
 /// Puts the voucher that is redeemed, if one is.

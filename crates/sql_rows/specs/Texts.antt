@@ -1,19 +1,24 @@
 -- Rows as they are read, as those of the content.
 -- Source: profile.
-use Rattle.std.specs.Prelude.{◌≡◌, Bool, Option, is_some, option_map}
+use Rattle.std.specs.Prelude.{◌≡◌, ℕ, Bool, List, map, Option, is_some, option_map, Result, Vec}
+use Rattle.std.specs.Global.{Global}
 use Rattle.std.specs.String.{string_bytes}
 use Rattle.sqlite_value.specs.Order.{Row as Values, column}
 use Rattle.sqlite_value.specs.declared.value.Value.TheVariants.{Text}
+use Rattle.sqlite.specs.State.{State}
 use Rattle.sqlite.specs.Values.{or_null}
 use Rattle.buckets.specs.Row.{Row as Bucket}
+use Rattle.buckets.specs.declared.bucket.columns.Columns.{Columns as BucketColumns}
+pub use Rattle.buckets.specs.Columns.{row_of as bucket_row}
 use Rattle.sql_rows.specs.declared.answer_rows.Kept.{Kept as KeptTexts}
-use Rattle.sql_rows.specs.declared.bucket_rows.BucketColumns.{BucketColumns}
 use Rattle.sql_rows.specs.declared.group_rows.GroupColumns.{GroupColumns}
 use Rattle.sql_rows.specs.declared.group_rows.PeriodNames.{PeriodNames as ReadNames}
 use Rattle.sql_rows.specs.declared.hold_rows.HeldColumns.{HeldColumns}
 use Rattle.sql_rows.specs.declared.meta_rows.Meta.{Meta as MetaRow}
 use Rattle.sql_rows.specs.declared.voucher_rows.VoucherColumns.{VoucherColumns}
-use Rattle.sql_rows.specs.Lists.{GroupAt, HoldAt}
+use Rattle.sql_tables.specs.Statements.{Reads}
+use Rattle.sql_rows.specs.Content.{rows_in}
+use Rattle.sql_rows.specs.Lists.{AreBuckets, GroupAt, HoldAt}
 use Rattle.sql_rows.specs.Values.{Kept, Meta, PeriodNames, Voucher}
 
 abbrev pub kept_of : KeptTexts → Kept
@@ -22,18 +27,11 @@ kept_of k = record { content = string_bytes k.content; answer = string_bytes k.a
 abbrev pub meta_of : MetaRow → Meta
 meta_of m = record { version = m.version; book = string_bytes m.book; last = m.last }
 
-abbrev pub bucket_row : BucketColumns → Bucket
-bucket_row b = record {
-  number = b.number;
-  from = b.starts;
-  until = b.ends;
-  scope = b.scope;
-  credited = b.credited;
-  available = b.available;
-  reserved = b.reserved;
-  charged = b.charged;
-  expired = b.expired;
-}
+-- a selection tells the buckets of the account that pass the test
+abbrev pub ReadsBuckets : {E : Type 0} → (Bucket → Bool) → List ℕ → State → State →
+    Result (Vec BucketColumns Global) E → Type 0
+ReadsBuckets test account =
+    Reads (λ trees bs. AreBuckets test (rows_in trees account) (map bucket_row bs.items))
 
 abbrev pub voucher_of : VoucherColumns → Voucher
 voucher_of v = record { amount = v.amount; days = v.days; scope = v.scope; account = v.account }

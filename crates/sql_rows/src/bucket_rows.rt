@@ -1,15 +1,15 @@
 ghost use Rattle.std.specs.Prelude.{◌≡◌, map, filter, true, IsTrue, IfOk, OnOk};
-ghost use Rattle.sql_rows.specs.Content.{rows_in, with_bucket, with_rows};
+ghost use Rattle.sql_rows.specs.Content.{with_bucket, with_rows};
 ghost use Rattle.sql_rows.specs.Values.{bucket_cells};
-ghost use Rattle.sql_rows.specs.Lists.{AreBuckets, BucketsRise, Rises, is_dead, is_live};
-ghost use Rattle.sql_rows.specs.Texts.{bucket_row};
+ghost use Rattle.sql_rows.specs.Lists.{BucketsRise, Rises, is_dead, is_live};
+ghost use Rattle.sql_rows.specs.Texts.{ReadsBuckets, bucket_row};
 ghost use Rattle.sql_rows.specs.Each.{with_buckets};
 ghost use Rattle.sql_rows.specs.Makes.{Makes, MakesIfOpen};
-ghost use Rattle.sql_tables.specs.Statements.{Attempts, HasBook, HasIdleBook, IsInside, Reads};
+ghost use Rattle.sql_tables.specs.Statements.{Attempts, HasBook, HasIdleBook, IsInside};
 ghost use Rattle.sqlite.specs.Held.{state};
 
 use crate::decoding::moment_at;
-use buckets::Bucket;
+use buckets::{Bucket, Columns as BucketColumns};
 use identifiers::AccountNumber;
 use sql_tables::{
     ReadFault, has_columns, large, number_at, optional, optional_at, read, small_at, text, whole,
@@ -17,39 +17,6 @@ use sql_tables::{
 };
 use sqlite::{Alter, Connection, Error, Row, Transaction};
 use std::alloc::Global;
-use units::Moment;
-
-/// The columns of a bucket, as they stand.
-#[derive(Clone, Copy, Debug, PartialEq, Eq)]
-pub struct BucketColumns {
-    /// Its number within the account.
-    pub number: u32,
-    /// The first moment at which it may be used.
-    pub starts: Moment,
-    /// The first moment at which it is over.
-    pub ends: Moment,
-    /// The one rating group that it pays for, or none where it pays for all.
-    pub scope: Option<u32>,
-    /// Micro-units, as each amount.
-    pub credited: u64,
-    /// What is neither reserved nor charged, before its end.
-    pub available: u64,
-    /// What reservations hold.
-    pub reserved: u64,
-    /// What was charged.
-    pub charged: u64,
-    /// What was left at its end, or given up after it.
-    pub expired: u64,
-}
-
-impl BucketColumns {
-    /// Whether nothing is available and nothing reserved.
-    fn is_dead(&self) -> bool
-        ensures { result ≡ is_dead (bucket_row self.now) }
-    {
-        !(self.available > 0 || self.reserved > 0)
-    }
-}
 
 /// Puts a bucket of an account.
 pub fn put_bucket<S: Alter>(
@@ -95,16 +62,14 @@ pub fn read_buckets_live<S: Alter>(
     account: &AccountNumber,
 ) -> Result<Vec<BucketColumns>, ReadFault>
     requires idle { HasIdleBook (state S.Store conn.old) }
-    ensures reads { Reads (λ trees bs.
-        AreBuckets is_live (rows_in trees account.now) (map bucket_row bs.items))
+    ensures reads { ReadsBuckets is_live account.now
         (state S.Store conn.old) (state S.Store conn.new) result }
 {
-    let of_account = text(account.as_str());
     let rows = read(
         conn,
         "SELECT number, starts, ends, scope, credited, available, reserved, charged, expired \
          FROM buckets WHERE account = ?1 AND (available > 0 OR reserved > 0) ORDER BY ends, number",
-        &[of_account],
+        &[text(account.as_str())],
     )?;
     buckets_from(alloc, &rows)
 }
@@ -116,16 +81,14 @@ pub fn read_buckets_all<S: Alter>(
     account: &AccountNumber,
 ) -> Result<Vec<BucketColumns>, ReadFault>
     requires idle { HasIdleBook (state S.Store conn.old) }
-    ensures reads { Reads (λ trees bs.
-        AreBuckets (λ b. true) (rows_in trees account.now) (map bucket_row bs.items))
+    ensures reads { ReadsBuckets (λ b. true) account.now
         (state S.Store conn.old) (state S.Store conn.new) result }
 {
-    let of_account = text(account.as_str());
     let rows = read(
         conn,
         "SELECT number, starts, ends, scope, credited, available, reserved, charged, expired \
          FROM buckets WHERE account = ?1 ORDER BY number",
-        &[of_account],
+        &[text(account.as_str())],
     )?;
     buckets_from(alloc, &rows)
 }
@@ -138,13 +101,19 @@ pub fn read_buckets_dead<S: Alter>(
     account: &AccountNumber,
 ) -> Result<Vec<BucketColumns>, ReadFault>
     requires idle { HasIdleBook (state S.Store conn.old) }
-    ensures reads { Reads (λ trees bs.
-        AreBuckets is_dead (rows_in trees account.now) (map bucket_row bs.items))
+    ensures reads { ReadsBuckets is_dead account.now
         (state S.Store conn.old) (state S.Store conn.new) result }
     ensures order { IfOk result (λ bs. BucketsRise (map bucket_row bs.items)) }
 {
     let buckets = read_buckets_all(conn, alloc, account)?;
     dead_among(buckets)
+}
+
+/// Whether nothing of it is available and nothing reserved.
+fn is_dead(bucket: &BucketColumns) -> bool
+    ensures { result ≡ is_dead (bucket_row bucket.now) }
+{
+    !(bucket.available > 0 || bucket.reserved > 0)
 }
 
 /// Those that are dead, if each number is above the one before it.
@@ -157,7 +126,7 @@ fn dead_among(buckets: Vec<BucketColumns>) -> Result<Vec<BucketColumns>, ReadFau
         return Err(ReadFault::Rules);
     }
     let mut dead = buckets;
-    dead.retain(|bucket| bucket.is_dead());
+    dead.retain(|bucket| is_dead(bucket));
     Ok(dead)
 }
 
@@ -195,8 +164,8 @@ fn bucket_from(row: &Row) -> Result<BucketColumns, ReadFault>
 {
     has_columns(row, 9)?;
     let number = small_at(row, 0)?;
-    let starts = moment_at(row, 1)?;
-    let ends = moment_at(row, 2)?;
+    let from = moment_at(row, 1)?;
+    let until = moment_at(row, 2)?;
     let scope = optional_at(row, 3)?;
     let credited = number_at(row, 4)?;
     let available = number_at(row, 5)?;
@@ -205,8 +174,8 @@ fn bucket_from(row: &Row) -> Result<BucketColumns, ReadFault>
     let expired = number_at(row, 8)?;
     Ok(BucketColumns {
         number,
-        starts,
-        ends,
+        from,
+        until,
         scope,
         credited,
         available,

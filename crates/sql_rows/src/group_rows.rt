@@ -119,13 +119,11 @@ pub fn read_groups<S: Alter>(
         AreGroups (rows_in trees account.now) session.now (map group_at xs.items))
         (state S.Store conn.old) (state S.Store conn.new) result }
 {
-    let of_account = text(account.as_str());
-    let of_session = text(session.as_str());
     let rows = read(
         conn,
         "SELECT rating_group, used, reserved, period_before, period_after \
          FROM session_groups WHERE account = ?1 AND session = ?2",
-        &[of_account, of_session],
+        &[text(account.as_str()), text(session.as_str())],
     )?;
     groups_from(alloc, &rows)
 }

@@ -87,13 +87,11 @@ pub fn read_holds<S: Alter>(
         AreHolds (rows_in trees account.now) session.now (map hold_at xs.items))
         (state S.Store conn.old) (state S.Store conn.new) result }
 {
-    let of_account = text(account.as_str());
-    let of_session = text(session.as_str());
     let rows = read(
         conn,
         "SELECT rating_group, bucket, amount \
          FROM holds WHERE account = ?1 AND session = ?2",
-        &[of_account, of_session],
+        &[text(account.as_str()), text(session.as_str())],
     )?;
     helds_from(alloc, &rows)
 }

@@ -21,7 +21,7 @@ pub use crate::answer_rows::{
     Kept, put_answer_reference, put_answer_request, read_answer_reference, read_answer_request,
 };
 pub use crate::bucket_rows::{
-    BucketColumns, put_bucket, put_buckets, read_buckets_all, read_buckets_dead, read_buckets_live,
+    put_bucket, put_buckets, read_buckets_all, read_buckets_dead, read_buckets_live,
 };
 pub use crate::charge_rows::{put_charge, put_charges, read_charges_within};
 pub use crate::counter_lists::read_counters_in;
@@ -33,6 +33,5 @@ pub use crate::head::Head;
 pub use crate::hold_rows::{HeldColumns, put_hold, put_holds, read_holds, remove_holds};
 pub use crate::meta_rows::{Meta, put_meta, read_meta};
 pub use crate::session_rows::{put_session, put_sessions, read_session, read_sessions_open};
-pub use crate::voucher_rows::{
-    VoucherColumns, put_voucher_spent, put_voucher_unspent, read_voucher,
-};
+pub use crate::voucher_rows::{VoucherColumns, put_voucher, read_voucher};
+pub use buckets::Columns as BucketColumns;

@@ -64,13 +64,11 @@ pub fn read_session<S: Alter>(
     ensures reads { Reads (λ trees o. o ≡ (rows_in trees account.now).sessions session.now)
         (state S.Store conn.old) (state S.Store conn.new) result }
 {
-    let of_account = text(account.as_str());
-    let of_session = text(session.as_str());
     let rows = read(
         conn,
         "SELECT session, last_number, touched, state FROM sessions \
          WHERE account = ?1 AND session = ?2",
-        &[of_account, of_session],
+        &[text(account.as_str()), text(session.as_str())],
     )?;
     session_among(alloc, &rows)
 }
@@ -112,12 +110,11 @@ pub fn read_sessions_open<S: Alter>(
         AreSessions (λ x. is_open x.state) (rows_in trees account.now) xs.items)
         (state S.Store conn.old) (state S.Store conn.new) result }
 {
-    let of_account = text(account.as_str());
     let rows = read(
         conn,
         "SELECT session, last_number, touched, state \
          FROM sessions WHERE account = ?1 AND state = 1",
-        &[of_account],
+        &[text(account.as_str())],
     )?;
     sessions_from(alloc, &rows)
 }

@@ -1,4 +1,6 @@
-ghost use Rattle.std.specs.Prelude.{◌≡◌, map, option_map, IfOk, Some, None};
+ghost use Rattle.std.specs.Prelude.{◌≡◌, map, option_copied, option_map, IfOk};
+ghost use Rattle.sqlite_value.specs.Value.{owned};
+ghost use Rattle.sqlite_value.specs.declared.value.Value.TheVariants.{Text};
 ghost use Rattle.sql_rows.specs.Content.{content_of, with_voucher};
 ghost use Rattle.sql_rows.specs.Texts.{voucher_of};
 ghost use Rattle.sql_rows.specs.Values.{voucher_cells};
@@ -6,6 +8,7 @@ ghost use Rattle.sql_rows.specs.Makes.{Makes};
 ghost use Rattle.sql_tables.specs.Statements.{Attempts, HasBook, HasIdleBook, Reads};
 ghost use Rattle.sql_tables.specs.Selects.{one_or_none};
 ghost use Rattle.sqlite.specs.Held.{state};
+ghost use Rattle.sqlite.specs.Values.{bound_value, or_null};
 
 use crate::decoding::redeemer_at;
 use identifiers::AccountNumber;
@@ -13,6 +16,7 @@ use sql_tables::{
     ReadFault, has_columns, large, null, number_at, one_of, optional, optional_at, read, text,
     write,
 };
+use sqlite::types::ValueRef;
 use sqlite::{Alter, Connection, Error, Row, Transaction};
 use std::alloc::Global;
 use units::Money;
@@ -30,62 +34,48 @@ pub struct VoucherColumns {
     pub account: Option<AccountNumber>,
 }
 
-/// Puts a row of `vouchers` in the place of one with its key.
-const PUT_VOUCHER: &str = "INSERT INTO vouchers VALUES (?1, ?2, ?3, ?4, ?5) \
-    ON CONFLICT (code) DO UPDATE SET \
-    code = excluded.code, amount = excluded.amount, days = excluded.days, \
-    scope = excluded.scope, account = excluded.account";
-
-/// Puts a voucher that no account has redeemed: its amount in micro-units, the days that what it
-/// gives lasts (none: without end) and the one rating group that it pays for (none: all).
-pub fn put_voucher_unspent<S: Alter>(
-    tx: &mut Transaction<'_, S>,
-    code: &str,
-    amount: Money,
-    days: Option<u32>,
-    scope: Option<u32>,
-) -> Result<usize, Error>
-    requires book { HasBook (state S.Store tx.old.conn.now) }
-    ensures same_reference { tx.new.conn.ghost_name ≡ tx.old.conn.ghost_name }
-    ensures makes { Attempts (Makes (with_voucher code.now
-        (record { amount = amount; days = days; scope = scope; account = None })))
-        (state S.Store tx.old.conn.now) (state S.Store tx.new.conn.now) result }
+/// The account that redeemed a voucher as a statement's parameter; NULL where no account has.
+fn redeemer_or_null(account: Option<&AccountNumber>) -> ValueRef<'_>
+    ensures { bound_value (owned result) ≡ or_null Text (option_copied account.entry) }
 {
-    let of_code = text(code);
-    let micros = large(amount.micros());
-    let of_days = optional(days);
-    let of_scope = optional(scope);
-    let redeemer = null();
-    write(
-        tx,
-        PUT_VOUCHER,
-        &[of_code, micros, of_days, of_scope, redeemer],
-    )
+    match account {
+        Some(number) => text(number.as_str()),
+        None => null(),
+    }
 }
 
-/// Puts a voucher that the account has redeemed.
-pub fn put_voucher_spent<S: Alter>(
+/// Puts a voucher: its amount in micro-units, the days that what it gives lasts (none: without
+/// end), the one rating group that it pays for (none: all) and the account that redeemed it (none:
+/// no account has).
+pub fn put_voucher<S: Alter>(
     tx: &mut Transaction<'_, S>,
     code: &str,
     amount: Money,
     days: Option<u32>,
     scope: Option<u32>,
-    account: &AccountNumber,
+    account: Option<&AccountNumber>,
 ) -> Result<usize, Error>
     requires book { HasBook (state S.Store tx.old.conn.now) }
     ensures same_reference { tx.new.conn.ghost_name ≡ tx.old.conn.ghost_name }
-    ensures makes { Attempts (Makes (with_voucher code.now
-        (record { amount = amount; days = days; scope = scope; account = Some account.now })))
+    ensures makes { Attempts (Makes (with_voucher code.now (record {
+      amount = amount;
+      days = days;
+      scope = scope;
+      account = option_copied account.entry;
+    })))
         (state S.Store tx.old.conn.now) (state S.Store tx.new.conn.now) result }
 {
     let of_code = text(code);
     let micros = large(amount.micros());
     let of_days = optional(days);
     let of_scope = optional(scope);
-    let redeemer = text(account.as_str());
+    let redeemer = redeemer_or_null(account);
     write(
         tx,
-        PUT_VOUCHER,
+        "INSERT INTO vouchers VALUES (?1, ?2, ?3, ?4, ?5) \
+         ON CONFLICT (code) DO UPDATE SET \
+         code = excluded.code, amount = excluded.amount, days = excluded.days, \
+         scope = excluded.scope, account = excluded.account",
         &[of_code, micros, of_days, of_scope, redeemer],
     )
 }

@@ -37,16 +37,16 @@ use Rattle.sqlite_rules.proofs.ListLemmas.{all_has, some_has, some_from, has_fil
 use Rattle.sqlite_rules.proofs.ListLemmas.{has_contained, contains_had}
 use Rattle.sqlite_rules.proofs.TableLemmas.{int_is}
 use Rattle.sqlite_rules.proofs.ProbeLemmas.{mapped_has}
-use Rattle.sqlite.specs.Does.{Tally, Does}
+use Rattle.sqlite.specs.Does.{Tally}
 use Rattle.sqlite.specs.Rows.{Written, Task, Then, Deletes}
 use Rattle.sqlite.specs.Effect.{Database, Answers}
-use Rattle.sqlite.specs.State.{State, mode_of, Writes}
+use Rattle.sqlite.specs.State.{State, Writes}
 use Rattle.sqlite.proofs.Callers.{one_step}
 use Rattle.sql_tables.specs.Keyed.{key_of, entries_of, table_of, IsStored}
 use Rattle.sql_tables.proofs.Stored.{stored_filter, same_row}
 use Rattle.sql_tables.proofs.Swaps.{entries-filter}
 use Rattle.sql_tables.proofs.Steps.{went, same_value, bare, same_test, permuted, turned}
-use Rattle.sql_tables.proofs.Steps.{mapped_from}
+use Rattle.sql_tables.proofs.Steps.{mapped_from, does_over}
 
 -- the query of DELETE: the rowids of the rows that match
 abbrev pub rowids_where : ℕ → List Term → Query
@@ -201,10 +201,7 @@ module _ (schema : Schema) (at : ℕ) (table : Table)
       (Delete at (record { lets = []; body = rowids_where table.tree terms })) text params count
       → (new.now.schema ≡ schema) × Removed schema table test old.now.trees new.now.trees
   removes_rows old new text count has stored w =
-      let command = Delete at (record { lets = []; body = rowids_where table.tree terms }) in
-      let does =
-      subst (λ s. Does old.step_limit (mode_of old) params (record old.now { schema = s }) text None
-      command (Ok (w.tally, new.now))) has w.changed in
+      let does = does_over has w in
       let done = went (rw there at does) in
       let concluded = went (went done.2).2 in
       let now = ap (λ (p : Tally × Database). p.1) (same_value concluded.2) in (

@@ -1,16 +1,21 @@
 -- Small lemmas that the others share.
 use Rattle.std.proofs.Common.{◌≡◌, ◌⊎◌, inl, inr, ℕ, List, [], ◌∷◌, map, Bool, true, false, not}
-use Rattle.std.proofs.Common.{◌&&◌, ◌||◌, cond, Some, None, Ok, Err, Result, refl, ap}
+use Rattle.std.proofs.Common.{◌&&◌, ◌||◌, cond, Some, None, Ok, Err, Result, refl, ap, subst}
 use Rattle.std.specs.Prelude.{nat_le, ◌^◌}
 use Rattle.std.proofs.lemmas.Bool.{cases_Bool}
 use Rattle.std.specs.List.Sorted.{IsPermutation}
 use Rattle.std.proofs.lemmas.List.Sorted.{Contains-permutation}
 pub use Rattle.std.specs.Cmp.{both_ways as same_test}
+use Rattle.sqlite_value.specs.Order.{Row}
 use Rattle.sqlite_trees.specs.Tree.{Trees}
 use Rattle.sqlite_sql.specs.Ops.{is_true, from_truth}
 use Rattle.sqlite_sql.specs.Program.{overlay}
+use Rattle.sqlite_schema.specs.declared.schema.Schema.{Schema}
+use Rattle.sqlite_schema.specs.declared.command.Command.{Command}
 use Rattle.sqlite_rules.specs.Lists.{Has}
 use Rattle.sqlite_rules.proofs.ListLemmas.{has_contained, contains_had}
+use Rattle.sqlite.specs.Does.{Does}
+use Rattle.sqlite.specs.State.{State, mode_of, Writes}
 
 -- a part that gave a value did not stop on the way
 pub went : {B E R : Type 0} {b : B} {Stops : E → Type 0} →
@@ -27,6 +32,16 @@ bare db t = elim (cases_Bool (nat_le (2 ^ 31) t)) [
   | inl e ↦ rw e refl
   | inr e ↦ rw e refl
 ]
+
+-- what a statement that wrote does, over the schema that was there
+pub does_over : {old new : State} {command : Command} {text : List ℕ} {params : Row} {count : ℕ}
+    {schema : Schema} → old.now.schema ≡ schema →
+    (w : Writes old new None command text params count) →
+    Does old.step_limit (mode_of old) params (record old.now { schema = schema }) text None command
+    (Ok (w.tally, new.now))
+does_over {old} {new} {command} {text} {params} has w =
+    subst (λ s. Does old.step_limit (mode_of old) params (record old.now { schema = s }) text None
+    command (Ok (w.tally, new.now))) has w.changed
 
 -- ---- tests
 

@@ -85,8 +85,9 @@ module _ (at : ℕ) (table : Table) (there : slice_get book_schema.tables at ≡
       ∷ []) in
       let w = runs_as text values old new book_schema book.schema command is plain_text count x.0 in
       let done = puts_row book_schema
-      at table there values values base table.primary project kept again unset shows
-      finds terms width uncounted supplied old new
+      at table there values values base table.primary project
+      (record { kept = kept; again = again; plain = unset; shows = shows; finds = finds })
+      terms width uncounted supplied old new
       (statement_of text (understood book_schema text)) count book.schema stored.1 w in
       let p : PutsRow table.primary book_schema table values old.now.trees new.now.trees =
       puts_key table.primary book_schema table tabled index listed guarding order columns

@@ -46,17 +46,17 @@ use Rattle.sqlite_rules.proofs.ActionLemmas.{no_works}
 use Rattle.sqlite_rules.proofs.ListLemmas.{all_has, some_from}
 use Rattle.sqlite_rules.proofs.TableLemmas.{int_is, has_put}
 use Rattle.sqlite_rules.proofs.PlaceLemmas.{given as given_news}
-use Rattle.sqlite.specs.Does.{Tally, Does}
+use Rattle.sqlite.specs.Does.{Tally}
 use Rattle.sqlite.specs.Rows.{Written, Task, Then, Clears, Puts, Upserts, Meets, Resolves, Updates}
 use Rattle.sqlite.specs.Rows.{Judged, Tries, TriesEach, InsertsOr, Edited, Queried, mended, nothing}
 use Rattle.sqlite.specs.Rows.{stamped, count_of, rowids_for, Counts, shown}
 use Rattle.sqlite.specs.Effect.{Database, Answers, value_rows, IsSource}
 use Rattle.sqlite.specs.declared.error.Error.{Error}
-use Rattle.sqlite.specs.State.{State, mode_of, Writes}
+use Rattle.sqlite.specs.State.{State, Writes}
 use Rattle.std.proofs.lemmas.List.{length-map}
 use Rattle.sqlite.proofs.Callers.{one_step}
 use Rattle.sql_tables.proofs.Ties.{same_ints, equals_itself}
-use Rattle.sql_tables.proofs.Steps.{went, same_value, bare}
+use Rattle.sql_tables.proofs.Steps.{went, same_value, bare, does_over}
 
 -- the query of DO UPDATE: the rowid and the new row, where the rowid is that of the row that is met
 abbrev pub pick : ℕ → ℕ → List Term → Query
@@ -121,6 +121,19 @@ once before a more fresh =
     (put_row a before) a (has_put a before) (ap is_eq (tied_itself value_cmp_total (rowid a))) in
     false_is_true (sym (ap not taken) ∙ free)
 
+-- the row of these values is stored as it is and makes no other work, and the query of DO UPDATE
+-- finds the row that is met and shows its rowid with these values
+pub record IsUpsertOf (schema : Schema) (table : Table) (params values : Row) (base : ℕ)
+    (project : List Term) : Type 0 where
+  pub kept : (olds : List Row) (new : Row) →
+      works schema Enforced 0 table.tree olds (new ∷ []) ≡ []
+  pub again : (id : ℤ) → cast_row table (Int id ∷ values) ≡ Int id ∷ values
+  pub plain : cast_row table (Null ∷ values) ≡ Null ∷ values
+  pub shows : (id : ℤ) (there : Value) (r : Row) → eval_all project
+      ((params ++ there ∷ shown table (Int id ∷ values)) ∷ r ∷ []) ≡ rowid r ∷ rowid r ∷ values
+  pub finds : (id : ℤ) (there : Value) →
+      column (params ++ there ∷ shown table (Int id ∷ values)) base ≡ there
+
 -- a list of the same, and not empty
 abbrev Copies : {X : Type 0} → X → List X → Type 0
 Copies x xs = AllByRecursion (λ y. y ≡ x) xs × (0 < length xs)
@@ -128,13 +141,7 @@ Copies x xs = AllByRecursion (λ y. y ≡ x) xs × (0 < length xs)
 module _ (limit : Option ℕ) (schema : Schema) (table : Table) (params values : Row) (base : ℕ)
     (target : List ℕ) (project : List Term) (db : Trees)
     (keyed : AllByRecursion (λ r. IsTrue (is_int (rowid r))) (db table.tree))
-    (kept : (olds : List Row) (new : Row) → works schema Enforced 0 table.tree olds (new ∷ []) ≡ [])
-    (again : (id : ℤ) → cast_row table (Int id ∷ values) ≡ Int id ∷ values)
-    (plain : cast_row table (Null ∷ values) ≡ Null ∷ values)
-    (shows : (id : ℤ) (there : Value) (r : Row) → eval_all project
-    ((params ++ there ∷ shown table (Int id ∷ values)) ∷ r ∷ []) ≡ rowid r ∷ rowid r ∷ values)
-    (finds : (id : ℤ) (there : Value) →
-    column (params ++ there ∷ shown table (Int id ∷ values)) base ≡ there) where
+    (upsert : IsUpsertOf schema table params values base project) where
   abbrev task : Task
   task = record { limit = limit; keys = Enforced; schema = schema; table = table; params = params }
 
@@ -159,13 +166,13 @@ module _ (limit : Option ℕ) (schema : Schema) (table : Table) (params values :
   matched there [] = refl
   matched there (r ∷ rows) = elim (cases_Bool (equal Binary (rowid r) there)) [
     | inl e ↦ rw (
-      finds (next_rowid (db table.tree)) there,
+      upsert.finds (next_rowid (db table.tree)) there,
       e,
       matched there rows,
-      shows
+      upsert.shows
           (next_rowid (db table.tree)) there r,
     ) refl
-    | inr e ↦ rw (finds (next_rowid (db table.tree)) there, e, matched there rows) refl
+    | inr e ↦ rw (upsert.finds (next_rowid (db table.tree)) there, e, matched there rows) refl
   ]
 
   all_picked : (there : Value) (rows : List Row) →
@@ -228,14 +235,14 @@ module _ (limit : Option ℕ) (schema : Schema) (table : Table) (params values :
       let done = one_step schema Enforced mid it.0 edit
       (no_works schema Enforced 0 table.tree edit.news) it.1 in
       let trees : one.trees ≡ it.0 = ap (λ (w : Written). w.trees) (same_value it.2) in
-      let news : edit.news ≡ new ∷ [] = ap (λ r. r ∷ []) (again _) in
+      let news : edit.news ≡ new ∷ [] = ap (λ r. r ∷ []) (upsert.again _) in
       let fresh : are_fresh (mid table.tree) (new ∷ []) ≡ true =
       subst (λ n. are_fresh (mid table.tree) n ≡ true) news done.fresh in
       record {
         fresh = not-true _ (and_parts _ _ fresh).0;
         rows = ap (λ (t : Trees). t table.tree) trees
             ∙ done.rows
-            ∙ ap (λ r. put_row r (mid table.tree)) (again _);
+            ∙ ap (λ r. put_row r (mid table.tree)) (upsert.again _);
         others = λ t other free. ap (λ (d : Trees). d t) trees ∙ done.others t other free;
         fits = subst (Fits schema) (sym trees) done.fits;
       }
@@ -244,7 +251,7 @@ module _ (limit : Option ℕ) (schema : Schema) (table : Table) (params values :
   news_of : (id : ℤ) (rows : List Row) → rows ≡ (Int id ∷ Int id ∷ values) ∷ [] →
       (edit_of db table (ids_of rows) Given 1 rows).news ≡ (Int id ∷ values) ∷ []
   news_of id rows is = ap (λ rs. (edit_of db table (ids_of rs) Given 1 rs).news) is
-      ∙ ap (λ r. r ∷ []) (again id)
+      ∙ ap (λ r. r ∷ []) (upsert.again id)
 
   alone : (id : ℤ) (rows : List Row) (next : Trees) → Copies (Int id ∷ Int id ∷ values) rows →
       Settling schema Enforced db (edit_of db table (ids_of rows) Given 1 rows) (Ok next) →
@@ -256,8 +263,8 @@ module _ (limit : Option ℕ) (schema : Schema) (table : Table) (params values :
       let edit = edit_of db table (ids_of rows) Given 1 rows in
       let it = step_made schema db next edit h in
       let f = λ (s : Row). cast_row table (drop 1 s) in
-      let first : f x ≡ Int id ∷ values = ap f copies.0.0 ∙ again id in
-      let second : f y ≡ Int id ∷ values = ap f copies.0.1.0 ∙ again id in
+      let first : f x ≡ Int id ∷ values = ap f copies.0.0 ∙ upsert.again id in
+      let second : f y ≡ Int id ∷ values = ap f copies.0.1.0 ∙ upsert.again id in
       let both : edit.news ≡ (Int id ∷ values) ∷ (Int id ∷ values) ∷ map f more =
       given_news (left_by db edit) (map f rows) ∙ ap (λ a. a ∷ f y ∷ map f more) first ∙ ap
       (λ b. (Int id ∷ values) ∷ b ∷ map f more) second in
@@ -286,7 +293,7 @@ module _ (limit : Option ℕ) (schema : Schema) (table : Table) (params values :
       let gone : edit.gone ≡ id ∷ [] = ap ids_of only in
       let done =
       one_step schema Enforced db it.0 edit (subst (λ n. works schema Enforced 0 table.tree
-      (taken_by db edit) n ≡ []) (sym news) (kept (taken_by db edit) (Int id ∷ values))) it.1 in
+      (taken_by db edit) n ≡ []) (sym news) (upsert.kept (taken_by db edit) (Int id ∷ values))) it.1 in
       let trees : one.trees ≡ it.0 = ap (λ (w : Written). w.trees) (same_value it.2) in
       let left : left_by db edit ≡ without_rowid id (db table.tree) =
       ap (without_all (db table.tree)) gone in
@@ -343,7 +350,7 @@ module _ (limit : Option ℕ) (schema : Schema) (table : Table) (params values :
 
   made : (top : ℤ) → table.is_counted ≡ false → with_rowid (rowids_for table top) (db table.tree)
       (cast_row table (mended Abort table (Null ∷ values))) ≡ new
-  made top uncounted = ap (λ r. with_rowid (rowids_for table top) (db table.tree) r) plain ∙ ap
+  made top uncounted = ap (λ r. with_rowid (rowids_for table top) (db table.tree) r) upsert.plain ∙ ap
       (λ b. with_rowid (if b then Above top else Chosen) (db table.tree) (Null ∷ values)) uncounted
 
   uncounts : (mid next : Trees) (counter : Option Row) (top : ℤ) → table.is_counted ≡ false →
@@ -378,13 +385,7 @@ module _ (limit : Option ℕ) (schema : Schema) (table : Table) (params values :
 module _ (schema : Schema) (at : ℕ) (table : Table)
     (there : slice_get schema.tables at ≡ Some table)
     (params values : Row) (base : ℕ) (target : List ℕ) (project : List Term)
-    (kept : (olds : List Row) (new : Row) → works schema Enforced 0 table.tree olds (new ∷ []) ≡ [])
-    (again : (id : ℤ) → cast_row table (Int id ∷ values) ≡ Int id ∷ values)
-    (plain : cast_row table (Null ∷ values) ≡ Null ∷ values)
-    (shows : (id : ℤ) (there : Value) (r : Row) → eval_all project
-    ((params ++ there ∷ shown table (Int id ∷ values)) ∷ r ∷ []) ≡ rowid r ∷ rowid r ∷ values)
-    (finds : (id : ℤ) (there : Value) →
-    column (params ++ there ∷ shown table (Int id ∷ values)) base ≡ there)
+    (upsert : IsUpsertOf schema table params values base project)
     (terms : List Term) (width : ℕ) (uncounted : table.is_counted ≡ false)
     (supplied : value_rows (stamped table params) width (length terms / width) terms
     ≡ (Null ∷ values) ∷ []) where
@@ -397,19 +398,13 @@ module _ (schema : Schema) (at : ℕ) (table : Table)
       } ∷ [])) text params count
       → (new.now.schema ≡ schema) × Upserted schema table target values old.now.trees new.now.trees
   puts_row old new text count has keyed w =
-      let command = InsertOr at Abort (Values terms width) (record {
-        target = Some target;
-        update = Some (record { lets = []; body = pick table.tree base project });
-      } ∷ []) in
-      let does =
-      subst (λ s. Does old.step_limit (mode_of old) params (record old.now { schema = s }) text None
-      command (Ok (w.tally, new.now))) has w.changed in
+      let does = does_over has w in
       let done = went (rw there at does) in
       let concluded = went (went done.2).2 in
       let now = ap (λ (p : Tally × Database). p.1) (same_value concluded.2) in (
         ap (λ (d : Database). d.schema) now,
         subst (Upserted schema table target values old.now.trees)
             (sym (ap (λ (d : Database). d.trees) now)) (inserts old.step_limit schema table params
-            values base target project old.now.trees keyed kept again plain
-            shows finds terms width done.0 uncounted supplied done.1),
+            values base target project old.now.trees keyed upsert
+            terms width done.0 uncounted supplied done.1),
       )

@@ -9,4 +9,4 @@ mod rows;
 mod stating;
 
 pub use crate::fault::StatementFault;
-pub use crate::stating::{export, statement};
+pub use crate::stating::{AccountMonth, export, statement};

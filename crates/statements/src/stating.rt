@@ -23,6 +23,14 @@ use tariffs::TariffBook;
 use units::Moment;
 use written_numbers::Month;
 
+/// An account's month by a book, in whose zone it is civil: what a statement or an export is of.
+#[derive(Drop)]
+pub struct AccountMonth<'a> {
+    pub account: &'a AccountNumber,
+    pub month: Month,
+    pub book: &'a TariffBook,
+}
+
 /// The number of a month's cycle.
 fn cycle_of_month(month: Month) -> u32
     ensures { result ≡ cycle_of_month month }
@@ -47,29 +55,32 @@ fn write_charges<S: ChargeSource, W: Write>(
     alloc: Global,
     source: &mut S,
     writer: &mut W,
-    book: &TariffBook,
-    account: &AccountNumber,
-    month: Month,
+    asked: &AccountMonth,
     form: Form,
 ) -> Result<Sums, StatementFault>
-    ensures writes { S.clean source.new → Writes ((S.content source.old).charges account.now)
+    ensures writes { S.clean source.new → Writes ((S.content source.old).charges asked.now.account.now)
         (W.contents writer.old) (W.contents writer.new)
-        (λ rows. charges_text form (of_month book.now month rows)) result }
+        (λ rows. charges_text form (of_month asked.now.book.now asked.now.month rows)) result }
     ensures sums { S.clean source.new → (rows : List ChargeColumns) →
-        AreCharges ((S.content source.old).charges account.now) rows →
-        IfOk result (λ sums. sums ≡ sums_of (of_month book.now month rows)) }
+        AreCharges ((S.content source.old).charges asked.now.account.now) rows →
+        IfOk result (λ sums. sums ≡ sums_of (of_month asked.now.book.now asked.now.month rows)) }
     ensures asks { Asks S.content S.failed S.clean source.old source.new result }
 {
     let mut charges = MonthRows {
         alloc,
         writer,
-        book,
-        cycle: cycle_of_month(month),
+        book: asked.book,
+        cycle: cycle_of_month(asked.month),
         form,
         sums: Sums::none(),
         fault: None,
     };
-    source.each(account, Moment::first(), Moment::no_end(), &mut charges)?;
+    source.each(
+        asked.account,
+        Moment::first(),
+        Moment::no_end(),
+        &mut charges,
+    )?;
     match charges.fault {
         None => Ok(charges.sums),
         Some(fault) => Err(StatementFault::from(fault)),
@@ -138,19 +149,18 @@ pub fn statement<S: ChargeSource, W: Write>(
     alloc: Global,
     source: &mut S,
     writer: &mut W,
-    book: &TariffBook,
-    account: &AccountNumber,
-    month: Month,
+    asked: &AccountMonth,
     moment: Moment,
     buckets: &[Bucket],
 ) -> Result<(), StatementFault>
-    ensures writes { S.clean source.new → Writes ((S.content source.old).charges account.now)
+    ensures writes { S.clean source.new → Writes ((S.content source.old).charges asked.now.account.now)
         (W.contents writer.old) (W.contents writer.new)
-        (λ rows. statement_text book.now account.now month moment rows buckets.now) result }
+        (λ rows. statement_text asked.now.book.now asked.now.account.now asked.now.month moment rows
+        buckets.now) result }
     ensures asks { Asks S.content S.failed S.clean source.old source.new result }
 {
-    write_head(alloc, writer, account, month, moment)?;
-    let sums = write_charges(alloc, source, writer, book, account, month, Form::Lines)?;
+    write_head(alloc, writer, asked.account, asked.month, moment)?;
+    let sums = write_charges(alloc, source, writer, asked, Form::Lines)?;
     write_foot(alloc, writer, &sums, buckets)?;
     Ok(())
 }
@@ -165,16 +175,14 @@ pub fn export<S: ChargeSource, W: Write>(
     alloc: Global,
     source: &mut S,
     writer: &mut W,
-    book: &TariffBook,
-    account: &AccountNumber,
-    month: Month,
+    asked: &AccountMonth,
 ) -> Result<(), StatementFault>
-    ensures writes { S.clean source.new → Writes ((S.content source.old).charges account.now)
+    ensures writes { S.clean source.new → Writes ((S.content source.old).charges asked.now.account.now)
         (W.contents writer.old) (W.contents writer.new)
-        (λ rows. export_text book.now month rows) result }
+        (λ rows. export_text asked.now.book.now asked.now.month rows) result }
     ensures asks { Asks S.content S.failed S.clean source.old source.new result }
 {
     write_header(alloc, writer)?;
-    write_charges(alloc, source, writer, book, account, month, Form::Records)?;
+    write_charges(alloc, source, writer, asked, Form::Records)?;
     Ok(())
 }

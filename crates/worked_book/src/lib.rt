@@ -1,5 +1,12 @@
-//! The tariff book of the worked sessions that the tests of the crates above tell: test data, once.
+//! What the tests of the crates above share: the tariff book of the worked sessions that they tell,
+//! tables of cases, and a writer that fails.
 #![tactic(auto)]
+
+mod cases;
+mod slow;
+
+pub use crate::cases::{changed, joined};
+pub use crate::slow::Slow;
 
 /// Two periods by weekday and hour. Group 10: seconds in blocks of 60 at 100000 micro-units on
 /// weekdays from 08:00 to 20:00, else at 50000. Group 20: octets in blocks of 1048576, of which the

@@ -8,7 +8,7 @@
 //! amount and what of it is available, reserved, charged and expired. What is asked for is the
 //! slice of a group: 600 seconds or one event.
 
-ghost use Rattle.std.specs.Prelude.{◌≡◌, true, Some, None, IsTrue};
+ghost use Rattle.std.specs.Prelude.{◌≡◌, ◌≤◌, true, Some, None, IsTrue};
 ghost use Rattle.commands.specs.Refunds.{is_refund};
 ghost use Rattle.commands.specs.declared.service.Requested.TheVariants.{Slice};
 
@@ -158,14 +158,14 @@ fn is_known(account: &Account, session: &SessionId) -> bool {
 
 /// A request that is read, or else decided.
 fn requested(
-    rt: &impl Abort,
     alloc: Global,
     account: &mut Account,
     request: &Request,
     known: bool,
     at: Moment,
-) -> Result<String, Fail> {
-    assert!(rt; account.as_of() <= at);
+) -> Result<String, Fail>
+    requires { account.old.as_of ≤ at }
+{
     if let Some(answer) = read(account, request, at)? {
         return told(alloc, &answer.outcome);
     }
@@ -174,28 +174,18 @@ fn requested(
 }
 
 /// `credit AMOUNT`: the bucket's number.
-fn credit(
-    rt: &impl Abort,
-    alloc: Global,
-    account: &mut Account,
-    word: &str,
-    at: Moment,
-) -> Result<String, Fail> {
+fn credit(alloc: Global, account: &mut Account, word: &str, at: Moment) -> Result<String, Fail>
+    requires { account.old.as_of ≤ at }
+{
     let amount = Money::new(word.parse::<u64>()?).ok_or("an amount")?;
-    assert!(rt; account.as_of() <= at);
     let number = account.credit(at, Moment::no_end(), None, amount, at)?;
     Ok(format!(in alloc; "{number}")?)
 }
 
 /// `bar on` or `bar off`.
-fn bar(
-    rt: &impl Abort,
-    alloc: Global,
-    account: &mut Account,
-    word: &str,
-    at: Moment,
-) -> Result<String, Fail> {
-    assert!(rt; account.as_of() <= at);
+fn bar(alloc: Global, account: &mut Account, word: &str, at: Moment) -> Result<String, Fail>
+    requires { account.old.as_of ≤ at }
+{
     account.set_barred(word == "on", at);
     Ok(String::from_str(alloc, "done")?)
 }
@@ -209,18 +199,19 @@ fn outcome(
     words: &str,
     at: Moment,
 ) -> Result<String, Fail> {
+    assert!(rt; account.as_of() <= at);
     match call {
-        "credit" => credit(rt, alloc, account, words, at),
-        "bar" => bar(rt, alloc, account, words, at),
+        "credit" => credit(alloc, account, words, at),
+        "bar" => bar(alloc, account, words, at),
         "known" => {
             let (call, words) = words.split_once(" ").ok_or("a call and its words")?;
             let request = request(rt, alloc, call, words)?;
-            requested(rt, alloc, account, &request, true, at)
+            requested(alloc, account, &request, true, at)
         }
         _ => {
             let request = request(rt, alloc, call, words)?;
             let known = is_known(account, &request.session);
-            requested(rt, alloc, account, &request, known, at)
+            requested(alloc, account, &request, known, at)
         }
     }
 }

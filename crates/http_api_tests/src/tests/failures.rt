@@ -6,36 +6,8 @@ use charge_sources::ChargeSource;
 use http_api::serve;
 use keepers::MemoryKeeper;
 use std::alloc::{AllocError, Global};
-use std::io;
-use std::io::{ErrorKind, Write};
 use std::test::Fail;
-
-/// Takes single bytes, and fails after so many calls.
-#[derive(Drop)]
-struct Slow {
-    taken: Vec<u8>,
-    calls: usize,
-}
-
-impl Write for Slow {
-    fn write(&mut self, buf: &[u8]) -> io::Result<usize> {
-        if self.calls == 0 {
-            return Err(io::Error::from(ErrorKind::BrokenPipe));
-        }
-        self.calls -= 1;
-        match buf.first() {
-            Some(byte) => {
-                self.taken.push(*byte)?;
-                Ok(1)
-            }
-            None => Ok(0),
-        }
-    }
-
-    fn flush(&mut self) -> io::Result<()> {
-        Ok(())
-    }
-}
+use worked_book::Slow;
 
 /// What a writer that fails after so many calls has taken where an account is opened twice, and how
 /// the connection ends.
@@ -43,10 +15,7 @@ fn taken<K: ChargeSource>(alloc: Global, keeper: &mut K, calls: usize) -> Result
     let book = book(alloc)?;
     let stream = OPEN.repeat(alloc, 2)?;
     let mut bytes = stream.as_bytes();
-    let mut writer = Slow {
-        taken: Vec::new(alloc),
-        calls,
-    };
+    let mut writer = Slow::new(alloc, calls);
     let served = serve(alloc, &mut bytes, &mut writer, keeper, &book, &mut ten()?);
     let ending = ending(alloc, served)?;
     let text = str::from_utf8(writer.taken.as_slice())?;

@@ -429,20 +429,29 @@ fn no_opening(rt: HostRuntime) -> Result<(), Fail> {
 /// The calls of a keeper by which an account is opened and credited, and one debit is charged.
 const CALLS_OF_ONE_DEBIT: u64 = 12;
 
+/// Answers these lines over a keeper that fails after the first debit.
+fn answer_to_a_fault<W: Write>(
+    alloc: Global,
+    asked: &str,
+    writer: &mut W,
+) -> Result<Result<(), LinesFault>, Fail> {
+    let book = once_book(alloc, 100_000, 60)?;
+    let credit = Some(Money::new(100_000).ok_or("an amount")?);
+    let mut reader = asked.as_bytes();
+    let mut keeper = Failing::new(MemoryKeeper::new(alloc), CALLS_OF_ONE_DEBIT);
+    Ok(lines(alloc, &mut keeper, &book, credit, &mut reader, writer))
+}
+
 /// At a store fault after the first debit, the answers before it are written.
 #[test]
 fn a_store_fault(rt: HostRuntime) -> Result<(), Fail> {
     let alloc = rt.alloc();
-    let book = once_book(alloc, 100_000, 60)?;
-    let credit = Some(Money::new(100_000).ok_or("an amount")?);
     let Scenario {
         lines: asked,
         answers: wanted,
     } = read_scenario(alloc, ONE_DEBIT)?;
-    let mut input = asked.as_bytes();
     let mut written = Vec::new(alloc);
-    let mut keeper = Failing::new(MemoryKeeper::new(alloc), CALLS_OF_ONE_DEBIT);
-    let ended = lines(alloc, &mut keeper, &book, credit, &mut input, &mut written);
+    let ended = answer_to_a_fault(alloc, asked.as_str(), &mut written)?;
     assert_eq!(rt; ended, Err(LinesFault::Store(StoreFault::Store)));
     assert_eq!(rt; written.as_slice(), wanted.as_bytes());
     Ok(())
@@ -493,17 +502,13 @@ impl Write for FailingWriter {
 #[test]
 fn a_store_fault_and_a_writer_that_fails(rt: HostRuntime) -> Result<(), Fail> {
     let alloc = rt.alloc();
-    let book = once_book(alloc, 100_000, 60)?;
-    let credit = Some(Money::new(100_000).ok_or("an amount")?);
     let Scenario {
         lines: asked,
         answers: wanted,
     } = read_scenario(alloc, ONE_DEBIT)?;
-    let mut input = asked.as_bytes();
     let taken = Vec::new(alloc);
     let mut writer = FailingWriter { taken, left: 2 };
-    let mut keeper = Failing::new(MemoryKeeper::new(alloc), CALLS_OF_ONE_DEBIT);
-    let ended = lines(alloc, &mut keeper, &book, credit, &mut input, &mut writer);
+    let ended = answer_to_a_fault(alloc, asked.as_str(), &mut writer)?;
     assert_eq!(rt; ended, Err(LinesFault::Both(StoreFault::Store)));
     assert_eq!(rt; writer.taken.len(), 16);
     assert!(rt; wanted.as_bytes().starts_with(writer.taken.as_slice()));

@@ -11,23 +11,19 @@ const FOLDER: &str = "office_server_tests";
 
 const BOOK: &str = "office_server_tests/book.toml";
 
-/// Does what a line of words says: how many connections end in a fault.
+/// Does what words say: how many connections end in a fault.
 fn done(
     rt: &HostRuntime,
-    line: &str,
+    words: ProgramWords,
     output: &mut Vec<u8>,
     errors: &mut Vec<u8>,
 ) -> Result<u32, DatabaseFault> {
-    let alloc = rt.alloc();
-    let Ok(words) = line.split(' ').collect::<Vec<&str>>(alloc) else {
-        return Err(DatabaseFault::Memory);
-    };
-    match program_words(alloc, words.as_slice()) {
-        Ok(ProgramWords::Init(init)) => {
+    match words {
+        ProgramWords::Init(init) => {
             make_database(rt, &init)?;
             Ok(0)
         }
-        Ok(ProgramWords::Serve(serve)) => serve_database(rt, &serve, output, errors),
+        ProgramWords::Serve(serve) => serve_database(rt, &serve, output, errors),
         _ => Err(DatabaseFault::Clock),
     }
 }
@@ -35,9 +31,11 @@ fn done(
 /// What a line of words comes to, and what is written on both streams.
 fn told(rt: &HostRuntime, line: &str) -> Result<String, Fail> {
     let alloc = rt.alloc();
+    let words: Vec<&str> = line.split(' ').collect(alloc)?;
+    let words = program_words(alloc, words.as_slice())?;
     let mut output = Vec::new(alloc);
     let mut errors = Vec::new(alloc);
-    let ending = match done(rt, line, &mut output, &mut errors) {
+    let ending = match done(rt, words, &mut output, &mut errors) {
         Ok(_) => "done",
         Err(fault) => fault.line(),
     };

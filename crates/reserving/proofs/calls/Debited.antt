@@ -27,6 +27,7 @@ use Rattle.reserving.specs.Changes.{debited_account}
 use Rattle.reserving.specs.Prepared.{with_group, with_rows}
 use Rattle.reserving.specs.Rows.{AccountRows, IsAccount, IsRowsOf}
 use Rattle.reserving.specs.Results.{IsDebitOf}
+use Rattle.reserving.specs.Sessions.{group_before}
 use Rattle.reserving.proofs.Advancing.{IsRowsOf-advanced}
 use Rattle.reserving.proofs.Advanced.{IsAccount-advanced}
 use Rattle.reserving.proofs.SettledRows.{used_in_is, count_in_is}
@@ -115,7 +116,7 @@ debited_later a s g t units blocks rated =
     let new : SessionGroup = group_or_new s g (map (lapse_group keeps) a.groups) in
     let groups : with_event s g units (map (lapse_group keeps) (with_group s g a.groups))
     ≡ with_event s g units (map (lapse_group keeps) a.groups) =
-    (λ i. put (is_of s g)
+    (λ i. put group_before (is_of s g)
     (record {
       session = s;
       group = g;
@@ -124,7 +125,7 @@ debited_later a s g t units blocks rated =
     }) (map (lapse_group keeps) (with_group s g a.groups)))
     ∙ put_later keeps s g
     (record { session = s; group = g; used = new.used + units; reservation = new.reservation })
-    a.groups in
+    a.groups refl refl in
     let x : AccountRows = debited_account s g units blocks rated (advanced t a) in
     λ i. record x {
       buckets = settled_rows [] g t rated (buckets_later a s g c t i);

@@ -8,6 +8,7 @@ use Rattle.reserving.specs.Changes.{ended_group, new_group, with_use, used_in, e
 use Rattle.reserving.specs.Changes.{settled_account}
 use Rattle.reserving.specs.Prepared.{reservation_in}
 use Rattle.reserving.specs.Rows.{AccountRows}
+use Rattle.reserving.specs.Sessions.{group_before}
 use Rattle.reserving.proofs.Lists.{find-map, find-passes, find-put}
 use Rattle.reserving.proofs.Holds.{same_itself, number_itself}
 
@@ -36,7 +37,7 @@ pub free_used : (s : List ℕ) (g units : ℕ) (rows : List SessionGroup) →
     (unwrap_or (group_in s g (with_use s g units rows)) (new_group s g)).reservation ≡ None
 free_used s g units rows =
     ap (λ o. (unwrap_or o (new_group s g)).reservation)
-    (find-put (is_of s g)
+    (find-put group_before (is_of s g)
     (record { session = s; group = g; used = used_in s g rows + units; reservation = None })
     rows (own_key s g
     (record { session = s; group = g; used = used_in s g rows + units; reservation = None })

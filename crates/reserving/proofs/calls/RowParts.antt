@@ -1,5 +1,5 @@
 -- The rows as a call leaves them, part by part; and time going on in rows without facts.
-use Rattle.std.proofs.Common.{◌≡◌, ℕ, ◌+◌, Bool, true, false, List, [], ◌∷◌, ◌++◌, map, refl, sym}
+use Rattle.std.proofs.Common.{◌≡◌, ℕ, ◌+◌, Bool, true, false, List, ◌∷◌, map, refl, sym}
 use Rattle.std.proofs.Common.{ap, ◌∙◌, arith, Option, Some, None}
 use Rattle.std.specs.Prelude.{if◌then◌else◌, unwrap_or, option_map, not}
 use Rattle.buckets.specs.declared.holds.Hold.{Hold}
@@ -17,8 +17,12 @@ use Rattle.reserving.specs.Changes.{used_in, reserved_in, periods_in, count_in, 
 use Rattle.reserving.specs.Changes.{with_count, ended_group, ended_rows, settled_account}
 use Rattle.reserving.specs.Prepared.{with_group, counter_or_new, with_counter, with_rows}
 use Rattle.reserving.specs.Rows.{AccountRows}
-use Rattle.reserving.proofs.Lists.{find-map, find-put}
-use Rattle.reserving.proofs.KeysFound.{kept_group, put-none, found_session}
+use Rattle.reserving.specs.Sessions.{group_before, counter_before}
+use Rattle.reserving.proofs.Lists.{find-map, find-put, put-put, map-put, any_none}
+use Rattle.reserving.proofs.Keys.{key_session, key_group, cycle_group, cycle_cycle}
+use Rattle.reserving.proofs.order.KeyRows.{group_before_alike, counter_before_alike, held_reordered}
+use Rattle.reserving.proofs.Reordered.{put_new}
+use Rattle.reserving.proofs.KeysFound.{kept_group, found_session}
 use Rattle.reserving.proofs.kept.Settled.{or_new_key, or_new_cycle}
 
 -- ---- part by part
@@ -81,34 +85,6 @@ settled_parts a s g cycle units blocks rated holds buckets counters groups e h b
 
 -- ---- rows without facts
 
-pub put-put : {A : Type 0} (p : A → Bool) (x y : A) (xs : List A) → p y ≡ true →
-    put p x (put p y xs) ≡ put p x xs
-put-put p x y [] h = λ i. if h i then x ∷ [] else y ∷ put p x []
-put-put p x y (z ∷ zs) h = by_test (p z) refl (put-put p x y zs h)
-  where
-    by_test : (t : Bool) → p z ≡ t → put p x (put p y zs) ≡ put p x zs →
-        put p x (if t then y ∷ zs else z ∷ put p y zs) ≡ put p x (z ∷ zs)
-    by_test true e rest =
-        (λ i. if h i then x ∷ zs else y ∷ put p x zs)
-        ∙ sym (λ i. if e i then x ∷ zs else z ∷ put p x zs)
-    by_test false e rest =
-        (λ i. if p z then x ∷ put p y zs else z ∷ rest i)
-        ∙ (λ i. if e i then x ∷ put p y zs else z ∷ put p x zs)
-        ∙ sym (λ i. if e i then x ∷ zs else z ∷ put p x zs)
-
-pub map-put : {A : Type 0} (f : A → A) (p : A → Bool) (y : A) (xs : List A) →
-    ((z : A) → p (f z) ≡ p z) → map f (put p y xs) ≡ put p (f y) (map f xs)
-map-put f p y [] k = refl
-map-put f p y (z ∷ zs) k = by_test (p z) refl (map-put f p y zs k)
-  where
-    by_test : (t : Bool) → p z ≡ t → map f (put p y zs) ≡ put p (f y) (map f zs) →
-        map f (if t then y ∷ zs else z ∷ put p y zs) ≡ put p (f y) (f z ∷ map f zs)
-    by_test true e rest =
-        sym (λ i. if (k z ∙ e) i then f y ∷ map f zs else f z ∷ put p (f y) (map f zs))
-    by_test false e rest =
-        (λ i. f z ∷ rest i)
-        ∙ sym (λ i. if (k z ∙ e) i then f y ∷ map f zs else f z ∷ put p (f y) (map f zs))
-
 lapsed_key : (t : Bool) (r : SessionGroup) (s : List ℕ) (g : ℕ) →
     is_of s g (if t then r else record r { reservation = None }) ≡ is_of s g r
 lapsed_key true r s g = refl
@@ -118,29 +94,56 @@ pub key_kept : (keeps : List ℕ → Bool) (s : List ℕ) (g : ℕ) (r : Session
     is_of s g (lapse_group keeps r) ≡ is_of s g r
 key_kept keeps s g r = lapsed_key (keeps r.session) r s g
 
+session_kept : (keeps : List ℕ → Bool) (r : SessionGroup) →
+    (lapse_group keeps r).session ≡ r.session
+session_kept keeps r = at (keeps r.session)
+  where
+    at : (t : Bool) → (if t then r else record r { reservation = None }).session ≡ r.session
+    at true = refl
+    at false = refl
+
+group_kept : (keeps : List ℕ → Bool) (r : SessionGroup) → (lapse_group keeps r).group ≡ r.group
+group_kept keeps r = at (keeps r.session)
+  where
+    at : (t : Bool) → (if t then r else record r { reservation = None }).group ≡ r.group
+    at true = refl
+    at false = refl
+
+-- time leaves the order of rows
+pub before_kept : (keeps : List ℕ → Bool) (x y : SessionGroup) →
+    group_before (lapse_group keeps x) (lapse_group keeps y) ≡ group_before x y
+before_kept keeps x y =
+    group_before_alike (lapse_group keeps x) x (lapse_group keeps y) y (session_kept keeps x)
+    (group_kept keeps x) (session_kept keeps y) (group_kept keeps y)
+
 -- a group's row, as time goes on
 pub lapsed_group : (keeps : List ℕ → Bool) (s : List ℕ) (g : ℕ) (rows : List SessionGroup) →
     map (lapse_group keeps) (with_group s g rows)
-    ≡ put (is_of s g) (lapse_group keeps (group_or_new s g rows)) (map (lapse_group keeps) rows)
+    ≡ put group_before (is_of s g) (lapse_group keeps (group_or_new s g rows))
+    (map (lapse_group keeps) rows)
 lapsed_group keeps s g rows =
-    map-put (lapse_group keeps) (is_of s g) (group_or_new s g rows) rows (key_kept keeps s g)
+    map-put group_before (lapse_group keeps) (is_of s g) (group_or_new s g rows) rows
+    (key_kept keeps s g) (before_kept keeps (group_or_new s g rows))
 
 pub put_later : (keeps : List ℕ → Bool) (s : List ℕ) (g : ℕ) (x : SessionGroup)
-    (rows : List SessionGroup) →
-    put (is_of s g) x (map (lapse_group keeps) (with_group s g rows))
-    ≡ put (is_of s g) x (map (lapse_group keeps) rows)
-put_later keeps s g x rows =
-    ap (put (is_of s g) x) (lapsed_group keeps s g rows)
-    ∙ put-put (is_of s g) x (lapse_group keeps (group_or_new s g rows))
-    (map (lapse_group keeps) rows)
-    (key_kept keeps s g (group_or_new s g rows) ∙ or_new_key s g rows)
+    (rows : List SessionGroup) → x.session ≡ s → x.group ≡ g →
+    put group_before (is_of s g) x (map (lapse_group keeps) (with_group s g rows))
+    ≡ put group_before (is_of s g) x (map (lapse_group keeps) rows)
+put_later keeps s g x rows es eg =
+    let y : SessionGroup = lapse_group keeps (group_or_new s g rows) in
+    let own : is_of s g y ≡ true =
+    key_kept keeps s g (group_or_new s g rows) ∙ or_new_key s g rows in
+    ap (put group_before (is_of s g) x) (lapsed_group keeps s g rows)
+    ∙ put-put group_before (is_of s g) x y (map (lapse_group keeps) rows) own
+    (λ z. group_before_alike x y z z (es ∙ sym (key_session y.session y.group s g own))
+    (eg ∙ sym (key_group y.session y.group s g own)) refl refl)
 
 pub group_later : (keeps : List ℕ → Bool) (s : List ℕ) (g : ℕ) (rows : List SessionGroup) →
     group_in s g (map (lapse_group keeps) (with_group s g rows))
     ≡ Some (lapse_group keeps (group_or_new s g rows))
 group_later keeps s g rows =
     ap (group_in s g) (lapsed_group keeps s g rows)
-    ∙ find-put (is_of s g) (lapse_group keeps (group_or_new s g rows))
+    ∙ find-put group_before (is_of s g) (lapse_group keeps (group_or_new s g rows))
     (map (lapse_group keeps) rows)
     (key_kept keeps s g (group_or_new s g rows) ∙ or_new_key s g rows)
 
@@ -208,13 +211,11 @@ periods_later keeps s g rows h =
 
 -- an empty row holds nothing
 held_by-new : (q : List ℕ → Bool) (s : List ℕ) (g : ℕ) (rows : List SessionGroup) (b : Row) →
-    held_by q (rows ++ new_group s g ∷ []) b ≡ held_by q rows b
-held_by-new q s g [] b =
-    elim (q s) as (λ t. (if t then held_in (holds_in None) b else 0) + 0 ≡ 0)
+    held_by q (new_group s g ∷ rows) b ≡ held_by q rows b
+held_by-new q s g rows b =
+    elim (q s) as
+    (λ t. (if t then held_in (holds_in None) b else 0) + held_by q rows b ≡ held_by q rows b)
     [ true ↦ omega arith | false ↦ omega arith ]
-held_by-new q s g (y ∷ ys) b =
-    ap (λ n. (if q y.session then held_in (holds_in y.reservation) b else 0) + n)
-    (held_by-new q s g ys b)
 
 pub held_by-with_group : (q : List ℕ → Bool) (s : List ℕ) (g : ℕ) (rows : List SessionGroup)
     (b : Row) → held_by q (with_group s g rows) b ≡ held_by q rows b
@@ -224,15 +225,19 @@ held_by-with_group q s g rows b = by_row (group_in s g rows) refl
         held_by q (with_group s g rows) b ≡ held_by q rows b
     by_row (Some x) e = ap (λ rs. held_by q rs b) (sym (kept_group s g rows x e))
     by_row None e =
-        ap (λ rs. held_by q rs b) (ap (λ o. put (is_of s g) (unwrap_or o (new_group s g)) rows) e
-        ∙ put-none (is_of s g) (new_group s g) rows e)
+        let new : SessionGroup = new_group s g in
+        ap (λ rs. held_by q rs b)
+        (ap (λ o. put group_before (is_of s g) (unwrap_or o (new_group s g)) rows) e)
+        ∙ held_reordered q (new ∷ rows) (put group_before (is_of s g) new rows) b
+        (put_new group_before (is_of s g) new rows (any_none (is_of s g) rows e))
         ∙ held_by-new q s g rows b
 
 pub count_later : (g c : ℕ) (rows : List Counter) →
     count_in g c (with_counter g c rows) ≡ count_in g c rows
 count_later g c rows =
     ap (λ o. unwrap_or (option_map (λ (r : Counter). r.blocks) o) 0)
-    (find-put (is_counter g c) (counter_or_new g c rows) rows (or_new_cycle g c rows))
+    (find-put counter_before (is_counter g c) (counter_or_new g c rows) rows
+    (or_new_cycle g c rows))
     ∙ by_row (counter_in g c rows)
   where
     by_row : (o : Option Counter) →
@@ -245,12 +250,19 @@ count_later g c rows =
 pub counted_later : (g c blocks : ℕ) (rows : List Counter) →
     with_count g c blocks (with_counter g c rows) ≡ with_count g c blocks rows
 counted_later g c blocks rows =
-    (λ i. put (is_counter g c)
+    (λ i. put counter_before (is_counter g c)
     (record { group = g; cycle = c; blocks = count_later g c rows i + blocks })
     (with_counter g c rows))
-    ∙ put-put (is_counter g c)
+    ∙ put-put counter_before (is_counter g c)
     (record { group = g; cycle = c; blocks = count_in g c rows + blocks })
     (counter_or_new g c rows) rows (or_new_cycle g c rows)
+    (λ z. counter_before_alike
+    (record { group = g; cycle = c; blocks = count_in g c rows + blocks })
+    (counter_or_new g c rows) z
+    (sym (cycle_group (counter_or_new g c rows).group (counter_or_new g c rows).cycle g c
+    (or_new_cycle g c rows)))
+    (sym (cycle_cycle (counter_or_new g c rows).group (counter_or_new g c rows).cycle g c
+    (or_new_cycle g c rows))))
 
 -- a settlement finds the empty rows as none
 pub settled_later : (a : AccountRows) (s : List ℕ) (g t units blocks rated : ℕ) →
@@ -263,7 +275,7 @@ settled_later a s g t units blocks rated =
     ≡ group_or_new s g (map (lapse_group keeps) a.groups) = or_new_later keeps s g a.groups in
     let groups : with_use s g units (map (lapse_group keeps) (with_group s g a.groups))
     ≡ with_use s g units (map (lapse_group keeps) a.groups) =
-    (λ i. put (is_of s g)
+    (λ i. put group_before (is_of s g)
     (record { session = s; group = g; used = (row i).used + units; reservation = None })
     (map (lapse_group keeps) (with_group s g a.groups)))
     ∙ put_later keeps s g
@@ -273,7 +285,7 @@ settled_later a s g t units blocks rated =
       used = used_in s g (map (lapse_group keeps) a.groups) + units;
       reservation = None;
     })
-    a.groups in
+    a.groups refl refl in
     let given : (b : Row) →
     lapsed_in keeps (with_group s g a.groups) b ≡ lapsed_in keeps a.groups b =
     λ b. held_by-with_group (λ x. not (keeps x)) s g a.groups b in

@@ -12,6 +12,7 @@ use Rattle.reserving.specs.Ledger.{Ledger, used, is_live}
 use Rattle.reserving.specs.Pricing.{cycle_at}
 use Rattle.reserving.specs.Balance.{buckets_at}
 use Rattle.reserving.specs.Sessions.{group_in, counter_in, holds_in, is_live_in, holds_at}
+use Rattle.reserving.specs.Sessions.{is_counter, counter_before}
 use Rattle.tariffs.specs.Tariffs.{GroupTariff}
 use Rattle.rating.specs.declared.grant.Periods.{Periods}
 use Rattle.rating.specs.declared.report.Rated.{Rated}
@@ -153,7 +154,8 @@ pub counter_there : (a middle : AccountRows) (s : List ℕ) (g c t : ℕ) →
 counter_there a middle s g c t m =
     ap (λ x. is_some (counter_in g c x.counters)) m
     ∙ ap is_some
-    (find-put _ (counter_or_new g c a.counters) a.counters (or_new_cycle g c a.counters))
+    (find-put counter_before (is_counter g c) (counter_or_new g c a.counters) a.counters
+    (or_new_cycle g c a.counters))
 
 pub used_middle : (a middle : AccountRows) (s : List ℕ) (g c t : ℕ) →
     middle ≡ advanced t (with_rows s g c a) → used_in s g middle.groups ≡ used_in s g a.groups

@@ -11,6 +11,7 @@ use Rattle.reserving.specs.Rows.{AccountRows}
 use Rattle.reserving.specs.Changes.{advanced, lapse_group, ended_group, new_group, with_use}
 use Rattle.reserving.specs.Changes.{used_in, settled_account, ended_rows, reserved_account}
 use Rattle.reserving.specs.Prepared.{with_group, with_group_row, with_rows, reservation_in}
+use Rattle.reserving.specs.Sessions.{group_before}
 use Rattle.reserving.proofs.Lists.{find-map, find-put, find-put_other}
 use Rattle.reserving.proofs.Keys.{is_key, key_session, key_group, other_row, is_key-sym}
 use Rattle.reserving.proofs.Keys.{second_true, not_true}
@@ -42,29 +43,30 @@ still_ended s g s' g' rows h =
 -- a row that is put: another row's reservation stays
 pub still_other : (s : List ℕ) (g : ℕ) (x : SessionGroup) (rows : List SessionGroup) →
     is_of s g x ≡ false → reservation_in s g rows ≡ None →
-    reservation_in s g (put (is_of x.session x.group) x rows) ≡ None
+    reservation_in s g (put group_before (is_of x.session x.group) x rows) ≡ None
 still_other s g x rows n h =
     ap (λ o. (unwrap_or o (new_group s g)).reservation)
-    (find-put_other (is_of x.session x.group) (is_of s g) x rows n
+    (find-put_other group_before (is_of x.session x.group) (is_of s g) x rows n
     (other_row x.session x.group s g n)) ∙ h
 
 still_own : (s : List ℕ) (g : ℕ) (x : SessionGroup) (rows : List SessionGroup) →
     is_of s g x ≡ true → x.reservation ≡ None →
-    reservation_in s g (put (is_of x.session x.group) x rows) ≡ None
+    reservation_in s g (put group_before (is_of x.session x.group) x rows) ≡ None
 still_own s g x rows own none =
     (λ i. reservation_in s g
-    (put (is_of (key_session x.session x.group s g own i)
+    (put group_before (is_of (key_session x.session x.group s g own i)
     (key_group x.session x.group s g own i)) x rows))
-    ∙ ap (λ o. (unwrap_or o (new_group s g)).reservation) (find-put (is_of s g) x rows own) ∙ none
+    ∙ ap (λ o. (unwrap_or o (new_group s g)).reservation)
+    (find-put group_before (is_of s g) x rows own) ∙ none
 
 -- a row without a reservation that is put
 pub still_put : (s : List ℕ) (g : ℕ) (x : SessionGroup) (rows : List SessionGroup) →
     x.reservation ≡ None → reservation_in s g rows ≡ None →
-    reservation_in s g (put (is_of x.session x.group) x rows) ≡ None
+    reservation_in s g (put group_before (is_of x.session x.group) x rows) ≡ None
 still_put s g x rows none h = at (is_of s g x) refl
   where
     at : (b : Bool) → is_of s g x ≡ b →
-        reservation_in s g (put (is_of x.session x.group) x rows) ≡ None
+        reservation_in s g (put group_before (is_of x.session x.group) x rows) ≡ None
     at true e = still_own s g x rows e none
     at false e = still_other s g x rows e h
 
@@ -81,7 +83,7 @@ still_used keeps s g s' g' units rows h =
       used = used_in s' g' (map (lapse_group keeps) (with_group s' g' rows)) + units;
       reservation = None;
     } in
-    ap (reservation_in s g) (put_later keeps s' g' x rows)
+    ap (reservation_in s g) (put_later keeps s' g' x rows refl refl)
     ∙ still_put s g x (map (lapse_group keeps) rows) refl (free_later keeps s g rows h)
 
 other_key : (s : List ℕ) (g g' : ℕ) → (g == g') ≡ false → is_key s g' s g ≡ false
@@ -94,12 +96,12 @@ other_key s g g' h =
 still_reserved : (keeps : List ℕ → Bool) (s : List ℕ) (g g' used : ℕ) (r : Option Reservation)
     (rows : List SessionGroup) → (g == g') ≡ false → reservation_in s g rows ≡ None →
     reservation_in s g
-    (put (is_of s g')
+    (put group_before (is_of s g')
     (let x : SessionGroup = record { session = s; group = g'; used = used; reservation = r } in
     x) (map (lapse_group keeps) (with_group s g' rows))) ≡ None
 still_reserved keeps s g g' used r rows n h =
     let x : SessionGroup = record { session = s; group = g'; used = used; reservation = r } in
-    ap (reservation_in s g) (put_later keeps s g' x rows)
+    ap (reservation_in s g) (put_later keeps s g' x rows refl refl)
     ∙ still_other s g x (map (lapse_group keeps) rows) (other_key s g g' n)
     (free_later keeps s g rows h)
 

@@ -10,11 +10,13 @@ use Rattle.reserving.specs.Sessions.{is_of, is_counter, held_by}
 use Rattle.reserving.specs.Changes.{group_or_new, used_in, reserved_in, count_in, with_event}
 use Rattle.reserving.specs.Changes.{debited_account}
 use Rattle.reserving.specs.Rows.{AccountRows, IsAccount}
+use Rattle.reserving.specs.Sessions.{group_before, counter_before}
 use Rattle.reserving.proofs.InOrder.{order_map, order_or_new}
 use Rattle.reserving.proofs.Lists.{EachIn-put}
 use Rattle.reserving.proofs.Keys.{own_key, own_cycle}
 use Rattle.reserving.proofs.kept.Settled.{IsSound-settled, IsBelow-map, settled_reserved}
-use Rattle.reserving.proofs.kept.Settled.{settled_number, held_by_number, held_by-put, AreApart-put}
+use Rattle.reserving.proofs.kept.Settled.{settled_number, held_by_number, held_by-put}
+use Rattle.reserving.proofs.kept.Settled.{AreApart-put_group}
 use Rattle.reserving.proofs.kept.Settled.{AreApart-put_counter}
 
 pub within_none : (rows : List Row) → IsWithin [] rows
@@ -76,13 +78,15 @@ IsAccount-debited a session group units blocks rated used_fits count_fits charge
       next_bucket = h.next_bucket;
       next_charge = omega arith;
       sessions = h.sessions;
-      groups = AreApart-put session group row a.groups (own_key session group) h.groups;
+      groups = AreApart-put_group session group row a.groups (own_key session group) h.groups;
       counters =
           AreApart-put_counter group cycle count a.counters (own_cycle group cycle) h.counters;
-      used = EachIn-put (λ r. r.used ≤ 1000000000000000000) (is_of session group) row a.groups
+      used = EachIn-put (λ r. r.used ≤ 1000000000000000000) group_before (is_of session group) row
+          a.groups
           used_fits h.used;
       counted =
-          EachIn-put (λ r. r.blocks ≤ 4000000000000000000) (is_counter group cycle) count a.counters
+          EachIn-put (λ r. r.blocks ≤ 4000000000000000000) counter_before (is_counter group cycle)
+          count a.counters
           count_fits h.counted;
       held = each_same a.groups (with_event session group units a.groups) does a.buckets
           (held_event session group units a.groups)
@@ -91,6 +95,6 @@ IsAccount-debited a session group units blocks rated used_fits count_fits charge
       named = λ b le. held_event session group units a.groups b ∙ h.named b le;
       order = order_map does a.buckets (with_event session group units a.groups)
           (settled_number [] group a.as_of rated a.buckets)
-          (EachIn-put _ (is_of session group) row a.groups
+          (EachIn-put _ group_before (is_of session group) row a.groups
           (order_or_new session group a.buckets a.groups h.order) h.order);
     }

@@ -22,14 +22,17 @@ use Rattle.reserving.specs.Changes.{advanced, with_session, touched_account, clo
 use Rattle.reserving.specs.Changes.{lapse_group, is_other, new_group, group_or_new, ended_group}
 use Rattle.reserving.specs.Changes.{ended_rows, settled_account, debited_account, reserved_account}
 use Rattle.reserving.specs.Changes.{credited_account, used_in, count_in, periods_in}
-use Rattle.reserving.specs.Prepared.{with_group_row, with_rows, reservation_in}
+use Rattle.reserving.specs.Changes.{with_use, with_event}
+use Rattle.reserving.specs.Prepared.{with_group_row, with_rows, reservation_in, with_group}
+use Rattle.reserving.specs.Prepared.{counter_or_new}
 use Rattle.reserving.specs.Rows.{AccountRows, EachIn, AreApart}
 use Rattle.reserving.specs.Placed.{AreOfBook, is_placed, ArePlaced, IsPriced}
-use Rattle.reserving.specs.Stored.{StoredRows, IsStored, priced}
+use Rattle.reserving.specs.Stored.{StoredRows, IsStoredInOrder, priced}
 use Rattle.reserving.specs.Live.{is_live_group, live_part}
+use Rattle.reserving.specs.Sessions.{group_before}
 use Rattle.reserving.proofs.Lists.{EachIn-map, EachIn-put}
 use Rattle.reserving.proofs.LeftTests.{each_filter}
-use Rattle.reserving.proofs.Keys.{key_group}
+use Rattle.reserving.proofs.Keys.{key_group, own_key, own_cycle}
 use Rattle.reserving.proofs.StoredRows.{IsAccount-priced}
 use Rattle.reserving.proofs.Advanced.{IsAccount-advanced}
 use Rattle.reserving.proofs.Crediting.{IsAccount-credited}
@@ -37,6 +40,10 @@ use Rattle.reserving.proofs.kept.Sessions.{IsAccount-with_session, IsAccount-tou
 use Rattle.reserving.proofs.kept.Sessions.{IsAccount-closed}
 use Rattle.reserving.proofs.kept.Settled.{IsAccount-settled, IsAccount-ended}
 use Rattle.reserving.proofs.kept.Settled.{IsAccount-with_group_row, IsAccount-with_rows}
+use Rattle.reserving.proofs.kept.Settled.{or_new_key, or_new_cycle}
+use Rattle.reserving.proofs.kept.Ordered.{ordered_advanced, ordered_touched, ordered_closed}
+use Rattle.reserving.proofs.kept.Ordered.{ordered_session, ordered_group, ordered_counter}
+use Rattle.reserving.proofs.kept.Ordered.{ordered_ended, ordered_live}
 use Rattle.reserving.proofs.kept.Debited.{IsAccount-debited}
 use Rattle.reserving.proofs.kept.LivePart.{IsAccount-live}
 use Rattle.reserving.proofs.rows.Reserved.{IsAccount-reserved}
@@ -141,15 +148,15 @@ placed_lapsed b keeps rows h =
 
 placed_put : (b : Book) (s : List ℕ) (g : ℕ) (x : SessionGroup) (rows : List SessionGroup) →
     is_placed b x.group x.reservation ≡ true → ArePlaced b rows →
-    ArePlaced b (put (is_of s g) x rows)
+    ArePlaced b (put group_before (is_of s g) x rows)
 placed_put b s g x rows k h =
-    EachIn-put (λ r. is_placed b r.group r.reservation ≡ true) (is_of s g) x rows k h
+    EachIn-put (λ r. is_placed b r.group r.reservation ≡ true) group_before (is_of s g) x rows k h
 
 -- a group's row with more units
 placed_used : (a : AccountRows) (s : List ℕ) (g units : ℕ) (reservation : Option Reservation) →
     is_placed a.book g reservation ≡ true → ArePlaced a.book a.groups →
     ArePlaced a.book
-    (put (is_of s g)
+    (put group_before (is_of s g)
     (record {
       session = s;
       group = g;
@@ -164,6 +171,7 @@ pub IsPriced-advanced : (a : AccountRows) (t : ℕ) → IsPriced a → IsPriced 
 IsPriced-advanced a t is = record {
   account = IsAccount-advanced a t is.account;
   placed = placed_lapsed a.book (is_live_in a.book.validity t a.sessions) a.groups is.placed;
+  order = ordered_advanced a t is.order;
 }
 
 pub IsPriced-with_session : (a : AccountRows) (s : List ℕ) (n t : ℕ) (state : SessionState) →
@@ -171,17 +179,24 @@ pub IsPriced-with_session : (a : AccountRows) (s : List ℕ) (n t : ℕ) (state 
 IsPriced-with_session a s n t state new is = record {
   account = IsAccount-with_session a s n t state new is.account;
   placed = is.placed;
+  order = ordered_session a.sessions a.groups a.counters
+      (record { id = s; last_number = n; touched = t; state = state }) is.order;
 }
 
 pub IsPriced-touched : (a : AccountRows) (s : List ℕ) (n : ℕ) → IsPriced a →
     IsPriced (touched_account s n a)
 IsPriced-touched a s n is =
-    record { account = IsAccount-touched a s n is.account; placed = is.placed }
+    record {
+      account = IsAccount-touched a s n is.account;
+      placed = is.placed;
+      order = ordered_touched a s n is.order;
+    }
 
 pub IsPriced-closed : (a : AccountRows) (s : List ℕ) → IsPriced a → IsPriced (closed_account s a)
 IsPriced-closed a s is = record {
   account = IsAccount-closed a s is.account;
   placed = placed_lapsed a.book (is_other s) a.groups is.placed;
+  order = ordered_closed a s is.order;
 }
 
 pub IsPriced-settled : (a : AccountRows) (session : List ℕ) (group units blocks rated : ℕ) →
@@ -193,6 +208,10 @@ IsPriced-settled a session group units blocks rated used_fits count_fits charge_
   account = IsAccount-settled a session group units blocks rated used_fits count_fits charge_fits
       is.account;
   placed = placed_used a session group units None refl is.placed;
+  order = ordered_counter a.sessions (with_use session group units a.groups) a.counters group
+      (cycle_at a.book group a.as_of) _ (own_cycle group (cycle_at a.book group a.as_of))
+      (ordered_group a.sessions a.groups a.counters session group _ (own_key session group)
+      is.order);
 }
 
 pub IsPriced-debited : (a : AccountRows) (session : List ℕ) (group units blocks rated : ℕ) →
@@ -205,6 +224,10 @@ IsPriced-debited a session group units blocks rated used_fits count_fits charge_
       is.account;
   placed = placed_used a session group units (group_or_new session group a.groups).reservation
       (placed_at a.book session group a.groups is.placed) is.placed;
+  order = ordered_counter a.sessions (with_event session group units a.groups) a.counters group
+      (cycle_at a.book group a.as_of) _ (own_cycle group (cycle_at a.book group a.as_of))
+      (ordered_group a.sessions a.groups a.counters session group _ (own_key session group)
+      is.order);
 }
 
 pub IsPriced-ended : (a : AccountRows) (session : List ℕ) (group : ℕ) → IsPriced a →
@@ -214,6 +237,7 @@ IsPriced-ended a session group is = record {
   placed = EachIn-map (λ r. is_placed a.book r.group r.reservation ≡ true)
       (λ r. is_placed a.book r.group r.reservation ≡ true) (ended_group session group) a.groups
       (λ r k. over_or_kept a.book (is_of session group r) r k) is.placed;
+  order = ordered_ended a.sessions a.groups a.counters session group is.order;
 }
 
 pub IsPriced-with_group_row : (a : AccountRows) (session : List ℕ) (group : ℕ) → IsPriced a →
@@ -222,6 +246,8 @@ IsPriced-with_group_row a session group is = record {
   account = IsAccount-with_group_row a session group is.account;
   placed = placed_put a.book session group (group_or_new session group a.groups) a.groups
       (placed_or_new a.book session group a.groups is.placed) is.placed;
+  order = ordered_group a.sessions a.groups a.counters session group
+      (group_or_new session group a.groups) (or_new_key session group a.groups) is.order;
 }
 
 pub IsPriced-with_rows : (a : AccountRows) (session : List ℕ) (group cycle : ℕ) → IsPriced a →
@@ -230,6 +256,10 @@ IsPriced-with_rows a session group cycle is = record {
   account = IsAccount-with_rows a session group cycle is.account;
   placed = placed_put a.book session group (group_or_new session group a.groups) a.groups
       (placed_or_new a.book session group a.groups is.placed) is.placed;
+  order = ordered_counter a.sessions (with_group session group a.groups) a.counters group cycle
+      (counter_or_new group cycle a.counters) (or_new_cycle group cycle a.counters)
+      (ordered_group a.sessions a.groups a.counters session group
+      (group_or_new session group a.groups) (or_new_key session group a.groups) is.order);
 }
 
 pub IsPriced-credited : (a : AccountRows) (from until : ℕ) (scope : Option ℕ) (amount : ℕ) →
@@ -238,6 +268,7 @@ pub IsPriced-credited : (a : AccountRows) (from until : ℕ) (scope : Option ℕ
 IsPriced-credited a from until scope amount le most is = record {
   account = IsAccount-credited a from until scope amount le most is.account;
   placed = is.placed;
+  order = is.order;
 }
 
 pub IsPriced-reserved : (a : AccountRows) (session : List ℕ) (group amount : ℕ) →
@@ -256,6 +287,8 @@ IsPriced-reserved a session group amount none of some is = record {
           holds = holds_of group a.as_of amount a.buckets;
         });
       }) a.groups (prices_there a.book group (periods_at a.book a.as_of) of some) is.placed;
+  order = ordered_group a.sessions a.groups a.counters session group _ (own_key session group)
+      is.order;
 }
 
 -- ---- what is loaded
@@ -303,17 +336,18 @@ not_placed b given kept rows t same is view none placed =
     ∙ each_placed b kept.groups
     (subst (λ (r : StoredRows). ArePlaced b r.groups) (sym view) placed))
 
-pub IsPriced-priced : (book : Book) (r : StoredRows) → IsBook book → IsStored r →
+pub IsPriced-priced : (book : Book) (r : StoredRows) → IsBook book → IsStoredInOrder r →
     ArePlaced book r.groups → IsPriced (priced book r)
 IsPriced-priced book r ranges is placed =
-    record { account = IsAccount-priced book r ranges is; placed = placed }
+    record { account = IsAccount-priced book r ranges is.stored; placed = placed; order = is.keys }
 
 pub IsPriced-live : (book : Book) (t : ℕ) (others : List Counter) (w : StoredRows) → IsBook book →
-    IsStored w → ArePlaced book w.groups →
+    IsStoredInOrder w → ArePlaced book w.groups →
     AreApart (λ x y. is_counter x.group x.cycle y) (others ++ w.counters) →
     EachIn (λ c. c.blocks ≤ 4000000000000000000) others → IsPriced (live_part book t others w)
 IsPriced-live book t others w ranges is placed apart counted = record {
-  account = IsAccount-live book t others w ranges is apart counted;
+  account = IsAccount-live book t others w ranges is.stored apart counted;
   placed = each_filter (λ r. is_placed book r.group r.reservation ≡ true)
       (is_live_group w.sessions) w.groups placed;
+  order = ordered_live book t others w apart is.keys;
 }

@@ -2,7 +2,8 @@
 -- facts.
 use Rattle.std.proofs.Common.{◌≡◌, ℕ, ◌+◌, ◌-◌, ◌<◌, ◌≤◌, Bool, true, false, cond, List, [], ◌∷◌}
 use Rattle.std.proofs.Common.{map, refl, sym, ap, subst, ◌∙◌, arith, Option, Some, None}
-use Rattle.std.specs.Prelude.{if◌then◌else◌, unwrap_or, sum_by, ◌==◌}
+use Rattle.std.specs.Prelude.{if◌then◌else◌, unwrap_or, sum_by, ◌==◌, not, ◌&&◌}
+use Rattle.std.specs.List.{list_any}
 use Rattle.buckets.specs.declared.holds.Hold.{Hold}
 use Rattle.buckets.specs.Row.{Row, with_charge, with_charge_of_hold, with_release}
 use Rattle.buckets.specs.Spend.{Each, IsSound}
@@ -21,7 +22,9 @@ use Rattle.reserving.specs.Changes.{with_use, ended_group, ended_rows, settled_a
 use Rattle.reserving.specs.Prepared.{with_group, with_counter, counter_or_new, with_rows}
 use Rattle.reserving.specs.Prepared.{with_group_row}
 use Rattle.reserving.specs.Rows.{EachIn, AreApart, AccountRows, IsAccount}
-use Rattle.reserving.proofs.Lists.{EachIn-put, EachIn-map, AreApart-map, find-passes}
+use Rattle.reserving.specs.Sessions.{group_before, counter_before}
+use Rattle.reserving.proofs.Lists.{EachIn-put, EachIn-map, AreApart-map, AreApart-put, find-passes}
+use Rattle.reserving.proofs.Lists.{none_passing, each_none}
 use Rattle.reserving.proofs.Keys.{is_key, is_key-sym, own_key, key_session, key_group, is_cycle}
 use Rattle.reserving.proofs.Keys.{own_cycle, cycle_group, cycle_cycle, same_tests}
 use Rattle.reserving.proofs.KeysFound.{ended_put, ended_unnamed}
@@ -67,21 +70,31 @@ held_by_number (r ∷ rs) b x e =
 
 -- a row is put in the place of another
 pub held_by-put : (s : List ℕ) (g : ℕ) (r : SessionGroup) (rows : List SessionGroup) (b : Row) →
-    held_by (λ s. true) (put (is_of s g) r rows) b + held_in (reserved_in s g rows) b
+    held_by (λ s. true) (put group_before (is_of s g) r rows) b + held_in (reserved_in s g rows) b
     ≡ held_by (λ s. true) rows b + held_in (holds_in r.reservation) b
 held_by-put s g r [] b = omega arith
-held_by-put s g r (y ∷ ys) b = by_test (is_of s g y) (held_by-put s g r ys b)
+held_by-put s g r (y ∷ ys) b =
+    by_test (is_of s g y) (group_before r y) (list_any (is_of s g) ys) refl
+    (held_by-put s g r ys b)
   where
-    by_test : (t : Bool) →
-        held_by (λ s. true) (put (is_of s g) r ys) b + held_in (reserved_in s g ys) b
+    by_test : (t u a : Bool) → list_any (is_of s g) ys ≡ a →
+        held_by (λ s. true) (put group_before (is_of s g) r ys) b + held_in (reserved_in s g ys) b
         ≡ held_by (λ s. true) ys b + held_in (holds_in r.reservation) b →
-        held_by (λ s. true) (if t then r ∷ ys else y ∷ put (is_of s g) r ys) b
+        held_by (λ s. true)
+        (if t then r ∷ ys
+        else (if u && not a then r ∷ y ∷ ys else y ∷ put group_before (is_of s g) r ys)) b
         + held_in
         (holds_in (unwrap_or (cond t (Some y) (group_in s g ys)) (new_group s g)).reservation) b
         ≡ held_in (holds_in y.reservation) b + held_by (λ s. true) ys b
         + held_in (holds_in r.reservation) b
-    by_test true rest = omega arith
-    by_test false rest = omega arith
+    by_test true u a e rest = omega arith
+    by_test false true false e rest =
+        let none : held_in (reserved_in s g ys) b ≡ 0 =
+        ap (λ o. held_in (holds_in (unwrap_or o (new_group s g)).reservation) b)
+        (each_none (is_of s g) ys (none_passing (is_of s g) ys e)) in
+        omega (arith, none)
+    by_test false true true e rest = omega (arith, rest)
+    by_test false false a e rest = omega (arith, rest)
 
 pub held_in_le : (s : List ℕ) (g : ℕ) (rows : List SessionGroup) (b : Row) →
     held_in (reserved_in s g rows) b ≤ held_by (λ s. true) rows b
@@ -124,18 +137,16 @@ each_ended s g rows after does (b ∷ bs) e k r h =
 
 -- ---- keys
 
-as_key : (y r : SessionGroup) (ys : List SessionGroup) → y.session ≡ r.session → y.group ≡ r.group →
-    EachIn (λ z. is_of y.session y.group z ≡ false) ys →
-    EachIn (λ z. is_of r.session r.group z ≡ false) ys
-as_key y r ys p q h =
-    subst (λ g. EachIn (λ z. is_of r.session g z ≡ false) ys) q
-    (subst (λ s. EachIn (λ z. is_of s y.group z ≡ false) ys) p h)
-
-pub AreApart-put : (s : List ℕ) (g : ℕ) (r : SessionGroup) (rows : List SessionGroup) →
+pub AreApart-put_group : (s : List ℕ) (g : ℕ) (r : SessionGroup) (rows : List SessionGroup) →
     is_of s g r ≡ true → AreApart (λ x y. is_of x.session x.group y) rows →
-    AreApart (λ x y. is_of x.session x.group y) (put (is_of s g) r rows)
-AreApart-put s g r [] key h = (tt, tt)
-AreApart-put s g r (y ∷ ys) key h = by_test (is_of s g y) refl (AreApart-put s g r ys key h.1)
+    AreApart (λ x y. is_of x.session x.group y) (put group_before (is_of s g) r rows)
+AreApart-put_group s g r rows key h =
+    AreApart-put (λ x y. is_of x.session x.group y) group_before (is_of s g) r
+    (λ y z e i. is_of ((key_session y.session y.group s g e ∙ sym es) i)
+    ((key_group y.session y.group s g e ∙ sym eg) i) z)
+    (λ y e. (λ i. is_of (es i) (eg i) y) ∙ e)
+    (λ y e. (λ i. is_key (es i) (eg i) y.session y.group) ∙ is_key-sym s g y.session y.group ∙ e)
+    rows h
   where
     es : r.session ≡ s
     es = key_session r.session r.group s g key
@@ -143,29 +154,7 @@ AreApart-put s g r (y ∷ ys) key h = by_test (is_of s g y) refl (AreApart-put s
     eg : r.group ≡ g
     eg = key_group r.session r.group s g key
 
-    by_test : (t : Bool) → is_of s g y ≡ t →
-        AreApart (λ x y. is_of x.session x.group y) (put (is_of s g) r ys) →
-        AreApart (λ x y. is_of x.session x.group y) (if t then r ∷ ys else y ∷ put (is_of s g) r ys)
-    by_test true e rest = (
-      as_key y r ys (key_session y.session y.group s g e ∙ sym es)
-          (key_group y.session y.group s g e ∙ sym eg) h.0,
-      h.1,
-    )
-    by_test false e rest = (
-      EachIn-put (λ z. is_of y.session y.group z ≡ false) (is_of s g) r ys
-          ((λ i. is_key (es i) (eg i) y.session y.group) ∙ is_key-sym s g y.session y.group ∙ e)
-          h.0,
-      rest,
-    )
-
-as_cycle : (y r : Counter) (ys : List Counter) → y.group ≡ r.group → y.cycle ≡ r.cycle →
-    EachIn (λ z. is_counter y.group y.cycle z ≡ false) ys →
-    EachIn (λ z. is_counter r.group r.cycle z ≡ false) ys
-as_cycle y r ys p q h =
-    subst (λ c. EachIn (λ z. is_counter r.group c z ≡ false) ys) q
-    (subst (λ g. EachIn (λ z. is_counter g y.cycle z ≡ false) ys) p h)
-
-is_cycle-sym : (g c g' c' : ℕ) → is_cycle g c g' c' ≡ is_cycle g' c' g c
+pub is_cycle-sym : (g c g' c' : ℕ) → is_cycle g c g' c' ≡ is_cycle g' c' g c
 is_cycle-sym g c g' c' = same_tests (is_cycle g c g' c') (is_cycle g' c' g c)
     (λ h. (λ i. is_cycle (sym (cycle_group g c g' c' h) i) (sym (cycle_cycle g c g' c' h) i) g c)
     ∙ own_cycle g c)
@@ -174,32 +163,20 @@ is_cycle-sym g c g' c' = same_tests (is_cycle g c g' c') (is_cycle g' c' g c)
 
 pub AreApart-put_counter : (g c : ℕ) (r : Counter) (rows : List Counter) → is_counter g c r ≡ true →
     AreApart (λ x y. is_counter x.group x.cycle y) rows →
-    AreApart (λ x y. is_counter x.group x.cycle y) (put (is_counter g c) r rows)
-AreApart-put_counter g c r [] key h = (tt, tt)
-AreApart-put_counter g c r (y ∷ ys) key h =
-    by_test (is_counter g c y) refl (AreApart-put_counter g c r ys key h.1)
+    AreApart (λ x y. is_counter x.group x.cycle y) (put counter_before (is_counter g c) r rows)
+AreApart-put_counter g c r rows key h =
+    AreApart-put (λ x y. is_counter x.group x.cycle y) counter_before (is_counter g c) r
+    (λ y z e i. is_counter ((cycle_group y.group y.cycle g c e ∙ sym eg) i)
+    ((cycle_cycle y.group y.cycle g c e ∙ sym ec) i) z)
+    (λ y e. (λ i. is_counter (eg i) (ec i) y) ∙ e)
+    (λ y e. (λ i. is_cycle (eg i) (ec i) y.group y.cycle) ∙ is_cycle-sym g c y.group y.cycle ∙ e)
+    rows h
   where
     eg : r.group ≡ g
     eg = cycle_group r.group r.cycle g c key
 
     ec : r.cycle ≡ c
     ec = cycle_cycle r.group r.cycle g c key
-
-    by_test : (t : Bool) → is_counter g c y ≡ t →
-        AreApart (λ x y. is_counter x.group x.cycle y) (put (is_counter g c) r ys) →
-        AreApart (λ x y. is_counter x.group x.cycle y)
-        (if t then r ∷ ys else y ∷ put (is_counter g c) r ys)
-    by_test true e rest = (
-      as_cycle y r ys (cycle_group y.group y.cycle g c e ∙ sym eg)
-          (cycle_cycle y.group y.cycle g c e ∙ sym ec) h.0,
-      h.1,
-    )
-    by_test false e rest = (
-      EachIn-put (λ z. is_counter y.group y.cycle z ≡ false) (is_counter g c) r ys
-          ((λ i. is_cycle (eg i) (ec i) y.group y.cycle) ∙ is_cycle-sym g c y.group y.cycle ∙ e)
-          h.0,
-      rest,
-    )
 
 -- ---- a settlement
 
@@ -220,7 +197,7 @@ IsAccount-settled a session group units blocks rated used_fits count_fits charge
       next_bucket = h.next_bucket;
       next_charge = omega arith;
       sessions = h.sessions;
-      groups = AreApart-put session group
+      groups = AreApart-put_group session group
           (record {
             session = session;
             group = group;
@@ -235,7 +212,7 @@ IsAccount-settled a session group units blocks rated used_fits count_fits charge
             blocks = count_in group cycle a.counters + blocks;
           }) a.counters (own_cycle group cycle)
           h.counters;
-      used = EachIn-put (λ r. r.used ≤ 1000000000000000000) (is_of session group)
+      used = EachIn-put (λ r. r.used ≤ 1000000000000000000) group_before (is_of session group)
           (record {
             session = session;
             group = group;
@@ -243,7 +220,7 @@ IsAccount-settled a session group units blocks rated used_fits count_fits charge
             reservation = None;
           }) a.groups used_fits h.used;
       counted =
-          EachIn-put (λ r. r.blocks ≤ 4000000000000000000) (is_counter group cycle)
+          EachIn-put (λ r. r.blocks ≤ 4000000000000000000) counter_before (is_counter group cycle)
           (record {
             group = group;
             cycle = cycle;
@@ -278,7 +255,7 @@ IsAccount-settled a session group units blocks rated used_fits count_fits charge
       order = order_map (settled_row holds group a.as_of rated a.buckets) a.buckets
           (with_use session group units a.groups)
           (settled_number holds group a.as_of rated a.buckets)
-          (EachIn-put _ (is_of session group)
+          (EachIn-put _ group_before (is_of session group)
           (record {
             session = session;
             group = group;
@@ -304,7 +281,7 @@ held_ended s g rows apart = by_row (group_in s g rows) refl
         IsEnded s g rows (map (ended_group s g) rows)
     by_row (Some x) e =
         let ended : SessionGroup = record x { reservation = None } in
-        let same : map (ended_group s g) rows ≡ put (is_of s g) ended rows =
+        let same : map (ended_group s g) rows ≡ put group_before (is_of s g) ended rows =
         ended_put s g x rows apart e in
         record {
           held = λ b. ap (λ rs. held_by (λ s. true) rs b + held_in (reserved_in s g rows) b)
@@ -417,9 +394,11 @@ IsAccount-with_group_row a session group h =
       next_bucket = h.next_bucket;
       next_charge = h.next_charge;
       sessions = h.sessions;
-      groups = AreApart-put session group row a.groups (or_new_key session group a.groups) h.groups;
+      groups = AreApart-put_group session group row a.groups (or_new_key session group a.groups)
+          h.groups;
       counters = h.counters;
-      used = EachIn-put (λ r. r.used ≤ 1000000000000000000) (is_of session group) row a.groups
+      used = EachIn-put (λ r. r.used ≤ 1000000000000000000) group_before (is_of session group) row
+          a.groups
           (used_le session group 1000000000000000000 a.groups h.used) h.used;
       counted = h.counted;
       held = each_kept a.groups (with_group session group a.groups) a.buckets
@@ -431,7 +410,7 @@ IsAccount-with_group_row a session group h =
           + held_in (reserved_in session group a.groups) b
           ≡ held_by (λ s. true) a.groups b + held_in (reserved_in session group a.groups) b =
           held_by-put session group row a.groups b in omega (arith, h.named b le);
-      order = EachIn-put _ (is_of session group) row a.groups
+      order = EachIn-put _ group_before (is_of session group) row a.groups
           (order_or_new session group a.buckets a.groups h.order) h.order;
     }
 
@@ -443,6 +422,7 @@ IsAccount-with_rows a session group cycle h =
     (with_counter group cycle a.counters) h.sessions
     (AreApart-put_counter group cycle row a.counters (or_new_cycle group cycle a.counters)
     h.counters)
-    (EachIn-put (λ r. r.blocks ≤ 4000000000000000000) (is_counter group cycle) row a.counters
+    (EachIn-put (λ r. r.blocks ≤ 4000000000000000000) counter_before (is_counter group cycle) row
+    a.counters
     (counted_le group cycle 4000000000000000000 a.counters h.counted) h.counted)
     (IsAccount-with_group_row a session group h)

@@ -6,6 +6,9 @@ use Rattle.std.specs.Ordering.{is_lt, nat_cmp}
 use Rattle.buckets.specs.Row.{Row}
 use Rattle.buckets.specs.Spend.{Each, funds}
 use Rattle.buckets.specs.Holding.{held_in, uncollected}
+use Rattle.std.specs.List.Sorted.{IsPermutation}
+use Rattle.std.proofs.lemmas.List.Sorted.{IsPermutation-refl}
+use Rattle.tariffs.specs.Books.{Book}
 use Rattle.rating.specs.declared.report.Rated.{Rated}
 use Rattle.reserving.specs.declared.session.SessionGroup.{SessionGroup}
 use Rattle.reserving.specs.declared.settle.Settled.{Settled}
@@ -17,19 +20,23 @@ use Rattle.reserving.specs.Sessions.{is_of, group_in, is_live_in}
 use Rattle.reserving.specs.Settlement.{passes}
 use Rattle.reserving.specs.Debiting.{is_covered}
 use Rattle.reserving.specs.Changes.{advanced, group_or_new, used_in, count_in, with_event}
+use Rattle.reserving.specs.Changes.{with_count}
 use Rattle.reserving.specs.Changes.{event_price_in, debited_account}
 use Rattle.reserving.specs.Prepared.{with_rows}
 use Rattle.reserving.specs.Rows.{AccountRows, EachIn, IsAccount}
 use Rattle.reserving.specs.Results.{IsDebitOf}
 use Rattle.reserving.specs.Left.{LeftRows, merged, joined, IsDead, IsLeft, AreOfOtherCycles}
 use Rattle.reserving.specs.Left.{IsBeside, IsWith}
+use Rattle.reserving.specs.Sessions.{group_before}
 use Rattle.reserving.proofs.kept.Debited.{IsAccount-debited}
 use Rattle.reserving.proofs.calls.Debited.{IsDebitMade, covered_is, debit_is, debited_is}
 use Rattle.reserving.proofs.calls.Debited.{debited_later, buckets_later}
 use Rattle.reserving.proofs.calls.Settled.{within_used, within_counted}
 use Rattle.reserving.proofs.calls.RowParts.{used_later}
 use Rattle.reserving.proofs.LeftMerged.{each_map, settled_merged}
-use Rattle.reserving.proofs.LeftJoined.{put_behind}
+use Rattle.reserving.proofs.Reordered.{put_behind}
+use Rattle.reserving.proofs.order.SameRows.{IsReordered, IsAccount-reordered, IsRowsOf-reordered}
+use Rattle.reserving.proofs.order.SameRows.{AreKeysApart, keys_of}
 use Rattle.reserving.proofs.LeftTests.{none_each}
 use Rattle.reserving.proofs.LeftFrames.{row_same, count_joined, count_beside, advanced_joined}
 use Rattle.reserving.proofs.LeftMore.{with_advanced}
@@ -42,30 +49,48 @@ none_held left dead = each_map IsDead (λ b. held_in [] b ≡ 0) left (λ b d. r
 pub debited_joined : (left : LeftRows) (a : AccountRows) (s : List ℕ) (g units blocks rated : ℕ) →
     IsLeft left a → AreOfOtherCycles a.book a.as_of left.counters →
     EachIn (λ r. is_of s g r ≡ false) left.groups →
-    debited_account s g units blocks rated (joined left a)
-    ≡ joined left (debited_account s g units blocks rated a)
+    IsReordered (debited_account s g units blocks rated (joined left a))
+    (joined left (debited_account s g units blocks rated a))
 debited_joined left a s g units blocks rated h cycles not_of =
     let row : SessionGroup = group_or_new s g a.groups in
     let new : SessionGroup =
     record { session = s; group = g; used = row.used + units; reservation = row.reservation } in
-    let groups : with_event s g units (left.groups ++ a.groups)
-    ≡ left.groups ++ with_event s g units a.groups =
-    (λ i. put (is_of s g)
+    let moved : with_event s g units (left.groups ++ a.groups)
+    ≡ put group_before (is_of s g) new (left.groups ++ a.groups) =
+    (λ i. put group_before (is_of s g)
     (record {
       session = s;
       group = g;
       used = (row_same left a h s g not_of i).used + units;
       reservation = (row_same left a h s g not_of i).reservation;
-    }) (left.groups ++ a.groups))
-    ∙ put_behind (is_of s g) new left.groups a.groups not_of in
-    λ i. record (joined left a) {
-      buckets =
-          settled_merged [] g a.as_of rated left.buckets a.buckets h.dead
-          (none_held left.buckets h.dead) i;
-      counters = count_joined left a h s g not_of cycles blocks i;
-      groups = groups i;
-      next_charge = a.next_charge + 1;
+    }) (left.groups ++ a.groups)) in
+    record {
+      same = λ i. record (joined left a) {
+        buckets =
+            settled_merged [] g a.as_of rated left.buckets a.buckets h.dead
+            (none_held left.buckets h.dead) i;
+        counters = left.counters ++ with_count g (cycle_at a.book g a.as_of) blocks a.counters;
+        groups = left.groups ++ with_event s g units a.groups;
+        next_charge = a.next_charge + 1;
+      };
+      counters = count_joined left a h s g not_of cycles blocks;
+      sessions = IsPermutation-refl (left.sessions ++ a.sessions);
+      groups = subst (λ xs. IsPermutation xs (left.groups ++ with_event s g units a.groups))
+          (sym moved) (put_behind group_before (is_of s g) new left.groups a.groups not_of);
     }
+
+debit_reordered : (b : Book) (t : ℕ) (s : List ℕ) (g units : ℕ) (ledger : Ledger)
+    (y z : AccountRows) (x : Settled) → IsReordered y z → AreKeysApart y →
+    IsDebitOf b t s g units ledger y x → IsDebitOf b t s g units ledger z x
+debit_reordered b t s g units ledger y z x r keys h = record {
+  covered = h.covered;
+  within = h.within;
+  blocks = h.blocks;
+  rated = h.rated;
+  collected = h.collected;
+  uncollected = h.uncollected;
+  rows = IsRowsOf-reordered _ y z r keys h.rows;
+}
 
 pub covered_beside : (b : Bool) (ledger : Ledger) (left : LeftRows) (t : ℕ) (a : AccountRows)
     (g units paid price : ℕ) → IsWith ledger left t a →
@@ -98,12 +123,15 @@ debit_beside ledger left a middle after s g c t units paid x h gone f made =
     let is : after ≡ debited_account s g units blocks rated later =
     debited_is a middle after s g c t units blocks rated made.cycle made.brought made.debited in
     let same : debited_account s g units blocks rated (advanced t (with_rows s g c whole))
-    ≡ joined left after =
+    ≡ debited_account s g units blocks rated (joined left later) =
     (λ i. debited_account s g units blocks rated (advanced t (with_rows s g (made.cycle i) whole)))
     ∙ debited_later whole s g t units blocks rated
-    ∙ ap (debited_account s g units blocks rated) (advanced_joined t left a h.apart)
-    ∙ debited_joined left later s g units blocks rated with_later.apart h.cycles not_of
-    ∙ ap (joined left) (sym is) in
+    ∙ ap (debited_account s g units blocks rated) (advanced_joined t left a h.apart) in
+    let moved : IsReordered (debited_account s g units blocks rated (joined left later))
+    (joined left after) =
+    subst (λ y. IsReordered (debited_account s g units blocks rated (joined left later))
+    (joined left y)) (sym is)
+    (debited_joined left later s g units blocks rated with_later.apart h.cycles not_of) in
     let buckets : (advanced t (with_rows s g c whole)).buckets ≡ merged left.buckets later.buckets =
     buckets_later whole s g c t
     ∙ ap (λ (y : AccountRows). y.buckets) (advanced_joined t left a h.apart) in
@@ -147,6 +175,12 @@ debit_beside ledger left a middle after s g c t units paid x h gone f made =
     ≤ 4000000000000000000 =
     within_counted (used_in s g a.groups) units (count_in g (cycle_at a.book g t) a.counters)
     (event_price_in g units t a).blocks a.next_charge made.fits in
+    let account : IsAccount (debited_account s g units blocks rated (joined left later)) =
+    IsAccount-debited (joined left later) s g units blocks rated
+    (omega (arith, used, within)) (omega (arith, count, counted, blocks_are))
+    (most_charge (used_in s g a.groups) units
+    (count_in g (cycle_at a.book g t) a.counters) (event_price_in g units t a).blocks
+    a.next_charge made.fits) with_later.apart.whole in
     let beside : IsBeside left t (debited_account s g units blocks rated later) = record {
       apart = record {
         dead = with_later.apart.dead;
@@ -154,16 +188,17 @@ debit_beside ledger left a middle after s g c t units paid x h gone f made =
         apart = with_later.apart.apart;
         free = with_later.apart.free;
         others = with_later.apart.others;
-        whole = subst IsAccount
+        whole = IsAccount-reordered
+            (debited_account s g units blocks rated (joined left later))
+            (joined left (debited_account s g units blocks rated later))
             (debited_joined left later s g units blocks rated with_later.apart h.cycles not_of)
-            (IsAccount-debited (joined left later) s g units blocks rated
-            (omega (arith, used, within)) (omega (arith, count, counted, blocks_are))
-            (most_charge (used_in s g a.groups) units
-            (count_in g (cycle_at a.book g t) a.counters) (event_price_in g units t a).blocks
-            a.next_charge made.fits) with_later.apart.whole);
+            account;
       };
       cycles = h.cycles;
     } in (
       subst (IsBeside left t) (sym is) beside,
-      subst (λ y. IsDebitOf a.book t s g units ledger y x) same debited,
+      debit_reordered a.book t s g units ledger
+          (debited_account s g units blocks rated (joined left later)) (joined left after) x moved
+          (keys_of (debited_account s g units blocks rated (joined left later)) account)
+          (subst (λ y. IsDebitOf a.book t s g units ledger y x) same debited),
     )

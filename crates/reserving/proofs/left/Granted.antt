@@ -4,6 +4,7 @@ use Rattle.std.proofs.Common.{Option, None}
 use Rattle.std.specs.Prelude.{nat_lt}
 use Rattle.rating.specs.declared.grant.Grant.{Grant}
 use Rattle.reserving.specs.declared.session.SessionGroup.{SessionGroup}
+use Rattle.tariffs.specs.Books.{Book}
 use Rattle.reserving.specs.Ledger.{Ledger, used}
 use Rattle.reserving.specs.Pricing.{switch_at, validity_at}
 use Rattle.reserving.specs.Reservation.{grant_for}
@@ -17,6 +18,8 @@ use Rattle.reserving.proofs.rows.Reserved.{IsAccount-reserved}
 use Rattle.reserving.proofs.ReservedCall.{QuotaOf, grant_told, grant_is, free_later, reserved_later}
 use Rattle.reserving.proofs.LeftFrames.{live, not_of_live, row_same, advanced_joined}
 use Rattle.reserving.proofs.LeftMore.{with_advanced}
+use Rattle.reserving.proofs.order.SameRows.{IsReordered, IsAccount-reordered, IsRowsOf-reordered}
+use Rattle.reserving.proofs.order.SameRows.{AreKeysApart, keys_of}
 use Rattle.reserving.proofs.left.Settled.{live_later}
 use Rattle.reserving.proofs.left.Reserved.{reserved_joined}
 use Rattle.reserving.proofs.LeftReadings.{quota_of_joined}
@@ -37,7 +40,8 @@ left_reserved left a s g amount h alive none = record {
   apart = h.apart;
   free = h.free;
   others = h.others;
-  whole = subst IsAccount (reserved_joined left a s g amount h alive)
+  whole = IsAccount-reordered (reserved_account s g amount (joined left a))
+      (joined left (reserved_account s g amount a)) (reserved_joined left a s g amount h alive)
       (IsAccount-reserved (joined left a) s g amount
       (free_joined left a s g h (not_of_live left a a.as_of s g h alive) none) h.whole);
 }
@@ -52,6 +56,21 @@ nothing_beside ledger left t a s g requested wanted grant h le alive q =
     grant_told ledger (joined left a) s g t requested wanted grant h.apart.whole h.rows le
     (quota_of_joined left a s g t requested wanted grant h.apart h.cycles
     (not_of_live left a t s g h.apart alive) q)
+
+grant_reordered : (b : Book) (t : ℕ) (s : List ℕ) (g : ℕ) (requested : Option ℕ) (ledger : Ledger)
+    (y z : AccountRows) (given : ℕ) (at : Option ℕ) (seconds : ℕ) (fewer : Bool) →
+    IsReordered y z → AreKeysApart y →
+    IsGrantOf b t s g requested ledger y given at seconds fewer →
+    IsGrantOf b t s g requested ledger z given at seconds fewer
+grant_reordered b t s g requested ledger y z given at seconds fewer r keys h = record {
+  some = h.some;
+  units = h.units;
+  switch = h.switch;
+  validity = h.validity;
+  fewer = h.fewer;
+  greatest = h.greatest;
+  rows = IsRowsOf-reordered _ y z r keys h.rows;
+}
 
 pub grant_beside : (ledger : Ledger) (left : LeftRows) (a middle after : AccountRows) (s : List ℕ)
     (g t : ℕ) (requested : Option ℕ) (wanted : ℕ) (grant : Grant) (at : Option ℕ) (validity : ℕ)
@@ -80,11 +99,16 @@ grant_beside ledger left a middle after s g t requested wanted grant at validity
     let is : after ≡ reserved_account s g amount later =
     e ∙ ap (reserved_account s g amount) m ∙ reserved_later a s g t amount in
     let same : reserved_account s g amount (advanced t (with_group_row s g whole))
-    ≡ joined left after =
+    ≡ reserved_account s g amount (joined left later) =
     reserved_later whole s g t amount
-    ∙ ap (reserved_account s g amount) (advanced_joined t left a h.apart)
-    ∙ reserved_joined left later s g amount with_later.apart alive_later
-    ∙ ap (joined left) (sym is) in
+    ∙ ap (reserved_account s g amount) (advanced_joined t left a h.apart) in
+    let moved : IsReordered (reserved_account s g amount (joined left later)) (joined left after) =
+    subst (λ x. IsReordered (reserved_account s g amount (joined left later)) (joined left x))
+    (sym is) (reserved_joined left later s g amount with_later.apart alive_later) in
+    let account : IsAccount (reserved_account s g amount (joined left later)) =
+    IsAccount-reserved (joined left later) s g amount
+    (free_joined left later s g with_later.apart
+    (not_of_live left later t s g with_later.apart alive_later) free) with_later.apart.whole in
     let beside : IsBeside left t (reserved_account s g amount later) =
     record {
       apart = left_reserved left later s g amount with_later.apart alive_later free;
@@ -101,6 +125,10 @@ grant_beside ledger left a middle after s g t requested wanted grant at validity
     (quota_of_joined left a s g t requested wanted grant h.apart h.cycles not_of q) some switch
     valid few refl refl in (
       subst (IsBeside left t) (sym is) beside,
-      subst (λ x. IsGrantOf a.book t s g requested ledger x grant.units.0 at validity fewer) same
-          granted,
+      grant_reordered a.book t s g requested ledger
+          (reserved_account s g amount (joined left later)) (joined left after) grant.units.0 at
+          validity fewer moved
+          (keys_of (reserved_account s g amount (joined left later)) account)
+          (subst (λ x. IsGrantOf a.book t s g requested ledger x grant.units.0 at validity fewer)
+          same granted),
     )

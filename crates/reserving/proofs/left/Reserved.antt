@@ -1,6 +1,8 @@
 -- A grant, and a debit, leave the rows that were left as they are.
 use Rattle.std.proofs.Common.{◌≡◌, ℕ, ◌+◌, true, false, List, [], ◌∷◌, ◌++◌, map, refl}
-use Rattle.std.proofs.Common.{◌∙◌, arith, Some}
+use Rattle.std.proofs.Common.{sym, subst, ◌∙◌, arith, Some}
+use Rattle.std.specs.List.Sorted.{IsPermutation}
+use Rattle.std.proofs.lemmas.List.Sorted.{IsPermutation-refl}
 use Rattle.std.specs.Prelude.{◌-◌}
 use Rattle.rating.specs.declared.grant.Periods.{Periods}
 use Rattle.buckets.specs.declared.holds.Hold.{Hold}
@@ -16,8 +18,10 @@ use Rattle.reserving.specs.Sessions.{is_of, is_live_in}
 use Rattle.reserving.specs.Changes.{used_in, with_reservation, reserved_account}
 use Rattle.reserving.specs.Rows.{AccountRows, EachIn}
 use Rattle.reserving.specs.Left.{LeftRows, merged, joined, IsDead, IsLeft}
+use Rattle.reserving.specs.Sessions.{group_before}
 use Rattle.reserving.proofs.LeftMerged.{map_merged, each_map, share_merged, dead_amount, min_none}
-use Rattle.reserving.proofs.LeftJoined.{put_behind}
+use Rattle.reserving.proofs.Reordered.{put_behind}
+use Rattle.reserving.proofs.order.SameRows.{IsReordered}
 use Rattle.reserving.proofs.LeftFrames.{not_of_live, row_same}
 use Rattle.reserving.proofs.InOrder.{parts_placed}
 
@@ -68,7 +72,8 @@ held_merged group at amount left rows dead =
 
 pub reserved_joined : (left : LeftRows) (a : AccountRows) (s : List ℕ) (g amount : ℕ) →
     IsLeft left a → is_live_in a.book.validity a.as_of a.sessions s ≡ true →
-    reserved_account s g amount (joined left a) ≡ joined left (reserved_account s g amount a)
+    IsReordered (reserved_account s g amount (joined left a))
+    (joined left (reserved_account s g amount a))
 reserved_joined left a s g amount h alive =
     let p : Periods = periods_at a.book a.as_of in
     let not_of : EachIn (λ r. is_of s g r ≡ false) left.groups =
@@ -83,17 +88,22 @@ reserved_joined left a s g amount h alive =
       used = used_in s g a.groups;
       reservation = Some (record { periods = p; holds = hs });
     } in
-    let groups : with_reservation s g p (holds_of g a.as_of amount (merged left.buckets a.buckets))
-    (left.groups ++ a.groups) ≡ left.groups ++ with_reservation s g p hs a.groups =
-    (λ i. put (is_of s g)
+    let moved : with_reservation s g p (holds_of g a.as_of amount (merged left.buckets a.buckets))
+    (left.groups ++ a.groups) ≡ put group_before (is_of s g) row (left.groups ++ a.groups) =
+    (λ i. put group_before (is_of s g)
     (record {
       session = s;
       group = g;
       used = (row_same left a h s g not_of i).used;
       reservation = Some (record { periods = p; holds = same i });
-    }) (left.groups ++ a.groups))
-    ∙ put_behind (is_of s g) row left.groups a.groups not_of in
-    λ i. record (joined left a) {
-      buckets = held_merged g a.as_of amount left.buckets a.buckets h.dead i;
-      groups = groups i;
+    }) (left.groups ++ a.groups)) in
+    record {
+      same = λ i. record (joined left a) {
+        buckets = held_merged g a.as_of amount left.buckets a.buckets h.dead i;
+        groups = left.groups ++ with_reservation s g p hs a.groups;
+      };
+      counters = IsPermutation-refl (left.counters ++ a.counters);
+      sessions = IsPermutation-refl (left.sessions ++ a.sessions);
+      groups = subst (λ xs. IsPermutation xs (left.groups ++ with_reservation s g p hs a.groups))
+          (sym moved) (put_behind group_before (is_of s g) row left.groups a.groups not_of);
     }

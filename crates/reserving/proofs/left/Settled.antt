@@ -12,10 +12,11 @@ use Rattle.reserving.specs.Settlement.{reported, passes, settled_by}
 use Rattle.reserving.specs.Changes.{advanced, used_in, count_in, price_in, ended_rows}
 use Rattle.reserving.specs.Changes.{settled_account, settled_by_rows}
 use Rattle.reserving.specs.Prepared.{with_rows}
-use Rattle.reserving.specs.Rows.{AccountRows, EachIn, IsAccount, IsRowsOf}
+use Rattle.reserving.specs.Rows.{AccountRows, EachIn, IsRowsOf}
 use Rattle.reserving.specs.Left.{LeftRows, joined, IsWith}
 use Rattle.reserving.proofs.Advancing.{is_live_in-is}
 use Rattle.reserving.proofs.kept.Settled.{IsAccount-settled}
+use Rattle.reserving.proofs.order.SameRows.{IsAccount-reordered}
 use Rattle.reserving.proofs.calls.RowParts.{used_later}
 use Rattle.reserving.proofs.calls.Settled.{price_later, within_used, within_counted, settled_is}
 use Rattle.reserving.proofs.LeftFrames.{live, not_of_live, row_same, count_same, settled_joined}
@@ -46,7 +47,9 @@ with_settled ledger left a s g (p ∷ ps) h alive fits =
     count_same left a h.apart s g not_of h.cycles in
     with_facts (settled_by a.book a.as_of s g (p ∷ ps) ledger) ledger left a.as_of a
     (settled_by_rows s g (p ∷ ps) a) refl refl h
-    (subst IsAccount
+    (IsAccount-reordered
+    (settled_account s g (reported (p ∷ ps)) x.blocks x.amount.0 (joined left a))
+    (joined left (settled_account s g (reported (p ∷ ps)) x.blocks x.amount.0 a))
     (settled_joined left a h.apart s g not_of h.cycles (reported (p ∷ ps)) x.blocks x.amount.0)
     (IsAccount-settled (joined left a) s g (reported (p ∷ ps)) x.blocks x.amount.0
     (omega (arith, used, fits.used)) (omega (arith, count, fits.counted)) fits.charges

@@ -21,6 +21,7 @@ use Rattle.reserving.specs.Changes.{reserved_account, touched_session, touched_a
 use Rattle.reserving.specs.Prepared.{with_group, with_rows, with_group_row}
 use Rattle.reserving.specs.Rows.{AccountRows, EachIn}
 use Rattle.reserving.specs.Calm.{IsCalm}
+use Rattle.reserving.specs.Sessions.{group_before}
 use Rattle.reserving.proofs.Lists.{find-map, EachIn-map, EachIn-put, not_both}
 use Rattle.reserving.proofs.Lists.{EachIn-found, EachIn-weaker}
 use Rattle.reserving.proofs.ledger.Columns.{with_columns}
@@ -171,7 +172,7 @@ group_made : (keeps : List ℕ → Bool) (s : List ℕ) (g : ℕ) (rows : List S
     EachIn (λ r. keeps r.session ≡ false → r.reservation ≡ None) rows →
     EachIn (λ r. keeps r.session ≡ false → r.reservation ≡ None) (with_group s g rows)
 group_made keeps s g rows h =
-    EachIn-put (λ r. keeps r.session ≡ false → r.reservation ≡ None) (is_of s g)
+    EachIn-put (λ r. keeps r.session ≡ false → r.reservation ≡ None) group_before (is_of s g)
     (group_or_new s g rows) rows
     (or_new (λ r. keeps r.session ≡ false → r.reservation ≡ None) s g rows (λ k. refl) h) h
 
@@ -214,7 +215,7 @@ calm_settled a s g units blocks rated h = record {
   sessions = h.sessions;
   groups = EachIn-put
       (λ r. is_live_in a.book.validity a.as_of a.sessions r.session ≡ false → r.reservation ≡ None)
-      (is_of s g) _ a.groups (λ k. refl) h.groups;
+      group_before (is_of s g) _ a.groups (λ k. refl) h.groups;
   buckets = rows_map (λ b. nat_lt a.as_of b.until ≡ false → b.available ≡ 0)
       (λ b. nat_lt a.as_of b.until ≡ false → b.available ≡ 0)
       (settled_row (holds_in (group_or_new s g a.groups).reservation) g a.as_of rated a.buckets)
@@ -266,7 +267,7 @@ calm_reserved a s g amount live h = record {
   sessions = h.sessions;
   groups = EachIn-put
       (λ r. is_live_in a.book.validity a.as_of a.sessions r.session ≡ false → r.reservation ≡ None)
-      (is_of s g) _ a.groups (λ k. absurd (not_both (sym k ∙ live))) h.groups;
+      group_before (is_of s g) _ a.groups (λ k. absurd (not_both (sym k ∙ live))) h.groups;
   buckets = rows_map (λ b. nat_lt a.as_of b.until ≡ false → b.available ≡ 0)
       (λ b. nat_lt a.as_of b.until ≡ false → b.available ≡ 0)
       (λ b. with_hold b (share (eligible_amount g a.as_of) a.buckets amount b)) a.buckets

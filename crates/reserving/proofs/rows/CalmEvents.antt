@@ -17,6 +17,7 @@ use Rattle.reserving.specs.Changes.{lapse, new_group, group_or_new, debited_acco
 use Rattle.reserving.specs.Changes.{with_session}
 use Rattle.reserving.specs.Rows.{AccountRows, EachIn}
 use Rattle.reserving.specs.Calm.{IsCalm}
+use Rattle.reserving.specs.Sessions.{group_before, session_before}
 use Rattle.reserving.proofs.Lists.{EachIn-put, find-put_other, EachIn-found, EachIn-weaker}
 use Rattle.reserving.proofs.KeysFound.{found_session}
 use Rattle.reserving.proofs.rows.Calm.{rows_map, settled_calm}
@@ -41,7 +42,7 @@ calm_debited a s g units blocks rated h = record {
   sessions = h.sessions;
   groups = EachIn-put
       (λ r. is_live_in a.book.validity a.as_of a.sessions r.session ≡ false → r.reservation ≡ None)
-      (is_of s g) _ a.groups
+      group_before (is_of s g) _ a.groups
       (kept_reservation (is_live_in a.book.validity a.as_of a.sessions) s g a.groups h.groups)
       h.groups;
   buckets = rows_map (λ b. nat_lt a.as_of b.until ≡ false → b.available ≡ 0)
@@ -66,7 +67,8 @@ new_same v t s n u Ended some le = refl
 new_same v t s n u NeverOpened some le = refl
 
 live_unput : (v t : ℕ) (s x : List ℕ) (new : Session) (rows : List Session) → new.id ≡ s →
-    session_in s rows ≡ None → is_live_in v t (put (is_session s) new rows) x ≡ false →
+    session_in s rows ≡ None → is_live_in v t (put session_before (is_session s) new rows) x
+    ≡ false →
     is_live_in v t rows x ≡ false
 live_unput v t s x new rows named none k = at (is_same s x) refl
   where
@@ -76,7 +78,7 @@ live_unput v t s x new rows named none k = at (is_same s x) refl
         (ap (λ y. session_in y rows) (sym (equal_names s x e)) ∙ none)
     at false e =
         ap (is_live_row v t)
-        (sym (find-put_other (is_session s) (is_session x) new rows
+        (sym (find-put_other session_before (is_session s) (is_session x) new rows
         (ap (λ y. is_same y x) named ∙ e)
         (λ y is. ap (λ z. is_same z x) (equal_names y.id s is) ∙ e)))
         ∙ k
@@ -85,7 +87,8 @@ pub calm_recorded : (a : AccountRows) (s : List ℕ) (n u : ℕ) (state : Sessio
     60 ≤ a.book.validity → a.as_of ≤ u → session_in s a.sessions ≡ None → IsCalm a →
     IsCalm (with_session s n u state a)
 calm_recorded a s n u state some le none h = record {
-  sessions = EachIn-put (λ r. lapse a.book.validity a.as_of r ≡ r) (is_session s) _ a.sessions
+  sessions = EachIn-put (λ r. lapse a.book.validity a.as_of r ≡ r) session_before (is_session s) _
+      a.sessions
       (new_same a.book.validity a.as_of s n u state some le) h.sessions;
   groups = EachIn-weaker
       (λ r. is_live_in a.book.validity a.as_of a.sessions r.session ≡ false → r.reservation ≡ None)

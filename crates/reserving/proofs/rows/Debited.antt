@@ -24,6 +24,7 @@ use Rattle.reserving.specs.Debiting.{charged_use}
 use Rattle.reserving.specs.Changes.{new_group, group_or_new, used_in, with_event, debited_account}
 use Rattle.reserving.specs.SoundLedger.{IsUnknown, IsSoundLedger}
 use Rattle.reserving.specs.Rows.{AccountRows, IsAccount, IsRowsOf}
+use Rattle.reserving.specs.Sessions.{group_before}
 use Rattle.reserving.proofs.Lists.{find-put, find-put_other}
 use Rattle.reserving.proofs.Keys.{is_key, own_key, key_session, key_group, other_row}
 use Rattle.reserving.proofs.SettledFacts.{is_barred-front, total-front, newest-front, any-front}
@@ -221,7 +222,7 @@ groups-debited v t session group units blocks rated ledger does rows moved so_fa
     }
 
     by_test : (e : Bool) → is_key session group s g ≡ e →
-        group_in s g (put (is_of session group) row rows) ≡ group_at v t after s g
+        group_in s g (put group_before (is_of session group) row rows) ≡ group_at v t after s g
     by_test true q =
         let es : session ≡ s = key_session session group s g q in
         let eg : group ≡ g = key_group session group s g q in
@@ -239,13 +240,14 @@ groups-debited v t session group units blocks rated ledger does rows moved so_fa
           used = so_far i + units;
           reservation = kept i;
         } in
-        (λ i. group_in (sym es i) (sym eg i) (put (is_of session group) row rows))
-        ∙ find-put (is_of session group) row rows (own_key session group)
+        (λ i. group_in (sym es i) (sym eg i) (put group_before (is_of session group) row rows))
+        ∙ find-put group_before (is_of session group) row rows (own_key session group)
         ∙ (λ i. Some (row_is i))
         ∙ sym (own_debited v t session group units blocks rated ledger does moved)
         ∙ (λ i. group_at v t after (es i) (eg i))
     by_test false q =
-        find-put_other (is_of session group) (is_of s g) row rows q (other_row session group s g q)
+        find-put_other group_before (is_of session group) (is_of s g) row rows q
+        (other_row session group s g q)
         ∙ h s g
         ∙ sym (same_group does v t ledger after s g moved
         (same_sessions-debited v t session group units blocks rated ledger)

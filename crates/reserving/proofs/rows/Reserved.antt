@@ -32,6 +32,7 @@ use Rattle.reserving.specs.Changes.{used_in, reserved_in, with_reservation, rese
 use Rattle.reserving.specs.Prepared.{reservation_in}
 use Rattle.reserving.specs.SoundLedger.{IsUnknown, IsSoundLedger}
 use Rattle.reserving.specs.Rows.{AccountRows, IsAccount, IsRowsOf}
+use Rattle.reserving.specs.Sessions.{group_before}
 use Rattle.reserving.proofs.InOrder.{order_map, order_held}
 use Rattle.reserving.proofs.Lists.{find-put, find-put_other, EachIn-put, no_some}
 use Rattle.reserving.proofs.Keys.{is_key, own_key, key_session, key_group, other_row, not_true}
@@ -46,7 +47,7 @@ use Rattle.reserving.proofs.ledger.Columns.{balance_by, with_columns}
 use Rattle.reserving.proofs.rows.Complete.{held_free}
 use Rattle.reserving.proofs.SettledRows.{own_row, used_in_is, if_none, differs_above}
 use Rattle.reserving.proofs.SettledRows.{made_in}
-use Rattle.reserving.proofs.kept.Settled.{held_by-put, held_by_number, AreApart-put, used_le}
+use Rattle.reserving.proofs.kept.Settled.{held_by-put, held_by_number, AreApart-put_group, used_le}
 use Rattle.reserving.proofs.kept.Settled.{IsBelow-map}
 
 -- ---- the buckets
@@ -293,7 +294,8 @@ groups-reserved book t session group units amount ledger rows holds live distinc
     }
 
     by_test : (e : Bool) → is_key session group s g ≡ e →
-        group_in s g (put (is_of session group) row rows) ≡ group_at book.validity t after s g
+        group_in s g (put group_before (is_of session group) row rows)
+        ≡ group_at book.validity t after s g
     by_test true q =
         let es : session ≡ s = key_session session group s g q in
         let eg : group ≡ g = key_group session group s g q in
@@ -312,13 +314,14 @@ groups-reserved book t session group units amount ledger rows holds live distinc
           reservation =
               Some (reservation_for book t (eh i));
         } in
-        (λ i. group_in (sym es i) (sym eg i) (put (is_of session group) row rows))
-        ∙ find-put (is_of session group) row rows (own_key session group)
+        (λ i. group_in (sym es i) (sym eg i) (put group_before (is_of session group) row rows))
+        ∙ find-put group_before (is_of session group) row rows (own_key session group)
         ∙ (λ i. Some (same i))
         ∙ sym (own_reserved book t session group units amount ledger live distinct free)
         ∙ (λ i. group_at book.validity t after (es i) (eg i))
     by_test false q =
-        find-put_other (is_of session group) (is_of s g) row rows q (other_row session group s g q)
+        find-put_other group_before (is_of session group) (is_of s g) row rows q
+        (other_row session group s g q)
         ∙ h s g
         ∙ sym (same_group
         (λ b. with_hold b
@@ -540,7 +543,7 @@ IsAccount-reserved a session group amount none h =
       reservation = Some (reservation_for a.book t hs);
     } in
     let held : (b : Row) →
-    held_by (λ s. true) (put (is_of session group) row a.groups) b
+    held_by (λ s. true) (put group_before (is_of session group) row a.groups) b
     ≡ held_by (λ s. true) a.groups b + held_in hs b = λ b.
     (let nothing : held_in (reserved_in session group a.groups) b
     ≡ 0 = ap (λ x. held_in x b) (reserved_none session group a.groups none) in
@@ -554,12 +557,14 @@ IsAccount-reserved a session group amount none h =
       next_bucket = h.next_bucket;
       next_charge = h.next_charge;
       sessions = h.sessions;
-      groups = AreApart-put session group row a.groups (own_key session group) h.groups;
+      groups = AreApart-put_group session group row a.groups (own_key session group) h.groups;
       counters = h.counters;
-      used = EachIn-put (λ r. r.used ≤ 1000000000000000000) (is_of session group) row a.groups
+      used = EachIn-put (λ r. r.used ≤ 1000000000000000000) group_before (is_of session group) row
+          a.groups
           (used_le session group 1000000000000000000 a.groups h.used) h.used;
       counted = h.counted;
-      held = each_held a.groups (put (is_of session group) row a.groups) hs G a.buckets held
+      held = each_held a.groups (put group_before (is_of session group) row a.groups) hs G a.buckets
+          held
           (sum_at-parts G a.buckets h.sound.distinct) h.held;
       named = λ b le. omega (
         arith,
@@ -569,7 +574,7 @@ IsAccount-reserved a session group amount none h =
         sum_at_none G b.number a.buckets
             (differs_above a.next_bucket b.number a.buckets h.below le),
       );
-      order = EachIn-put _ (is_of session group) row a.groups
+      order = EachIn-put _ group_before (is_of session group) row a.groups
           (order_held G a.buckets h.sound.distinct)
           (order_map (λ b. with_hold b (G b)) a.buckets a.groups (λ b. refl) h.order);
     }

@@ -3,7 +3,7 @@
 
 use buckets::{Holds, Purse};
 use calendar::Period;
-use commands::{Answer, Content, Credit, KeptCredit};
+use commands::{Answer, Content, KeptCredit};
 use identifiers::{AccountNumber, SessionId};
 use keepers::{Change, KeptAnswer};
 use rating::Periods;
@@ -32,20 +32,13 @@ fn moment() -> Result<Moment, Fail> {
     Ok(Moment::new(1_767_607_200).ok_or("a moment")?)
 }
 
-/// What is kept of a credit.
-fn content_of(credit: Credit) -> Result<Content, Fail> {
-    let kept = if credit.can_be_kept() {
-        Some(KeptCredit::new(credit))
-    } else {
-        None
-    };
-    Ok(Content::Credit(kept.ok_or("a credit of something")?))
-}
-
 /// What is kept of a credit of account 49151 by its body.
 fn kept(alloc: Global, body: &str) -> Result<KeptAnswer, Fail> {
-    let account = account(alloc, "49151")?;
-    let content = content_of(read_credit(alloc, account, body.as_bytes())?)?;
+    let credit = read_credit(alloc, account(alloc, "49151")?, body.as_bytes())?;
+    if !credit.can_be_kept() {
+        return Err(Fail::from("a credit of nothing"));
+    }
+    let content = Content::Credit(KeptCredit::new(credit));
     let answer = Answer::Bucket(1);
     Ok(KeptAnswer { content, answer })
 }

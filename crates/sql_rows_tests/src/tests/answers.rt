@@ -8,8 +8,8 @@ use crate::tests::fixtures::{account, head, money, name, reference};
 use crate::tests::page::{Page, new_page};
 use identifiers::{AccountNumber, Reference, SessionId};
 use sql_rows::{
-    Head, Kept, VoucherColumns, put_answer_reference, put_answer_request, put_voucher_spent,
-    put_voucher_unspent, read_answer_reference, read_answer_request, read_voucher,
+    Head, Kept, VoucherColumns, put_answer_reference, put_answer_request, put_voucher,
+    read_answer_reference, read_answer_request, read_voucher,
 };
 use sqlite::{Alter, Error};
 use std::alloc::{AllocError, Global};
@@ -87,9 +87,16 @@ impl<S: Alter> Page<S> {
         ensures ready { OnOk result (IsReady (state S.Store self.new.conn)) }
     {
         let mut tx = self.conn.transaction();
-        put_voucher_unspent(&mut tx, "000000000001", amount, Some(30), None)?;
-        put_voucher_unspent(&mut tx, "000000000002", amount, Some(30), None)?;
-        put_voucher_spent(&mut tx, "000000000002", amount, None, Some(10), account)?;
+        put_voucher(&mut tx, "000000000001", amount, Some(30), None, None)?;
+        put_voucher(&mut tx, "000000000002", amount, Some(30), None, None)?;
+        put_voucher(
+            &mut tx,
+            "000000000002",
+            amount,
+            None,
+            Some(10),
+            Some(account),
+        )?;
         tx.commit()
     }
 

@@ -24,8 +24,8 @@ fn push_buckets(
     text: &mut String,
 ) -> Result<(), AllocError> {
     for row in rows {
-        let (starts, ends) = (row.starts.seconds(), row.ends.seconds());
-        let of = format!(in alloc; "{} {}..{} {:?}: ", row.number, starts, ends, row.scope)?;
+        let (from, until) = (row.from.seconds(), row.until.seconds());
+        let of = format!(in alloc; "{} {}..{} {:?}: ", row.number, from, until, row.scope)?;
         text.push_str(of.as_str())?;
         let (credited, available, reserved) = (row.credited, row.available, row.reserved);
         let held = format!(in alloc; "{} {} {}", credited, available, reserved)?;

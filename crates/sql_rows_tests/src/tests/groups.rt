@@ -45,6 +45,14 @@ fn hold(bucket: u32, amount: u64) -> Hold {
     Hold { bucket, amount }
 }
 
+/// A rating group of an account's session.
+#[derive(Clone, Copy)]
+struct GroupOf<'a> {
+    account: &'a AccountNumber,
+    session: &'a SessionId,
+    group: u32,
+}
+
 impl<S: Alter> Page<S> {
     fn keep_all(
         &mut self,
@@ -64,34 +72,32 @@ impl<S: Alter> Page<S> {
     }
 
     /// Holds 5 of the first bucket; and of the second 7, and then 9 in its place.
-    fn keep_reserved(
-        &mut self,
-        account: &AccountNumber,
-        session: &SessionId,
-        group: u32,
-    ) -> Result<(), Error>
+    fn keep_reserved(&mut self, of: &GroupOf) -> Result<(), Error>
         requires ready { IsReady (state S.Store self.old.conn) }
         ensures ready { OnOk result (IsReady (state S.Store self.new.conn)) }
     {
         let mut tx = self.conn.transaction();
-        put_group_reserved(&mut tx, account, session, group, 60, "day", "night")?;
-        put_holds(&mut tx, account, session, group, &[hold(1, 5), hold(2, 7)])?;
-        put_hold(&mut tx, account, session, group, &hold(2, 9))?;
+        put_group_reserved(
+            &mut tx, of.account, of.session, of.group, 60, "day", "night",
+        )?;
+        put_holds(
+            &mut tx,
+            of.account,
+            of.session,
+            of.group,
+            &[hold(1, 5), hold(2, 7)],
+        )?;
+        put_hold(&mut tx, of.account, of.session, of.group, &hold(2, 9))?;
         tx.commit()
     }
 
-    fn keep_free(
-        &mut self,
-        account: &AccountNumber,
-        session: &SessionId,
-        group: u32,
-    ) -> Result<(), Error>
+    fn keep_free(&mut self, of: &GroupOf) -> Result<(), Error>
         requires ready { IsReady (state S.Store self.old.conn) }
         ensures ready { OnOk result (IsReady (state S.Store self.new.conn)) }
     {
         let mut tx = self.conn.transaction();
-        put_group_free(&mut tx, account, session, group, 75)?;
-        remove_holds(&mut tx, account, session, group)?;
+        put_group_free(&mut tx, of.account, of.session, of.group, 75)?;
+        remove_holds(&mut tx, of.account, of.session, of.group)?;
         tx.commit()
     }
 
@@ -122,11 +128,17 @@ fn try_groups<S: Alter>(
     requires ready { IsReady (state S.Store page.old.conn) }
 {
     page.keep_all(account, head, session, buckets)?;
-    page.keep_reserved(account, &session.id, 10)?;
-    page.keep_reserved(account, &session.id, 20)?;
+    let ten = GroupOf {
+        account,
+        session: &session.id,
+        group: 10,
+    };
+    let twenty = GroupOf { group: 20, ..ten };
+    page.keep_reserved(&ten)?;
+    page.keep_reserved(&twenty)?;
     page.note_groups(account, &session.id)?;
     page.note_holds(account, &session.id)?;
-    page.keep_free(account, &session.id, 10)?;
+    page.keep_free(&ten)?;
     page.note_groups(account, &session.id)?;
     page.note_holds(account, &session.id)
 }

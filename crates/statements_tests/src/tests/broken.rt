@@ -97,14 +97,6 @@ impl Keeper for Broken {
         Err(StoreFault::Store)
     }
 
-    fn abandon<'b>(&mut self, loaded: Loaded<'b>) {
-        let Loaded {
-            number: _,
-            account: _,
-            before: _,
-        } = loaded;
-    }
-
     fn sweep(&mut self, _book: &TariffBook, _moment: Moment) -> Result<u64, StoreFault> {
         Err(StoreFault::Store)
     }

@@ -4,39 +4,12 @@ use crate::tests::accounts::{HALF_PAID, account, book, keeper, many_events};
 use crate::tests::broken::Broken;
 use crate::tests::months::{exported, stated};
 use keepers::{Keeper, MemoryKeeper};
-use statements::{StatementFault, export, statement};
+use statements::{AccountMonth, StatementFault, export, statement};
 use std::alloc::Global;
-use std::io::{self, ErrorKind, Write};
 use std::test::Fail;
 use units::Moment;
+use worked_book::Slow;
 use written_numbers::Month;
-
-/// Takes single bytes, and fails after so many calls.
-#[derive(Drop)]
-struct Slow {
-    taken: Vec<u8>,
-    calls: usize,
-}
-
-impl Write for Slow {
-    fn write(&mut self, buf: &[u8]) -> io::Result<usize> {
-        if self.calls == 0 {
-            return Err(io::Error::from(ErrorKind::BrokenPipe));
-        }
-        self.calls -= 1;
-        match buf.first() {
-            Some(byte) => {
-                self.taken.push(*byte)?;
-                Ok(1)
-            }
-            None => Ok(0),
-        }
-    }
-
-    fn flush(&mut self) -> io::Result<()> {
-        Ok(())
-    }
-}
 
 /// How a statement or an export ends over a writer that fails after so many bytes, and what it
 /// took.
@@ -51,23 +24,17 @@ fn taken(
     let month = Month::new(202_601).ok_or("a month")?;
     let moment = Moment::of_command(1_767_607_500).ok_or("a moment")?;
     let buckets = keeper.dead_buckets(&account)?;
-    let mut writer = Slow {
-        taken: Vec::new(alloc),
-        calls,
+    let mut writer = Slow::new(alloc, calls);
+    let asked = AccountMonth {
+        account: &account,
+        month,
+        book: &book,
     };
     let end = if is_export {
-        export(alloc, keeper, &mut writer, &book, &account, month)
+        export(alloc, keeper, &mut writer, &asked)
     } else {
-        statement(
-            alloc,
-            keeper,
-            &mut writer,
-            &book,
-            &account,
-            month,
-            moment,
-            buckets.as_slice(),
-        )
+        let buckets = buckets.as_slice();
+        statement(alloc, keeper, &mut writer, &asked, moment, buckets)
     };
     let Slow { taken, calls: _ } = writer;
     Ok((end, String::from_utf8(taken)?))
@@ -110,11 +77,16 @@ fn fails(alloc: Global) -> Result<String, Fail> {
     let account = account(alloc)?;
     let book = book(alloc)?;
     let month = Month::new(202_601).ok_or("a month")?;
+    let asked = AccountMonth {
+        account: &account,
+        month,
+        book: &book,
+    };
     let mut source = Broken { keeper, left: 0 };
     for rows in 0..12 {
         source.left = rows;
         let mut taken = Vec::new(alloc);
-        let end = export(alloc, &mut source, &mut taken, &book, &account, month);
+        let end = export(alloc, &mut source, &mut taken, &asked);
         let begins = text.as_bytes().starts_with(taken.as_slice());
         let lines = count_lines(taken.as_slice());
         if !begins || lines != rows as u64 + 1 || end != Err(StatementFault::Store) {

@@ -2,7 +2,7 @@
 
 use crate::tests::accounts::{HALF_PAID, account, book, keeper, many_events};
 use keepers::{Keeper, MemoryKeeper};
-use statements::{export, statement};
+use statements::{AccountMonth, export, statement};
 use std::alloc::Global;
 use std::test::Fail;
 use units::Moment;
@@ -16,16 +16,13 @@ pub(crate) fn stated(alloc: Global, keeper: &mut MemoryKeeper, month: u64) -> Re
     let moment = Moment::of_command(1_767_607_500).ok_or("a moment")?;
     let buckets = keeper.dead_buckets(&account)?;
     let mut text = Vec::new(alloc);
-    statement(
-        alloc,
-        keeper,
-        &mut text,
-        &book,
-        &account,
+    let asked = AccountMonth {
+        account: &account,
         month,
-        moment,
-        buckets.as_slice(),
-    )?;
+        book: &book,
+    };
+    let buckets = buckets.as_slice();
+    statement(alloc, keeper, &mut text, &asked, moment, buckets)?;
     Ok(String::from_utf8(text)?)
 }
 
@@ -39,7 +36,12 @@ pub(crate) fn exported(
     let book = book(alloc)?;
     let month = Month::new(month).ok_or("a month")?;
     let mut text = Vec::new(alloc);
-    export(alloc, keeper, &mut text, &book, &account, month)?;
+    let asked = AccountMonth {
+        account: &account,
+        month,
+        book: &book,
+    };
+    export(alloc, keeper, &mut text, &asked)?;
     Ok(String::from_utf8(text)?)
 }
 

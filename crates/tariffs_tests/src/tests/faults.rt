@@ -4,11 +4,11 @@
 //! are changed. Expected faults are reckoned from the rules of the format.
 
 use crate::tests::documents::SMALL;
-use crate::tests::tables::{joined, try_changes};
+use crate::tests::tables::try_changes;
 use std::alloc::Global;
 use std::test::Fail;
 use tariffs::TariffBook;
-use worked_book::BOOK;
+use worked_book::{BOOK, joined};
 
 /// The fault's number with which a text is read; 0 where it is read as a book.
 pub(crate) fn outcome(alloc: Global, bytes: &[u8]) -> u8 {

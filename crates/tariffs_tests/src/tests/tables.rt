@@ -8,22 +8,7 @@ use crate::tests::switches::window_of_case;
 use std::alloc::Global;
 use std::process::Abort;
 use std::test::Fail;
-
-/// The text on fewer lines: one that begins with two spaces goes on with the one before it.
-pub(crate) fn joined(alloc: Global, text: &str) -> Result<String, Fail> {
-    Ok(text.replace(alloc, "\n  ", "")?)
-}
-
-/// The document with the changes of a case, joined by `&`, each `OLD -> NEW`.
-fn changed(rt: &impl Abort, alloc: Global, document: &str, changes: &str) -> Result<String, Fail> {
-    let mut text = joined(alloc, document)?;
-    for change in changes.split(" & ") {
-        let (old, new) = change.split_once(" -> ").ok_or("a change")?;
-        assert!(rt; text.as_str().contains(old), "{change}");
-        text = text.as_str().replace(alloc, old, new)?;
-    }
-    Ok(text)
-}
+use worked_book::{changed, joined};
 
 /// What the cases of a table tell.
 #[derive(Clone, Copy)]
@@ -79,7 +64,7 @@ pub(crate) fn try_changes(
     for line in cases.as_str().lines() {
         let line = line.replace(alloc, "|", "\n")?;
         let (fault, changes) = line.as_str().split_once(": ").ok_or("a case")?;
-        let text = changed(rt, alloc, document, changes)?;
+        let text = changed(alloc, document, changes)?;
         let told = outcome(alloc, text.as_str().as_bytes());
         assert_eq!(rt; told, fault.parse::<u8>()?, "{changes}");
     }

@@ -1,9 +1,10 @@
 //! Answers as they are read: each text gives a value that writes the same text.
 
-use crate::tests::tables::{Told, joined, try_told};
+use crate::tests::tables::{Told, try_told};
 use std::alloc::Global;
 use std::test::Fail;
 use wire::{read_answer, write_answer};
+use worked_book::joined;
 
 /// The text of the answer that the text is read as.
 fn again(alloc: Global, text: &[u8]) -> Result<String, Fail> {

@@ -1,6 +1,6 @@
 //! Members of objects, each read alone and written alone.
 
-use crate::tests::tables::{Told, joined, try_told};
+use crate::tests::tables::{Told, try_told};
 use commands::Avp;
 use json::Writer;
 use json_fields::{
@@ -12,6 +12,7 @@ use std::alloc::Global;
 use std::test::Fail;
 use units::UnitKind;
 use wire_requests::{account_number, request_kind, session_id};
+use worked_book::joined;
 
 const BODY: &str =
     r##"{"Session-Id":"s1","CC-Request-Type":2,"Subscription-Id":{"Subscription-Id-Type":0,

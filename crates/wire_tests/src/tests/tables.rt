@@ -7,11 +7,7 @@ use std::alloc::Global;
 use std::process::Abort;
 use std::test::Fail;
 use wire::read_request;
-
-/// The text on fewer lines: one that begins with two spaces goes on with the one before it.
-pub(crate) fn joined(alloc: Global, text: &str) -> Result<String, Fail> {
-    Ok(text.replace(alloc, "\n  ", "")?)
-}
+use worked_book::{changed, joined};
 
 /// How a request is read: `read`, or the fault.
 pub(crate) fn outcome(alloc: Global, body: &[u8]) -> Result<String, Fail> {
@@ -19,17 +15,6 @@ pub(crate) fn outcome(alloc: Global, body: &[u8]) -> Result<String, Fail> {
         Ok(_) => Ok(String::from_str(alloc, "read")?),
         Err(fault) => Ok(format!(in alloc; "{fault}")?),
     }
-}
-
-/// The document with the changes of a case, joined by `&`, each `OLD -> NEW`.
-fn changed(rt: &impl Abort, alloc: Global, document: &str, changes: &str) -> Result<String, Fail> {
-    let mut text = joined(alloc, document)?;
-    for change in changes.split(" & ") {
-        let (old, new) = change.split_once(" -> ").ok_or("a change")?;
-        assert!(rt; text.as_str().contains(old), "{change}");
-        text = text.as_str().replace(alloc, old, new)?;
-    }
-    Ok(text)
 }
 
 /// What the cases of a document say.
@@ -46,16 +31,10 @@ pub(crate) enum Case {
 }
 
 /// The body of a case.
-fn body_of(
-    rt: &impl Abort,
-    alloc: Global,
-    what: Case,
-    document: &str,
-    text: &str,
-) -> Result<String, Fail> {
+fn body_of(alloc: Global, what: Case, document: &str, text: &str) -> Result<String, Fail> {
     match what {
         Case::Text => Ok(document.replace(alloc, "HERE", text)?),
-        Case::Changes => changed(rt, alloc, document, text),
+        Case::Changes => changed(alloc, document, text),
         Case::Credit | Case::Redemption => Ok(String::from_str(alloc, text)?),
     }
 }
@@ -80,7 +59,7 @@ pub(crate) fn try_cases(
     let cases = joined(alloc, cases)?;
     for line in cases.as_str().lines() {
         let (expected, text) = line.split_once(": ").ok_or("a case")?;
-        let body = body_of(rt, alloc, what, document, text)?;
+        let body = body_of(alloc, what, document, text)?;
         let found = outcome_of(alloc, what, body.as_str().as_bytes())?;
         assert_eq!(rt; found.as_str(), expected, "{text}");
     }

@@ -1,7 +1,7 @@
-use Rattle.std.proofs.Common.{◌≡◌, ◌++◌, take, drop, ◌≤◌, length, true}
+use Rattle.std.proofs.Common.{◌≡◌, ◌++◌, take, drop}
 use Rattle.buckets.specs.Holding.{held_in, IsLeftWithin, with_rest_released}
 use Rattle.buckets.specs.Share.{along}
-use Rattle.buckets.specs.Merged.{AreMet}
+use Rattle.buckets.proofs.Meeting.{IsWalk}
 use Rattle.buckets.proofs.along.release_rest.Given as goal
 
 abbrev pub invariant-loop-bucket : goal.invariant-loop-bucket
@@ -11,7 +11,5 @@ invariant-loop-bucket l = record {
       (drop l.bucket-index l.bucket-items)
       ≡ along (with_rest_released l.holds l.at) (held_in l.holds) l.fn.amount l.fn.buckets.items;
   within : IsLeftWithin l.holds l.left (drop l.bucket-index l.bucket-items);
-  next : l.next ≤ length l.holds;
-  met : l.in_order ≡ true →
-      AreMet l.holds (drop l.next l.holds) (drop l.bucket-index l.bucket-items);
+  walk : IsWalk l.holds l.next l.in_order l.bucket-items l.bucket-index;
 }

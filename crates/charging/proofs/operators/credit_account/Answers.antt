@@ -1,6 +1,5 @@
 use Rattle.std.proofs.Common.{ap, refl, Some, None}
-use Rattle.reserving.specs.Stored.{stored}
-use Rattle.charging.proofs.Operated.{credit-told, credit-done}
+use Rattle.charging.proofs.Operated.{credit-told, credit-done, made_change, made_tells}
 use Rattle.charging.proofs.operators.credit_account.Goals as goal
 
 pub returns-in_ok-commit-in-Ok-Some-clause-served :
@@ -12,24 +11,12 @@ returns-in_ok-commit-in-Ok-Some-clause-served g c = λ clean b load fresh list t
     c.moment_on-moment.result fresh c.moment_on-moment.ensures.value c.in-Ok-Some.field-0
     c.add_bucket.new.account c.in-Ok-Some.ensures.credits
     c.in-Ok-Some.number
-    (record {
-      moment = c.add_bucket.new.account.as_of;
-      number = c.args.loaded.number;
-      after = stored c.add_bucket.new.account;
-      before = c.args.loaded.before;
-      charges = c.new.result;
-      kept = Some c.kept_credit-kept.result;
-      redeemed = None;
-    })
+    (made_change c.args.loaded c.add_bucket.new.account c.new.result
+    (Some c.kept_credit-kept.result) None)
     c.in-Ok-Some.field-0-is c.in-Ok-Some.ensures.tariff c.in-Ok-Some.ensures.moment
-    (record {
-      number = refl;
-      moment = refl;
-      after = refl;
-      charges = c.new.ensures.items;
-      kept_is = ap Some c.kept_credit-kept.ensures;
-      redeemed_is = refl;
-    })
+    (made_tells c.args.loaded c.add_bucket.new.account c.new.result
+    (Some c.kept_credit-kept.result) _ None None c.new.ensures.items
+    (ap Some c.kept_credit-kept.ensures) refl)
     (c.in_ok-commit-in-Ok-Some.ensures.done clean)
 
 pub returns-in-Ok-None-clause-served : goal.returns-in-Ok-None-clause-served

@@ -1,5 +1,5 @@
-use Rattle.std.proofs.Common.{ap, refl, Some}
-use Rattle.reserving.specs.Stored.{stored}
+use Rattle.std.proofs.Common.{ap, Some}
+use Rattle.charging.proofs.Operated.{made_change, made_tells}
 use Rattle.charging.proofs.Vouchered.{redeem-told, redeem-done}
 use Rattle.charging.proofs.voucher_commands.credit_redeemed.Goals as goal
 
@@ -13,24 +13,15 @@ returns-in_ok-commit-in-Ok-Some-clause-served g c = λ clean b load fresh code r
     c.moment_on-moment.result fresh c.moment_on-moment.ensures.value c.args.redeemed redeems
     c.in-Ok-Some.field-0 c.make_bucket.new.account c.in-Ok-Some.ensures.makes
     c.in-Ok-Some.number
-    (record {
-      moment = c.make_bucket.new.account.as_of;
-      number = c.args.loaded.number;
-      after = stored c.make_bucket.new.account;
-      before = c.args.loaded.before;
-      charges = c.new.result;
-      kept = Some c.kept_redemption-kept.result;
-      redeemed = Some (record { code = c.args.code; voucher = c.args.redeemed.voucher });
-    })
+    (made_change c.args.loaded c.make_bucket.new.account c.new.result
+    (Some c.kept_redemption-kept.result)
+    (Some (record { code = c.args.code; voucher = c.args.redeemed.voucher })))
     c.in-Ok-Some.field-0-is c.in-Ok-Some.ensures.tariff c.in-Ok-Some.ensures.moment
-    (record {
-      number = refl;
-      moment = refl;
-      after = refl;
-      charges = c.new.ensures.items;
-      kept_is = ap Some c.kept_redemption-kept.ensures;
-      redeemed_is = λ i. Some (record { code = code i; voucher = c.args.redeemed.voucher });
-    })
+    (made_tells c.args.loaded c.make_bucket.new.account c.new.result
+    (Some c.kept_redemption-kept.result) _
+    (Some (record { code = c.args.code; voucher = c.args.redeemed.voucher })) _ c.new.ensures.items
+    (ap Some c.kept_redemption-kept.ensures)
+    (λ i. Some (record { code = code i; voucher = c.args.redeemed.voucher })))
     (c.in_ok-commit-in-Ok-Some.ensures.done clean)
 
 pub returns-in-Ok-None-clause-served : goal.returns-in-Ok-None-clause-served

@@ -4,7 +4,6 @@ use Rattle.http_answers.specs.Asking.{IsAsked}
 use Rattle.http_answers.specs.Texts.{Begins}
 use Rattle.http_api.proofs.RequestReplies.{ok_gives, err_gives, refused_reply, unread_reply}
 use Rattle.http_api.proofs.RequestReplies.{statement_reply, owed_command, not_memory}
-use Rattle.http_api.proofs.StatementReplies.{continued_same}
 use Rattle.http_api.proofs.answering.answer_request.Goals as goal
 
 pub returns-in-Refused-clause-ok : goal.returns-in-Refused-clause-ok
@@ -51,16 +50,13 @@ returns-in-States-clause-err g c = λ clean. err_gives c.serve_statement.result
     (g.K.Keeper.content c.args.keeper.now) (g.K.Keeper.content c.serve_statement.new.keeper) replies
     asking (subst (IsAsked asking) c.in-States.is asked)) (c.serve_statement.ensures.err clean)
 
-pub returns-in-States-clause-continued : goal.returns-in-States-clause-continued
-returns-in-States-clause-continued g c = λ clean.
-    continued_same c.args.book.now (g.K.Keeper.content c.args.keeper.now)
-    (g.K.Keeper.content c.serve_statement.new.keeper) (c.serve_statement.ensures.same clean)
-
 pub returns-in-Refused-clause-memory : goal.returns-in-Refused-clause-memory
-returns-in-Refused-clause-memory g c = λ clean e. not_memory c.tell_refusal.result c.tell_refusal.ensures.fault e
+returns-in-Refused-clause-memory g c = λ clean e.
+    not_memory c.tell_refusal.result c.tell_refusal.ensures.fault e
 
 pub returns-in-Unread-clause-memory : goal.returns-in-Unread-clause-memory
-returns-in-Unread-clause-memory g c = λ clean e. not_memory c.tell_fault.result c.tell_fault.ensures.fault e
+returns-in-Unread-clause-memory g c = λ clean e.
+    not_memory c.tell_fault.result c.tell_fault.ensures.fault e
 
 pub returns-in-Does-clause-memory : goal.returns-in-Does-clause-memory
 returns-in-Does-clause-memory g c = λ clean e asking asked.
@@ -69,16 +65,5 @@ returns-in-Does-clause-memory g c = λ clean e asking asked.
     (c.serve_command.ensures.memory clean e) asking (subst (IsAsked asking) c.in-Does.is asked)
 
 pub returns-in-States-clause-memory : goal.returns-in-States-clause-memory
-returns-in-States-clause-memory g c = λ clean e. not_memory c.serve_statement.result c.serve_statement.ensures.fault e
-
-pub returns-in-Refused-clause-unwritten : goal.returns-in-Refused-clause-unwritten
-returns-in-Refused-clause-unwritten g c = λ e. not_memory c.tell_refusal.result c.tell_refusal.ensures.fault e
-
-pub returns-in-Unread-clause-unwritten : goal.returns-in-Unread-clause-unwritten
-returns-in-Unread-clause-unwritten g c = λ e. not_memory c.tell_fault.result c.tell_fault.ensures.fault e
-
-pub returns-in-Does-clause-unwritten : goal.returns-in-Does-clause-unwritten
-returns-in-Does-clause-unwritten g c = c.serve_command.ensures.unwritten
-
-pub returns-in-States-clause-unwritten : goal.returns-in-States-clause-unwritten
-returns-in-States-clause-unwritten g c = λ e. not_memory c.serve_statement.result c.serve_statement.ensures.fault e
+returns-in-States-clause-memory g c = λ clean e.
+    not_memory c.serve_statement.result c.serve_statement.ensures.fault e

@@ -15,7 +15,8 @@ returns-in_default-clause-ok g c = λ clean. ok_gives c.tell_unable.result
     c.tell_unable.ensures.ok
 
 pub returns-in_default-clause-memory : goal.returns-in_default-clause-memory
-returns-in_default-clause-memory g c = λ clean e. not_memory c.tell_unable.result c.tell_unable.ensures.fault e
+returns-in_default-clause-memory g c = λ clean e.
+    not_memory c.tell_unable.result c.tell_unable.ensures.fault e
 
 pub returns-in_default-clause-err : goal.returns-in_default-clause-err
 returns-in_default-clause-err g c = λ clean. err_gives c.tell_unable.result
@@ -53,12 +54,6 @@ returns-in-Ok-clause-memory g c = λ clean e.
     (subst (λ o. g.C.Clock.gives c.args.clock.now o c.now.new.self) c.in-Some.is c.now.ensures)
     (c.in-Ok.ensures.served clean) (c.tell_answer.ensures.memory e)
 
-pub returns-in-Ok-clause-continued : goal.returns-in-Ok-clause-continued
-returns-in-Ok-clause-continued g c = λ clean.
-    continued_step c.args.book.now c.args.command c.in-Some.moment
-    (g.K.Keeper.content c.args.keeper.now) (g.K.Keeper.content c.step.new.keeper) c.step.result
-    (c.step.ensures.served clean)
-
 pub returns-in-Err-clause-ok : goal.returns-in-Err-clause-ok
 returns-in-Err-clause-ok g c = λ clean. ok_gives c.tell_unable-in-Err.result
     (failed_reply g.C.Clock.gives c.args.book.now c.args.closes (Appends
@@ -78,13 +73,16 @@ returns-in-Err-clause-err g c = λ clean. err_gives c.tell_unable-in-Err.result
     (c.in-Err.ensures.served clean)) c.tell_unable-in-Err.ensures.err
 
 pub returns-in-Err-clause-memory : goal.returns-in-Err-clause-memory
-returns-in-Err-clause-memory g c = λ clean e. not_memory c.tell_unable-in-Err.result c.tell_unable-in-Err.ensures.fault e
+returns-in-Err-clause-memory g c = λ clean e.
+    not_memory c.tell_unable-in-Err.result c.tell_unable-in-Err.ensures.fault e
 
-pub returns-in_default-clause-unwritten : goal.returns-in_default-clause-unwritten
-returns-in_default-clause-unwritten g c = λ e. not_memory c.tell_unable.result c.tell_unable.ensures.fault e
-
-pub returns-in-Ok-clause-unwritten : goal.returns-in-Ok-clause-unwritten
-returns-in-Ok-clause-unwritten g c = c.tell_answer.ensures.unwritten
-
-pub returns-in-Err-clause-unwritten : goal.returns-in-Err-clause-unwritten
-returns-in-Err-clause-unwritten g c = λ e. not_memory c.tell_unable-in-Err.result c.tell_unable-in-Err.ensures.fault e
+pub returns-in-Ok-clause-goes_on : goal.returns-in-Ok-clause-goes_on
+returns-in-Ok-clause-goes_on g c = record {
+  unwritten = c.tell_answer.ensures.unwritten;
+  read = c.tell_answer.ensures.read;
+  continued = λ clean. continued_step c.args.book.now c.args.command c.in-Some.moment
+      (g.K.Keeper.content c.args.keeper.now) (g.K.Keeper.content c.step.new.keeper) c.step.result
+      (c.step.ensures.served clean);
+  cleanness = c.step.ensures.cleanness;
+  failures = c.step.ensures.cause.kept;
+}

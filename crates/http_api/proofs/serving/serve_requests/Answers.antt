@@ -1,11 +1,18 @@
-use Rattle.std.proofs.Common.{◌≡◌, ◌==◌, refl, le_refl, arith, Err}
+use Rattle.std.proofs.Common.{◌≡◌, ◌==◌, ℕ, List, refl, le_refl, arith, Result, Ok, Err, IfOk}
+use Rattle.std.proofs.Common.{IfSome}
+use Rattle.std.specs.Prelude.{IsErrAnd}
 use Rattle.byte_streams.specs.declared.StreamFault.TheVariants as broken
+use Rattle.charging.specs.Continued.{Continues}
+use Rattle.http_answers.specs.Asking.{Asking, IsAsked}
+use Rattle.http_api.specs.Replies.{Replies}
 use Rattle.http_api.proofs.RequestReplies.{at_err, fault_told}
 use Rattle.http_api.proofs.Continuing.{continued_none, continued_more}
+use Rattle.http_api.proofs.Taking.{IsOneMore, taken_one, some_left, turns-more}
 use Rattle.http_api.proofs.Taking.{so_far-none, so_far-more, so_far-closed, so_far-broken}
-use Rattle.http_api.proofs.Taking.{so_far-ended, so_far-full, so_far-begun, some_left, turns-more}
+use Rattle.http_api.proofs.Taking.{so_far-ended, so_far-full, so_far-begun}
 use Rattle.http_api.proofs.Taking.{so_far-short, so_far-owed, so_far-unread, so_far-cut}
 use Rattle.http_api.proofs.serving.serve_requests.Goals as goal
+use Rattle.http_api.proofs.serving.serve_requests.Goals.{After-answer_request}
 
 pub loop-served-init : goal.loop-served-init
 loop-served-init g c = record {
@@ -18,131 +25,162 @@ loop-served-init g c = record {
   failures = le_refl (g.K.Keeper.failed c.args.keeper.now);
 }
 
-pub returns-in_err-heard-clause-begun : goal.returns-in_err-heard-clause-begun
-returns-in_err-heard-clause-begun g c = λ clean. at_err c.from_residual.result
-    (so_far-begun g.C.Clock.gives c.args.book.now c.loop-served.served c.loop-served.left
-    (g.R.Read.remaining c.args.reader.now) (g.R.Read.remaining c.loop-served.reader)
-    c.args.clock.now c.loop-served.clock (g.W.Write.contents c.args.writer.now)
-    (g.W.Write.contents c.loop-served.writer) (g.K.Keeper.content c.args.keeper.now)
-    (g.K.Keeper.content c.loop-served.keeper)
-    (omega (arith, c.loop-served.invariant.turns)) (c.loop-served.invariant.so_far clean))
-
-pub returns-in_err-heard-clause-memory : goal.returns-in_err-heard-clause-memory
-returns-in_err-heard-clause-memory g c = λ clean e.
-    so_far-short g.C.Clock.gives c.args.book.now c.loop-served.served c.loop-served.left
-    (g.R.Read.remaining c.args.reader.now) (g.R.Read.remaining c.loop-served.reader)
-    c.args.clock.now c.loop-served.clock (g.W.Write.contents c.args.writer.now)
-    (g.W.Write.contents c.loop-served.writer) (g.K.Keeper.content c.args.keeper.now)
-    (g.K.Keeper.content c.loop-served.keeper) (c.loop-served.invariant.so_far clean)
-
-pub returns-in_err-heard-clause-read : goal.returns-in_err-heard-clause-read
-returns-in_err-heard-clause-read g c = λ clean e.
-    so_far-unread g.C.Clock.gives c.args.book.now c.loop-served.served c.loop-served.left
-    (g.R.Read.remaining c.args.reader.now) (g.R.Read.remaining c.loop-served.reader)
-    c.args.clock.now c.loop-served.clock (g.W.Write.contents c.args.writer.now)
-    (g.W.Write.contents c.loop-served.writer) (g.K.Keeper.content c.args.keeper.now)
-    (g.K.Keeper.content c.loop-served.keeper) c.loop-served-test.true
-    (some_left c.loop-served.left c.loop-served.served c.loop-served.invariant.turns
-    c.loop-served-test.true) (c.loop-served.invariant.so_far clean)
-
-pub returns-in_err-heard-clause-write : goal.returns-in_err-heard-clause-write
-returns-in_err-heard-clause-write g c = λ clean e. absurd (c.hear.ensures.fault (fault_told
-    c.hear.result c.from_residual.result _ broken.Write c.in_err-heard.was
-    c.from_residual.ensures.1 e))
-
-pub returns-in_default-clause-served : goal.returns-in_default-clause-served
-returns-in_default-clause-served g c = λ clean.
-    so_far-ended g.C.Clock.gives c.args.book.now c.loop-served.served c.loop-served.left
-    (g.R.Read.remaining c.args.reader.now) (g.R.Read.remaining c.loop-served.reader)
-    (g.R.Read.remaining c.hear.new.reader) c.args.clock.now c.loop-served.clock
-    (g.W.Write.contents c.args.writer.now) (g.W.Write.contents c.loop-served.writer)
-    (g.K.Keeper.content c.args.keeper.now) (g.K.Keeper.content c.loop-served.keeper)
-    c.in_ok-heard.field-0 c.in_default.is
-    (c.loop-served.invariant.so_far clean) c.in_ok-heard.ensures.heard
-
-pub returns-in_err-answer_request-clause-begun : goal.returns-in_err-answer_request-clause-begun
-returns-in_err-answer_request-clause-begun g c =
-    λ clean. at_err c.from_residual-in_err-answer_request.result
-    (so_far-broken g.C.Clock.gives c.args.book.now c.loop-served.served c.loop-served.left
-    c.left_after-left.result (c.left_after-left.result == 0) (g.R.Read.remaining c.args.reader.now)
-    (g.R.Read.remaining c.loop-served.reader) (g.R.Read.remaining c.hear.new.reader)
-    c.args.clock.now c.loop-served.clock c.answer_request.new.clock
-    (g.W.Write.contents c.args.writer.now) (g.W.Write.contents c.loop-served.writer)
-    (g.W.Write.contents c.answer_request.new.writer)
-    (g.K.Keeper.content c.args.keeper.now) (g.K.Keeper.content c.loop-served.keeper)
-    (g.K.Keeper.content c.answer_request.new.keeper) c.in_ok-heard.field-0 c.in-Some.heard
-    (some_left c.loop-served.left c.loop-served.served c.loop-served.invariant.turns
-    c.loop-served-test.true) c.in-Some.is c.left_after-left.ensures refl c.loop-served-test.true
-    (c.loop-served.invariant.so_far (c.answer_request.ensures.cleanness clean))
-    c.in_ok-heard.ensures.heard (c.in_err-answer_request.ensures.err clean))
-
-pub returns-in_err-answer_request-clause-memory : goal.returns-in_err-answer_request-clause-memory
-returns-in_err-answer_request-clause-memory g c = λ clean e.
-    let refused : c.answer_request.result ≡ Err broken.Memory =
-    fault_told c.answer_request.result c.from_residual-in_err-answer_request.result _ broken.Memory
-    c.in_err-answer_request.was c.from_residual-in_err-answer_request.ensures.1 e in
-    so_far-owed g.C.Clock.gives c.args.book.now c.loop-served.served c.loop-served.left
-    (g.R.Read.remaining c.args.reader.now) (g.R.Read.remaining c.loop-served.reader)
-    (g.R.Read.remaining c.hear.new.reader) c.args.clock.now c.loop-served.clock
+-- one request more was heard, and its answer is written so
+one_more : (g : _) (c : After-answer_request g) (Writes : List ℕ → Type 0) →
+    g.K.Keeper.clean c.answer_request.new.keeper →
+    ((asking : Asking) → IsAsked asking c.in-Some.heard.asked →
+    Replies g.C.Clock.gives c.args.book.now asking (c.left_after-left.result == 0)
+    c.loop-served.clock c.answer_request.new.clock Writes (g.K.Keeper.content c.loop-served.keeper)
+    (g.K.Keeper.content c.answer_request.new.keeper)) →
+    IfSome (g.R.Read.remaining c.args.reader.now) (λ stream.
+    IsOneMore g.C.Clock.gives c.args.book.now stream c.loop-served.served c.loop-served.left
+    c.in-Some.heard.closes (g.R.Read.remaining c.hear.new.reader) c.args.clock.now
     c.answer_request.new.clock (g.W.Write.contents c.args.writer.now)
-    (g.W.Write.contents c.loop-served.writer) (g.W.Write.contents c.answer_request.new.writer)
-    (g.K.Keeper.content c.args.keeper.now) (g.K.Keeper.content c.loop-served.keeper)
-    (g.K.Keeper.content c.answer_request.new.keeper) c.in_ok-heard.field-0 c.in-Some.heard
-    c.in-Some.is (c.answer_request.ensures.unwritten refused)
-    (c.loop-served.invariant.so_far (c.answer_request.ensures.cleanness clean))
-    c.in_ok-heard.ensures.heard (c.answer_request.ensures.memory clean refused)
-
-pub returns-in_err-answer_request-clause-read : goal.returns-in_err-answer_request-clause-read
-returns-in_err-answer_request-clause-read g c = λ clean e.
-    absurd (c.answer_request.ensures.read (fault_told c.answer_request.result
-    c.from_residual-in_err-answer_request.result _ broken.Read c.in_err-answer_request.was
-    c.from_residual-in_err-answer_request.ensures.1 e))
-
-pub returns-in_err-answer_request-clause-write : goal.returns-in_err-answer_request-clause-write
-returns-in_err-answer_request-clause-write g c = λ clean e.
-    so_far-cut g.C.Clock.gives c.args.book.now c.loop-served.served c.loop-served.left
-    c.left_after-left.result (c.left_after-left.result == 0) (g.R.Read.remaining c.args.reader.now)
-    (g.R.Read.remaining c.loop-served.reader) (g.R.Read.remaining c.hear.new.reader)
-    c.args.clock.now c.loop-served.clock c.answer_request.new.clock
-    (g.W.Write.contents c.args.writer.now) (g.W.Write.contents c.loop-served.writer)
-    (g.W.Write.contents c.answer_request.new.writer)
-    (g.K.Keeper.content c.args.keeper.now) (g.K.Keeper.content c.loop-served.keeper)
-    (g.K.Keeper.content c.answer_request.new.keeper) c.in_ok-heard.field-0 c.in-Some.heard
-    (some_left c.loop-served.left c.loop-served.served c.loop-served.invariant.turns
-    c.loop-served-test.true) c.in-Some.is c.left_after-left.ensures refl c.loop-served-test.true
-    (c.loop-served.invariant.so_far (c.answer_request.ensures.cleanness clean))
-    c.in_ok-heard.ensures.heard (c.in_err-answer_request.ensures.err clean)
-
-pub returns-in_err-answer_request-clause-continued :
-    goal.returns-in_err-answer_request-clause-continued
-returns-in_err-answer_request-clause-continued g c = λ clean.
-    continued_more c.args.book.now (g.K.Keeper.content c.args.keeper.now)
-    (g.K.Keeper.content c.loop-served.keeper) (g.K.Keeper.content c.answer_request.new.keeper)
-    (c.loop-served.invariant.continued (c.answer_request.ensures.cleanness clean))
-    (c.answer_request.ensures.continued clean)
-
-pub returns-then-left-eq0-clause-served : goal.returns-then-left-eq0-clause-served
-returns-then-left-eq0-clause-served g c = λ clean.
-    so_far-closed g.C.Clock.gives c.args.book.now c.loop-served.served c.one_more.result.requests
+    (g.W.Write.contents c.loop-served.writer) Writes (g.K.Keeper.content c.args.keeper.now)
+    (g.K.Keeper.content c.answer_request.new.keeper))
+one_more g c Writes clean replies = taken_one g.C.Clock.gives c.args.book.now c.loop-served.served
     c.loop-served.left c.left_after-left.result (c.left_after-left.result == 0)
     (g.R.Read.remaining c.args.reader.now) (g.R.Read.remaining c.loop-served.reader)
     (g.R.Read.remaining c.hear.new.reader) c.args.clock.now c.loop-served.clock
     c.answer_request.new.clock (g.W.Write.contents c.args.writer.now)
-    (g.W.Write.contents c.loop-served.writer) (g.W.Write.contents c.answer_request.new.writer)
-    (g.K.Keeper.content c.args.keeper.now) (g.K.Keeper.content c.loop-served.keeper)
-    (g.K.Keeper.content c.answer_request.new.keeper) c.in_ok-heard.field-0 c.in-Some.heard
-    c.one_more.ensures (some_left c.loop-served.left c.loop-served.served
-    c.loop-served.invariant.turns c.loop-served-test.true) c.in-Some.is c.left_after-left.ensures
-    refl c.if-left-eq0.true
-    (c.loop-served.invariant.so_far (c.answer_request.ensures.cleanness clean))
-    c.in_ok-heard.ensures.heard (c.in_ok-answer_request.ensures.ok clean)
-
-pub returns-then-left-eq0-clause-continued : goal.returns-then-left-eq0-clause-continued
-returns-then-left-eq0-clause-continued g c = λ clean.
-    continued_more c.args.book.now (g.K.Keeper.content c.args.keeper.now)
+    (g.W.Write.contents c.loop-served.writer) Writes (g.K.Keeper.content c.args.keeper.now)
     (g.K.Keeper.content c.loop-served.keeper) (g.K.Keeper.content c.answer_request.new.keeper)
-    (c.loop-served.invariant.continued (c.answer_request.ensures.cleanness clean))
-    (c.answer_request.ensures.continued clean)
+    c.in_ok-heard.field-0 c.in-Some.heard
+    (some_left c.loop-served.left c.loop-served.served c.loop-served.invariant.turns
+    c.loop-served-test.true) c.in-Some.is c.left_after-left.ensures refl
+    (c.loop-served.invariant.so_far (c.answer_request.ensures.goes_on.cleanness clean))
+    c.in_ok-heard.ensures.heard replies
+
+-- and the accepted commands went on
+continued : (g : _) (c : After-answer_request g) →
+    g.K.Keeper.clean c.answer_request.new.keeper →
+    Continues c.args.book.now (g.K.Keeper.content c.args.keeper.now)
+    (g.K.Keeper.content c.answer_request.new.keeper)
+continued g c clean = continued_more c.args.book.now (g.K.Keeper.content c.args.keeper.now)
+    (g.K.Keeper.content c.loop-served.keeper) (g.K.Keeper.content c.answer_request.new.keeper)
+    (c.loop-served.invariant.continued (c.answer_request.ensures.goes_on.cleanness clean))
+    (c.answer_request.ensures.goes_on.continued clean)
+
+-- what failed gives no value
+no_value : {A E : Type 0} (r : Result A E) (Fault : E → Type 0) (Value : A → Type 0) →
+    IsErrAnd r Fault → IfOk r Value
+no_value (Ok x) Fault Value fails = absurd fails
+no_value (Err fault) Fault Value fails = tt
+
+pub returns-in_err-heard : goal.returns-in_err-heard
+returns-in_err-heard g c = record {
+  served = λ clean. no_value c.from_residual.result _ _ c.from_residual.ensures.1;
+  begun = λ clean. at_err c.from_residual.result
+      (so_far-begun g.C.Clock.gives c.args.book.now c.loop-served.served c.loop-served.left
+      (g.R.Read.remaining c.args.reader.now) (g.R.Read.remaining c.loop-served.reader)
+      c.args.clock.now c.loop-served.clock (g.W.Write.contents c.args.writer.now)
+      (g.W.Write.contents c.loop-served.writer) (g.K.Keeper.content c.args.keeper.now)
+      (g.K.Keeper.content c.loop-served.keeper)
+      (omega (arith, c.loop-served.invariant.turns)) (c.loop-served.invariant.so_far clean));
+  memory = λ clean e.
+      so_far-short g.C.Clock.gives c.args.book.now c.loop-served.served c.loop-served.left
+      (g.R.Read.remaining c.args.reader.now) (g.R.Read.remaining c.loop-served.reader)
+      c.args.clock.now c.loop-served.clock (g.W.Write.contents c.args.writer.now)
+      (g.W.Write.contents c.loop-served.writer) (g.K.Keeper.content c.args.keeper.now)
+      (g.K.Keeper.content c.loop-served.keeper) (c.loop-served.invariant.so_far clean);
+  read = λ clean e.
+      so_far-unread g.C.Clock.gives c.args.book.now c.loop-served.served c.loop-served.left
+      (g.R.Read.remaining c.args.reader.now) (g.R.Read.remaining c.loop-served.reader)
+      c.args.clock.now c.loop-served.clock (g.W.Write.contents c.args.writer.now)
+      (g.W.Write.contents c.loop-served.writer) (g.K.Keeper.content c.args.keeper.now)
+      (g.K.Keeper.content c.loop-served.keeper) c.loop-served-test.true
+      (some_left c.loop-served.left c.loop-served.served c.loop-served.invariant.turns
+      c.loop-served-test.true) (c.loop-served.invariant.so_far clean);
+  write = λ clean e. absurd (c.hear.ensures.fault (fault_told c.hear.result c.from_residual.result _
+      broken.Write c.in_err-heard.was c.from_residual.ensures.1 e));
+  bounded = no_value c.from_residual.result _ _ c.from_residual.ensures.1;
+  continued = c.loop-served.invariant.continued;
+  cleanness = c.loop-served.invariant.cleanness;
+  failures = c.loop-served.invariant.failures;
+}
+
+pub returns-in_default : goal.returns-in_default
+returns-in_default g c = record {
+  served = λ clean.
+      so_far-ended g.C.Clock.gives c.args.book.now c.loop-served.served c.loop-served.left
+      (g.R.Read.remaining c.args.reader.now) (g.R.Read.remaining c.loop-served.reader)
+      (g.R.Read.remaining c.hear.new.reader) c.args.clock.now c.loop-served.clock
+      (g.W.Write.contents c.args.writer.now) (g.W.Write.contents c.loop-served.writer)
+      (g.K.Keeper.content c.args.keeper.now) (g.K.Keeper.content c.loop-served.keeper)
+      c.in_ok-heard.field-0 c.in_default.is
+      (c.loop-served.invariant.so_far clean) c.in_ok-heard.ensures.heard;
+  begun = λ clean. tt;
+  memory = λ clean e. absurd (cc);
+  read = λ clean e. absurd (cc);
+  write = λ clean e. absurd (cc);
+  bounded = omega (arith, c.loop-served.invariant.turns);
+  continued = c.loop-served.invariant.continued;
+  cleanness = c.loop-served.invariant.cleanness;
+  failures = c.loop-served.invariant.failures;
+}
+
+pub returns-in_err-answer_request : goal.returns-in_err-answer_request
+returns-in_err-answer_request g c = record {
+  served = λ clean. no_value c.from_residual-in_err-answer_request.result _ _
+      c.from_residual-in_err-answer_request.ensures.1;
+  begun = λ clean. at_err c.from_residual-in_err-answer_request.result
+      (so_far-broken g.C.Clock.gives c.args.book.now c.loop-served.served c.loop-served.left
+      c.in-Some.heard.closes (g.R.Read.remaining c.args.reader.now) _ _ _ _
+      (g.W.Write.contents c.loop-served.writer) _ _ _ c.loop-served-test.true
+      (one_more g (goal.at.returns-in_err-answer_request g c).After-answer_request _ clean
+      (c.in_err-answer_request.ensures.err clean)));
+  memory = λ clean e.
+      let refused : c.answer_request.result ≡ Err broken.Memory =
+      fault_told c.answer_request.result c.from_residual-in_err-answer_request.result _
+      broken.Memory
+      c.in_err-answer_request.was c.from_residual-in_err-answer_request.ensures.1 e in
+      so_far-owed g.C.Clock.gives c.args.book.now c.loop-served.served c.loop-served.left
+      (g.R.Read.remaining c.args.reader.now) (g.R.Read.remaining c.loop-served.reader)
+      (g.R.Read.remaining c.hear.new.reader) c.args.clock.now c.loop-served.clock
+      c.answer_request.new.clock (g.W.Write.contents c.args.writer.now)
+      (g.W.Write.contents c.loop-served.writer) (g.W.Write.contents c.answer_request.new.writer)
+      (g.K.Keeper.content c.args.keeper.now) (g.K.Keeper.content c.loop-served.keeper)
+      (g.K.Keeper.content c.answer_request.new.keeper) c.in_ok-heard.field-0 c.in-Some.heard
+      c.in-Some.is (c.answer_request.ensures.goes_on.unwritten refused)
+      (c.loop-served.invariant.so_far (c.answer_request.ensures.goes_on.cleanness clean))
+      c.in_ok-heard.ensures.heard (c.answer_request.ensures.memory clean refused);
+  read = λ clean e. absurd (c.answer_request.ensures.goes_on.read (fault_told c.answer_request.result
+      c.from_residual-in_err-answer_request.result _ broken.Read c.in_err-answer_request.was
+      c.from_residual-in_err-answer_request.ensures.1 e));
+  write = λ clean e.
+      so_far-cut g.C.Clock.gives c.args.book.now c.loop-served.served c.loop-served.left
+      c.in-Some.heard.closes (g.R.Read.remaining c.args.reader.now) _ _ _ _
+      (g.W.Write.contents c.loop-served.writer) _ _ _ c.loop-served-test.true
+      (one_more g (goal.at.returns-in_err-answer_request g c).After-answer_request _ clean
+      (c.in_err-answer_request.ensures.err clean));
+  bounded = no_value c.from_residual-in_err-answer_request.result _ _
+      c.from_residual-in_err-answer_request.ensures.1;
+  continued = continued g (goal.at.returns-in_err-answer_request g c).After-answer_request;
+  cleanness = λ clean.
+      c.loop-served.invariant.cleanness (c.answer_request.ensures.goes_on.cleanness clean);
+  failures = omega (arith, c.loop-served.invariant.failures, c.answer_request.ensures.goes_on.failures);
+}
+
+pub returns-then-left-eq0 : goal.returns-then-left-eq0
+returns-then-left-eq0 g c = record {
+  served = λ clean.
+      so_far-closed g.C.Clock.gives c.args.book.now c.loop-served.served c.one_more.result.requests
+      c.loop-served.left c.left_after-left.result c.in-Some.heard.closes
+      (g.R.Read.remaining c.args.reader.now) (g.R.Read.remaining c.hear.new.reader) _ _ _
+      (g.W.Write.contents c.loop-served.writer) _ _ _ c.one_more.ensures c.left_after-left.ensures
+      c.if-left-eq0.true
+      (one_more g (goal.at.returns-then-left-eq0 g c).After-answer_request _ clean
+      (c.in_ok-answer_request.ensures.ok clean));
+  begun = λ clean. tt;
+  memory = λ clean e. absurd (cc);
+  read = λ clean e. absurd (cc);
+  write = λ clean e. absurd (cc);
+  bounded = omega (arith, c.one_more.ensures, c.loop-served-test.true);
+  continued = continued g (goal.at.returns-then-left-eq0 g c).After-answer_request;
+  cleanness = λ clean.
+      c.loop-served.invariant.cleanness (c.answer_request.ensures.goes_on.cleanness clean);
+  failures = omega (arith, c.loop-served.invariant.failures, c.answer_request.ensures.goes_on.failures);
+}
 
 pub loop-served-preserved : goal.loop-served-preserved
 loop-served-preserved g c = record {
@@ -151,35 +189,34 @@ loop-served-preserved g c = record {
       c.loop-served.invariant.turns;
   so_far = λ clean.
       so_far-more g.C.Clock.gives c.args.book.now c.loop-served.served c.loop-served.left
-      c.left_after-left.result (c.left_after-left.result == 0)
-      (g.R.Read.remaining c.args.reader.now) (g.R.Read.remaining c.loop-served.reader)
-      (g.R.Read.remaining c.hear.new.reader) c.args.clock.now c.loop-served.clock
-      c.answer_request.new.clock (g.W.Write.contents c.args.writer.now)
-      (g.W.Write.contents c.loop-served.writer) (g.W.Write.contents c.answer_request.new.writer)
-      (g.K.Keeper.content c.args.keeper.now) (g.K.Keeper.content c.loop-served.keeper)
-      (g.K.Keeper.content c.answer_request.new.keeper) c.in_ok-heard.field-0 c.in-Some.heard
-      (some_left c.loop-served.left c.loop-served.served c.loop-served.invariant.turns
-      c.loop-served-test.true) c.in-Some.is c.left_after-left.ensures refl c.if-left-eq0.false
-      (c.loop-served.invariant.so_far (c.answer_request.ensures.cleanness clean))
-      c.in_ok-heard.ensures.heard (c.in_ok-answer_request.ensures.ok clean);
-  continued = λ clean.
-      continued_more c.args.book.now (g.K.Keeper.content c.args.keeper.now)
-      (g.K.Keeper.content c.loop-served.keeper) (g.K.Keeper.content c.answer_request.new.keeper)
-      (c.loop-served.invariant.continued (c.answer_request.ensures.cleanness clean))
-      (c.answer_request.ensures.continued clean);
-  cleanness = λ clean. c.loop-served.invariant.cleanness (c.answer_request.ensures.cleanness clean);
-  failures = omega (arith, c.loop-served.invariant.failures, c.answer_request.ensures.failures);
+      c.left_after-left.result c.in-Some.heard.closes (g.R.Read.remaining c.args.reader.now) _ _ _ _
+      (g.W.Write.contents c.loop-served.writer) _ _ _ c.left_after-left.ensures
+      c.if-left-eq0.false (one_more g (goal.at.loop-served-preserved g c).After-answer_request _
+      clean (c.in_ok-answer_request.ensures.ok clean));
+  continued = continued g (goal.at.loop-served-preserved g c).After-answer_request;
+  cleanness = λ clean. c.loop-served.invariant.cleanness (c.answer_request.ensures.goes_on.cleanness clean);
+  failures = omega (arith, c.loop-served.invariant.failures, c.answer_request.ensures.goes_on.failures);
 }
 
-pub returns-clause-served : goal.returns-clause-served
-returns-clause-served g c = λ clean.
-    so_far-full g.C.Clock.gives c.args.book.now c.loop-served.served 1000 c.loop-served.left
-    (g.R.Read.remaining c.args.reader.now) (g.R.Read.remaining c.loop-served.reader)
-    c.args.clock.now c.loop-served.clock (g.W.Write.contents c.args.writer.now)
-    (g.W.Write.contents c.loop-served.writer) (g.K.Keeper.content c.args.keeper.now)
-    (g.K.Keeper.content c.loop-served.keeper)
-    (omega (arith, c.loop-served.invariant.turns, c.loop-served-test.false)) (omega (
-      arith,
-      c.loop-served.invariant.turns,
-      c.loop-served-test.false,
-    )) (c.loop-served.invariant.so_far clean)
+pub returns : goal.returns
+returns g c = record {
+  served = λ clean.
+      so_far-full g.C.Clock.gives c.args.book.now c.loop-served.served 1000 c.loop-served.left
+      (g.R.Read.remaining c.args.reader.now) (g.R.Read.remaining c.loop-served.reader)
+      c.args.clock.now c.loop-served.clock (g.W.Write.contents c.args.writer.now)
+      (g.W.Write.contents c.loop-served.writer) (g.K.Keeper.content c.args.keeper.now)
+      (g.K.Keeper.content c.loop-served.keeper)
+      (omega (arith, c.loop-served.invariant.turns, c.loop-served-test.false)) (omega (
+        arith,
+        c.loop-served.invariant.turns,
+        c.loop-served-test.false,
+      )) (c.loop-served.invariant.so_far clean);
+  begun = λ clean. tt;
+  memory = λ clean e. absurd (cc);
+  read = λ clean e. absurd (cc);
+  write = λ clean e. absurd (cc);
+  bounded = omega arith;
+  continued = c.loop-served.invariant.continued;
+  cleanness = c.loop-served.invariant.cleanness;
+  failures = c.loop-served.invariant.failures;
+}

@@ -1,5 +1,5 @@
 use Rattle.std.proofs.Common.{◌≡◌, ◌+◌, ◌≤◌, IfSome}
-use Rattle.http_api.specs.Replies.{ForEachList, IsContinued}
+use Rattle.charging.specs.Continued.{ForEachList, IsContinued}
 use Rattle.http_api.proofs.Taking.{IsSoFar}
 use Rattle.http_api.proofs.serving.serve_requests.Given as goal
 

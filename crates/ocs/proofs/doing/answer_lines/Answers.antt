@@ -4,12 +4,12 @@ use Rattle.ocs.proofs.doing.answer_lines.Goals as goal
 
 pub returns-clause-done : goal.returns-clause-done
 returns-clause-done g c = once-answered c.lines.result _ _ _ _ _ _ _ _ c.in_ok-book.ensures
-    c.new-keeper.ensures.content (c.lines.ensures.answered tt)
+    c.new-keeper.ensures.content (c.lines.ensures.answers.answered tt)
 
 pub returns-clause-fault : goal.returns-clause-fault
 returns-clause-fault g c = once-begun c.lines.result _ _ _ _ _ _ _ _ c.in_ok-book.ensures
-    c.new-keeper.ensures.content (c.lines.ensures.begun tt)
+    c.new-keeper.ensures.content (c.lines.ensures.answers.begun tt)
 
 pub returns-clause-reached : goal.returns-clause-reached
-returns-clause-reached g c = reached_lines c.lines.result c.lines.ensures.cause
-    c.lines.ensures.cause_of_both
+returns-clause-reached g c = reached_lines c.lines.result c.lines.ensures.answers.cause
+    c.lines.ensures.answers.cause_of_both

@@ -1,6 +1,7 @@
 use Rattle.std.proofs.Common.{◌≡◌, List, length, sym, subst, ◌∙◌}
 use Rattle.commands.specs.declared.answer.Answer.{Answer}
-use Rattle.ocs.specs.Served.{ForEachList, IsRunOpened}
+use Rattle.charging.specs.Continued.{ForEachList}
+use Rattle.ocs.specs.Served.{IsRunOpened}
 use Rattle.ocs.proofs.Answered.{where_none, opening-stopped, requests-run}
 use Rattle.ocs.proofs.lines.run_opened.Goals as goal
 

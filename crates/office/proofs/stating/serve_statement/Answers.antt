@@ -1,5 +1,8 @@
+use Rattle.std.proofs.Common.{subst, sym}
+use Rattle.office.specs.Months.{IsMonthTold, OnlyReads, month_ended}
 use Rattle.office.proofs.Beginnings.{nothing_written}
-use Rattle.office.proofs.MonthLemmas.{ended_so, month_told, nothing_told, unknown_told}
+use Rattle.office.proofs.MonthLemmas.{ended_done, month_told, nothing_told, reads_asked}
+use Rattle.office.proofs.MonthLemmas.{tells_ended, unknown_told}
 use Rattle.office.proofs.stating.serve_statement.Goals as goal
 
 pub returns-in-Err-clause-told : goal.returns-in-Err-clause-told
@@ -10,13 +13,17 @@ returns-in-Err-clause-told g c = λ clean.
 
 pub returns-in-Some-clause-told : goal.returns-in-Some-clause-told
 returns-in-Some-clause-told g c = λ clean.
-    let viewed = c.tell_month.ensures.reads.cleanness clean in
-    month_told c.args.book.now c.args.query.now c.args.moment (g.K.Keeper.content c.args.keeper.now)
-    (g.W.Write.contents c.args.writer.now) (g.W.Write.contents c.tell_month.new.writer)
-    c.in-Ok.state c.in-Some.state
-    (g.K.Keeper.content c.account_state.new.keeper) c.tell_month.result
+    let viewed = c.write_month.ensures.asks.cleanness clean in
+    let b = c.args.book.now in
+    let q = c.args.query.now in
+    let old = g.K.Keeper.content c.args.keeper.now in
+    let w0 = g.W.Write.contents c.args.writer.now in
+    let w1 = g.W.Write.contents c.write_month.new.writer in
+    subst (IsMonthTold b q c.args.moment old w0 w1) (sym c.month_ended.ensures)
+    (month_told b q c.args.moment old w0 w1 c.in-Ok.state c.in-Some.state
+    (g.K.Keeper.content c.account_state.new.keeper) (month_ended c.write_month.result)
     (c.in-Ok.ensures.found viewed) c.in-Some.is (c.in-Ok.ensures.same viewed)
-    (c.tell_month.ensures.told clean)
+    (tells_ended _ _ _ _ c.write_month.result (c.write_month.ensures.writes clean)))
 
 pub returns-in-None-clause-told : goal.returns-in-None-clause-told
 returns-in-None-clause-told g c = λ clean.
@@ -34,5 +41,14 @@ returns-in-None-clause-reads g c = record {
   cause = λ failed. absurd (c.tell_unknown.ensures.unstored failed);
 }
 
+pub returns-in-Some-clause-reads : goal.returns-in-Some-clause-reads
+returns-in-Some-clause-reads g c =
+    subst (OnlyReads g.K.Keeper.content g.K.Keeper.failed g.K.Keeper.clean c.args.keeper.now
+    c.write_month.new.keeper) (sym c.month_ended.ensures)
+    (reads_asked g.K.Keeper.content g.K.Keeper.failed g.K.Keeper.clean c.args.keeper.now
+    c.account_state.new.keeper c.write_month.new.keeper c.write_month.result c.in-Ok.ensures.same
+    c.in-Ok.ensures.cleanness c.in-Ok.ensures.cause.kept c.write_month.ensures.asks)
+
 pub returns-in-Some-clause-ended : goal.returns-in-Some-clause-ended
-returns-in-Some-clause-ended g c = ended_so c.tell_month.result _ c.tell_month.ensures.ended
+returns-in-Some-clause-ended g c =
+    ended_done c.write_month.result c.month_ended.result _ c.month_ended.ensures

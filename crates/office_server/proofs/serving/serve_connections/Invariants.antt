@@ -1,5 +1,5 @@
 use Rattle.std.proofs.Common.{◌≤◌}
-use Rattle.http_api.specs.Replies.{ForEachList, IsContinued}
+use Rattle.charging.specs.Continued.{ForEachList, IsContinued}
 use Rattle.office_server.specs.Told.{TellsFaults}
 use Rattle.office_server.proofs.serving.serve_connections.Given as goal
 

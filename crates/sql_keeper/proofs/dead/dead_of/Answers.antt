@@ -1,5 +1,5 @@
 use Rattle.std.proofs.Common.{map, ◌≡◌, List, IfOk, subst}
-use Rattle.sql_rows.specs.declared.bucket_rows.BucketColumns.{BucketColumns}
+use Rattle.buckets.specs.declared.bucket.columns.Columns.{Columns as BucketColumns}
 use Rattle.sql_rows.specs.Content.{rows_in}
 use Rattle.sql_rows.specs.Texts.{bucket_row}
 use Rattle.sql_keeper.proofs.DeadRows.{dead_made}

@@ -1,51 +1,27 @@
 use Rattle.std.proofs.Common.{◌≡◌, ◌∙◌, length, arith}
 use Rattle.std.proofs.lemmas.Result.{err_from_is_err_and}
 use Rattle.sqlite.specs.Held.{state}
-use Rattle.sql_keeper.specs.Sweeps.{BecomesSwept, with_sweep}
 use Rattle.sql_keeper.proofs.SweptReads.{become_swept, count_swept}
 use Rattle.sql_keeper.proofs.Whole.{written, not_written}
 use Rattle.sql_keeper.proofs.sweeping.make_sweep.Goals as goal
 
 pub returns-in_err-write_sweep-clause-commits : goal.returns-in_err-write_sweep-clause-commits
 returns-in_err-write_sweep-clause-commits g c =
-    let names = c.args.names.now.periods in
-    let text = c.args.text.now in
-    let book = c.args.book.now in
-    let t = c.args.moment in
-    let old = state g.S.Store c.args.conn.now in
-    let mid = state g.S.Store c.read_sweep.new.conn in
-    let reads = c.in_ok-accounts.ensures in
     let p = err_from_is_err_and c.from_residual-in_err-write_sweep.result
     c.from_residual-in_err-write_sweep.ensures.1 in
-    rw p.1 (not_written (with_sweep names text t c.deref.result.now)
-    (BecomesSwept names text book t) old mid
-    (state g.S.Store c.write_sweep.new.conn) reads.only reads.survives
-    (become_swept (λ xs. xs.items) names text book t c.in_ok-accounts.accounts c.deref.result.now
-    c.deref.ensures.value c.validity-ranges.ensures.book
-    (omega (
-      arith,
-      c.seconds-moment.ensures.in_range,
-      c.seconds-moment.ensures.value,
-    )) old mid reads) _ _ c.in_err-write_sweep.ensures.transacts)
+    rw p.1 (not_written _ _ _ _ _ c.in_ok-accounts.ensures.only c.in_ok-accounts.ensures.survives
+    (become_swept (λ xs. xs.items) _ _ c.args.book.now c.args.moment c.in_ok-accounts.accounts
+    c.deref.result.now c.deref.ensures.value c.validity-ranges.ensures.book
+    (omega (arith, c.seconds-moment.ensures.in_range, c.seconds-moment.ensures.value)) _ _
+    c.in_ok-accounts.ensures) _ _ c.in_err-write_sweep.ensures.transacts)
 
 pub returns-clause-commits : goal.returns-clause-commits
 returns-clause-commits g c =
-    let names = c.args.names.now.periods in
-    let text = c.args.text.now in
-    let book = c.args.book.now in
-    let t = c.args.moment in
-    let old = state g.S.Store c.args.conn.now in
-    let mid = state g.S.Store c.read_sweep.new.conn in
-    let reads = c.in_ok-accounts.ensures in
-    written (with_sweep names text t c.deref.result.now) (BecomesSwept names text book t) old mid
-    (state g.S.Store c.write_sweep.new.conn) reads.only reads.survives
-    (become_swept (λ xs. xs.items) names text book t c.in_ok-accounts.accounts c.deref.result.now
-    c.deref.ensures.value c.validity-ranges.ensures.book
-    (omega (
-      arith,
-      c.seconds-moment.ensures.in_range,
-      c.seconds-moment.ensures.value,
-    )) old mid reads) _ _ c.in_ok-write_sweep.ensures.transacts
+    written _ _ _ _ _ c.in_ok-accounts.ensures.only c.in_ok-accounts.ensures.survives
+    (become_swept (λ xs. xs.items) _ _ c.args.book.now c.args.moment c.in_ok-accounts.accounts
+    c.deref.result.now c.deref.ensures.value c.validity-ranges.ensures.book
+    (omega (arith, c.seconds-moment.ensures.in_range, c.seconds-moment.ensures.value)) _ _
+    c.in_ok-accounts.ensures) _ _ c.in_ok-write_sweep.ensures.transacts
 
 pub returns-clause-count : goal.returns-clause-count
 returns-clause-count g c =

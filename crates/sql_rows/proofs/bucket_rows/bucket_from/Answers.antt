@@ -6,9 +6,9 @@ pub returns : goal.returns
 returns c = row_is c.args.row.now _ (omega (arith, c.has_columns.ensures)) (
   c.in_ok-number.ensures,
   (
-    c.in_ok-starts.ensures,
+    c.in_ok-from.ensures,
     (
-      c.in_ok-ends.ensures,
+      c.in_ok-until.ensures,
       (
         c.in_ok-scope.ensures,
         (

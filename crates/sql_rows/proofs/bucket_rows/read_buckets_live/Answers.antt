@@ -13,7 +13,7 @@ pub returns : goal.returns
 returns g c = record {
   reads = reads_as _ read_buckets_live_text _ _ _ _ _ _ c.buckets_from.result c.read.ensures.reads
       c.read.ensures.stops c.in_ok-rows.ensures.answers
-      (λ i. map bound_value ((c.text-of_account.ensures ∙ ap Text c.as_str.ensures.value) i ∷ []))
+      (λ i. map bound_value ((c.text.ensures ∙ ap Text c.as_str.ensures.value) i ∷ []))
       c.deref.ensures.value c.buckets_from.ensures
       (λ bs. live_read c.args.account.now _ _ _ (map bucket_row bs.items));
 }

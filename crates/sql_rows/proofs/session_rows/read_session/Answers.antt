@@ -12,8 +12,8 @@ pub returns : goal.returns
 returns g c = record {
   reads = reads_as _ read_session_text _ _ _ _ _ _ c.session_among.result c.read.ensures.reads
       c.read.ensures.stops c.in_ok-rows.ensures.answers
-      (λ i. map bound_value ((c.text-of_account.ensures ∙ ap Text c.as_str.ensures.value) i ∷
-      (c.text-of_session.ensures ∙ ap Text c.as_str-2.ensures.value) i ∷ []))
+      (λ i. map bound_value ((c.text.ensures ∙ ap Text c.as_str.ensures.value) i ∷
+      (c.text-2.ensures ∙ ap Text c.as_str-2.ensures.value) i ∷ []))
       c.deref.ensures.value c.session_among.ensures
       (session_read c.args.account.now c.args.session.now _ _ _);
 }

@@ -12,7 +12,7 @@ pub returns : goal.returns
 returns g c = record {
   reads = reads_as _ read_sessions_open_text _ _ _ _ _ _ c.sessions_from.result c.read.ensures.reads
       c.read.ensures.stops c.in_ok-rows.ensures.answers
-      (λ i. map bound_value ((c.text-of_account.ensures ∙ ap Text c.as_str.ensures.value) i ∷ []))
+      (λ i. map bound_value ((c.text.ensures ∙ ap Text c.as_str.ensures.value) i ∷ []))
       c.deref.ensures.value c.sessions_from.ensures
       (λ xs. open_read c.args.account.now _ _ _ xs.items);
 }

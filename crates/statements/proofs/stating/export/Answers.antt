@@ -9,7 +9,7 @@ use Rattle.statements.proofs.stating.export.Goals as goal
 pub returns-in_err-write_header-clause-writes : goal.returns-in_err-write_header-clause-writes
 returns-in_err-write_header-clause-writes g c = λ clean.
     err_writes _ _ _ _ c.from_residual.result c.from_residual.ensures.0 (λ rows are.
-    begun_first (charges_text Records (of_month c.args.book.now c.args.month rows))
+    begun_first (charges_text Records (of_month c.args.asked.now.book.now c.args.asked.now.month rows))
     c.in_err-write_header.ensures.err)
 
 pub returns-in_err-write_charges-clause-writes : goal.returns-in_err-write_charges-clause-writes
@@ -19,7 +19,7 @@ returns-in_err-write_charges-clause-writes g c = λ clean.
     begun_second (g.W.Write.contents c.args.writer.now)
     (g.W.Write.contents c.write_header.new.writer)
     (g.W.Write.contents c.write_charges.new.writer) header_record
-    (charges_text Records (of_month c.args.book.now c.args.month rows))
+    (charges_text Records (of_month c.args.asked.now.book.now c.args.asked.now.month rows))
     c.in_ok-write_header.ensures.written
     ((c.in_err-write_charges.ensures.writes clean).beginning rows are))
 
@@ -29,7 +29,7 @@ returns-clause-writes g c = λ clean. record {
       Appends-trans (g.W.Write.contents c.args.writer.now)
       (g.W.Write.contents c.write_header.new.writer)
       (g.W.Write.contents c.write_charges.new.writer) header_record
-      (charges_text Records (of_month c.args.book.now c.args.month rows))
+      (charges_text Records (of_month c.args.asked.now.book.now c.args.asked.now.month rows))
       c.in_ok-write_header.ensures.written
       ((c.in_ok-write_charges.ensures.writes clean).whole rows are);
   beginning = λ rows are. tt;

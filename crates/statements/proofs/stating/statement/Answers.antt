@@ -7,7 +7,7 @@ use Rattle.statements.proofs.stating.statement.Goals as goal
 pub returns-in_err-write_head-clause-writes : goal.returns-in_err-write_head-clause-writes
 returns-in_err-write_head-clause-writes g c = λ clean.
     err_writes _ _ _ _ c.from_residual.result c.from_residual.ensures.0 (λ rows are.
-    let month = of_month c.args.book.now c.args.month rows in
+    let month = of_month c.args.asked.now.book.now c.args.asked.now.month rows in
     begun_first (foot_text (sums_of month) c.args.buckets.now)
     (begun_first (charges_text Lines month) c.in_err-write_head.ensures.err))
 
@@ -15,12 +15,12 @@ pub returns-in_err-sums-clause-writes : goal.returns-in_err-sums-clause-writes
 returns-in_err-sums-clause-writes g c = λ clean.
     err_writes _ _ _ _ c.from_residual-in_err-sums.result
     c.from_residual-in_err-sums.ensures.0 (λ rows are.
-    let month = of_month c.args.book.now c.args.month rows in
+    let month = of_month c.args.asked.now.book.now c.args.asked.now.month rows in
     begun_first (foot_text (sums_of month) c.args.buckets.now)
     (begun_second (g.W.Write.contents c.args.writer.now)
     (g.W.Write.contents c.write_head.new.writer)
     (g.W.Write.contents c.write_charges.new.writer)
-    (head_text c.args.account.now c.args.month c.args.moment) (charges_text Lines month)
+    (head_text c.args.asked.now.account.now c.args.asked.now.month c.args.moment) (charges_text Lines month)
     c.in_ok-write_head.ensures.written
     ((c.in_err-sums.ensures.writes clean).beginning rows are)))
 
@@ -28,10 +28,10 @@ pub returns-in_err-write_foot-clause-writes : goal.returns-in_err-write_foot-cla
 returns-in_err-write_foot-clause-writes g c = λ clean.
     err_writes _ _ _ _ c.from_residual-in_err-write_foot.result
     c.from_residual-in_err-write_foot.ensures.0 (λ rows are.
-    let month = of_month c.args.book.now c.args.month rows in
+    let month = of_month c.args.asked.now.book.now c.args.asked.now.month rows in
     three_begun (g.W.Write.contents c.args.writer.now) (g.W.Write.contents c.write_head.new.writer)
     (g.W.Write.contents c.write_charges.new.writer) (g.W.Write.contents c.write_foot.new.writer)
-    (head_text c.args.account.now c.args.month c.args.moment) (charges_text Lines month)
+    (head_text c.args.asked.now.account.now c.args.asked.now.month c.args.moment) (charges_text Lines month)
     (λ s. foot_text s c.args.buckets.now) _ (sums_of month)
     (c.in_ok-sums.ensures.sums clean rows are) c.in_ok-write_head.ensures.written
     ((c.in_ok-sums.ensures.writes clean).whole rows are) c.in_err-write_foot.ensures.err)
@@ -39,11 +39,11 @@ returns-in_err-write_foot-clause-writes g c = λ clean.
 pub returns-clause-writes : goal.returns-clause-writes
 returns-clause-writes g c = λ clean. record {
   whole = λ rows are.
-      let month = of_month c.args.book.now c.args.month rows in
+      let month = of_month c.args.asked.now.book.now c.args.asked.now.month rows in
       three_written (g.W.Write.contents c.args.writer.now)
       (g.W.Write.contents c.write_head.new.writer)
       (g.W.Write.contents c.write_charges.new.writer) (g.W.Write.contents c.write_foot.new.writer)
-      (head_text c.args.account.now c.args.month c.args.moment) (charges_text Lines month)
+      (head_text c.args.asked.now.account.now c.args.asked.now.month c.args.moment) (charges_text Lines month)
       (λ s. foot_text s c.args.buckets.now) _ (sums_of month)
       (c.in_ok-sums.ensures.sums clean rows are) c.in_ok-write_head.ensures.written
       ((c.in_ok-sums.ensures.writes clean).whole rows are) c.in_ok-write_foot.ensures.written;

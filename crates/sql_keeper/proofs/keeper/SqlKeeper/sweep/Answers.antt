@@ -1,31 +1,40 @@
 use Rattle.std.proofs.Common.{refl}
 use Rattle.sql_keeper.specs.Sweeps.{BecomesSwept}
+use Rattle.sql_keeper.proofs.Asked.{handed}
 use Rattle.sql_keeper.proofs.Committed.{committed_keeper, keeps, swept_law, whole}
+use Rattle.sql_keeper.proofs.Whole.{handed_on}
 use Rattle.sql_keeper.proofs.keeper.SqlKeeper.sweep.Goals as goal
 
 pub invariant_of-self : goal.invariant_of-self
 invariant_of-self g c = committed_keeper g.S.Store _ _
     (λ text. BecomesSwept c.self.inside.book.periods text c.args.book.now c.args.moment) _
-    c.self.invariant _ c.sweep_accounts.ensures.commits c.sweep_accounts.ensures.plain
-    c.sweep_accounts.ensures.bounded
+    c.self.invariant _
+    (handed_on _ _ _ _ _ c.counted.ensures.handed c.make_sweep-made.ensures.commits)
+    c.make_sweep-made.ensures.plain c.counted.ensures.bounded
 
 pub returns-clause-count : goal.returns-clause-count
-returns-clause-count g c =
-    rw (← c.self.view_is) (λ clean. c.sweep_accounts.ensures.count clean.disk)
+returns-clause-count g c = rw (← c.self.view_is) (λ clean.
+    handed _ _ c.make_sweep-made.result c.counted.result c.counted.ensures.handed (λ x h. h)
+    (c.make_sweep-made.ensures.count clean.disk))
 
 pub returns-clause-done : goal.returns-clause-done
 returns-clause-done g c =
-    rw (← c.self.view_is) (swept_law g.S.Store _ c.sweep_accounts.new.conn _ _ _
-    c.self.invariant c.sweep_accounts.result c.sweep_accounts.ensures.commits)
+    rw (← c.self.view_is) (swept_law g.S.Store _ c.make_sweep-made.new.conn _ _ _
+    c.self.invariant _
+    (handed_on _ _ _ _ _ c.counted.ensures.handed c.make_sweep-made.ensures.commits))
 
 pub returns-clause-kept : goal.returns-clause-kept
 returns-clause-kept g c = rw (← c.self.view_is) (keeps g.S.Store _ _
     (λ text. BecomesSwept c.self.inside.book.periods text c.args.book.now c.args.moment) _
-    c.self.invariant c.sweep_accounts.result c.sweep_accounts.ensures.commits refl
-    c.sweep_accounts.ensures.cause)
+    c.self.invariant _
+    (handed_on _ _ _ _ _ c.counted.ensures.handed c.make_sweep-made.ensures.commits) refl
+    c.counted.ensures.cause)
 
 pub returns-clause-whole : goal.returns-clause-whole
 returns-clause-whole g c = rw (← c.self.view_is) (whole g.S.Store _ _
     (λ text. BecomesSwept c.self.inside.book.periods text c.args.book.now c.args.moment) _
-    c.self.invariant c.sweep_accounts.result c.sweep_accounts.ensures.commits c.as_str.ensures.value
-    c.sweep_accounts.ensures.stop c.sweep_accounts.ensures.settled)
+    c.self.invariant _
+    (handed_on _ _ _ _ _ c.counted.ensures.handed c.make_sweep-made.ensures.commits)
+    c.as_str-text.ensures.value
+    (λ db. g.met.S.Store.settled c.self.inside.connection.store db)
+    (λ db. g.met.S.Store.settled c.make_sweep-made.new.conn.store db))

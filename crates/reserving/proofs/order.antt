@@ -1,0 +1,5 @@
+pub mod Ascending
+pub mod Searched
+pub mod KeyRows
+pub mod Arranged
+pub mod SameRows

@@ -1,8 +1,0 @@
-use Rattle.std.proofs.Common.{append_assoc}
-use Rattle.wire_requests.proofs.written_services.put_slice.Goals as goal
-
-pub returns : goal.returns
-returns c = (
-  rw (c.in_ok-end_object.ensures.ok, c.in_ok-begin_object.ensures.ok) (simp append_assoc),
-  rw (c.in_ok-end_object.ensures.room.0, c.in_ok-begin_object.ensures.room.0),
-)

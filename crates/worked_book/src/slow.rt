@@ -1,0 +1,41 @@
+//! A writer that fails.
+
+use std::alloc::Global;
+use std::io::{self, ErrorKind, Write};
+
+/// Takes single bytes, and fails after so many calls.
+#[derive(Drop)]
+pub struct Slow {
+    pub taken: Vec<u8>,
+    pub calls: usize,
+}
+
+impl Slow {
+    /// A writer that has taken nothing.
+    pub fn new(alloc: Global, calls: usize) -> Slow {
+        Slow {
+            taken: Vec::new(alloc),
+            calls,
+        }
+    }
+}
+
+impl Write for Slow {
+    fn write(&mut self, buf: &[u8]) -> io::Result<usize> {
+        if self.calls == 0 {
+            return Err(io::Error::from(ErrorKind::BrokenPipe));
+        }
+        self.calls -= 1;
+        match buf.first() {
+            Some(byte) => {
+                self.taken.push(*byte)?;
+                Ok(1)
+            }
+            None => Ok(0),
+        }
+    }
+
+    fn flush(&mut self) -> io::Result<()> {
+        Ok(())
+    }
+}
