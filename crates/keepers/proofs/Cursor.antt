@@ -12,10 +12,8 @@ use Rattle.reserving.specs.Rows.{EachIn, AreApart}
 use Rattle.reserving.proofs.Lists.{not_both}
 use Rattle.reserving.proofs.Keys.{same_tests, both_true, is_same-sym, is_key-sym}
 use Rattle.reserving.proofs.Holds.{number_from, number_itself, both}
+use Rattle.reserving.proofs.order.Searched.{no_less, at_place}
 use Rattle.keepers.specs.Keyed.{same_bucket, same_session, same_group, same_counter}
-
-no_less : (n : ℕ) → n < zero → ⊥
-no_less n h = omega (arith, h)
 
 -- no row with another key is equal
 none_equal : {A : Type 0} (same : A → A → Bool) (q : A → Bool) (x : A) →
@@ -24,12 +22,6 @@ none_equal : {A : Type 0} (same : A → A → Bool) (q : A → Bool) (x : A) →
 none_equal same q x k [] h = refl
 none_equal same q x k (y ∷ ys) h =
     or_from (q y) (list_any q ys) (k y h.0) (none_equal same q x k ys h.1)
-
-at_place : {A : Type 0} (same : A → A → Bool) (x : A) (xs : List A) (i : ℕ) (d : A) →
-    i < length xs → EachIn (λ y. same x y ≡ false) xs → same x (get_or xs i d) ≡ false
-at_place same x [] i d h e = absurd (no_less i h)
-at_place same x (y ∷ ys) zero d h e = e.0
-at_place same x (y ∷ ys) (suc i) d h e = at_place same x ys i d (omega (arith, h)) e.1
 
 -- a row with another key isn't equal
 other : {A : Type 0} (same eq : A → A → Bool) → ((x y : A) → eq x y ≡ true → x ≡ y) →
@@ -55,7 +47,7 @@ new_at {A} same eq turn sound row (x ∷ xs) zero d h a key e =
 new_at {A} same eq turn sound row (x ∷ xs) (suc i) d h a key e =
     or_from (eq row x) (list_any (eq row) xs)
     (other same eq sound row (get_or xs i d) key x
-    (turn (get_or xs i d) x ∙ at_place same x xs i d (omega (arith, h)) a.0))
+    (turn (get_or xs i d) x ∙ at_place (λ y. same x y ≡ false) xs i d (omega (arith, h)) a.0))
     (new_at same eq turn sound row xs i d (omega (arith, h)) a.1 key e)
 
 -- ---- keys, read either way

@@ -2,7 +2,7 @@
 use Rattle.std.proofs.Common.{◌≡◌, ℕ, ◌+◌, ◌≤◌, Bool, true, false, cond, List, [], ◌∷◌, ◌++◌, map}
 use Rattle.std.proofs.Common.{get_or, refl, sym, ap, subst, ◌∙◌, Option, Some, None}
 use Rattle.std.specs.Prelude.{if◌then◌else◌, ◌==◌, ◌&&◌, ◌||◌, not, filter, is_some, position}
-use Rattle.std.specs.Prelude.{option_map, nat_lt, ◌*◌, Result, Ok, Err, IfOk}
+use Rattle.std.specs.Prelude.{option_map, Result, Ok, Err, IfOk}
 use Rattle.std.specs.List.{find}
 use Rattle.std.proofs.lemmas.Bool.{not-true}
 use Rattle.buckets.specs.Row.{Row, IsBalanced, with_release, with_end}
@@ -10,7 +10,6 @@ use Rattle.buckets.specs.Spend.{AreDistinct, Each}
 use Rattle.buckets.proofs.SharesAlong.{with_end_keeps, with_release_number}
 use Rattle.tariffs.specs.Books.{Book}
 use Rattle.reserving.specs.declared.session.Session.{Session}
-use Rattle.reserving.specs.declared.session.SessionState.TheVariants.{Ended}
 use Rattle.reserving.specs.declared.session.SessionGroup.{SessionGroup}
 use Rattle.reserving.specs.declared.session.Counter.{Counter}
 use Rattle.reserving.specs.Ledger.{is_same}
@@ -23,6 +22,7 @@ use Rattle.reserving.specs.Left.{LeftRows, is_dead, bucket_in, none_left, first_
 use Rattle.reserving.proofs.Lists.{no_some, not_both, AreApart-map, EachIn-weaker}
 use Rattle.reserving.proofs.Keys.{first_true, second_true}
 use Rattle.reserving.proofs.KeysFound.{placed, unplaced, is_none_is}
+use Rattle.reserving.proofs.kept.Ordered.{lapsed_name}
 use Rattle.reserving.proofs.Advancing.{session_in-advanced}
 use Rattle.reserving.proofs.LeftTests.{each_filter, each_passes, each_append, apart_filter}
 use Rattle.reserving.proofs.LeftTests.{apart_append, none_each}
@@ -164,13 +164,6 @@ apart_behind same f (x ∷ xs) ys k l h = (
   apart_behind same f xs ys k l h.1,
 )
 
-lapse_id : (v t : ℕ) (r : Session) → (lapse v t r).id ≡ r.id
-lapse_id v t r = at (is_open r.state && not (nat_lt t (r.touched + 2 * v)))
-  where
-    at : (b : Bool) → (if b then record r { state = Ended } else r).id ≡ r.id
-    at true = refl
-    at false = refl
-
 pub parts_advanced : (book : Book) (t : ℕ) (p : Parts) → AreParts p →
     AreParts (advanced_parts book t p)
 parts_advanced book t p h = record {
@@ -208,7 +201,7 @@ parts_advanced book t p h = record {
         ∙ with_release_number t b (lapsed_in keeps p.live.groups b)
 
     id_of : (r : Session) → (lapse book.validity t r).id ≡ r.id
-    id_of r = lapse_id book.validity t r
+    id_of r = lapsed_name book.validity t r
 
     by_keep : (r y : SessionGroup) (k : Bool) →
         is_of (if k then r else record r { reservation = None }).session

@@ -14,6 +14,7 @@ use Rattle.reserving.specs.Sessions.{is_open}
 use Rattle.reserving.specs.Left.{is_dead}
 use Rattle.reserving.proofs.Keys.{first_true}
 use Rattle.reserving.proofs.Lists.{EachIn-weaker}
+use Rattle.reserving.proofs.order.Searched.{no_less}
 use Rattle.reserving.proofs.LeftTests.{each_append, each_passes, each_with}
 use Rattle.keepers.specs.Parts.{leaves_bucket, leaves_session, leaves_group}
 use Rattle.keepers.specs.Named.{Numbers, Names, is_numbered, is_named, AreLeftBuckets}
@@ -79,9 +80,6 @@ groups_known w was is old live mid more back stay h k e f g =
     (λ r x. (x.0, stay r.session x.1)) h k e f g
 
 -- ---- a list as far as it was walked
-
-no_less : (n : ℕ) → n < zero → ⊥
-no_less n h = omega (arith, h)
 
 each_on : {A : Type 0} (P : A → Type 0) (xs : List A) (i : ℕ) (d : A) → EachIn P (take i xs) →
     i < length xs → P (get_or xs i d) → EachIn P (take (suc i) xs)

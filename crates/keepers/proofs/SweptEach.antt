@@ -4,6 +4,7 @@ use Rattle.std.proofs.Common.{◌++◌, length, take, drop, get_or, set, refl, s
 use Rattle.std.proofs.Common.{arith, Option, Some, None}
 use Rattle.std.specs.Prelude.{if◌then◌else◌, ◌≤◌, position}
 use Rattle.reserving.proofs.Lists.{no_some}
+use Rattle.reserving.proofs.order.Searched.{no_less}
 use Rattle.std.specs.List.{find, position_from}
 use Rattle.std.proofs.lemmas.Iterator.Adapters.{position_from-zero}
 use Rattle.std.specs.HashMap.{get}
@@ -19,9 +20,6 @@ use Rattle.keepers.specs.Memory.{is_entry, entry_in, rows_of_entry, answer_of_en
 use Rattle.keepers.specs.Memory.{charges_of_entry, IsSweptEntry, AreSwept, VoucherMap}
 use Rattle.keepers.specs.Memory.{memory_tables}
 use Rattle.keepers.specs.Tables.{charge_in}
-
-no_less : (n : ℕ) → n < 0 → ⊥
-no_less n h = omega (arith, h)
 
 first_same : {A : Type 0} (x y : A) (xs ys : List A) → x ∷ xs ≡ y ∷ ys → x ≡ y
 first_same x y xs ys e = cc

@@ -18,7 +18,7 @@ use Rattle.reserving.specs.Prepared.{with_group, with_counter}
 use Rattle.reserving.specs.Rows.{EachIn, AreApart}
 use Rattle.reserving.specs.Sessions.{group_before, counter_before}
 use Rattle.reserving.proofs.Lists.{IsPlace, IsPlaceFrom, position_is, position_none, find-passes}
-use Rattle.reserving.proofs.Lists.{some_of, no_some, any_found, put_first, put_later}
+use Rattle.reserving.proofs.Lists.{some_of, no_some, any_found, put_first, put_later, none_each}
 pub use Rattle.reserving.proofs.Lists.{put-same}
 use Rattle.reserving.proofs.Keys.{is_key, key_session, key_group, cycle_group, cycle_cycle}
 use Rattle.reserving.proofs.Keys.{own_key, own_cycle}
@@ -178,76 +178,87 @@ there_kept s g rows h = by_place (position (is_of s g) rows) refl h
     by_place None e q = cc
     by_place (Some place) e q = kept_group s g rows _ (found_group s g place rows (new_group s g) e)
 
+-- ---- one row alone is written
+
+-- where those that are the same as one that passes pass alone, that one written is all gone over
+module _ {A : Type 0} (before same : A → A → Bool) (p : A → Bool) (f : A → A)
+    (alike : (x y : A) → p x ≡ true → same x y ≡ false → p y ≡ false) where
+  abbrev written : A → A
+  written r = if p r then f r else r
+
+  others : (xs : List A) → EachIn (λ y. p y ≡ false) xs → map written xs ≡ xs
+  others [] h = refl
+  others (y ∷ ys) h = λ i. (if h.0 i then f y else y) ∷ others ys h.1 i
+
+  others_of : (x : A) (xs : List A) → p x ≡ true → EachIn (λ y. same x y ≡ false) xs →
+      EachIn (λ y. p y ≡ false) xs
+  others_of x [] e h = tt
+  others_of x (y ∷ ys) e h = (alike x y e h.0, others_of x ys e h.1)
+
+  pub unwritten : (xs : List A) → find p xs ≡ None → map written xs ≡ xs
+  unwritten xs h = others xs (none_each p xs h)
+
+  pub written_none : (xs : List A) → position p xs ≡ None → xs ≡ map written xs
+  written_none xs h = sym (unwritten xs (unplaced p xs h))
+
+  pub written_put : (x : A) (xs : List A) → AreApart same xs → find p xs ≡ Some x →
+      map written xs ≡ put before p (f x) xs
+  written_put x [] apart h = absurd (no_some x h)
+  written_put x (y ∷ ys) apart h = by_test (p y) refl h (λ q. written_put x ys apart.1 q)
+    where
+      by_test : (t : Bool) → p y ≡ t → cond t (Some y) (find p ys) ≡ Some x →
+          (find p ys ≡ Some x → map written ys ≡ put before p (f x) ys) →
+          map written (y ∷ ys) ≡ put before p (f x) (y ∷ ys)
+      by_test true e q rest =
+          let is : y ≡ x = some_of y x q in
+          (λ i. (if e i then f y else y) ∷ others ys (others_of y ys e apart.0) i)
+          ∙ (λ i. f (is i) ∷ ys)
+          ∙ sym (put_first before p (f x) y ys true (before (f x) y && not (list_any p ys)) e refl)
+      by_test false e q rest =
+          (λ i. (if e i then f y else y) ∷ rest q i)
+          ∙ sym (put_later before p (f x) y ys e (any_found p ys x q))
+
+  pub written_at : (place : ℕ) (xs : List A) (now : A) → AreApart same xs →
+      now ≡ get_or xs place now → position p xs ≡ Some place →
+      set xs place (f now) ≡ map written xs
+  written_at place xs now apart is h =
+      sym ((placed before p (f now) place xs h).put)
+      ∙ sym (written_put now xs apart ((placed before p now place xs h).found now ∙ ap Some (sym is)))
+
 -- ---- the reservation of one row alone
 
-ended_others : (s : List ℕ) (g : ℕ) (rows : List SessionGroup) →
-    EachIn (λ y. is_of s g y ≡ false) rows → map (ended_group s g) rows ≡ rows
-ended_others s g [] h = refl
-ended_others s g (y ∷ ys) h =
-    λ i. (if h.0 i then record y { reservation = None } else y) ∷ ended_others s g ys h.1 i
+alike_groups : (s : List ℕ) (g : ℕ) (x y : SessionGroup) → is_of s g x ≡ true →
+    is_of x.session x.group y ≡ false → is_of s g y ≡ false
+alike_groups s g x y e h =
+    (λ i. is_key y.session y.group (sym (key_session x.session x.group s g e) i)
+    (sym (key_group x.session x.group s g e) i)) ∙ h
 
-unnamed : (s : List ℕ) (g : ℕ) (rows : List SessionGroup) → group_in s g rows ≡ None →
-    EachIn (λ y. is_of s g y ≡ false) rows
-unnamed s g [] h = tt
-unnamed s g (y ∷ ys) h = by_test (is_of s g y) refl h (λ q. unnamed s g ys q)
-  where
-    by_test : (t : Bool) → is_of s g y ≡ t → cond t (Some y) (group_in s g ys) ≡ None →
-        (group_in s g ys ≡ None → EachIn (λ y. is_of s g y ≡ false) ys) →
-        EachIn (λ y. is_of s g y ≡ false) (y ∷ ys)
-    by_test true e q rest = absurd (no_some y (sym q))
-    by_test false e q rest = (e, rest q)
+module _ (s : List ℕ) (g : ℕ) where
+  abbrev same_key : SessionGroup → SessionGroup → Bool
+  same_key x y = is_of x.session x.group y
 
-pub ended_unnamed : (s : List ℕ) (g : ℕ) (rows : List SessionGroup) → group_in s g rows ≡ None →
-    map (ended_group s g) rows ≡ rows
-ended_unnamed s g rows h = ended_others s g rows (unnamed s g rows h)
+  abbrev unreserved_row : SessionGroup → SessionGroup
+  unreserved_row r = record r { reservation = None }
 
-pub ended_none : (s : List ℕ) (g : ℕ) (rows : List SessionGroup) →
-    position (is_of s g) rows ≡ None → rows ≡ map (ended_group s g) rows
-ended_none s g rows h = sym (ended_others s g rows (unnamed s g rows (unplaced (is_of s g) rows h)))
+  pub ended_unnamed : (rows : List SessionGroup) → group_in s g rows ≡ None →
+      map (ended_group s g) rows ≡ rows
+  ended_unnamed =
+      unwritten group_before same_key (is_of s g) unreserved_row (alike_groups s g)
 
-others_of : (s : List ℕ) (g : ℕ) (x : SessionGroup) (rows : List SessionGroup) →
-    is_of s g x ≡ true → EachIn (λ y. is_of x.session x.group y ≡ false) rows →
-    EachIn (λ y. is_of s g y ≡ false) rows
-others_of s g x [] k h = tt
-others_of s g x (y ∷ ys) k h = (
-  (λ i. is_key y.session y.group (sym (key_session x.session x.group s g k) i)
-      (sym (key_group x.session x.group s g k) i)) ∙ h.0,
-  others_of s g x ys k h.1,
-)
+  pub ended_none : (rows : List SessionGroup) → position (is_of s g) rows ≡ None →
+      rows ≡ map (ended_group s g) rows
+  ended_none = written_none group_before same_key (is_of s g) unreserved_row (alike_groups s g)
 
-pub ended_put : (s : List ℕ) (g : ℕ) (x : SessionGroup) (rows : List SessionGroup) →
-    AreApart (λ x y. is_of x.session x.group y) rows → group_in s g rows ≡ Some x →
-    map (ended_group s g) rows ≡ put group_before (is_of s g) (record x { reservation = None }) rows
-ended_put s g x [] apart h = absurd (no_some x h)
-ended_put s g x (y ∷ ys) apart h = by_test (is_of s g y) refl h (λ q. ended_put s g x ys apart.1 q)
-  where
-    by_test : (t : Bool) → is_of s g y ≡ t → cond t (Some y) (group_in s g ys) ≡ Some x →
-        (group_in s g ys ≡ Some x →
-        map (ended_group s g) ys
-        ≡ put group_before (is_of s g) (record x { reservation = None }) ys) →
-        map (ended_group s g) (y ∷ ys)
-        ≡ put group_before (is_of s g) (record x { reservation = None }) (y ∷ ys)
-    by_test true e q rest =
-        let same : y ≡ x = some_of y x q in
-        let ended : SessionGroup = record x { reservation = None } in
-        (λ i. (if e i then record y { reservation = None } else y)
-        ∷ ended_others s g ys (others_of s g y ys e apart.0) i)
-        ∙ (λ i. record (same i) { reservation = None } ∷ ys)
-        ∙ sym (put_first group_before (is_of s g) ended y ys true
-        (group_before ended y && not (list_any (is_of s g) ys)) e refl)
-    by_test false e q rest =
-        let ended : SessionGroup = record x { reservation = None } in
-        (λ i. (if e i then record y { reservation = None } else y) ∷ rest q i)
-        ∙ sym (put_later group_before (is_of s g) ended y ys e (any_found (is_of s g) ys x q))
+  pub ended_put : (x : SessionGroup) (rows : List SessionGroup) → AreApart same_key rows →
+      group_in s g rows ≡ Some x →
+      map (ended_group s g) rows ≡ put group_before (is_of s g) (unreserved_row x) rows
+  ended_put = written_put group_before same_key (is_of s g) unreserved_row (alike_groups s g)
 
-pub ended_at : (s : List ℕ) (g place : ℕ) (rows : List SessionGroup) (now : SessionGroup) →
-    AreApart (λ x y. is_of x.session x.group y) rows →
-    now ≡ get_or rows place now → position (is_of s g) rows ≡ Some place →
-    set rows place (record now { reservation = None }) ≡ map (ended_group s g) rows
-ended_at s g place rows now apart is h =
-    let x : SessionGroup = record now { reservation = None } in
-    sym ((placed group_before (is_of s g) x place rows h).put)
-    ∙ sym (ended_put s g now rows apart (found_group s g place rows now h ∙ ap Some (sym is)))
+  pub ended_at : (place : ℕ) (rows : List SessionGroup) (now : SessionGroup) →
+      AreApart same_key rows → now ≡ get_or rows place now →
+      position (is_of s g) rows ≡ Some place →
+      set rows place (unreserved_row now) ≡ map (ended_group s g) rows
+  ended_at = written_at group_before same_key (is_of s g) unreserved_row (alike_groups s g)
 
 -- ---- a counter
 

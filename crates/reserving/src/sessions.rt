@@ -159,25 +159,27 @@ pub(crate) fn copy_of(session: &SessionId) -> Result<SessionId, AllocError>
 
 /// Writes a live session's last accepted request.
 fn touch_session(sessions: &mut Vec<Session>, id: &SessionId, number: u32, moment: Moment)
+    requires { AreAscending session_before sessions.old.items }
     ensures { sessions.new.items ≡ map (touched_session id.now number moment) sessions.old.items }
 {
-    for session in sessions.iter_mut() {
-        if session.id == *id {
-            session.last_number = number;
-            session.touched = moment;
-            session.state = SessionState::Open;
-        }
-    }
+    let Ok(place) = seek_session(sessions, id) else {
+        return;
+    };
+    let row = &mut sessions[place];
+    row.last_number = number;
+    row.touched = moment;
+    row.state = SessionState::Open;
 }
 
 fn close_session(sessions: &mut Vec<Session>, id: &SessionId)
+    requires { AreAscending session_before sessions.old.items }
     ensures { sessions.new.items ≡ map (closed_session id.now) sessions.old.items }
 {
-    for session in sessions.iter_mut() {
-        if session.id == *id {
-            session.state = SessionState::Ended;
-        }
-    }
+    let Ok(place) = seek_session(sessions, id) else {
+        return;
+    };
+    let row = &mut sessions[place];
+    row.state = SessionState::Ended;
 }
 
 fn close_groups(purse: &mut Purse, groups: &mut Vec<SessionGroup>, id: &SessionId, at: Moment)

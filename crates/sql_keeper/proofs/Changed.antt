@@ -24,6 +24,7 @@ use Rattle.keepers.specs.Tables.{GroupRow, group_row, charge_in}
 use Rattle.keepers.specs.Tables as tables
 use Rattle.keepers.specs.Change.{IsMadeFrom, over, held_over, kept_after, redeemed_over, changed}
 use Rattle.sql_tables.proofs.Found.{is_some_map}
+use Rattle.sql_tables.proofs.Steps.{and_true}
 use Rattle.sql_rows.specs.Values.{Meta, Group, Kept, request_kind, reference_kind}
 use Rattle.sql_rows.specs.Content.{Rows as Stored, Content, with_rows, with_meta, with_account}
 use Rattle.sql_rows.specs.Content.{with_head, with_answer}
@@ -82,10 +83,6 @@ periods_back names p e f =
     λ i. record { before = period_back names p.before e i; after = period_back names p.after f i }
 
 -- ---- groups
-
-and_true : (b : Bool) → (b && true) ≡ b
-and_true true = refl
-and_true false = refl
 
 none_reserved : (names : List (List ℕ)) (b : Bool) → content.reserved_in names b None ≡ None
 none_reserved names true = refl

@@ -15,6 +15,7 @@ use Rattle.reserving.specs.Rows.{EachIn, AreApart}
 use Rattle.reserving.specs.Left.{first_of}
 use Rattle.reserving.proofs.LeftParted.{one_group}
 use Rattle.reserving.proofs.LeftTests.{none_more, first_alone}
+use Rattle.keepers.specs.Keyed.{same_group}
 use Rattle.keepers.specs.Tables.{held_at}
 use Rattle.sql_rows.specs.Values.{Group}
 use Rattle.sql_rows.specs.Content.{Rows, Content, with_rows, with_group, with_hold, without_holds}
@@ -191,9 +192,6 @@ groups_each a names sessions (r ∷ rs) c h =
     groups_each a names sessions rs (with_held_group a names r c) h.1
     ∙ ap (each a (put_group names) rs)
     (group_put a names r c (may_hold names sessions r.session r.reservation h.0))
-
-abbrev same_group : SessionGroup → SessionGroup → Bool
-same_group x y = is_of x.session x.group y
 
 column_over : (names : List (List ℕ)) (s : List ℕ) (g : ℕ) (x : SessionGroup)
     (xs : List SessionGroup) (before : Option Group) → EachIn (λ y. same_group x y ≡ false) xs
