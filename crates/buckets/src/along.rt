@@ -212,6 +212,7 @@ fn held_within(held: u128, bucket: &Bucket) -> u64
     requires { held ≤ bucket.now.reserved }
     ensures { result ≡ held }
 {
+    // For the prover alone: looking at the value makes known here what its type keeps.
     let _reserved = bucket.reserved();
     held as u64
 }

@@ -86,7 +86,10 @@ impl Purse {
     }
 
     /// Adds a bucket, all of it available, under a number above all others (TS 32.296, account
-    /// balance management function). The purse is unchanged at a fault, which is want of memory.
+    /// balance management function).
+    ///
+    /// # Errors
+    /// `Memory` and no other: a growth was refused. Then the purse is unchanged.
     pub fn credit(
         &mut self,
         number: u32,
@@ -118,8 +121,11 @@ impl Purse {
     }
 
     /// Holds the amount in the eligible buckets, in their order (TS 32.299, session charging with
-    /// unit reservation). The purse is unchanged at a fault: `NotCovered` where the amount exceeds
-    /// the funds, else `Memory`.
+    /// unit reservation).
+    ///
+    /// # Errors
+    /// `NotCovered` exactly where the amount exceeds the funds, else `Memory`: a growth was
+    /// refused. Then the purse is unchanged.
     pub fn hold(&mut self, group: u32, at: Moment, amount: Amount) -> Result<Holds, PurseFault>
         ensures rows { OnOk result (self.new ≡ held_rows group at amount.0 self.old) }
         ensures holds { IfOk result (λ h. h ≡ holds_of group at amount.0 self.old) }
@@ -157,8 +163,10 @@ impl Purse {
     }
 
     /// Charges an amount to the holds that are lent, and what they don't reach to the eligible
-    /// buckets, each in order. The holds are lowered by what was taken of them. Purse and holds are
-    /// unchanged at a fault, which is want of memory.
+    /// buckets, each in order. The holds are lowered by what was taken of them.
+    ///
+    /// # Errors
+    /// `Memory` and no other: a growth was refused. Then purse and holds are unchanged.
     pub fn charge(
         &mut self,
         holds: &mut Holds,

@@ -194,6 +194,10 @@ fn ends_line(byte: u8) -> bool
 
 /// The next line: the bytes before the next line feed, which is taken too, or before the end of the
 /// stream. None where the stream is at its end.
+///
+/// # Errors
+/// `Memory` where a growth was refused, `Read` where the reader failed, or was interrupted 100
+/// times.
 pub fn next_line<R: Read>(alloc: Global, reader: &mut R) -> Result<Option<Vec<u8>>, StreamFault>
     ensures { IfOk result (λ line. IfSome (R.remaining reader.old)
         (λ stream. IsLineOf stream line (R.remaining reader.new))) }

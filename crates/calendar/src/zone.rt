@@ -100,6 +100,7 @@ impl Zone {
     pub(crate) fn keeps_near(&self)
         ensures { IsZone self.now }
     {
+        // For the prover alone: looking at the value makes known here what its type keeps.
         let _fixed = self.time_zone;
     }
 

@@ -52,6 +52,7 @@ pub fn run<K: Keeper>(
         AreAccounted book.now commands.items (K.content keeper.old)
         (K.content keeper.new) result.answers.items }
 {
+    // For the prover alone: looking at the value makes known here what its type keeps.
     let _ranges = book.validity();
     answer_each(alloc, keeper, book, commands)
 }

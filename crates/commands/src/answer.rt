@@ -25,6 +25,7 @@ pub enum FinalUnit {
 /// Units granted to a service of a session (Granted-Service-Unit, RFC 8506 section 8.17).
 #[derive(Clone, Debug, Drop)]
 pub struct Granted {
+    /// How much is granted: CC-Time, CC-Total-Octets or CC-Service-Specific-Units.
     pub quantity: Quantity,
     /// Tariff-Time-Change (RFC 8506 section 8.20): when the price changes, where it does.
     pub switch: Option<Moment>,
@@ -70,7 +71,7 @@ impl ServiceFailure {
         }
     }
 
-    /// The one of this number.
+    /// The failure whose Result-Code this number is; None for any other number.
     pub fn numbered(number: u64) -> Option<ServiceFailure>
         ensures { result ≡ service_failure_numbered number }
     {
@@ -96,6 +97,7 @@ pub enum ServiceOutcome {
 pub struct ServiceAnswer {
     /// Rating-Group (RFC 8506 section 8.29).
     pub group: u32,
+    /// What the service is answered.
     pub outcome: ServiceOutcome,
 }
 
@@ -150,7 +152,7 @@ fn balance_numbered(all: &[Balance], number: u64) -> Option<Balance>
 }
 
 impl Balance {
-    /// Its number in the text.
+    /// The number in the text.
     pub fn number(self) -> u64
         ensures { result ≡ balance_number self }
     {
@@ -160,7 +162,7 @@ impl Balance {
         }
     }
 
-    /// The one of this number.
+    /// The balance whose number in the text this is; None for any other number.
     pub fn numbered(number: u64) -> Option<Balance>
         ensures { result ≡ balance_numbered number }
     {
@@ -226,10 +228,13 @@ pub enum Outcome {
 /// The answer to a request (CCA, RFC 8506 section 3.2).
 #[derive(Clone, Debug, Drop)]
 pub struct RequestAnswer {
+    /// Session-Id of the request (RFC 6733 section 8.8).
     pub session: SessionId,
+    /// CC-Request-Type of the request (RFC 8506 section 8.3).
     pub kind: RequestKind,
     /// CC-Request-Number (RFC 8506 section 8.2).
     pub number: u32,
+    /// What the request is answered.
     pub outcome: Outcome,
 }
 
@@ -269,7 +274,7 @@ fn refusal_named(all: &[Refusal], name: &str) -> Option<Refusal>
 }
 
 impl Refusal {
-    /// Its name in the text.
+    /// The name in the text, `O1` to `O7`.
     pub fn name(self) -> &'static str
         ensures { result.now ≡ refusal_name self }
     {
@@ -284,7 +289,7 @@ impl Refusal {
         }
     }
 
-    /// The one of this name.
+    /// The refusal whose name in the text this is; None for any other name.
     pub fn named(name: &str) -> Option<Refusal>
         ensures { result ≡ refusal_named name.now }
     {

@@ -94,7 +94,9 @@ impl CreditEnd {
 /// A credit by an operator: a new bucket for the account.
 #[derive(Clone, Debug, Drop, PartialEq, Eq)]
 pub struct Credit {
+    /// The account that gets the bucket.
     pub account: AccountNumber,
+    /// What the bucket is opened with, in micro-units.
     pub amount: Money,
     /// From when it can be used; None: from the moment of the command.
     pub from: Option<CreditStart>,
@@ -225,7 +227,7 @@ pub enum Command {
     /// Bars an account: initial requests and direct debits are denied, and updates are granted
     /// nothing. What running sessions report is still charged.
     Bar(AccountNumber),
-    /// Ends that.
+    /// Lifts the bar of an account.
     Unbar(AccountNumber),
     /// Adds a voucher.
     AddVoucher(VoucherAddition),

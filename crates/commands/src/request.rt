@@ -36,7 +36,7 @@ fn kind_numbered(all: &[RequestKind], number: u64) -> Option<RequestKind>
 }
 
 impl RequestKind {
-    /// Its number in the text.
+    /// The number of the type in the text, 1 to 4.
     pub fn number(self) -> u64
         ensures { result ≡ kind_number self }
     {
@@ -48,7 +48,7 @@ impl RequestKind {
         }
     }
 
-    /// The one of this number.
+    /// The type whose number in the text this is; None for any other number.
     pub fn numbered(number: u64) -> Option<RequestKind>
         ensures { result ≡ kind_numbered number }
     {
@@ -80,7 +80,7 @@ fn action_numbered(all: &[EventAction], number: u64) -> Option<EventAction>
 }
 
 impl EventAction {
-    /// Its number in the text.
+    /// The number of the action in the text.
     pub fn number(self) -> u64
         ensures { result ≡ action_number self }
     {
@@ -91,7 +91,7 @@ impl EventAction {
         }
     }
 
-    /// The one of this number.
+    /// The action whose number in the text this is; None for any other number.
     pub fn numbered(number: u64) -> Option<EventAction>
         ensures { result ≡ action_numbered number }
     {
@@ -102,9 +102,11 @@ impl EventAction {
 /// An event of one service (Immediate Event Charging, 3GPP TS 32.299 clause 6.3).
 #[derive(Clone, Copy, Debug, PartialEq, Eq)]
 pub struct Event {
+    /// What the event asks for (Requested-Action, RFC 8506 section 8.41).
     pub action: EventAction,
     /// Rating-Group (RFC 8506 section 8.29).
     pub group: u32,
+    /// The units that the event asks for (Requested-Service-Unit, RFC 8506 section 8.18).
     pub requested: Requested,
 }
 
@@ -175,11 +177,13 @@ pub enum Ask {
 /// A request for credit control (CCR, RFC 8506 section 3.1). A repeat of it has an equal value.
 #[derive(Clone, Debug, Drop, PartialEq, Eq)]
 pub struct Request {
+    /// Session-Id (RFC 6733 section 8.8).
     pub session: SessionId,
     /// CC-Request-Number (RFC 8506 section 8.2).
     pub number: u32,
     /// Subscription-Id (RFC 8506 section 8.46).
     pub account: AccountNumber,
+    /// What the request asks for.
     pub ask: Ask,
 }
 

@@ -73,8 +73,9 @@ fn options(rt: &HostRuntime) -> Result<Options, Error>
 /// earlier process committed, whole, whatever stopped it. `start` says what may have become of a
 /// write that was torn: `Wary` supposes nothing.
 ///
-/// Errors: the file or its log can't be opened or made, another process has it, it isn't a
-/// database, or memory is refused. Nothing that was committed is changed.
+/// # Errors
+/// `CannotOpen` where the path is `:memory:`. Else the file or its log can't be opened or made,
+/// another process has it, it isn't a database, or memory is refused.
 pub fn open_database<S: Start>(
     rt: &HostRuntime,
     path: &str,

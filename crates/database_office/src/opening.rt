@@ -17,7 +17,9 @@ use tariffs::TariffBook;
 /// An office: what keeps its accounts, and the tariff book that it goes by.
 #[derive(Drop)]
 pub struct Office<S: Alter + Drop> {
+    /// What keeps the office's accounts, in a database.
     pub keeper: SqlKeeper<S>,
+    /// The tariff book that the office goes by.
     pub book: TariffBook,
 }
 

@@ -31,7 +31,7 @@ pub const NO_MEMBERS: &str = "{}";
 const UNABLE: &[u8] =
     b"HTTP/1.1 503 Service Unavailable\r\nContent-Type: application/json\r\nContent-Length: 20\r\n\r\n{\"Result-Code\":5012}";
 
-/// The same before the connection ends.
+/// The answer where there is no memory, no store or no clock, before the connection ends.
 const UNABLE_AT_LAST: &[u8] =
     b"HTTP/1.1 503 Service Unavailable\r\nContent-Type: application/json\r\nContent-Length: 20\r\nConnection: close\r\n\r\n{\"Result-Code\":5012}";
 
@@ -92,7 +92,7 @@ fn unable() -> &'static [u8]
     UNABLE
 }
 
-/// The same before the connection ends.
+/// The answer where there is no memory, no store or no clock, before the connection ends.
 fn unable_at_last() -> &'static [u8]
     ensures { result.now ≡ response Unavailable true unable }
 {

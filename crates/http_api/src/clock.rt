@@ -16,7 +16,7 @@ pub trait Clock {
 /// A clock that stands still.
 #[derive(Clone, Copy, Debug, PartialEq, Eq)]
 pub struct FixedClock {
-    /// Its moment.
+    /// The moment that the clock gives, at each call.
     pub moment: Moment,
 }
 

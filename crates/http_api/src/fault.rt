@@ -20,7 +20,7 @@ impl ServeFault {
     ghost use Rattle.std.specs.Prelude.{◌≡◌};
     ghost use Rattle.http_api.specs.Faults.{fault_number};
 
-    /// Its number.
+    /// The number of the fault, 1 to 3.
     pub fn number(self) -> u8
         ensures { result ≡ fault_number self }
     {

@@ -15,7 +15,7 @@ use std::io::BufRead;
 /// How many fields a head part has room for: each takes at least 3 bytes.
 pub const MAX_FIELDS: usize = 2731;
 
-/// A request.
+/// A request of HTTP that was read whole: what its head part says of it, and its body.
 #[derive(Debug, Drop)]
 pub struct Request {
     /// The method.
@@ -31,7 +31,7 @@ pub struct Request {
 /// What comes next in a stream.
 #[derive(Debug, Drop)]
 pub enum Taken {
-    /// A request.
+    /// The next request, with its body.
     Request(Request),
     /// A refusal, after which nothing more is read.
     Refused(Status),

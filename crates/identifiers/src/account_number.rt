@@ -40,7 +40,7 @@ impl AccountNumber {
         }
     }
 
-    /// Its text.
+    /// The number of the account as a text.
     pub fn as_str(&self) -> &str
         ensures value { result.now ≡ self.now }
         ensures rule { IsTrue (is_account_number self.now) }

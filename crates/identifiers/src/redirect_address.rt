@@ -39,7 +39,7 @@ impl RedirectAddress {
         }
     }
 
-    /// Its text.
+    /// The URL as a text.
     pub fn as_str(&self) -> &str
         ensures value { result.now ≡ self.now }
         ensures rule { IsTrue (is_redirect_address self.now) }

@@ -39,7 +39,7 @@ impl Reference {
         }
     }
 
-    /// Its text.
+    /// The reference as a text.
     pub fn as_str(&self) -> &str
         ensures value { result.now ≡ self.now }
         ensures rule { IsTrue (is_reference self.now) }

@@ -40,7 +40,7 @@ impl SessionId {
         }
     }
 
-    /// Its text.
+    /// The name of the session as a text.
     pub fn as_str(&self) -> &str
         ensures value { result.now ≡ self.now }
         ensures rule { IsTrue (is_session_id self.now) }

@@ -38,7 +38,7 @@ impl VoucherCode {
         }
     }
 
-    /// Its text.
+    /// The code as a text.
     pub fn as_str(&self) -> &str
         ensures value { result.now ≡ self.now }
         ensures rule { IsTrue (is_voucher_code self.now) }

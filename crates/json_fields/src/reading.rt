@@ -23,6 +23,9 @@ fn parsed(alloc: Global, bytes: &[u8]) -> Result<Value, WireFault>
 }
 
 /// The object that the bytes are.
+///
+/// # Errors
+/// `NotRequest` where the bytes are no JSON object, `Memory` where memory ran out.
 #[tactic(auto, unfolding(crate::specs::Fields::document_at))]
 pub fn document(alloc: Global, bytes: &[u8]) -> Result<Value, WireFault>
     ensures { Gives view result (document_at bytes.now) }
@@ -36,6 +39,9 @@ pub fn document(alloc: Global, bytes: &[u8]) -> Result<Value, WireFault>
 }
 
 /// The member of this name.
+///
+/// # Errors
+/// `Missing`, with the name, where it isn't there.
 #[tactic(auto, unfolding(crate::specs::Fields::member_at))]
 pub fn member<'v>(parent: &'v Value, name: Avp) -> Result<&'v Value, WireFault>
     ensures { Says (λ v. view v.now) result (member_at name (view parent.now)) }
@@ -43,7 +49,10 @@ pub fn member<'v>(parent: &'v Value, name: Avp) -> Result<&'v Value, WireFault>
     parent.get(name.name()).ok_or(WireFault::Missing(name))
 }
 
-/// The whole number that a value is, from `low` to `high`, and else `fault`.
+/// The whole number that a value is, from `low` to `high`.
+///
+/// # Errors
+/// `fault` where the value is no such number.
 pub fn whole_in(value: &Value, fault: WireFault, low: u64, high: u64) -> Result<u64, WireFault>
     ensures reads { Says (λ n. n) result (whole_in fault low high (view value.now)) }
     ensures within { IfOk result (λ n. (low ≤ n) × (n ≤ high)) }
@@ -56,6 +65,9 @@ pub fn whole_in(value: &Value, fault: WireFault, low: u64, high: u64) -> Result<
 }
 
 /// The member of this name, a whole number from `low` to `high`.
+///
+/// # Errors
+/// `Missing` where it isn't there, `Invalid` where it is no such number, both with the name.
 #[tactic(auto, unfolding(crate::specs::Fields::number_at))]
 pub fn number(parent: &Value, name: Avp, low: u64, high: u64) -> Result<u64, WireFault>
     ensures reads { Says (λ n. n) result (number_at name low high (view parent.now)) }
@@ -65,6 +77,9 @@ pub fn number(parent: &Value, name: Avp, low: u64, high: u64) -> Result<u64, Wir
 }
 
 /// The member of this name, a whole number from `low` to `high`, where it is there.
+///
+/// # Errors
+/// `Invalid`, with the name, where it is there and is no such number.
 pub fn optional_number(
     parent: &Value,
     name: Avp,
@@ -77,8 +92,10 @@ pub fn optional_number(
     optional_in(parent, name.name(), WireFault::Invalid(name), low, high)
 }
 
-/// The member of this name, a whole number from `low` to `high`, where it is there; and else
-/// `fault`.
+/// The member of this name, a whole number from `low` to `high`, where it is there.
+///
+/// # Errors
+/// `fault` where it is there and is no such number.
 #[tactic(auto, unfolding(crate::specs::Fields::optional_in))]
 pub fn optional_in(
     parent: &Value,
@@ -96,7 +113,10 @@ pub fn optional_in(
     }
 }
 
-/// The member of this name, a moment from `low` to `high`, where it is there; and else `fault`.
+/// The member of this name, a moment from `low` to `high`, where it is there.
+///
+/// # Errors
+/// `fault` where it is there and is no such number of seconds since 1970.
 pub fn optional_moment(
     parent: &Value,
     name: &str,
@@ -123,6 +143,9 @@ fn moment(seconds: Option<u64>) -> Option<Moment>
 }
 
 /// The member of this name, a text.
+///
+/// # Errors
+/// `Missing` where it isn't there, `Invalid` where it is no text, both with the name.
 #[tactic(auto, unfolding(crate::specs::Fields::text_at))]
 pub fn text<'v>(parent: &'v Value, name: Avp) -> Result<&'v str, WireFault>
     ensures { Says (λ s. s.now) result (text_at name (view parent.now)) }
@@ -133,6 +156,9 @@ pub fn text<'v>(parent: &'v Value, name: Avp) -> Result<&'v str, WireFault>
 }
 
 /// The member of this name, an object.
+///
+/// # Errors
+/// `Missing` where it isn't there, `Invalid` where it is no object, both with the name.
 #[tactic(auto, unfolding(crate::specs::Fields::object_at))]
 pub fn object<'v>(parent: &'v Value, name: Avp) -> Result<&'v Value, WireFault>
     ensures { Says (λ v. view v.now) result (object_at name (view parent.now)) }
@@ -144,7 +170,10 @@ pub fn object<'v>(parent: &'v Value, name: Avp) -> Result<&'v Value, WireFault>
     Ok(value)
 }
 
-/// The items of the array that a value is; a fault is told of `told`.
+/// The items of the array that a value is.
+///
+/// # Errors
+/// `Invalid`, with the name `told`, where the value is no array.
 #[tactic(auto, unfolding(crate::specs::Fields::array_of))]
 pub fn array<'v>(value: &'v Value, told: Avp) -> Result<&'v Vec<Value>, WireFault>
     ensures { Says (λ v. items_view v.now.items) result (array_of told (view value.now)) }
@@ -152,8 +181,10 @@ pub fn array<'v>(value: &'v Value, told: Avp) -> Result<&'v Vec<Value>, WireFaul
     value.as_array().ok_or(WireFault::Invalid(told))
 }
 
-/// What the items of an array say, one after another, each read beside those before it; the first
-/// fault ends it.
+/// What the items of an array say, one after another, each read beside those before it.
+///
+/// # Errors
+/// The first fault of `read`, which ends it; `Memory` where memory ran out.
 pub fn read_each<T: Drop, F: Fn(&[T], &Value) -> Result<T, WireFault>>(
     alloc: Global,
     list: &Vec<Value>,

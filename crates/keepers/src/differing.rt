@@ -17,6 +17,7 @@ use reserving::{Counter, Reservation, Session, SessionGroup, SessionState, Store
 pub fn is_new_bucket(before: &StoredAccount, cursor: &mut usize, row: &Bucket) -> bool
     ensures { result ≡ not (list_any (equal_bucket row.now) before.now.buckets) }
 {
+    // For the prover alone: looking at the value makes known here what its type keeps.
     let _kept = before.as_of();
     let rows = before.purse().buckets();
     let place = *cursor;

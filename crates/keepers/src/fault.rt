@@ -16,7 +16,7 @@ impl StoreFault {
     ghost use Rattle.std.specs.Prelude.{◌≡◌};
     ghost use Rattle.keepers.specs.Faults.{fault_number};
 
-    /// Its number.
+    /// The number of the fault, 1 or 2.
     pub fn number(self) -> u8
         ensures { result ≡ fault_number self }
     {

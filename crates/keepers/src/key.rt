@@ -46,7 +46,7 @@ impl Key {
 }
 
 impl KeptAnswer {
-    /// The same once more.
+    /// A copy of the kept answer.
     pub fn copy(&self) -> Result<KeptAnswer, AllocError>
         ensures { IfOk result (λ copy. copy ≡ self.now) }
     {

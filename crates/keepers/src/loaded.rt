@@ -14,14 +14,14 @@ pub struct Loaded<'b> {
     pub number: AccountNumber,
     /// Its rows that may still change, priced by the book that it was loaded with.
     pub account: Account<'b>,
-    /// The same rows once more.
+    /// The rows that may still change, as they were loaded.
     pub before: StoredAccount,
 }
 
 /// A voucher that an account redeemed.
 #[derive(Debug, Drop)]
 pub struct Redeemed {
-    /// Its code.
+    /// The code of the voucher.
     pub code: VoucherCode,
     /// The voucher as it stands from now on.
     pub voucher: Voucher,

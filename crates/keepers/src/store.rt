@@ -81,6 +81,7 @@ impl Store {
         } }
         ensures over { rows_of result ≡ over live no_rows }
     {
+        // For the prover alone: looking at the value makes known here what its type keeps.
         let _kept = live.as_of();
         let left = LeftStore {
             buckets: Vec::new(alloc),

@@ -9,13 +9,13 @@ use std::alloc::Global;
 /// Every row that is kept of an account, those that can't change any more first.
 #[derive(Drop)]
 pub struct WholeAccount {
-    /// Its buckets.
+    /// The buckets of the account.
     pub buckets: Vec<Bucket>,
-    /// Its counters.
+    /// The counters of the account.
     pub counters: Vec<Counter>,
-    /// Its sessions and recorded events.
+    /// The sessions and the recorded events of the account.
     pub sessions: Vec<Session>,
-    /// What its sessions have of rating groups.
+    /// What the sessions have of rating groups.
     pub groups: Vec<SessionGroup>,
 }
 

@@ -86,7 +86,7 @@ fn answer_once<I: Read, O: Write>(
     }
 }
 
-/// The same, by the fault of the lines.
+/// Answers the lines of the input as `answer_once` does; an error is the fault of the lines.
 fn answer_lines<I: Read, O: Write>(
     alloc: Global,
     once: OnceWords,

@@ -18,7 +18,8 @@ pub enum LinesFault {
     /// The keeper didn't do what it was asked: the answers before that are written.
     #[error("store fault {}", .0.number())]
     Store(StoreFault),
-    /// The same, and the answers before that aren't written to their end.
+    /// The keeper didn't do what it was asked, and the answers before that aren't written to their
+    /// end.
     #[error("store fault {}, and the answers were not written", .0.number())]
     Both(StoreFault),
     /// All was done that was asked, and the answers weren't written to their end.

@@ -31,7 +31,7 @@ pub(crate) enum LineFault {
 pub(crate) enum Line {
     /// The answer to its request.
     Request,
-    /// Its fault.
+    /// The fault for which its request isn't read.
     Fault(LineFault),
 }
 

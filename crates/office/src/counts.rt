@@ -19,7 +19,7 @@ pub struct Counts {
     pub conflicting: u64,
 }
 
-/// Of no voucher.
+/// The counts of no voucher: each is 0.
 pub(crate) fn no_counts() -> Counts
     ensures { result ≡ no_counts }
 {
@@ -30,7 +30,7 @@ pub(crate) fn no_counts() -> Counts
     }
 }
 
-/// With one voucher more.
+/// The counts with one voucher more, of which this became.
 pub(crate) fn count_one(counts: Counts, addition: Addition) -> Counts
     requires { total counts < 18_446_744_073_709_551_615 }
     ensures { result ≡ counted_as addition counts }

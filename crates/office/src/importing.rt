@@ -47,6 +47,7 @@ pub fn import<K: Keeper>(
     ensures cleanness { K.clean keeper.new → K.clean keeper.old }
     ensures cause { HasCause (K.failed keeper.old) (K.failed keeper.new) result }
 {
+    // For the prover alone: looking at the value makes known here what its type keeps.
     let _size = rows.len();
     let mut counts = no_counts();
     for row in rows {

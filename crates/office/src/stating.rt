@@ -30,6 +30,7 @@ use units::Moment;
 /// What is asked of an account: its charges of a month.
 #[derive(Debug, Drop)]
 pub struct MonthQuery {
+    /// The account whose charges are asked for.
     pub account: AccountNumber,
     /// The civil month in the book's zone.
     pub month: Month,

@@ -25,7 +25,7 @@ pub(crate) enum OfficeName {
     Credit,
 }
 
-/// Every one of them.
+/// All commands of the program.
 const COMMANDS: [CommandName; 11] = [
     CommandName::Once,
     CommandName::Init,

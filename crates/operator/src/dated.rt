@@ -7,7 +7,9 @@ use written_numbers::number;
 /// A line of dated requests: when its command came, and the command's text.
 #[derive(Clone, Copy, Debug)]
 pub struct DatedLine<'a> {
+    /// When the command came, 0 to 4,102,444,799 seconds since 1970.
     pub moment: Moment,
+    /// The text of the command: the rest of the line after the space.
     pub body: &'a str,
 }
 

@@ -21,6 +21,7 @@ pub struct OnceWords {
 /// What the words of `init` say: a new database for this tariff book.
 #[derive(Debug, Drop)]
 pub struct InitWords {
+    /// The path at which the database is made.
     pub database: FilePath,
     /// The book's TOML.
     pub book: FilePath,
@@ -29,8 +30,9 @@ pub struct InitWords {
 /// What the words of `serve` say: connections on a port of 127.0.0.1.
 #[derive(Debug, Drop)]
 pub struct ServeWords {
+    /// The path of the database that is served.
     pub database: FilePath,
-    /// 1 to 65,535.
+    /// The port, 1 to 65,535.
     pub port: u16,
     /// How many are served, 1 to 1,000,000.
     pub connections: u32,
@@ -41,6 +43,7 @@ pub struct ServeWords {
 /// What the words of `import` say: a file of vouchers for a database.
 #[derive(Debug, Drop)]
 pub struct ImportWords {
+    /// The path of the database to which the vouchers are added.
     pub database: FilePath,
     /// The vouchers' CSV.
     pub file: FilePath,
@@ -55,7 +58,7 @@ pub enum OfficeCommand {
     Open(AccountNumber),
     /// Bars an account.
     Bar(AccountNumber),
-    /// Ends that.
+    /// Lifts the bar of an account.
     Unbar(AccountNumber),
     /// Gives an account money, from the moment of the command on.
     Credit(Credit),
@@ -81,7 +84,9 @@ impl OfficeCommand {
 /// What the words of an operator's command say.
 #[derive(Debug, Drop)]
 pub struct OfficeWords {
+    /// The path of the database on which the command is carried out.
     pub database: FilePath,
+    /// The command that is carried out.
     pub command: OfficeCommand,
     /// Its moment, 0 to 4,102,444,799; None: the clock's.
     pub at: Option<Moment>,
@@ -90,7 +95,9 @@ pub struct OfficeWords {
 /// What the words of `statement` say: the charges of an account in a month.
 #[derive(Debug, Drop)]
 pub struct StatementWords {
+    /// The path of the database that has the account.
     pub database: FilePath,
+    /// The account whose charges are written.
     pub account: AccountNumber,
     /// The civil month in the book's zone.
     pub month: Month,
@@ -103,6 +110,7 @@ pub struct StatementWords {
 /// What the words of `replay` say: a file of dated requests for a database.
 #[derive(Debug, Drop)]
 pub struct ReplayWords {
+    /// The path of the database on which the requests are carried out.
     pub database: FilePath,
     /// Lines of a moment, one space and a request as JSON.
     pub file: FilePath,
@@ -113,11 +121,16 @@ pub struct ReplayWords {
 pub enum ProgramWords {
     /// `once`: requests from standard input, over one account and one price.
     Once(OnceWords),
+    /// `init`: a new database for a tariff book.
     Init(InitWords),
+    /// `serve`: requests over HTTP, from connections on a port.
     Serve(ServeWords),
+    /// `import`: the vouchers of a file.
     Import(ImportWords),
     /// `open`, `bar`, `unbar`, `sweep` and `credit`.
     Office(OfficeWords),
+    /// `statement`: the charges of an account in a month.
     Statement(StatementWords),
+    /// `replay`: dated requests from a file.
     Replay(ReplayWords),
 }

@@ -36,7 +36,7 @@ impl FilePath {
         }
     }
 
-    /// Its text.
+    /// The path as a text, which isn't empty.
     pub fn as_str(&self) -> &str
         ensures value { result.now ≡ self.now }
         ensures rule { IsTrue (is_file_path self.now) }

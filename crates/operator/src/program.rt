@@ -176,7 +176,7 @@ fn first_program<'a>(alloc: Global) -> Result<Command<'a>, AllocError>
     with_command(program, init_command(alloc)?)
 }
 
-/// The same with `serve` and `import`.
+/// The program with `once`, `init`, `serve` and `import`.
 fn files_program<'a>(alloc: Global) -> Result<Command<'a>, AllocError>
     ensures app { IfOk result (λ c. app_of c ≡ files_app) }
     ensures local { IfOk result (λ c. (fields_of c).has_globals ≡ false) }
@@ -186,7 +186,7 @@ fn files_program<'a>(alloc: Global) -> Result<Command<'a>, AllocError>
     with_command(program, import_command(alloc)?)
 }
 
-/// The same with `open`, `bar` and `unbar`.
+/// The program with `once`, `init`, `serve`, `import`, `open`, `bar` and `unbar`.
 fn account_program<'a>(alloc: Global) -> Result<Command<'a>, AllocError>
     ensures app { IfOk result (λ c. app_of c ≡ accounts_app) }
     ensures local { IfOk result (λ c. (fields_of c).has_globals ≡ false) }
@@ -200,7 +200,7 @@ fn account_program<'a>(alloc: Global) -> Result<Command<'a>, AllocError>
     with_command(program, unbar)
 }
 
-/// The same with `sweep` and `credit`.
+/// The program with all its commands but `statement` and `replay`.
 fn office_program<'a>(alloc: Global) -> Result<Command<'a>, AllocError>
     ensures app { IfOk result (λ c. app_of c ≡ office_app) }
     ensures local { IfOk result (λ c. (fields_of c).has_globals ≡ false) }

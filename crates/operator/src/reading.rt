@@ -31,6 +31,8 @@ pub fn program_words<'a>(alloc: Global, words: &'a [&'a str]) -> Result<ProgramW
     ensures unread { IfErr result (IsUnread (texts_of words.entry.now)) }
     ensures in_range { IfOk result IsInRange }
 {
+    // A `match` in place of `?`: the prover has no proof for `?` on a result whose value holds a
+    // `&str` beside a struct with a model.
     let matches = match found_in(alloc, words) {
         Ok(matches) => matches,
         Err(fault) => return Err(fault),

@@ -71,6 +71,7 @@ impl VoucherTerms {
         ensures value { result ≡ self.amount }
         ensures in_range { (1 ≤ result) × (result ≤ 1_000_000_000_000_000) }
     {
+        // For the prover alone: looking at the value makes known here what its type keeps.
         let _in_range = self.amount.micros();
         self.amount
     }

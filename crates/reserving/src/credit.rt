@@ -11,9 +11,11 @@ use units::{Moment, Money};
 
 impl<'b> Account<'b> {
     /// Adds a bucket of this amount, for use from and until these moments, by one rating group or
-    /// by all, and answers its number (TS 32.296, account balance management function). The account
-    /// is unchanged at a fault: want of memory, or `Limit` where the bucket's number would pass
-    /// 4,294,967,295.
+    /// by all, and answers its number (TS 32.296, account balance management function).
+    ///
+    /// # Errors
+    /// `Limit` exactly where the bucket's number would pass 4,294,967,295, else `Memory`: a growth
+    /// was refused. Then the account is unchanged.
     pub fn credit(
         &mut self,
         from: Moment,
@@ -54,6 +56,7 @@ impl<'b> Account<'b> {
         ensures limit { IsErrOf result AccountFault.Limit ↔ (4294967295 < self.old.next_bucket) }
         ensures err { OnErr result (self.new ≡ self.old) }
     {
+        // For the prover alone: looking at the value makes known here what its type keeps.
         let _in_range = amount.micros();
         let Ok(number) = u32::try_from(self.rows.next_bucket) else {
             return Err(AccountFault::Limit);

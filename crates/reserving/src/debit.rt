@@ -60,8 +60,10 @@ impl<'b> Account<'b> {
     /// (RFC 8506 section 6.3; TS 32.299, immediate event charging). None: they don't, and nothing
     /// has changed.
     ///
-    /// At a fault nothing has changed: `Limit` where the price is covered and the session's use,
-    /// the group's counter or the number of the charge would pass its limit, else `Memory`.
+    /// # Errors
+    /// `Limit` only where the price is covered and the session's use, the group's counter or the
+    /// number of the charge would pass its limit, else `Memory`: a growth was refused. Then the
+    /// account is unchanged.
     pub fn debit(
         &mut self,
         session: &SessionId,

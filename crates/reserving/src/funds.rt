@@ -83,6 +83,7 @@ fn lapsed_funds(
         ≡ lapsed_funds (is_live_in validity at sessions.now) group at groups.now buckets.now }
     ensures most { result < 2 ^ 126 }
 {
+    // For the prover alone: looking at the value makes known here what its type keeps.
     let _count = buckets.len();
     let mut total = 0;
     for row in groups {

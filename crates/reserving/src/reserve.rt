@@ -57,7 +57,8 @@ impl<'b> Account<'b> {
     /// requested, or of the group's slice, as much as the eligible buckets cover; its price is held
     /// in them.
     ///
-    /// At a fault, which is want of memory, nothing has changed.
+    /// # Errors
+    /// `Memory` and no other: a growth was refused. Then the account is unchanged.
     pub fn reserve(
         &mut self,
         session: &SessionId,

@@ -74,8 +74,10 @@ impl<'b> Account<'b> {
     /// taken from what the reservation holds, then from the eligible buckets. A report without
     /// parts only ends the reservation.
     ///
-    /// At a fault nothing has changed: `Limit` where the session's use, the group's counter or the
-    /// number of the charge would pass its limit, else `Memory`.
+    /// # Errors
+    /// `Limit` only where the session's use, the group's counter or the number of the charge would
+    /// pass its limit, else `Memory`: a growth was refused. Then the account is unchanged. A report
+    /// without parts has no error.
     pub fn settle(
         &mut self,
         session: &SessionId,

@@ -73,6 +73,7 @@ fn make_addition<S: Alter>(
     ensures commits { CommitsWhole (BecomesAdded text.now code.now terms moment)
         (state S.Store conn.old) (state S.Store conn.new) result }
 {
+    // For the prover alone: looking at the value makes known here what its type keeps.
     let _moment = moment.seconds();
     write_addition(conn, text, code, terms, moment)?;
     Ok(())

@@ -15,6 +15,7 @@ pub(crate) struct ReadBook {
     pub given: TariffBook,
     /// For the keeper, which looks names of periods up.
     pub own: TariffBook,
+    /// The text that both were read from.
     pub text: String,
 }
 

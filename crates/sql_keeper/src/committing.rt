@@ -59,6 +59,7 @@ fn make_change<S: Alter>(
     ensures commits { CommitsChange book.now.periods text.now change.now
         (state S.Store conn.old) (state S.Store conn.new) result }
 {
+    // For the prover alone: looking at the value makes known here what its type keeps.
     let _stored = change.after.as_of();
     let _moment = change.moment.seconds();
     let head = read_account(conn, &change.number)?;

@@ -44,6 +44,7 @@ fn keeper_of<S: Alter>(
     ensures uncounted { result.0.failures ≡ 0 }
     ensures live { IsLive (state S.Store connection) }
 {
+    // For the prover alone: looking at the value makes known here what its type keeps.
     let _listed = connection.schema();
     let keeper = SqlKeeper {
         connection,

@@ -98,6 +98,7 @@ fn make_sweep<S: Alter>(
     ensures count { HasCleanDisk (state S.Store conn.new) →
         IfOk result (λ n. n ≡ (content_of (state S.Store conn.old).now.trees).count) }
 {
+    // For the prover alone: looking at the value makes known here what its type keeps.
     let _ranges = book.validity();
     let _moment = moment.seconds();
     let accounts = read_sweep(conn, alloc, names, book, moment)?;

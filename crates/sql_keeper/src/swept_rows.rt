@@ -52,6 +52,7 @@ fn swept_of(
     let Some(before) = rows else {
         return Err(ReadFault::Rules);
     };
+    // For the prover alone: looking at the value makes known here what its type keeps.
     let _kept = before.as_of();
     let number = account.clone()?;
     let rows = advanced_to(before, book, moment);

@@ -70,6 +70,7 @@ fn is_writable(
 ) -> bool
     ensures { IsTrue result → IsWritable book.now.periods sessions.now session.now reservation.now }
 {
+    // For the prover alone: looking at the value makes known here what its type keeps.
     let _holds = reservation.holds.as_slice();
     let periods = reservation.periods;
     is_open(sessions, session) && is_named(book, periods.before) && is_named(book, periods.after)

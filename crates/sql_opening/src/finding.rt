@@ -146,11 +146,12 @@ fn other_tables_differ<S: Alter>(conn: &mut Connection<S>) -> Result<(), OpenFau
 
 /// Tests that the database has this system's ten tables and their indexes, and no other table, and
 /// that no rowid of theirs stands twice: then each statement of this system does what it says. Each
-/// row is looked at once.
+/// row is looked at once. Nothing is changed, whatever is answered.
 ///
-/// Errors: `Foreign`, the tables aren't exactly ours; `Rules`, a rowid of ours stands twice or is
-/// no integer; `Store`, also where a transaction is open; `Memory`. Nothing is changed, whatever is
-/// answered.
+/// # Errors
+/// `Foreign` only where the tables aren't exactly ours, `Rules` only where a rowid of ours stands
+/// twice or is no integer; `Store` where the store failed or a transaction is open; `Memory` where
+/// memory was refused.
 pub fn find_tables<S: Alter>(conn: &mut Connection<S>, alloc: Global) -> Result<(), OpenFault>
     ensures found { HasCleanDisk (state S.Store conn.new) →
         OnOk result (IsFound (state S.Store conn.old) (state S.Store conn.new)) }

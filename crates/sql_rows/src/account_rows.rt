@@ -17,6 +17,10 @@ use sqlite::{Alter, Connection, Error, Row, Transaction};
 use std::alloc::Global;
 
 /// Puts what is kept of an account once.
+///
+/// # Errors
+/// `IntegralValueOutOfRange` where the next number of a bucket or of a charge is 2^63 or more, else
+/// an error of the store. Then nothing is committed.
 pub fn put_account<S: Alter>(
     tx: &mut Transaction<'_, S>,
     account: &AccountNumber,
@@ -43,6 +47,10 @@ pub fn put_account<S: Alter>(
 }
 
 /// What is kept of an account once: none where it is not opened.
+///
+/// # Errors
+/// `Store` where the store failed, `Rules` where a row is out of its rules, `Memory` where a growth
+/// was refused. Nothing is changed then either.
 pub fn read_account<S: Alter>(
     conn: &mut Connection<S>,
     account: &AccountNumber,
@@ -88,6 +96,10 @@ fn head_from(row: &Row) -> Result<Head, ReadFault>
 }
 
 /// The numbers of all accounts, each once.
+///
+/// # Errors
+/// `Store` where the store failed, `Rules` where a row is out of its rules, `Memory` where a growth
+/// was refused. Nothing is changed then either.
 pub fn read_accounts<S: Alter>(
     conn: &mut Connection<S>,
     alloc: Global,

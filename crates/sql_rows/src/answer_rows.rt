@@ -31,6 +31,9 @@ const READ_ANSWER: &str = "SELECT content, answer FROM answers \
     WHERE account = ?1 AND kind = ?2 AND name = ?3 AND number = ?4";
 
 /// Puts the texts that are kept of a request under its session and its number.
+///
+/// # Errors
+/// An error of the store. Then nothing is committed.
 pub fn put_answer_request<S: Alter>(
     tx: &mut Transaction<'_, S>,
     account: &AccountNumber,
@@ -59,6 +62,9 @@ pub fn put_answer_request<S: Alter>(
 }
 
 /// Puts the texts that are kept of an operator's command under its reference.
+///
+/// # Errors
+/// An error of the store. Then nothing is committed.
 pub fn put_answer_reference<S: Alter>(
     tx: &mut Transaction<'_, S>,
     account: &AccountNumber,
@@ -86,6 +92,10 @@ pub fn put_answer_reference<S: Alter>(
 }
 
 /// The texts that are kept of a request.
+///
+/// # Errors
+/// `Store` where the store failed, `Rules` where a row is out of its rules, `Memory` where a growth
+/// was refused. Nothing is changed then either.
 pub fn read_answer_request<S: Alter>(
     conn: &mut Connection<S>,
     account: &AccountNumber,
@@ -106,6 +116,10 @@ pub fn read_answer_request<S: Alter>(
 }
 
 /// The texts that are kept of an operator's command.
+///
+/// # Errors
+/// `Store` where the store failed, `Rules` where a row is out of its rules, `Memory` where a growth
+/// was refused. Nothing is changed then either.
 pub fn read_answer_reference<S: Alter>(
     conn: &mut Connection<S>,
     account: &AccountNumber,

@@ -19,6 +19,9 @@ use sqlite::{Alter, Connection, Error, Row, Transaction};
 use std::alloc::Global;
 
 /// Puts a bucket of an account.
+///
+/// # Errors
+/// An error of the store. Then nothing is committed.
 pub fn put_bucket<S: Alter>(
     tx: &mut Transaction<'_, S>,
     account: &AccountNumber,
@@ -56,6 +59,10 @@ pub fn put_bucket<S: Alter>(
 
 /// The buckets that have money available or reserved, as they stand: no rule of theirs is tested
 /// yet.
+///
+/// # Errors
+/// `Store` where the store failed, `Rules` where a row is out of its rules, `Memory` where a growth
+/// was refused. Nothing is changed then either.
 pub fn read_buckets_live<S: Alter>(
     conn: &mut Connection<S>,
     alloc: Global,
@@ -75,6 +82,10 @@ pub fn read_buckets_live<S: Alter>(
 }
 
 /// All buckets, as they stand: no rule of theirs is tested yet.
+///
+/// # Errors
+/// `Store` where the store failed, `Rules` where a row is out of its rules, `Memory` where a growth
+/// was refused. Nothing is changed then either.
 pub fn read_buckets_all<S: Alter>(
     conn: &mut Connection<S>,
     alloc: Global,
@@ -95,6 +106,10 @@ pub fn read_buckets_all<S: Alter>(
 
 /// The buckets that have no money available and none reserved, in the order of their numbers, as
 /// they stand: no other rule of theirs is tested yet.
+///
+/// # Errors
+/// `Store` where the store failed, `Rules` where a row is out of its rules or the numbers don't
+/// rise, `Memory` where a growth was refused. Nothing is changed then either.
 pub fn read_buckets_dead<S: Alter>(
     conn: &mut Connection<S>,
     alloc: Global,
@@ -186,6 +201,9 @@ fn bucket_from(row: &Row) -> Result<BucketColumns, ReadFault>
 }
 
 /// Puts each bucket in turn.
+///
+/// # Errors
+/// The first error of a row, as `put_bucket` answers it. Then nothing is committed.
 pub fn put_buckets<S: Alter>(
     tx: &mut Transaction<'_, S>,
     account: &AccountNumber,

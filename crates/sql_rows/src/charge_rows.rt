@@ -18,6 +18,10 @@ use std::alloc::Global;
 use units::{Amount, Blocks};
 
 /// Puts a charge of an account.
+///
+/// # Errors
+/// `IntegralValueOutOfRange` where an amount or the number of blocks is 2^63 or more, else an error
+/// of the store. Then nothing is committed.
 pub fn put_charge<S: Alter>(
     tx: &mut Transaction<'_, S>,
     account: &AccountNumber,
@@ -60,6 +64,10 @@ pub fn put_charge<S: Alter>(
 }
 
 /// The charges of an account beyond a number and up to another, in the order of their numbers.
+///
+/// # Errors
+/// `Store` where the store failed, `Rules` where a row is out of its rules or the numbers don't
+/// rise, `Memory` where a growth was refused. Nothing is changed then either.
 pub fn read_charges_within<S: Alter>(
     conn: &mut Connection<S>,
     alloc: Global,
@@ -146,6 +154,9 @@ fn charge_from(alloc: Global, row: &Row) -> Result<ChargeRow, ReadFault>
 }
 
 /// Puts each charge in turn.
+///
+/// # Errors
+/// The first error of a row, as `put_charge` answers it. Then nothing is committed.
 pub fn put_charges<S: Alter>(
     tx: &mut Transaction<'_, S>,
     account: &AccountNumber,

@@ -14,6 +14,10 @@ use std::alloc::Global;
 
 /// The counters of an account of a cycle, of each rating group; the index finds them without those
 /// of other cycles.
+///
+/// # Errors
+/// `Store` where the store failed, `Rules` where a row is out of its rules, `Memory` where a growth
+/// was refused. Nothing is changed then either.
 pub fn read_counters_in<S: Alter>(
     conn: &mut Connection<S>,
     alloc: Global,

@@ -15,6 +15,10 @@ use sql_tables::{
 use sqlite::{Alter, Connection, Error, Row, Transaction};
 
 /// Puts a counter of an account.
+///
+/// # Errors
+/// `IntegralValueOutOfRange` where the number of blocks is 2^63 or more, else an error of the
+/// store. Then nothing is committed.
 pub fn put_counter<S: Alter>(
     tx: &mut Transaction<'_, S>,
     account: &AccountNumber,
@@ -40,6 +44,10 @@ pub fn put_counter<S: Alter>(
 }
 
 /// The counter of a rating group in a cycle.
+///
+/// # Errors
+/// `Store` where the store failed, `Rules` where a row is out of its rules, `Memory` where a growth
+/// was refused. Nothing is changed then either.
 pub fn read_counter<S: Alter>(
     conn: &mut Connection<S>,
     account: &AccountNumber,
@@ -87,6 +95,9 @@ pub(crate) fn counter_from(row: &Row) -> Result<Counter, ReadFault>
 }
 
 /// Puts each counter in turn.
+///
+/// # Errors
+/// The first error of a row, as `put_counter` answers it. Then nothing is committed.
 pub fn put_counters<S: Alter>(
     tx: &mut Transaction<'_, S>,
     account: &AccountNumber,

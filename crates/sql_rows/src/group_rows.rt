@@ -18,7 +18,9 @@ use std::alloc::Global;
 /// The names of the tariff periods at a grant and at its switch.
 #[derive(Debug, Drop)]
 pub struct PeriodNames {
+    /// The name of the tariff period at the grant.
     pub before: String,
+    /// The name of the tariff period at the switch.
     pub after: String,
 }
 
@@ -44,6 +46,10 @@ const PUT_GROUP: &str = "INSERT INTO session_groups VALUES (?1, ?2, ?3, ?4, ?5, 
 /// Puts what a session has of a rating group, with a reservation: the units used, and the names of
 /// the tariff periods at the grant and at the switch. What the reservation holds is put by
 /// `put_hold`.
+///
+/// # Errors
+/// `IntegralValueOutOfRange` where the number of units is 2^63 or more, else an error of the store.
+/// Then nothing is committed.
 pub fn put_group_reserved<S: Alter>(
     tx: &mut Transaction<'_, S>,
     account: &AccountNumber,
@@ -78,6 +84,10 @@ pub fn put_group_reserved<S: Alter>(
 }
 
 /// Puts what a session has of a rating group, without a reservation: the units used.
+///
+/// # Errors
+/// `IntegralValueOutOfRange` where the number of units is 2^63 or more, else an error of the store.
+/// Then nothing is committed.
 pub fn put_group_free<S: Alter>(
     tx: &mut Transaction<'_, S>,
     account: &AccountNumber,
@@ -108,6 +118,10 @@ pub fn put_group_free<S: Alter>(
 }
 
 /// What a session has of rating groups; what its reservations hold is read by `read_holds`.
+///
+/// # Errors
+/// `Store` where the store failed, `Rules` where a row is out of its rules, `Memory` where a growth
+/// was refused. Nothing is changed then either.
 pub fn read_groups<S: Alter>(
     conn: &mut Connection<S>,
     alloc: Global,

@@ -25,6 +25,10 @@ pub struct HeldColumns {
 }
 
 /// Puts what a session's reservation in a rating group holds of a bucket, in micro-units.
+///
+/// # Errors
+/// `IntegralValueOutOfRange` where the amount is 2^63 or more, else an error of the store. Then
+/// nothing is committed.
 pub fn put_hold<S: Alter>(
     tx: &mut Transaction<'_, S>,
     account: &AccountNumber,
@@ -54,6 +58,9 @@ pub fn put_hold<S: Alter>(
 }
 
 /// Removes what a session's reservation in a rating group holds.
+///
+/// # Errors
+/// An error of the store. Then nothing is committed.
 pub fn remove_holds<S: Alter>(
     tx: &mut Transaction<'_, S>,
     account: &AccountNumber,
@@ -76,6 +83,10 @@ pub fn remove_holds<S: Alter>(
 }
 
 /// What is held for a session, by rating group and bucket.
+///
+/// # Errors
+/// `Store` where the store failed, `Rules` where a row is out of its rules, `Memory` where a growth
+/// was refused. Nothing is changed then either.
 pub fn read_holds<S: Alter>(
     conn: &mut Connection<S>,
     alloc: Global,
@@ -124,6 +135,9 @@ fn held_from(row: &Row) -> Result<HeldColumns, ReadFault>
 }
 
 /// Puts each of what a session's reservation in a rating group holds.
+///
+/// # Errors
+/// The first error of a row, as `put_hold` answers it. Then nothing is committed.
 pub fn put_holds<S: Alter>(
     tx: &mut Transaction<'_, S>,
     account: &AccountNumber,

@@ -29,6 +29,9 @@ pub struct Meta {
 
 /// Puts what is kept once: the version of the tables, the text of the tariff book, and the moment
 /// of the last accepted command.
+///
+/// # Errors
+/// An error of the store. Then nothing is committed.
 pub fn put_meta<S: Alter>(
     tx: &mut Transaction<'_, S>,
     version: u32,
@@ -56,6 +59,10 @@ pub fn put_meta<S: Alter>(
 }
 
 /// What is kept once: none where the tables are new.
+///
+/// # Errors
+/// `Store` where the store failed, `Rules` only where the row is there and out of its rules,
+/// `Memory` where a growth was refused. Nothing is changed then either.
 pub fn read_meta<S: Alter>(conn: &mut Connection<S>) -> Result<Option<Meta>, ReadFault>
     requires idle { HasIdleBook (state S.Store conn.old) }
     ensures reads { Reads (λ trees o. option_map meta_of o ≡ (content_of trees).meta)

@@ -17,6 +17,9 @@ use sqlite::{Alter, Connection, Error, Row, Transaction};
 use std::alloc::Global;
 
 /// Puts a session of an account, or a recorded event.
+///
+/// # Errors
+/// An error of the store. Then nothing is committed.
 pub fn put_session<S: Alter>(
     tx: &mut Transaction<'_, S>,
     account: &AccountNumber,
@@ -54,6 +57,10 @@ fn state_number(state: SessionState) -> u32
 }
 
 /// The session with the name, or the recorded event.
+///
+/// # Errors
+/// `Store` where the store failed, `Rules` where a row is out of its rules, `Memory` where a growth
+/// was refused. Nothing is changed then either.
 pub fn read_session<S: Alter>(
     conn: &mut Connection<S>,
     alloc: Global,
@@ -100,6 +107,10 @@ fn session_from(alloc: Global, row: &Row) -> Result<Session, ReadFault>
 }
 
 /// The open sessions of an account; the index finds them without its past ones.
+///
+/// # Errors
+/// `Store` where the store failed, `Rules` where a row is out of its rules, `Memory` where a growth
+/// was refused. Nothing is changed then either.
 pub fn read_sessions_open<S: Alter>(
     conn: &mut Connection<S>,
     alloc: Global,
@@ -133,6 +144,9 @@ fn sessions_from(alloc: Global, rows: &[Row]) -> Result<Vec<Session>, ReadFault>
 }
 
 /// Puts each session in turn.
+///
+/// # Errors
+/// The first error of a row, as `put_session` answers it. Then nothing is committed.
 pub fn put_sessions<S: Alter>(
     tx: &mut Transaction<'_, S>,
     account: &AccountNumber,

@@ -47,6 +47,9 @@ fn redeemer_or_null(account: Option<&AccountNumber>) -> ValueRef<'_>
 /// Puts a voucher: its amount in micro-units, the days that what it gives lasts (none: without
 /// end), the one rating group that it pays for (none: all) and the account that redeemed it (none:
 /// no account has).
+///
+/// # Errors
+/// An error of the store. Then nothing is committed.
 pub fn put_voucher<S: Alter>(
     tx: &mut Transaction<'_, S>,
     code: &str,
@@ -81,6 +84,10 @@ pub fn put_voucher<S: Alter>(
 }
 
 /// The voucher with the code.
+///
+/// # Errors
+/// `Store` where the store failed, `Rules` where a row is out of its rules, `Memory` where a growth
+/// was refused. Nothing is changed then either.
 pub fn read_voucher<S: Alter>(
     conn: &mut Connection<S>,
     alloc: Global,

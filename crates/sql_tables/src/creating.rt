@@ -312,6 +312,9 @@ fn create_rest<S: Alter>(tx: &mut Transaction<'_, S>) -> Result<(), Error>
 }
 
 /// Makes each table and the indexes, within a transaction, in a database that has none.
+///
+/// # Errors
+/// An error of the store. Then nothing is committed.
 pub fn create_each<S: Alter>(tx: &mut Transaction<'_, S>) -> Result<(), Error>
     requires stage { HasStage 0 (state S.Store tx.old.conn.now) }
     ensures same_reference { tx.new.conn.ghost_name ≡ tx.old.conn.ghost_name }
@@ -326,6 +329,9 @@ pub fn create_each<S: Alter>(tx: &mut Transaction<'_, S>) -> Result<(), Error>
 
 /// Makes the ten tables and their indexes in a database that has none: all of them or nothing, also
 /// over a crash.
+///
+/// # Errors
+/// An error of the store. Then the database is as it was.
 pub fn create_tables<S: Alter>(conn: &mut Connection<S>) -> Result<(), Error>
     requires idle { conn.old.in_transaction ≡ false }
     requires blank { HasCleanDisk (state S.Store conn.old) →
@@ -345,6 +351,9 @@ pub fn create_tables<S: Alter>(conn: &mut Connection<S>) -> Result<(), Error>
 }
 
 /// A database in memory that has the ten tables, all empty.
+///
+/// # Errors
+/// An error of the store, also where memory was refused.
 pub fn create_in_memory(alloc: Global) -> Result<Connection<MemStore>, Error>
     ensures idle { IfOk result (λ conn. conn.in_transaction ≡ false) }
     ensures made { IfOk result

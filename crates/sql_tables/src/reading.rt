@@ -41,6 +41,9 @@ impl From<AllocError> for ReadFault {
 }
 
 /// The rows that a selection answers. It changes nothing.
+///
+/// # Errors
+/// `Store` where the store failed, and never `Rules`.
 pub fn read<S: Alter>(
     conn: &mut Connection<S>,
     sql: &str,
@@ -57,6 +60,7 @@ pub fn read<S: Alter>(
         (λ _. (state S.Store conn.old).is_open ≡ false) }
     ensures fault { IfErr result (λ e. ¬ (e ≡ ReadFault.Rules)) }
 {
+    // For the prover alone: looking at the value makes known here what its type keeps.
     let _ours = conn.schema();
     match conn.query_all(sql, params) {
         Ok(rows) => Ok(rows),
@@ -64,7 +68,10 @@ pub fn read<S: Alter>(
     }
 }
 
-/// The row, if there is one; more than one is out of the rules.
+/// The row, if there is one.
+///
+/// # Errors
+/// `Rules` where there are more.
 pub fn one_of(rows: &[Row]) -> Result<Option<&Row>, ReadFault>
     ensures { MatchResult result (λ o. rows.now ≡ one_or_none (option_map (λ r. r.now) o))
         (λ _. (o : Option Values) → ¬ (rows.now ≡ one_or_none o)) }
@@ -77,6 +84,9 @@ pub fn one_of(rows: &[Row]) -> Result<Option<&Row>, ReadFault>
 }
 
 /// Tests that a row has this many columns.
+///
+/// # Errors
+/// `Rules` where it has more or fewer.
 pub fn has_columns(row: &Row, count: usize) -> Result<(), ReadFault>
     ensures { MatchResult result (λ _. length row.now ≡ count) (λ _. ¬ (length row.now ≡ count)) }
 {
@@ -88,6 +98,9 @@ pub fn has_columns(row: &Row, count: usize) -> Result<(), ReadFault>
 }
 
 /// The number in a column.
+///
+/// # Errors
+/// `Rules` only where the column holds no integer from 0 on, `Memory` where memory was refused.
 pub fn number_at(row: &Row, at: usize) -> Result<u64, ReadFault>
     ensures { MatchResult result (λ n. column row.now at ≡ Int (pos n))
         (λ e. e ≡ ReadFault.Rules → (n : ℕ) → ¬ (column row.now at ≡ Int (pos n))) }
@@ -99,6 +112,10 @@ pub fn number_at(row: &Row, at: usize) -> Result<u64, ReadFault>
 }
 
 /// The number below 2^32 in a column.
+///
+/// # Errors
+/// `Rules` only where the column holds no integer from 0 to 4,294,967,295, `Memory` where memory
+/// was refused.
 pub fn small_at(row: &Row, at: usize) -> Result<u32, ReadFault>
     ensures { MatchResult result (λ n. column row.now at ≡ Int (pos n))
         (λ e. e ≡ ReadFault.Rules → (n : ℕ) → n < 2 ^ 32 → ¬ (column row.now at ≡ Int (pos n))) }
@@ -110,6 +127,10 @@ pub fn small_at(row: &Row, at: usize) -> Result<u32, ReadFault>
 }
 
 /// The number in a column, none where it is NULL.
+///
+/// # Errors
+/// `Rules` only where the row hasn't the column, or it holds neither NULL nor an integer from 0 to
+/// 4,294,967,295; `Memory` where memory was refused.
 pub fn optional_at(row: &Row, at: usize) -> Result<Option<u32>, ReadFault>
     ensures { MatchResult result (λ o. column row.now at ≡ or_null (λ n. Int (pos n)) o)
         (λ e. e ≡ ReadFault.Rules → at < length row.now → (o : Option ℕ) →
@@ -123,6 +144,10 @@ pub fn optional_at(row: &Row, at: usize) -> Result<Option<u32>, ReadFault>
 }
 
 /// Tests that a column is NULL.
+///
+/// # Errors
+/// `Rules` only where the row hasn't the column, or it isn't NULL; `Memory` where memory was
+/// refused.
 pub fn null_at(row: &Row, at: usize) -> Result<(), ReadFault>
     ensures { MatchResult result (λ _. column row.now at ≡ Null)
         (λ e. e ≡ ReadFault.Rules → at < length row.now → ¬ (column row.now at ≡ Null)) }
@@ -135,6 +160,9 @@ pub fn null_at(row: &Row, at: usize) -> Result<(), ReadFault>
 }
 
 /// The text in a column.
+///
+/// # Errors
+/// `Rules` only where the column holds no text of UTF-8, `Memory` where memory was refused.
 pub fn text_at(row: &Row, at: usize) -> Result<String, ReadFault>
     ensures { MatchResult result (λ s. column row.now at ≡ Text (string_bytes s))
         (λ e. e ≡ ReadFault.Rules → (t : List ℕ) → IsUtf8 t → ¬ (column row.now at ≡ Text t)) }

@@ -46,8 +46,11 @@ pub fn large<'a>(number: u64) -> ValueRef<'a>
     ValueRef::Int(number as i64)
 }
 
-/// A number as the parameter of this place; its error is a number from 2^63 on, which SQL's
-/// integers don't have.
+/// A number as the parameter of this place.
+///
+/// # Errors
+/// `IntegralValueOutOfRange`, of the place, where the number is 2^63 or more: SQL's integers don't
+/// have it.
 pub fn checked<'a>(number: u128, place: usize) -> Result<ValueRef<'a>, Error>
     ensures { IfOk result (λ value. owned value ≡ Int (pos number)) }
 {

@@ -7,8 +7,10 @@ ghost use Rattle.sqlite.specs.Values.{bound};
 use sqlite::types::ValueRef;
 use sqlite::{Alter, Error, Transaction};
 
-/// Runs a statement that writes; it answers the number of rows. At an error the transaction changed
-/// nothing, or it is over and what was last committed stands.
+/// Runs a statement that writes; it answers the number of rows.
+///
+/// # Errors
+/// An error of the store. Then nothing is committed.
 pub fn write<S: Alter>(
     tx: &mut Transaction<'_, S>,
     sql: &str,

@@ -20,7 +20,7 @@ pub enum StatementFault {
 }
 
 impl StatementFault {
-    /// Its number, 1 to 3.
+    /// The number of the fault, 1 to 3.
     pub fn number(self) -> u8
         ensures { result ≡ fault_number self }
     {

@@ -26,8 +26,11 @@ use written_numbers::Month;
 /// An account's month by a book, in whose zone it is civil: what a statement or an export is of.
 #[derive(Drop)]
 pub struct AccountMonth<'a> {
+    /// The account whose charges are written.
     pub account: &'a AccountNumber,
+    /// The civil month of the charges.
     pub month: Month,
+    /// The tariff book in whose zone the month is civil.
     pub book: &'a TariffBook,
 }
 
@@ -58,7 +61,8 @@ fn write_charges<S: ChargeSource, W: Write>(
     asked: &AccountMonth,
     form: Form,
 ) -> Result<Sums, StatementFault>
-    ensures writes { S.clean source.new → Writes ((S.content source.old).charges asked.now.account.now)
+    ensures writes { S.clean source.new →
+        Writes ((S.content source.old).charges asked.now.account.now)
         (W.contents writer.old) (W.contents writer.new)
         (λ rows. charges_text form (of_month asked.now.book.now asked.now.month rows)) result }
     ensures sums { S.clean source.new → (rows : List ChargeColumns) →
@@ -153,7 +157,8 @@ pub fn statement<S: ChargeSource, W: Write>(
     moment: Moment,
     buckets: &[Bucket],
 ) -> Result<(), StatementFault>
-    ensures writes { S.clean source.new → Writes ((S.content source.old).charges asked.now.account.now)
+    ensures writes { S.clean source.new →
+        Writes ((S.content source.old).charges asked.now.account.now)
         (W.contents writer.old) (W.contents writer.new)
         (λ rows. statement_text asked.now.book.now asked.now.account.now asked.now.month moment rows
         buckets.now) result }
@@ -177,7 +182,8 @@ pub fn export<S: ChargeSource, W: Write>(
     writer: &mut W,
     asked: &AccountMonth,
 ) -> Result<(), StatementFault>
-    ensures writes { S.clean source.new → Writes ((S.content source.old).charges asked.now.account.now)
+    ensures writes { S.clean source.new →
+        Writes ((S.content source.old).charges asked.now.account.now)
         (W.contents writer.old) (W.contents writer.new)
         (λ rows. export_text asked.now.book.now asked.now.month rows) result }
     ensures asks { Asks S.content S.failed S.clean source.old source.new result }

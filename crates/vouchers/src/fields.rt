@@ -64,7 +64,7 @@ fn number_in(fault: FaultKind, low: u64, high: u64, field: &[u8]) -> Result<u64,
     }
 }
 
-/// The same, where the field isn't empty.
+/// The whole number from `low` to `high` that a field is, and else `fault`; None where it is empty.
 #[tactic(auto, unfolding(crate::specs::Rows::optional_in))]
 fn optional_in(
     fault: FaultKind,

@@ -23,6 +23,10 @@ use std::alloc::Global;
 const REFUND_ACCOUNT: u64 = 1;
 
 /// The Session-Id of a request or an answer.
+///
+/// # Errors
+/// Of Session-Id: `Missing` where it isn't there, `Invalid` where it isn't the name of a session;
+/// `Memory` where memory ran out.
 #[tactic(auto, unfolding(crate::specs::Reading::session_at))]
 pub fn session_id(alloc: Global, parent: &Value) -> Result<SessionId, WireFault>
     ensures { Gives (λ s. s) result (session_at (view parent.now)) }
@@ -32,6 +36,10 @@ pub fn session_id(alloc: Global, parent: &Value) -> Result<SessionId, WireFault>
 }
 
 /// The CC-Request-Type of a request or an answer.
+///
+/// # Errors
+/// Of CC-Request-Type: `Missing` where it isn't there, `Invalid` where it isn't a number from 1 to
+/// 4.
 #[tactic(auto, unfolding(crate::specs::Reading::kind_at))]
 pub fn request_kind(parent: &Value) -> Result<RequestKind, WireFault>
     ensures { Says (λ k. k) result (kind_at (view parent.now)) }
@@ -41,6 +49,11 @@ pub fn request_kind(parent: &Value) -> Result<RequestKind, WireFault>
 }
 
 /// The account that the Subscription-Id of a request names.
+///
+/// # Errors
+/// The first fault in this order: Subscription-Id is `Missing`, or `Invalid` where it is no object;
+/// in it Subscription-Id-Type is `Missing`, or `Invalid` where it isn't 0; Subscription-Id-Data is
+/// `Missing`, or `Invalid` where it isn't the number of an account. `Memory` where memory ran out.
 #[tactic(auto, unfolding(crate::specs::Reading::account_at))]
 pub fn account_number(alloc: Global, parent: &Value) -> Result<AccountNumber, WireFault>
     ensures { Gives (λ n. n) result (account_at (view parent.now)) }

@@ -8,8 +8,8 @@ pub fn joined(alloc: Global, text: &str) -> Result<String, Fail> {
     Ok(text.replace(alloc, "\n  ", "")?)
 }
 
-/// The document with the changes of a case, joined by `&`, each `OLD -> NEW`. A change whose old text
-/// isn't there fails the test.
+/// The document with the changes of a case, joined by `&`, each `OLD -> NEW`. A change whose old
+/// text isn't there fails the test.
 pub fn changed(alloc: Global, document: &str, changes: &str) -> Result<String, Fail> {
     let mut text = joined(alloc, document)?;
     for change in changes.split(" & ") {

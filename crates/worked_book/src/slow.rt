@@ -6,7 +6,9 @@ use std::io::{self, ErrorKind, Write};
 /// Takes single bytes, and fails after so many calls.
 #[derive(Drop)]
 pub struct Slow {
+    /// The bytes that it has taken.
     pub taken: Vec<u8>,
+    /// How many calls are left before it fails.
     pub calls: usize,
 }
 

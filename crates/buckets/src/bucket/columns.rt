@@ -43,6 +43,7 @@ impl Bucket {
     pub(crate) fn keeps_balance(&self)
         ensures { IsBalanced self.now }
     {
+        // For the prover alone: looking at the value makes known here what its type keeps.
         let _credited = self.credited;
     }
 
