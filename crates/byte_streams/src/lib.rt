@@ -61,11 +61,8 @@ pub fn next_byte<R: Read>(reader: &mut R) -> Result<Option<u8>, StreamFault>
         match reader.read(&mut one) {
             Ok(0) => return Ok(None),
             Ok(_) => return Ok(Some(one[0])),
-            Err(error) => {
-                if error.kind() != ErrorKind::Interrupted {
-                    return Err(StreamFault::Read);
-                }
-            }
+            Err(error) if error.kind() == ErrorKind::Interrupted => {}
+            Err(_) => return Err(StreamFault::Read),
         }
     }
     Err(StreamFault::Read)
@@ -120,13 +117,8 @@ fn take_shown<R: BufRead>(
 {
     let shown = match reader.fill_buf() {
         Ok(shown) => shown,
-        Err(error) => {
-            return if error.kind() == ErrorKind::Interrupted {
-                Ok(None)
-            } else {
-                Err(StreamFault::Read)
-            };
-        }
+        Err(error) if error.kind() == ErrorKind::Interrupted => return Ok(None),
+        Err(_) => return Err(StreamFault::Read),
     };
     let count = count_taken(shown, stop, most);
     part.extend_from_slice(&shown[..count])?;
@@ -230,11 +222,8 @@ fn write_some<W: Write>(writer: &mut W, text: &[u8]) -> Result<usize, StreamFaul
         match writer.write(text) {
             Ok(0) => return Err(StreamFault::Write),
             Ok(n) => return Ok(n),
-            Err(error) => {
-                if error.kind() != ErrorKind::Interrupted {
-                    return Err(StreamFault::Write);
-                }
-            }
+            Err(error) if error.kind() == ErrorKind::Interrupted => {}
+            Err(_) => return Err(StreamFault::Write),
         }
     }
     Err(StreamFault::Write)
