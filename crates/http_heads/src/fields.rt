@@ -72,10 +72,8 @@ fn number_of(digits: &[u8]) -> Option<u64>
     requires all { list_all is_ascii_digit digits.now ≡ true }
     ensures { result ≡ Some (digits_value 10 digits.now) }
 {
-    match str::from_utf8(digits) {
-        Ok(text) => text.parse::<u64>().ok(),
-        Err(_) => None,
-    }
+    let text = str::from_utf8(digits).ok()?;
+    text.parse::<u64>().ok()
 }
 
 /// The number that 1 to 18 digits say.

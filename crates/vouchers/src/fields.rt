@@ -44,10 +44,8 @@ pub(crate) fn is_header(fields: &ByteRecord) -> bool
 fn number(field: &[u8]) -> Option<u64>
     ensures { result ≡ number_of field.now }
 {
-    match str::from_utf8(field) {
-        Ok(text) => written_numbers::number(text),
-        Err(_) => None,
-    }
+    let text = str::from_utf8(field).ok()?;
+    written_numbers::number(text)
 }
 
 /// The number that a field says, from `low` to `high`.
