@@ -80,30 +80,23 @@ fn fourth_part(target: &str) -> &str
 fn account_in(alloc: Global, target: &str) -> Result<AccountNumber, WireFault>
     ensures { Gives (λ a. a) result (account_in target.now) }
 {
-    match AccountNumber::new(alloc, second_part(target))? {
-        Some(number) => Ok(number),
-        None => Err(WireFault::Invalid(Avp::SubscriptionIdData)),
-    }
+    let number = AccountNumber::new(alloc, second_part(target))?;
+    number.ok_or(WireFault::Invalid(Avp::SubscriptionIdData))
 }
 
 /// The code of the voucher that a path names.
 fn code_in(alloc: Global, target: &str) -> Result<VoucherCode, WireFault>
     ensures { Gives (λ c. c) result (code_in target.now) }
 {
-    match VoucherCode::new(alloc, second_part(target))? {
-        Some(code) => Ok(code),
-        None => Err(WireFault::Invalid(Avp::VoucherCode)),
-    }
+    let code = VoucherCode::new(alloc, second_part(target))?;
+    code.ok_or(WireFault::Invalid(Avp::VoucherCode))
 }
 
 /// The month that a path names.
 fn month_in(target: &str) -> Result<Month, WireFault>
     ensures { Gives (λ m. m) result (month_in target.now) }
 {
-    match Month::from_word(fourth_part(target)) {
-        Some(month) => Ok(month),
-        None => Err(WireFault::Invalid(Avp::Month)),
-    }
+    Month::from_word(fourth_part(target)).ok_or(WireFault::Invalid(Avp::Month))
 }
 
 /// What a method asks of an account: GET its balance, PUT that it is opened.

@@ -28,36 +28,21 @@ pub enum Route {
 pub(crate) fn is_get(method: Method) -> bool
     ensures { result ≡ is_get method }
 {
-    match method {
-        Method::Get => true,
-        Method::Post => false,
-        Method::Put => false,
-        Method::Other => false,
-    }
+    matches!(method, Method::Get)
 }
 
 /// Whether a method is POST.
 fn is_post(method: Method) -> bool
     ensures { result ≡ is_post method }
 {
-    match method {
-        Method::Get => false,
-        Method::Post => true,
-        Method::Put => false,
-        Method::Other => false,
-    }
+    matches!(method, Method::Post)
 }
 
 /// Whether a method is PUT.
 fn is_put(method: Method) -> bool
     ensures { result ≡ is_put method }
 {
-    match method {
-        Method::Get => false,
-        Method::Post => false,
-        Method::Put => true,
-        Method::Other => false,
-    }
+    matches!(method, Method::Put)
 }
 
 impl Route {
