@@ -11,12 +11,8 @@ use units::Moment;
 pub fn machine_moment(rt: &HostRuntime) -> Option<Moment>
     ensures { IfSome result (λ t. t < 4_102_444_800) }
 {
-    let Ok(now) = SystemTime::now(rt) else {
-        return None;
-    };
-    let Ok(since) = now.duration_since(UNIX_EPOCH) else {
-        return None;
-    };
+    let now = SystemTime::now(rt).ok()?;
+    let since = now.duration_since(UNIX_EPOCH).ok()?;
     Moment::of_command(since.as_secs())
 }
 
@@ -32,9 +28,6 @@ pub fn command_moment(rt: &HostRuntime, at: Option<Moment>) -> Result<Moment, Da
 {
     match at {
         Some(at) => Ok(at),
-        None => match machine_moment(rt) {
-            Some(moment) => Ok(moment),
-            None => Err(DatabaseFault::Clock),
-        },
+        None => machine_moment(rt).ok_or(DatabaseFault::Clock),
     }
 }
