@@ -223,7 +223,8 @@ module _ {A : Type 0} (before same : A → A → Bool) (p : A → Bool) (f : A �
       set xs place (f now) ≡ map written xs
   written_at place xs now apart is h =
       sym ((placed before p (f now) place xs h).put)
-      ∙ sym (written_put now xs apart ((placed before p now place xs h).found now ∙ ap Some (sym is)))
+      ∙ sym (written_put now xs apart
+      ((placed before p now place xs h).found now ∙ ap Some (sym is)))
 
 -- ---- the reservation of one row alone
 
