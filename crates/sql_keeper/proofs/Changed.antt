@@ -2,8 +2,9 @@
 use Rattle.std.proofs.Common.{◌≡◌, ℕ, Bool, true, false, cond, List, [], ◌∷◌, refl, sym, ap, ◌∙◌}
 use Rattle.std.proofs.Common.{subst, Option, Some, None}
 use Rattle.std.specs.Prelude.{if◌then◌else◌, ◌&&◌, ◌+◌, nat_eq, option_map, option_and_then}
-use Rattle.std.specs.Prelude.{unwrap_or, is_some}
-use Rattle.std.proofs.lemmas.Bool.{and_parts}
+use Rattle.std.specs.Prelude.{unwrap_or, is_some, not, ◌||◌, ◌==◌}
+use Rattle.std.specs.List.{list_any}
+use Rattle.std.proofs.lemmas.Bool.{and_parts, not-true}
 use Rattle.std.proofs.lemmas.Option.{same_Some}
 use Rattle.identifiers.specs.Texts.{same_name}
 use Rattle.calendar.specs.declared.week.Period.{Period}
@@ -12,9 +13,19 @@ use Rattle.reserving.specs.declared.charge.ChargeRow.{ChargeRow}
 use Rattle.reserving.specs.declared.session.Session.{Session}
 use Rattle.reserving.specs.declared.session.SessionGroup.{SessionGroup}
 use Rattle.reserving.specs.declared.session.Reservation.{Reservation}
-use Rattle.reserving.specs.Sessions.{session_in, is_of, group_in, holds_in}
+use Rattle.reserving.specs.Sessions.{session_in, is_session, is_counter, is_of, group_in, holds_in}
+use Rattle.reserving.specs.Rows.{AreApart}
 use Rattle.reserving.specs.Stored.{StoredRows, IsStored}
-use Rattle.reserving.specs.Left.{is_open_row, first_of}
+use Rattle.reserving.specs.Left.{is_open_row, first_of, only}
+use Rattle.reserving.proofs.Keys.{first_true, second_true}
+use Rattle.reserving.proofs.KeysFound.{found_session, is_none_is}
+use Rattle.reserving.proofs.LeftParted.{one_session, one_counter, one_group}
+use Rattle.reserving.proofs.LeftTests.{find_filter, differing_over, apart_filter}
+use Rattle.reserving.proofs.LeftTests.{each_filter}
+use Rattle.keepers.specs.Keyed.{same_bucket, same_counter, same_session, same_group}
+use Rattle.keepers.specs.Differing.{equal_bucket, equal_counter, equal_session, equal_group}
+use Rattle.keepers.proofs.Equal.{bucket_from, counter_from, session_from, group_from}
+use Rattle.keepers.proofs.Found.{one_bucket, distinct_apart}
 use Rattle.keepers.specs.declared.key.Key.{Key}
 use Rattle.keepers.specs.declared.key.Key.TheVariants.{Request, Reference}
 use Rattle.keepers.specs.declared.key.KeptAnswer.{KeptAnswer}
@@ -34,7 +45,8 @@ use Rattle.sql_keeper.specs.Content.{rows_of, is_numbered, charge_of, kept_in, a
 use Rattle.sql_keeper.specs.Content.{voucher_in, tables_of}
 use Rattle.sql_keeper.specs.Content as content
 use Rattle.sql_keeper.specs.Writes.{name_at, names_at, columns_of, head_of, with_stored, with_texts}
-use Rattle.sql_keeper.specs.Writes.{with_kept, with_redeemed, AreTexts, with_change}
+use Rattle.sql_keeper.specs.Writes.{with_kept, with_redeemed, AreTexts, with_change, new_rows}
+use Rattle.sql_keeper.specs.Writes.{new_sessions, equal_beside, is_written_session}
 use Rattle.sql_keeper.specs.Tests.{IsNamed, MayStand, AreWritable, AreNumbered, first_number}
 use Rattle.sql_keeper.specs.Laws.{AreChangesRead}
 use Rattle.sql_keeper.proofs.Overlays.{name_from, not_both, with_opened, opened, over_buckets}
@@ -50,10 +62,25 @@ abbrev pub over_stored : List (List ℕ) → StoredRows → Stored → Stored
 over_stored names w r = over_groups names w.groups (over_sessions w.sessions
     (over_counters w.counters (over_buckets w.buckets (with_head (head_of w) r))))
 
-pub stored_over : (a : List ℕ) (names : List (List ℕ)) (w : StoredRows) (c : Content) → IsStored w
-    → AreWritable names w.sessions w.groups
+-- no two rows have one key
+pub record AreKeyed (w : StoredRows) : Type 0 where
+  pub buckets : AreApart same_bucket w.buckets
+  pub counters : AreApart same_counter w.counters
+  pub sessions : AreApart same_session w.sessions
+  pub groups : AreApart same_group w.groups
+
+pub keyed : (w : StoredRows) → IsStored w → AreKeyed w
+keyed w h = record {
+  buckets = distinct_apart w.buckets h.sound.distinct;
+  counters = h.counters;
+  sessions = h.sessions;
+  groups = h.groups;
+}
+
+pub stored_over : (a : List ℕ) (names : List (List ℕ)) (sessions : List Session) (w : StoredRows)
+    (c : Content) → AreKeyed w → AreWritable names sessions w.groups
     → with_stored a names w c ≡ opened a (over_stored names w) c
-stored_over a names w c h may =
+stored_over a names among w c h may =
     let head = with_head (head_of w) in
     let first = λ (r : Stored). over_buckets w.buckets (head r) in
     let second = λ (r : Stored). over_counters w.counters (first r) in
@@ -62,10 +89,10 @@ stored_over a names w c h may =
     let buckets = with_buckets a w.buckets opening in
     let counters = with_counters a w.counters buckets in
     let sessions = with_sessions a w.sessions counters in
-    groups_over a names w.sessions w.groups sessions h.groups may
+    groups_over a names among w.groups sessions h.groups may
     ∙ ap (with_rows a (over_groups names w.groups)) (sessions_over a w.sessions counters h.sessions
     ∙ ap (with_rows a (over_sessions w.sessions)) (counters_over a w.counters buckets h.counters
-    ∙ ap (with_rows a (over_counters w.counters)) (buckets_over a w.buckets opening h.sound.distinct
+    ∙ ap (with_rows a (over_counters w.counters)) (buckets_over a w.buckets opening h.buckets
     ∙ with_opened a (over_buckets w.buckets) head c)
     ∙ with_opened a (over_counters w.counters) first c)
     ∙ with_opened a (over_sessions w.sessions) second c)
@@ -176,6 +203,166 @@ module _ (names : List (List ℕ)) (w : StoredRows) (r : Stored)
     holds = λ s g n. holds_read s g n i;
   }
 
+-- the rows that differ, written alone, read as all of them
+module _ (names : List (List ℕ)) (before after : StoredRows) (r : Stored)
+    (made : IsMadeFrom before after (rows_of names r)) (earlier : AreKeyed before)
+    (later : AreKeyed after)
+    (may : (s : List ℕ) (g : ℕ) (x : SessionGroup) → group_in s g after.groups ≡ Some x →
+    MayStand names after.sessions s x.reservation) where
+  abbrev new : StoredRows
+  new = new_rows before after
+
+  abbrev same_beside : SessionGroup → SessionGroup → Bool
+  same_beside = equal_beside (new_sessions before after)
+
+  abbrev is_open_before : List ℕ → Bool
+  is_open_before s = is_open_row (r.sessions s)
+
+  abbrev is_open_now : List ℕ → Bool
+  is_open_now s = is_open_row (first_of (session_in s new.sessions) (r.sessions s))
+
+  sessions_same : (s : List ℕ) → first_of (session_in s new.sessions) (r.sessions s)
+      ≡ first_of (session_in s after.sessions) (r.sessions s)
+  sessions_same s =
+      differing_over same_session (is_session s) (one_session s) equal_session session_from
+      before.sessions after.sessions (r.sessions s) earlier.sessions later.sessions
+      (made.sessions s)
+
+  opened_same : (s : List ℕ) → is_open_now s ≡ open_after names after r made.free may s
+  unfolding open_after
+  opened_same s = ap is_open_row (sessions_same s)
+
+  beside_from : (x y : SessionGroup) → same_beside x y ≡ true → x ≡ y
+  beside_from x y e = group_from x y (first_true (equal_group x y) _ e)
+
+  not_written : (x : SessionGroup) (ys : List SessionGroup) → list_any (same_beside x) ys ≡ true
+      → is_written_session new.sessions x.session ≡ false
+  not_written x [] e = not_both (sym e)
+  not_written x (y ∷ ys) e = at (same_beside x y) refl e (not_written x ys)
+    where
+      at : (t : Bool) → same_beside x y ≡ t → (t || list_any (same_beside x) ys) ≡ true
+          → (list_any (same_beside x) ys ≡ true
+          → is_written_session new.sessions x.session ≡ false)
+          → is_written_session new.sessions x.session ≡ false
+      at true k f rest =
+          not-true (is_written_session new.sessions x.session)
+          (second_true (equal_group x y) _ k)
+      at false k f rest = rest f
+
+  -- the session of a group that isn't written isn't either
+  stays_open : (s : List ℕ) (g : ℕ) (x : SessionGroup) → group_in s g after.groups ≡ Some x
+      → is_written_session new.sessions x.session ≡ false → is_open_now s ≡ is_open_before s
+  stays_open s g x e n =
+      let none : session_in s new.sessions ≡ None =
+      subst (λ m. session_in m new.sessions ≡ None) (found_session s g after.groups x e)
+      (is_none_is (session_in x.session new.sessions) n) in
+      ap (λ o. is_open_row (first_of o (r.sessions s))) none
+
+  abbrev is_written_group : SessionGroup → Bool
+  is_written_group x = not (list_any (same_beside x) before.groups)
+
+  written_group : (s : List ℕ) (g : ℕ)
+      → group_in s g new.groups ≡ only is_written_group (group_in s g after.groups)
+  written_group s g =
+      find_filter same_group (is_of s g) (one_group s g) is_written_group after.groups later.groups
+
+  -- what isn't written stood there
+  stood_before : (s : List ℕ) (g : ℕ) (x : SessionGroup) → group_in s g after.groups ≡ Some x
+      → list_any (same_beside x) before.groups ≡ true → group_in s g before.groups ≡ Some x
+  stood_before s g x e k =
+      let none : group_in s g new.groups ≡ None =
+      written_group s g ∙ ap (only is_written_group) e
+      ∙ ap (λ t. if not t then Some x else None) k in
+      ap (λ o. first_of o (group_in s g before.groups)) (sym none)
+      ∙ differing_over same_group (is_of s g) (one_group s g) same_beside beside_from
+      before.groups after.groups (group_in s g before.groups) earlier.groups later.groups
+      (λ y e. e)
+      ∙ ap (λ o. first_of o (group_in s g before.groups)) e
+
+  -- a group is written as it is, or it stood there
+  by_group : (P : Option SessionGroup → Type 0) (s : List ℕ) (g : ℕ)
+      → P (group_in s g after.groups)
+      → ((x : SessionGroup) → group_in s g after.groups ≡ Some x
+      → group_in s g before.groups ≡ Some x → is_open_now s ≡ is_open_before s → P None)
+      → P (group_in s g new.groups)
+  by_group P s g same stood =
+      subst P (sym (written_group s g)) (at (group_in s g after.groups) refl)
+    where
+      by_test : (x : SessionGroup) (t : Bool) → group_in s g after.groups ≡ Some x
+          → list_any (same_beside x) before.groups ≡ t → P (if not t then Some x else None)
+      by_test x true e k =
+          stood x e (stood_before s g x e k)
+          (stays_open s g x e (not_written x before.groups k))
+      by_test x false e k = subst P e same
+
+      at : (o : Option SessionGroup) → group_in s g after.groups ≡ o
+          → P (only is_written_group o)
+      at None e = subst P e same
+      at (Some x) e = by_test x (list_any (same_beside x) before.groups) e refl
+
+  new_groups_read : (s : List ℕ) (g : ℕ)
+      → option_map (stored_group names (is_open_now s))
+      (first_of (option_map (columns_of names) (group_in s g new.groups)) (r.groups s g))
+      ≡ first_of (option_map group_row (group_in s g after.groups))
+      (option_map (stored_group names (is_open_before s)) (r.groups s g))
+  new_groups_read s g =
+      by_group (λ o. option_map (stored_group names (is_open_now s))
+      (first_of (option_map (columns_of names) o) (r.groups s g))
+      ≡ first_of (option_map group_row (group_in s g after.groups))
+      (option_map (stored_group names (is_open_before s)) (r.groups s g))) s g
+      (ap (λ b. option_map (stored_group names b)
+      (first_of (option_map (columns_of names) (group_in s g after.groups)) (r.groups s g)))
+      (opened_same s)
+      ∙ groups_read names after r made.free may s g)
+      (λ x is stood stays.
+      ap (λ b. option_map (stored_group names b) (r.groups s g)) stays
+      ∙ made.groups s g x stood
+      ∙ ap (λ o. first_of (option_map group_row o)
+      (option_map (stored_group names (is_open_before s)) (r.groups s g))) (sym is))
+
+  new_holds_read : (s : List ℕ) (g n : ℕ)
+      → held_in (is_open_now s && is_reserved
+      (first_of (option_map (columns_of names) (group_in s g new.groups)) (r.groups s g)))
+      (amount_in n (group_in s g new.groups) (r.holds s g n))
+      ≡ held_over n (group_in s g after.groups)
+      (held_in (is_open_before s && is_reserved (r.groups s g)) (r.holds s g n))
+  new_holds_read s g n =
+      by_group (λ o. held_in (is_open_now s && is_reserved
+      (first_of (option_map (columns_of names) o) (r.groups s g))) (amount_in n o (r.holds s g n))
+      ≡ held_over n (group_in s g after.groups)
+      (held_in (is_open_before s && is_reserved (r.groups s g)) (r.holds s g n))) s g
+      (ap (λ b. held_in (b && is_reserved
+      (first_of (option_map (columns_of names) (group_in s g after.groups)) (r.groups s g)))
+      (amount_in n (group_in s g after.groups) (r.holds s g n))) (opened_same s)
+      ∙ holds_read names after r made.free may s g n)
+      (λ x is stood stays.
+      ap (λ b. held_in (b && is_reserved (r.groups s g)) (r.holds s g n)) stays
+      ∙ made.holds s g n x stood
+      ∙ ap (λ o. held_over n o
+      (held_in (is_open_before s && is_reserved (r.groups s g)) (r.holds s g n))) (sym is))
+
+  pub new_rows_read : rows_of names (over_stored names new r) ≡ over after (rows_of names r)
+  new_rows_read = λ i. record (over after (rows_of names r)) {
+    buckets = λ n. differing_over same_bucket (λ b. b.number == n) (one_bucket n) equal_bucket
+        bucket_from before.buckets after.buckets (r.buckets n) earlier.buckets later.buckets
+        (made.buckets n) i;
+    counters = λ g n. differing_over same_counter (is_counter g n) (one_counter g n) equal_counter
+        counter_from before.counters after.counters (r.counters g n) earlier.counters
+        later.counters (made.counters g n) i;
+    sessions = λ s. sessions_same s i;
+    groups = λ s g. new_groups_read s g i;
+    holds = λ s g n. new_holds_read s g n i;
+  }
+
+-- the new rows have different keys, and may be written where all may
+pub new_keyed : (before after : StoredRows) → AreKeyed after → AreKeyed (new_rows before after)
+new_keyed before after h = record {
+  buckets = apart_filter same_bucket _ after.buckets h.buckets;
+  counters = apart_filter same_counter _ after.counters h.counters;
+  sessions = apart_filter same_session _ after.sessions h.sessions;
+  groups = apart_filter same_group _ after.groups h.groups;
+}
+
 -- the test of a group that is found
 pub may_at : (names : List (List ℕ)) (sessions : List Session) (gs : List SessionGroup)
     → AreWritable names sessions gs → (s : List ℕ) (g : ℕ) (x : SessionGroup)
@@ -279,28 +466,34 @@ same_texts a (Reference x) names w cs r = refl
 -- ---- all of it
 
 module _ (names : List (List ℕ)) (m : Meta) (change : Change) (texts : Option Kept) (c : Content)
-    (kept : IsStored change.after)
+    (loaded : IsStored change.before) (kept : IsStored change.after)
     (may : AreWritable names change.after.sessions change.after.groups)
     (numbers : AreNumbered (first_number (c.rows change.number).head) change.after.next_charge
     change.charges.items) (told : AreTexts change.number change.kept texts) where
+  abbrev written_rows : StoredRows
+  written_rows = new_rows change.before change.after
+
   row_after : Stored → Stored
   row_after r = put_kept change.kept texts
-      (over_charges change.charges.items (over_stored names change.after r))
+      (over_charges change.charges.items (over_stored names written_rows r))
 
   content_after : with_change names m change texts c
       ≡ with_redeemed change.redeemed (opened change.number row_after (with_meta m c))
   unfolding row_after
   content_after =
       ap (with_redeemed change.redeemed) (ap (with_kept change.number change.kept texts)
-      (charges_over change.number change.charges.items (with_stored change.number names change.after
+      (charges_over change.number change.charges.items (with_stored change.number names written_rows
       (with_meta m c)) (numbered_apart (first_number (c.rows change.number).head)
       change.after.next_charge change.charges.items numbers)
       ∙ ap (with_rows change.number (over_charges change.charges.items))
-      (stored_over change.number names change.after (with_meta m c) kept may)
+      (stored_over change.number names change.after.sessions written_rows (with_meta m c)
+      (new_keyed change.before change.after (keyed change.after kept))
+      (each_filter (λ x. MayStand names change.after.sessions x.session x.reservation) _
+      change.after.groups may))
       ∙ with_opened change.number (over_charges change.charges.items)
-      (over_stored names change.after) (with_meta m c))
+      (over_stored names written_rows) (with_meta m c))
       ∙ kept_over change.number change.kept texts
-      (λ r. over_charges change.charges.items (over_stored names change.after r)) (with_meta m c))
+      (λ r. over_charges change.charges.items (over_stored names written_rows r)) (with_meta m c))
 
   module _ (last : m.last ≡ change.moment)
       (made : IsMadeFrom change.before change.after (rows_of names (c.rows change.number))) where
@@ -313,8 +506,9 @@ module _ (names : List (List ℕ)) (m : Meta) (change : Change) (texts : Option 
         subst (λ a. IsMadeFrom change.before change.after (rows_of names (c.rows a)))
         (name_from change.number x e) made in
         kept_rows names change.kept texts
-        (over_charges change.charges.items (over_stored names change.after (c.rows x)))
-        ∙ rows_read names change.after (c.rows x) made_here.free
+        (over_charges change.charges.items (over_stored names written_rows (c.rows x)))
+        ∙ new_rows_read names change.before change.after (c.rows x) made_here
+        (keyed change.before loaded) (keyed change.after kept)
         (may_at names change.after.sessions change.after.groups may)
     rows_at x false e = refl
 
@@ -324,10 +518,10 @@ module _ (names : List (List ℕ)) (m : Meta) (change : Change) (texts : Option 
     unfolding row_after
     answers_at x k true e =
         kept_answer x k change.kept texts
-        (over_charges change.charges.items (over_stored names change.after (c.rows x)))
+        (over_charges change.charges.items (over_stored names written_rows (c.rows x)))
         (subst (λ a. AreTexts a change.kept texts) (name_from change.number x e) told)
         ∙ ap (kept_after change.kept k)
-        (same_texts x k names change.after change.charges.items (c.rows x))
+        (same_texts x k names written_rows change.charges.items (c.rows x))
     answers_at x k false e = refl
 
     charges_at : (x : List ℕ) (n : ℕ) (t : Bool) → same_name change.number x ≡ t
@@ -337,7 +531,7 @@ module _ (names : List (List ℕ)) (m : Meta) (change : Change) (texts : Option 
     unfolding row_after
     charges_at x n true e =
         kept_charges n change.kept texts
-        (over_charges change.charges.items (over_stored names change.after (c.rows x)))
+        (over_charges change.charges.items (over_stored names written_rows (c.rows x)))
         ∙ seen_after n (first_number (c.rows x).head) change.after.next_charge change.charges.items
         (is_numbered n (c.rows x).head) (subst (λ a. AreNumbered (first_number (c.rows a).head)
         change.after.next_charge change.charges.items) (name_from change.number x e) numbers)
@@ -362,5 +556,5 @@ module _ (names : List (List ℕ)) (m : Meta) (change : Change) (texts : Option 
         })
 
 pub changes_read : AreChangesRead
-changes_read names m change texts c kept may numbers told last made =
-    change_read names m change texts c kept may numbers told last made
+changes_read names m change texts c loaded kept may numbers told last made =
+    change_read names m change texts c loaded kept may numbers told last made

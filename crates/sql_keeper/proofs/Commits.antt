@@ -27,7 +27,7 @@ use Rattle.sql_keeper.specs.Commits.{Becomes}
 use Rattle.sql_keeper.specs.Tests.{AreNumbered, AreWritable, first_number}
 use Rattle.sql_keeper.specs.Writes.{AreTexts, columns_of, head_of, meta_with, with_change}
 use Rattle.sql_keeper.specs.Writes.{with_held_group, with_kept, with_redeemed, with_stored}
-use Rattle.sql_keeper.specs.Writes.{with_texts}
+use Rattle.sql_keeper.specs.Writes.{new_rows, with_texts}
 use Rattle.sql_keeper.proofs.Changed.{changes_read}
 
 -- ---- what is kept once
@@ -77,18 +77,19 @@ change_meta : (names : List (List ℕ)) (m : Meta) (change : Change)
     (texts : Option Kept) (c : Content)
     → (with_change names m change texts c).meta ≡ Some m
 change_meta names m change texts c =
-    let stored = with_stored change.number names change.after (with_meta m c) in
+    let rows = new_rows change.before change.after in
+    let stored = with_stored change.number names rows (with_meta m c) in
     let charged = with_charges change.number change.charges.items stored in
     redeemed_meta change.redeemed (with_kept change.number change.kept texts charged)
     ∙ kept_meta change.number change.kept texts charged
     ∙ each_meta (λ x. with_rows change.number (with_charge x))
     (λ x c. refl) change.charges.items stored
-    ∙ stored_meta change.number names change.after (with_meta m c)
+    ∙ stored_meta change.number names rows (with_meta m c)
 
 -- ---- a change that passed the tests
 
 module _ (names : List (List ℕ)) (text : List ℕ) (change : Change) (texts : Option Kept)
-    (head : Option HeadColumns) (stored : IsStored change.after)
+    (head : Option HeadColumns) (loaded : IsStored change.before) (stored : IsStored change.after)
     (may : AreWritable names change.after.sessions change.after.groups)
     (numbers : AreNumbered (first_number head) change.after.next_charge change.charges.items)
     (told : AreTexts change.number change.kept texts) (last : change.moment ≤ 4_102_488_000) where
@@ -98,7 +99,7 @@ module _ (names : List (List ℕ)) (text : List ℕ) (change : Change) (texts : 
   become old new is turns = record {
     tables = λ made.
         ap (tables_of names) turns.content
-        ∙ changes_read names (meta_with text change) change texts (content_of old) stored may
+        ∙ changes_read names (meta_with text change) change texts (content_of old) loaded stored may
         (subst (λ h. AreNumbered (first_number h) change.after.next_charge change.charges.items) is
         numbers) told refl made;
     meta = ap (λ (c : Content). c.meta) turns.content

@@ -1,6 +1,7 @@
 pub mod Added
 pub mod Again
 pub mod Asked
+pub mod Beside
 pub mod BookTexts
 pub mod Changed
 pub mod ChargePages

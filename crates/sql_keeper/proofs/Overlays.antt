@@ -5,7 +5,6 @@ use Rattle.std.specs.Prelude.{if◌then◌else◌, ◌+◌, nat_eq, is_some}
 use Rattle.std.specs.List.{find}
 use Rattle.identifiers.specs.Texts.{same_name}
 use Rattle.buckets.specs.Row.{Row as Bucket}
-use Rattle.buckets.specs.Spend.{AreDistinct}
 use Rattle.reserving.specs.declared.charge.ChargeRow.{ChargeRow}
 use Rattle.reserving.specs.declared.session.Session.{Session}
 use Rattle.reserving.specs.declared.session.Counter.{Counter}
@@ -18,7 +17,7 @@ use Rattle.reserving.proofs.LeftParted.{one_session, one_counter}
 use Rattle.reserving.proofs.LeftTests.{none_more}
 use Rattle.keepers.specs.Tables.{charge_in}
 use Rattle.keepers.specs.Keyed.{same_bucket, same_session, same_counter}
-use Rattle.keepers.proofs.Found.{one_bucket, distinct_apart}
+use Rattle.keepers.proofs.Found.{one_bucket}
 use Rattle.sql_rows.specs.Content.{Rows, Content, with_rows, with_bucket, with_counter}
 use Rattle.sql_rows.specs.Content.{with_session, with_charge}
 use Rattle.sql_rows.specs.Each.{with_buckets, with_counters, with_sessions, with_charges}
@@ -127,7 +126,7 @@ unfolding each
 charges_each a [] c = refl
 charges_each a (x ∷ xs) c = charges_each a xs (with_rows a (with_charge x) c)
 
-pub buckets_over : (a : List ℕ) (xs : List Bucket) (c : Content) → AreDistinct xs →
+pub buckets_over : (a : List ℕ) (xs : List Bucket) (c : Content) → AreApart same_bucket xs →
     with_buckets a xs c ≡ with_rows a (over_buckets xs) c
 buckets_over a xs c h =
     buckets_each a xs c
@@ -135,7 +134,7 @@ buckets_over a xs c h =
     (λ x xs r apart i. record r {
       buckets = λ n.
           one_over same_bucket (λ b. nat_eq b.number n) (one_bucket n) x xs (r.buckets n) apart i;
-    }) xs c (distinct_apart xs h)
+    }) xs c h
 
 pub counters_over : (a : List ℕ) (xs : List Counter) (c : Content) → AreApart same_counter xs →
     with_counters a xs c ≡ with_rows a (over_counters xs) c

@@ -6,9 +6,11 @@ use Rattle.sqlite.specs.State.{State, KeepsCommit}
 use Rattle.sqlite.proofs.StateLemmas.{survives_then}
 use Rattle.sql_tables.specs.Statements.{Attempts}
 use Rattle.reserving.specs.declared.charge.ChargeRow.{ChargeRow}
+use Rattle.reserving.specs.Stored.{StoredRows}
 use Rattle.sql_rows.specs.Content.{Content}
 use Rattle.sql_rows.specs.Each.{with_charges}
 use Rattle.sql_rows.specs.Makes.{Makes, MakesIfOpen}
+use Rattle.sql_keeper.specs.Writes.{with_stored}
 
 made_then : (f g : Content → Content) (a b c : State) → Makes f a b → Makes g b c →
     Makes (λ x. g (f x)) a c
@@ -78,3 +80,11 @@ pub puts_charges : {A E : Type 0} (a : List ℕ) (xs ys : List ChargeRow) → ys
     → Attempts {A = A} {E = E} (MakesIfOpen (with_charges a xs)) old new r
 puts_charges {A} {E} a xs ys is old new r =
     subst (λ zs. Attempts {A = A} {E = E} (MakesIfOpen (with_charges a zs)) old new r) is
+
+-- the same rows
+pub puts_stored : {A E : Type 0} (a : List ℕ) (names : List (List ℕ)) (v w : StoredRows) → v ≡ w
+    → (old new : State) (r : Result A E)
+    → Attempts {A = A} {E = E} (Makes (with_stored a names v)) old new r
+    → Attempts {A = A} {E = E} (Makes (with_stored a names w)) old new r
+puts_stored {A} {E} a names v w is old new r =
+    subst (λ rows. Attempts {A = A} {E = E} (Makes (with_stored a names rows)) old new r) is

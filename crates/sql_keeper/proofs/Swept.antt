@@ -31,7 +31,8 @@ use Rattle.sql_keeper.specs.Sweeps.{with_sweep}
 use Rattle.sql_keeper.specs.Tests.{AreWritable}
 use Rattle.sql_keeper.specs.Writes.{head_of, meta_at, with_stored}
 use Rattle.sql_keeper.specs.declared.swept_rows.SweptAccount.{SweptAccount}
-use Rattle.sql_keeper.proofs.Changed.{over_stored, stored_over, rows_read, may_at, same_texts}
+use Rattle.sql_keeper.proofs.Changed.{over_stored, stored_over, keyed, rows_read, may_at}
+use Rattle.sql_keeper.proofs.Changed.{same_texts}
 use Rattle.sql_keeper.proofs.LiveRows.{live_loaded}
 use Rattle.sql_keeper.proofs.Overlays.{name_from, opened}
 
@@ -128,7 +129,7 @@ module _ (names : List (List ℕ)) where
 
   step : (x : SweptAccount) (c : Content) → MayBePut names x →
       with_stored x.number names x.rows c ≡ one_after x c
-  step x c may = stored_over x.number names x.rows c may.0 may.1
+  step x c may = stored_over x.number names x.rows.sessions x.rows c (keyed x.rows may.0) may.1
 
   meta_after : (xs : List SweptAccount) (c : Content) → EachIn (MayBePut names) xs →
       (with_accounts names xs c).meta ≡ c.meta

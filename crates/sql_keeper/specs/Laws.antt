@@ -19,7 +19,7 @@ use Rattle.sql_keeper.specs.declared.swept_rows.SweptAccount.{SweptAccount}
 abbrev pub AreChangesRead : Type 0
 AreChangesRead =
     (names : List (List ℕ)) (m : Meta) (change : Change) (texts : Option Kept) (c : Content)
-    → IsStored change.after
+    → IsStored change.before → IsStored change.after
     → AreWritable names change.after.sessions change.after.groups
     → AreNumbered (first_number (c.rows change.number).head) change.after.next_charge
     change.charges.items

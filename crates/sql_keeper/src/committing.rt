@@ -8,11 +8,12 @@ ghost use Rattle.sql_tables.specs.Statements.{HasIdleBook};
 ghost use Rattle.sql_keeper.specs.Commits.{Becomes, CommitsChange, Transacts};
 ghost use Rattle.sql_keeper.specs.Inside.{clean_in, failed_in, tables_in};
 ghost use Rattle.sql_keeper.specs.Stops.{IsWhole, trees_in};
-ghost use Rattle.sql_keeper.specs.Writes.{meta_with, with_change};
+ghost use Rattle.sql_keeper.specs.Writes.{meta_with, new_rows, with_change, with_new};
 ghost use Rattle.sqlite.specs.Held.{state};
 
 use crate::faults::counted;
 use crate::keeper::SqlKeeper;
+use crate::new_rows::{NewRows, new_rows};
 use crate::putting::put_change;
 use crate::testing::may_be_written;
 use crate::texts::kept_texts;
@@ -29,17 +30,19 @@ fn write_change<S: Alter>(
     book: &TariffBook,
     text: &str,
     change: &Change,
+    new: &NewRows,
     texts: &Option<Kept>,
 ) -> Result<(), Error>
     requires plain { conn.old.in_transaction ≡ false }
     requires idle { HasIdleBook (state S.Store conn.old) }
+    requires new { with_new change.now.after new.now ≡ new_rows change.now.before change.now.after }
     ensures plain { conn.new.in_transaction ≡ false }
     ensures transacts { Transacts (with_change book.now.periods (meta_with text.now change.now)
         change.now (option_map kept_of texts.now))
         (state S.Store conn.old) (state S.Store conn.new) result }
 {
     let mut tx = conn.transaction();
-    put_change(&mut tx, book, text, change, texts)?;
+    put_change(&mut tx, book, text, change, new, texts)?;
     tx.commit()
 }
 
@@ -61,13 +64,15 @@ fn make_change<S: Alter>(
 {
     // For the prover alone: looking at the value makes known here what its type keeps.
     let _stored = change.after.as_of();
+    let _loaded = change.before.as_of();
     let _moment = change.moment.seconds();
     let head = read_account(conn, &change.number)?;
     if !may_be_written(book, &head, change) {
         return Err(ReadFault::Rules);
     }
     let texts = kept_texts(alloc, &change.number, &change.kept)?;
-    write_change(conn, book, text, change, &texts)?;
+    let new = new_rows(alloc, &change.before, &change.after)?;
+    write_change(conn, book, text, change, &new, &texts)?;
     Ok(())
 }
 

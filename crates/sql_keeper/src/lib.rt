@@ -20,6 +20,7 @@ mod laws;
 mod live_groups;
 mod live_rows;
 mod loading;
+mod new_rows;
 mod opening;
 mod putting;
 mod rebuilding;

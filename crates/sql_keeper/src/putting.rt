@@ -8,10 +8,11 @@ ghost use Rattle.sql_rows.specs.Makes.{Makes, MakesIfOpen};
 ghost use Rattle.sql_rows.specs.Texts.{kept_of};
 ghost use Rattle.sql_keeper.specs.Commits.{with_money};
 ghost use Rattle.sql_keeper.specs.Writes.{head_of, meta_with, with_change, with_kept, with_stored};
-ghost use Rattle.sql_keeper.specs.Writes.{with_texts};
+ghost use Rattle.sql_keeper.specs.Writes.{new_rows, with_new, with_texts};
 ghost use Rattle.sqlite.specs.Held.{state};
 
 use crate::held_groups::put_groups;
+use crate::new_rows::NewRows;
 use crate::voucher_puts::put_redeemed;
 use commands::Content;
 use identifiers::AccountNumber;
@@ -51,6 +52,43 @@ fn put_money<S: Alter>(
     put_account(tx, account, &head)?;
     put_buckets(tx, account, rows.purse().buckets())?;
     put_counters(tx, account, rows.counters())
+}
+
+/// Puts an account, and of its buckets and counters the new ones.
+fn put_new_money<S: Alter>(
+    tx: &mut Transaction<'_, S>,
+    account: &AccountNumber,
+    rows: &StoredAccount,
+    new: &NewRows,
+) -> Result<(), Error>
+    requires book { HasBook (state S.Store tx.old.conn.now) }
+    ensures same_reference { tx.new.conn.ghost_name ≡ tx.old.conn.ghost_name }
+    ensures makes { Attempts (Makes (with_money account.now (with_new rows.now new.now)))
+        (state S.Store tx.old.conn.now) (state S.Store tx.new.conn.now) result }
+{
+    let head = head_of(rows);
+    put_account(tx, account, &head)?;
+    put_buckets(tx, account, &new.buckets)?;
+    put_counters(tx, account, &new.counters)
+}
+
+/// Puts an account and its new rows.
+fn put_new<S: Alter>(
+    tx: &mut Transaction<'_, S>,
+    account: &AccountNumber,
+    book: &TariffBook,
+    rows: &StoredAccount,
+    new: &NewRows,
+) -> Result<(), Error>
+    requires book { HasBook (state S.Store tx.old.conn.now) }
+    ensures same_reference { tx.new.conn.ghost_name ≡ tx.old.conn.ghost_name }
+    ensures makes { Attempts
+        (Makes (with_stored account.now book.now.periods (with_new rows.now new.now)))
+        (state S.Store tx.old.conn.now) (state S.Store tx.new.conn.now) result }
+{
+    put_new_money(tx, account, rows, new)?;
+    put_sessions(tx, account, &new.sessions)?;
+    put_groups(tx, account, book, &new.groups)
 }
 
 /// Puts the rows of an account.
@@ -127,16 +165,18 @@ fn put_kept<S: Alter>(
     }
 }
 
-/// Puts all that a change writes: the moment, the account's rows, the charges, the texts of what is
-/// kept, and the voucher that is redeemed.
+/// Puts all that a change writes: the moment, the account's new rows, the charges, the texts of
+/// what is kept, and the voucher that is redeemed.
 pub(crate) fn put_change<S: Alter>(
     tx: &mut Transaction<'_, S>,
     book: &TariffBook,
     text: &str,
     change: &Change,
+    new: &NewRows,
     texts: &Option<Kept>,
 ) -> Result<(), Error>
     requires book { HasBook (state S.Store tx.old.conn.now) }
+    requires new { with_new change.now.after new.now ≡ new_rows change.now.before change.now.after }
     ensures same_reference { tx.new.conn.ghost_name ≡ tx.old.conn.ghost_name }
     ensures makes { Attempts (Makes (with_change book.now.periods (meta_with text.now change.now)
         change.now (option_map kept_of texts.now)))
@@ -144,7 +184,7 @@ pub(crate) fn put_change<S: Alter>(
 {
     let account = &change.number;
     put_meta(tx, 1, text, change.moment)?;
-    put_stored(tx, account, book, &change.after)?;
+    put_new(tx, account, book, &change.after, new)?;
     put_charges(tx, account, &change.charges)?;
     put_kept(tx, account, &change.kept, texts)?;
     put_redeemed(tx, &change.redeemed)

@@ -9,7 +9,7 @@ returns-in_err-write_change-clause-commits g c =
     let p = err_from_is_err_and c.from_residual-in_err-write_change.result
     c.from_residual-in_err-write_change.ensures.1 in
     rw p.1 (not_written _ _ _ _ _ c.in_ok-head.ensures.reads.only c.in_ok-head.ensures.reads.survives
-    (become_at _ _ c.args.change.now _ c.in_ok-head.head c.as_of-stored.ensures.kept
+    (become_at _ _ c.args.change.now _ c.in_ok-head.head c.as_of-loaded.ensures.kept c.as_of-stored.ensures.kept
     (c.if-not-may_be_written.ensures.reservations refl)
     (c.if-not-may_be_written.ensures.numbers refl) c.in_ok-texts.ensures
     (omega (arith, c.seconds-moment.ensures.in_range, c.seconds-moment.ensures.value)) _ _
@@ -19,7 +19,7 @@ returns-in_err-write_change-clause-commits g c =
 pub returns-clause-commits : goal.returns-clause-commits
 returns-clause-commits g c =
     written _ _ _ _ _ c.in_ok-head.ensures.reads.only c.in_ok-head.ensures.reads.survives
-    (become_at _ _ c.args.change.now _ c.in_ok-head.head c.as_of-stored.ensures.kept
+    (become_at _ _ c.args.change.now _ c.in_ok-head.head c.as_of-loaded.ensures.kept c.as_of-stored.ensures.kept
     (c.if-not-may_be_written.ensures.reservations refl)
     (c.if-not-may_be_written.ensures.numbers refl) c.in_ok-texts.ensures
     (omega (arith, c.seconds-moment.ensures.in_range, c.seconds-moment.ensures.value)) _ _
