@@ -4,6 +4,7 @@ use crate::tests::making::{made, moment, number, write};
 use buckets::{Bucket, Columns, Hold, Holds, Purse};
 use calendar::Period;
 use identifiers::{AccountNumber, SessionId};
+use keepers::Change;
 use rating::Periods;
 use reserving::{
     Account, Counter, GivenRows, Reservation, Session, SessionGroup, SessionState, StoredAccount,
@@ -39,10 +40,11 @@ fn bucket(number: u32, available: u64, reserved: u64, charged: u64) -> Result<Bu
     Ok(Bucket::from_columns(&columns).ok_or("a bucket")?)
 }
 
-fn purse(alloc: Global) -> Result<Purse, Fail> {
+/// A dead bucket and one with so much of 7 micro-units.
+fn purse(alloc: Global, available: u64) -> Result<Purse, Fail> {
     let mut buckets = Vec::new(alloc);
     buckets.push(bucket(1, 0, 0, 10)?)?;
-    buckets.push(bucket(2, 7, 3, 0)?)?;
+    buckets.push(bucket(2, available, 3, 7u64.saturating_sub(available))?)?;
     Ok(Purse::from_buckets(alloc, buckets).ok_or("a purse")?)
 }
 
@@ -108,12 +110,12 @@ fn groups(alloc: Global) -> Result<Vec<SessionGroup>, Fail> {
 }
 
 /// An account with two buckets, the first of them dead, two sessions, one of them over, and
-/// counters of two months.
-fn account(alloc: Global) -> Result<StoredAccount, Fail> {
+/// counters of two months; the second bucket has so much.
+fn account(alloc: Global, available: u64) -> Result<StoredAccount, Fail> {
     let rows = GivenRows {
         as_of: moment(AT)?,
         barred: false,
-        purse: purse(alloc)?,
+        purse: purse(alloc, available)?,
         counters: counters(alloc)?,
         sessions: sessions(alloc)?,
         groups: groups(alloc)?,
@@ -199,7 +201,7 @@ fn seen(
     let account_number = number(alloc, "49151")?;
     let mut text = viewed(alloc, keeper, book, &account_number)?;
     let (written, at) = (account_number.clone()?, moment(AT)?);
-    write(alloc, keeper, book, written, account(alloc)?, at)?;
+    write(alloc, keeper, book, written, account(alloc, 7)?, at)?;
     text.push_str(viewed(alloc, keeper, book, &account_number)?.as_str())?;
     Ok(text)
 }
@@ -218,5 +220,53 @@ fn what_may_still_change_is_loaded(rt: HostRuntime) -> Result<(), Fail> {
     let (mut keeper, book) = made(alloc)?;
     let text = seen(alloc, &mut keeper, &book)?;
     assert_eq!(rt; text.as_str(), SEEN);
+    Ok(())
+}
+
+/// What is seen of an account whose second bucket has 7, once a change is committed by which it has
+/// so much before and after.
+fn seen_after(alloc: Global, before: u64, after: u64) -> Result<String, Fail> {
+    let (mut keeper, book) = made(alloc)?;
+    let account_number = number(alloc, "49151")?;
+    let (written, at) = (account_number.clone()?, moment(AT)?);
+    write(alloc, &mut keeper, &book, written, account(alloc, 7)?, at)?;
+    keeper.commit(Change {
+        moment: moment(AT)?,
+        number: account_number.clone()?,
+        after: account(alloc, after)?,
+        before: account(alloc, before)?,
+        charges: Vec::new(alloc),
+        kept: None,
+        redeemed: None,
+    })?;
+    viewed(alloc, &mut keeper, &book, &account_number)
+}
+
+const SAME: &str = "bucket 2 has 7
+open
+group 10 used 60
+counter 10 0 2
+counter 20 684 4
+";
+
+const CHANGED: &str = "bucket 2 has 5
+open
+group 10 used 60
+counter 10 0 2
+counter 20 684 4
+";
+
+/// A row that is the same before and after isn't written, whatever stands there.
+#[test]
+fn a_row_that_is_the_same_is_not_written(rt: HostRuntime) -> Result<(), Fail> {
+    let alloc = rt.alloc();
+    assert_eq!(rt; seen_after(alloc, 5, 5)?.as_str(), SAME);
+    Ok(())
+}
+
+#[test]
+fn a_row_that_differs_is_written(rt: HostRuntime) -> Result<(), Fail> {
+    let alloc = rt.alloc();
+    assert_eq!(rt; seen_after(alloc, 7, 5)?.as_str(), CHANGED);
     Ok(())
 }
