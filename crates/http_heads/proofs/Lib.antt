@@ -3,3 +3,4 @@ pub mod Founds
 pub mod Digits
 pub mod Nexts
 pub mod Pieces
+pub mod Tokens

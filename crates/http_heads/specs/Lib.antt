@@ -1,4 +1,5 @@
 pub mod Parts
+pub mod Statuses
 pub mod Fields
 pub mod Found
 pub mod Requests

@@ -5,9 +5,8 @@ ghost use Rattle.http_heads.specs.Requests.{TellsNext, IsHeadOf, Tells, after_he
 
 use crate::head::{Head, read_head};
 use crate::head_part::{HeadPart, next_head_part};
-use crate::method::Method;
-use crate::status::Status;
 use byte_streams::{StreamFault, next_bytes};
+use http::{Method, StatusCode};
 use httparse::spans::HeaderSpan;
 use std::alloc::Global;
 use std::io::BufRead;
@@ -34,7 +33,7 @@ pub enum Taken {
     /// The next request, with its body.
     Request(Request),
     /// A refusal, after which nothing more is read.
-    Refused(Status),
+    Refused(StatusCode),
     /// The stream ends before a request does.
     Ended,
 }
@@ -73,7 +72,7 @@ fn after_part<R: BufRead>(
 {
     match part {
         HeadPart::Whole(part) => after_bytes(alloc, reader, part.as_slice(), room),
-        HeadPart::TooLong => Ok(Taken::Refused(Status::FieldsTooLarge)),
+        HeadPart::TooLong => Ok(Taken::Refused(StatusCode::REQUEST_HEADER_FIELDS_TOO_LARGE)),
         HeadPart::Ended => Ok(Taken::Ended),
     }
 }
@@ -93,7 +92,7 @@ fn after_bytes<R: BufRead>(
 {
     let head = read_head(alloc, part, room)?;
     match head {
-        None => Ok(Taken::Refused(Status::BadRequest)),
+        None => Ok(Taken::Refused(StatusCode::BAD_REQUEST)),
         Some(head) => with_body(alloc, reader, head),
     }
 }
