@@ -1,6 +1,6 @@
 -- The method of a head is a token to the library of methods too.
-use Rattle.std.proofs.Common.{◌≡◌, ℕ, Bool, List, Option, Some, None, IfNone, refl, sym, ap, subst}
-use Rattle.std.specs.Prelude.{IsTrue, All}
+use Rattle.std.proofs.Common.{◌≡◌, ℕ, List, refl, sym, subst}
+use Rattle.std.specs.Prelude.{IsTrue}
 use Rattle.std.proofs.lemmas.List.Elements.{All-weaker}
 use Rattle.httparse.specs.Grammar.{RequestHead, is_token_byte}
 use Rattle.httparse.specs.declared.spans.HeaderSpan.{HeaderSpan}

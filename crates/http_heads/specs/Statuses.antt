@@ -1,6 +1,7 @@
 -- The statuses that answers have.
 -- Source: RFC 9110 section 15; 431: RFC 6585 section 5.
-use Rattle.std.specs.Prelude.{ℕ, List, [], ◌∷◌, Contains}
+use Rattle.std.specs.Prelude.{ℕ, ◌==◌, List, [], ◌∷◌, IsTrue}
+use Rattle.std.specs.List.{list_any}
 
 -- the request is answered
 abbrev pub ok : ℕ
@@ -44,4 +45,4 @@ answer_statuses = ok ∷ bad_request ∷ not_found ∷ method_not_allowed ∷ le
 
 -- the status is one of the nine
 abbrev pub IsAnswerStatus : ℕ → Type 0
-IsAnswerStatus status = Contains answer_statuses status
+IsAnswerStatus status = IsTrue (list_any (λ s. s == status) answer_statuses)
