@@ -4,11 +4,12 @@ use Rattle.std.proofs.Common.{refl, ◌∙◌, codes, drop, Option, Some, None, 
 use Rattle.std.specs.Prelude.{◌||◌, if◌then◌else◌, nat_le, nat_lt, length, IfErr, ⊤}
 use Rattle.httparse.specs.Grammar.{RequestHead}
 use Rattle.http_heads.specs.declared.head.Head.{Head}
+use Rattle.http_heads.specs.Methods.{is_post, is_put}
 use Rattle.http_heads.specs.Statuses.{IsAnswerStatus, length_required}
 use Rattle.http_heads.specs.Statuses.{payload_too_large}
 use Rattle.http_heads.specs.Parts.{Part, whole, too_long, cut}
 use Rattle.http_heads.specs.Fields.{said_number, taken_length}
-use Rattle.http_heads.specs.Fields.{length_by, length_unless, is_post, is_put, values_of}
+use Rattle.http_heads.specs.Fields.{length_by, length_unless, values_of}
 use Rattle.http_heads.specs.Requests.{IsHeadOf, length_of, Next, asks, refused, ended, IsNextOf}
 use Rattle.http_heads.specs.Requests.{fields_of, ask_of, after_length}
 

@@ -5,19 +5,13 @@ use Rattle.std.specs.List.{list_all}
 use Rattle.std.specs.Char.{to_ascii_lowercase, is_ascii_digit}
 use Rattle.std.specs.Str.{bytes_eq}
 use Rattle.std.specs.Str.Parse.{digits_value}
+use Rattle.http_heads.specs.Methods.{is_post, is_put}
 use Rattle.http_heads.specs.Statuses.{bad_request, length_required, payload_too_large}
 use Rattle.http_heads.specs.Statuses.{not_implemented}
 
 -- the fields of a head, each with its name and its value
 abbrev pub Fields : Type 0
 Fields = List (List ℕ × List ℕ)
-
--- methods are compared with case (RFC 9110 section 9.1)
-abbrev pub is_post : List ℕ → Bool
-is_post method = bytes_eq method (codes "POST")
-
-abbrev pub is_put : List ℕ → Bool
-is_put method = bytes_eq method (codes "PUT")
 
 -- names of fields without regard to ASCII case (RFC 9110 section 5.1)
 abbrev pub same_name : List ℕ → List ℕ → Bool

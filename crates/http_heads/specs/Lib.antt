@@ -1,4 +1,5 @@
 pub mod Parts
+pub mod Methods
 pub mod Statuses
 pub mod Fields
 pub mod Found

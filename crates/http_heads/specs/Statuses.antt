@@ -39,6 +39,7 @@ not_implemented = 501
 abbrev pub service_unavailable : ℕ
 service_unavailable = 503
 
+-- an answer has one of these
 abbrev pub answer_statuses : List ℕ
 answer_statuses = ok ∷ bad_request ∷ not_found ∷ method_not_allowed ∷ length_required
     ∷ payload_too_large ∷ fields_too_large ∷ not_implemented ∷ service_unavailable ∷ []
