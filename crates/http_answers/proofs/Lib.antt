@@ -1,3 +1,4 @@
 pub mod Inserts
 pub mod StatedLemmas
 pub mod Begun
+pub mod StatusLines

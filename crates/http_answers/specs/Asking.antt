@@ -14,9 +14,8 @@ use Rattle.json_fields.specs.Gives.{Fails, ◌>>=◌, or_fault}
 use Rattle.wire.specs.Requests.{command_of}
 use Rattle.wire.specs.Credits.{credit_of}
 use Rattle.wire.specs.Redeemed.{redemption_of}
-use Rattle.http_heads.specs.declared.method.Method.{Method}
-use Rattle.http_heads.specs.declared.status.Status.{Status}
-use Rattle.http_heads.specs.declared.status.Status.TheVariants.{NotFound, MethodNotAllowed}
+use Rattle.http_heads.specs.Methods.{is_get}
+use Rattle.http_heads.specs.Statuses.{not_found, method_not_allowed}
 use Rattle.http_heads.specs.Requests.{Ask}
 use Rattle.http_answers.specs.declared.asking.Asked.{Asked}
 use Rattle.http_answers.specs.declared.asking.Asked.TheVariants as told
@@ -24,11 +23,11 @@ use Rattle.http_answers.specs.declared.asking.StatementAsked.{StatementAsked}
 use Rattle.http_answers.specs.declared.routes.Route.{Route}
 use Rattle.http_answers.specs.declared.routes.Route.TheVariants.{Ccr, Account, Statement, Credits}
 use Rattle.http_answers.specs.declared.routes.Route.TheVariants.{Redeem, Sweep}
-use Rattle.http_answers.specs.Routes.{is_get, route_of, serves}
+use Rattle.http_answers.specs.Routes.{route_of, serves}
 
 -- a request is refused, read as a command or with a fault, or asks for a statement
 pub data Asking : Type 0 where
-  refuses : Status → Asking
+  refuses : ℕ → Asking
   reads : Result Command WireFault → Asking
   states : StatementAsked → Asking
 
@@ -64,10 +63,10 @@ month_in target = or_fault (Invalid avp.Month) (month_of (fourth_part target))
 -- ---- what is asked by a path and a body
 
 -- of an account GET asks for the balance, PUT opens it
-abbrev pub account_command : Method → List ℕ → Command
+abbrev pub account_command : List ℕ → List ℕ → Command
 account_command method a = if is_get method then command.Balance a else command.OpenAccount a
 
-abbrev pub account_asked : Method → List ℕ → Result Command WireFault
+abbrev pub account_asked : List ℕ → List ℕ → Result Command WireFault
 account_asked method target = account_in target >>= λ a. Ok (account_command method a)
 
 abbrev pub credit_asked : List ℕ → List ℕ → Result Command WireFault
@@ -88,7 +87,7 @@ stated (Ok q) = states q
 stated (Err fault) = reads (Err fault)
 
 -- of a row, by the path and then by the body
-abbrev pub asking_by : Route → Method → List ℕ → List ℕ → Asking
+abbrev pub asking_by : Route → List ℕ → List ℕ → List ℕ → Asking
 asking_by Ccr method target body = reads (command_of body)
 asking_by Account method target body = reads (account_asked method target)
 asking_by Statement method target body = stated (statement_in target)
@@ -98,9 +97,9 @@ asking_by Sweep method target body = reads (Ok command.Sweep)
 
 -- first the path, then the method, then what is read
 abbrev pub asked_by : Option Route → Ask → Asking
-asked_by None ask = refuses NotFound
+asked_by None ask = refuses not_found
 asked_by (Some route) ask = if serves route ask.method
-    then asking_by route ask.method ask.target ask.body else refuses MethodNotAllowed
+    then asking_by route ask.method ask.target ask.body else refuses method_not_allowed
 
 abbrev pub asked_of : Ask → Asking
 asked_of ask = asked_by (route_of ask.target) ask

@@ -9,8 +9,7 @@ use Rattle.matchit.specs.Route.{parse_route, Scan}
 use Rattle.matchit.specs.Router.{RouteOf, route_from}
 use Rattle.matchit.specs.Order.{placed}
 use Rattle.matchit.specs.declared.InsertError.{InsertError}
-use Rattle.http_heads.specs.declared.method.Method.{Method}
-use Rattle.http_heads.specs.declared.method.Method.TheVariants.{Get, Post, Put, Other}
+use Rattle.http_heads.specs.Methods.{is_get, is_post, is_put}
 use Rattle.http_answers.specs.declared.routes.Route.{Route}
 use Rattle.http_answers.specs.declared.routes.Route.TheVariants.{Ccr, Account, Statement, Credits}
 use Rattle.http_answers.specs.declared.routes.Route.TheVariants.{Redeem, Sweep}
@@ -35,26 +34,8 @@ table = added (codes "/sweep") Sweep
     (added (codes "/accounts/{a}") Account
     (added (codes "/ccr") Ccr [])))))
 
-abbrev pub is_get : Method → Bool
-is_get Get = true
-is_get Post = false
-is_get Put = false
-is_get Other = false
-
-abbrev pub is_post : Method → Bool
-is_post Get = false
-is_post Post = true
-is_post Put = false
-is_post Other = false
-
-abbrev pub is_put : Method → Bool
-is_put Get = false
-is_put Post = false
-is_put Put = true
-is_put Other = false
-
 -- the methods of each row
-abbrev pub serves : Route → Method → Bool
+abbrev pub serves : Route → List ℕ → Bool
 serves Ccr method = is_post method
 serves Account method = is_get method || is_put method
 serves Statement method = is_get method

@@ -6,25 +6,10 @@ use Rattle.std.specs.Io.KnownBytes.{Appends}
 use Rattle.json_fields.specs.declared.fault.WireFault.{WireFault}
 use Rattle.json_fields.specs.declared.fault.WireFault.TheVariants.{Memory}
 use Rattle.wire_answers.specs.Spelled.{fault_text}
-use Rattle.http_heads.specs.declared.status.Status.{Status}
+use Rattle.http.specs.StatusCode.{status_text}
+use Rattle.http_heads.specs.Statuses.{bad_request, service_unavailable}
 use Rattle.http_answers.specs.declared.text.Media.{Media}
 use Rattle.http_answers.specs.declared.text.Media.TheVariants.{Json, Text}
-use Rattle.http_heads.specs.declared.status.Status.TheVariants.{Ok, BadRequest, NotFound}
-use Rattle.http_heads.specs.declared.status.Status.TheVariants.{MethodNotAllowed, LengthRequired}
-use Rattle.http_heads.specs.declared.status.Status.TheVariants.{ContentTooLarge, FieldsTooLarge}
-use Rattle.http_heads.specs.declared.status.Status.TheVariants.{NotImplemented, Unavailable}
-
--- the code and the phrase
-abbrev pub status_line : Status → List ℕ
-status_line Ok = codes "200 OK"
-status_line BadRequest = codes "400 Bad Request"
-status_line NotFound = codes "404 Not Found"
-status_line MethodNotAllowed = codes "405 Method Not Allowed"
-status_line LengthRequired = codes "411 Length Required"
-status_line ContentTooLarge = codes "413 Payload Too Large"
-status_line FieldsTooLarge = codes "431 Request Header Fields Too Large"
-status_line NotImplemented = codes "501 Not Implemented"
-status_line Unavailable = codes "503 Service Unavailable"
 
 -- an answer after which the connection ends says so
 abbrev pub closing_line : Bool → List ℕ
@@ -34,20 +19,20 @@ abbrev pub type_and_length : List ℕ
 type_and_length = codes "\r\nContent-Type: application/json\r\nContent-Length: "
 
 -- the bytes of an answer
-abbrev pub response : Status → Bool → List ℕ → List ℕ
+abbrev pub response : ℕ → Bool → List ℕ → List ℕ
 response status closes body =
-    codes "HTTP/1.1 " ++ (status_line status ++ (type_and_length ++ (decimal (length body)
+    codes "HTTP/1.1 " ++ (status_text status ++ (type_and_length ++ (decimal (length body)
     ++ (codes "\r\n" ++ (closing_line closes ++ (codes "\r\n" ++ body))))))
 
 -- the head of an answer whose body is so long and no JSON
-abbrev pub text_head : Status → Bool → ℕ → List ℕ
+abbrev pub text_head : ℕ → Bool → ℕ → List ℕ
 text_head status closes n =
     codes "HTTP/1.1 "
-    ++ (status_line status ++ (codes "\r\nContent-Type: text/plain\r\nContent-Length: "
+    ++ (status_text status ++ (codes "\r\nContent-Type: text/plain\r\nContent-Length: "
     ++ (decimal n ++ (codes "\r\n" ++ (closing_line closes ++ codes "\r\n")))))
 
 -- the bytes of an answer whose body is of this kind
-abbrev pub response_of : Media → Status → Bool → List ℕ → List ℕ
+abbrev pub response_of : Media → ℕ → Bool → List ℕ → List ℕ
 response_of Json status closes body = response status closes body
 response_of Text status closes body = text_head status closes (length body) ++ body
 
@@ -60,20 +45,20 @@ abbrev pub unable : List ℕ
 unable = codes "{\"Result-Code\":5012}"
 
 -- a text is told, or that there is no memory
-abbrev pub TellsText : Bool → Status → List ℕ → (List ℕ → Type 0) → Type 0
+abbrev pub TellsText : Bool → ℕ → List ℕ → (List ℕ → Type 0) → Type 0
 TellsText closes status body Writes = Writes (response_of Text status closes body)
-    ⊎ Writes (response Unavailable closes unable)
+    ⊎ Writes (response service_unavailable closes unable)
 
 -- a refusal is told, or that there is no memory
-abbrev pub TellsRefusal : Bool → Status → (List ℕ → Type 0) → Type 0
+abbrev pub TellsRefusal : Bool → ℕ → (List ℕ → Type 0) → Type 0
 TellsRefusal closes status Writes = Writes (response status closes no_members)
-    ⊎ Writes (response Unavailable closes unable)
+    ⊎ Writes (response service_unavailable closes unable)
 
 -- a request that isn't read is told its fault, or that there is no memory
 abbrev pub TellsFault : Bool → WireFault → (List ℕ → Type 0) → Type 0
 TellsFault closes fault Writes =
-    ((fault ≡ Memory → ⊥) × Writes (response BadRequest closes (fault_text fault)))
-    ⊎ Writes (response Unavailable closes unable)
+    ((fault ≡ Memory → ⊥) × Writes (response bad_request closes (fault_text fault)))
+    ⊎ Writes (response service_unavailable closes unable)
 
 -- a beginning of a text is written
 abbrev pub Begins : Option (List ℕ) → Option (List ℕ) → List ℕ → Type 0

@@ -13,7 +13,8 @@ ghost use Rattle.http_answers.specs.declared.asking.StatementAsked.{StatementAsk
 
 use crate::routes::{Route, is_get, route_of};
 use commands::{Avp, Command};
-use http_heads::{Method, Request, Status};
+use http::{Method, StatusCode};
+use http_heads::Request;
 use identifiers::{AccountNumber, VoucherCode};
 use matchit::Router;
 use std::alloc::Global;
@@ -33,7 +34,7 @@ pub struct StatementAsked {
 #[derive(Drop)]
 pub enum Asked {
     /// It is refused: 404 or 405.
-    Refused(Status),
+    Refused(StatusCode),
     /// The path or the body has a fault, or memory ran out.
     Unread(WireFault),
     /// It is a command.
@@ -100,8 +101,8 @@ fn month_in(target: &str) -> Result<Month, WireFault>
 }
 
 /// What a method asks of an account: GET its balance, PUT that it is opened.
-fn account_command(method: Method, account: AccountNumber) -> Command
-    ensures { result ≡ account_command method account }
+fn account_command(method: &Method, account: AccountNumber) -> Command
+    ensures { result ≡ account_command method.now account }
 {
     if is_get(method) {
         Command::Balance(account)
@@ -111,8 +112,8 @@ fn account_command(method: Method, account: AccountNumber) -> Command
 }
 
 /// The command that a method asks of the account in a path.
-fn read_account(alloc: Global, method: Method, target: &str) -> Result<Command, WireFault>
-    ensures { Gives (λ c. c) result (account_asked method target.now) }
+fn read_account(alloc: Global, method: &Method, target: &str) -> Result<Command, WireFault>
+    ensures { Gives (λ c. c) result (account_asked method.now target.now) }
 {
     let account = account_in(alloc, target)?;
     Ok(account_command(method, account))
@@ -167,8 +168,8 @@ fn told_statement(read: Result<StatementAsked, WireFault>) -> Asked
 }
 
 /// What a request asks of a route that has its method: first the path is read, then the body.
-fn asked_by(alloc: Global, route: Route, method: Method, target: &str, body: &[u8]) -> Asked
-    ensures { IsAsked (asking_by route method target.now body.now) result }
+fn asked_by(alloc: Global, route: Route, method: &Method, target: &str, body: &[u8]) -> Asked
+    ensures { IsAsked (asking_by route method.now target.now body.now) result }
 {
     match route {
         Route::Ccr => told(read_request(alloc, body)),
@@ -186,15 +187,15 @@ pub fn ask(alloc: Global, router: &Router<Route>, request: &Request) -> Asked
     ensures { IsAsked (asked_of (seen request.now)) result }
 {
     let Some(route) = route_of(router, request.target.as_str()) else {
-        return Asked::Refused(Status::NotFound);
+        return Asked::Refused(StatusCode::NOT_FOUND);
     };
-    if !route.serves(request.method) {
-        return Asked::Refused(Status::MethodNotAllowed);
+    if !route.serves(&request.method) {
+        return Asked::Refused(StatusCode::METHOD_NOT_ALLOWED);
     }
     asked_by(
         alloc,
         route,
-        request.method,
+        &request.method,
         request.target.as_str(),
         request.body.as_slice(),
     )

@@ -1,9 +1,9 @@
 ghost use Rattle.std.specs.Prelude.{◌≡◌, IfOk, OnOk, OnErr};
-ghost use Rattle.http_answers.specs.Routes.{added, table, row_of, has_query, route_of, is_get};
-ghost use Rattle.http_answers.specs.Routes.{is_post, is_put, serves};
+ghost use Rattle.http_heads.specs.Methods.{is_get, is_post, is_put};
+ghost use Rattle.http_answers.specs.Routes.{added, table, row_of, has_query, route_of, serves};
 
 use byte_streams::StreamFault;
-use http_heads::Method;
+use http::Method;
 use matchit::{InsertError, Router};
 use std::alloc::Global;
 
@@ -25,30 +25,30 @@ pub enum Route {
 }
 
 /// Whether a method is GET.
-pub(crate) fn is_get(method: Method) -> bool
-    ensures { result ≡ is_get method }
+pub(crate) fn is_get(method: &Method) -> bool
+    ensures { result ≡ is_get method.now }
 {
-    matches!(method, Method::Get)
+    *method == Method::GET
 }
 
 /// Whether a method is POST.
-fn is_post(method: Method) -> bool
-    ensures { result ≡ is_post method }
+fn is_post(method: &Method) -> bool
+    ensures { result ≡ is_post method.now }
 {
-    matches!(method, Method::Post)
+    *method == Method::POST
 }
 
 /// Whether a method is PUT.
-fn is_put(method: Method) -> bool
-    ensures { result ≡ is_put method }
+fn is_put(method: &Method) -> bool
+    ensures { result ≡ is_put method.now }
 {
-    matches!(method, Method::Put)
+    *method == Method::PUT
 }
 
 impl Route {
     /// Whether the path has this method.
-    pub(crate) fn serves(self, method: Method) -> bool
-        ensures { result ≡ serves self method }
+    pub(crate) fn serves(self, method: &Method) -> bool
+        ensures { result ≡ serves self method.now }
     {
         match self {
             Route::Ccr => is_post(method),

@@ -2,15 +2,15 @@ ghost use Rattle.std.specs.Prelude.{◌≡◌, ◌++◌, ℕ, IfOk, OnOk, OnErr,
 ghost use Rattle.std.specs.Prelude.{true, false, string_bytes};
 ghost use Rattle.json_fields.specs.declared.fault.WireFault.TheVariants.{Memory};
 ghost use Rattle.std.specs.Io.KnownBytes.{Appends};
-ghost use Rattle.http_heads.specs.declared.status.Status.TheVariants.{BadRequest, Unavailable};
+ghost use Rattle.http_heads.specs.Statuses.{bad_request, service_unavailable};
 ghost use Rattle.wire_answers.specs.Spelled.{fault_text};
 ghost use Rattle.http_answers.specs.declared.text.Media.TheVariants.{Text};
-ghost use Rattle.http_answers.specs.Texts.{status_line, closing_line, response};
+ghost use Rattle.http_answers.specs.Texts.{closing_line, response};
 ghost use Rattle.http_answers.specs.Texts.{text_head, unable, Begins, TellsText, TellsRefusal};
 ghost use Rattle.http_answers.specs.Texts.{TellsFault};
 
 use byte_streams::{StreamFault, write_whole};
-use http_heads::Status;
+use http::StatusCode;
 use std::alloc::{AllocError, Global};
 use std::io::Write;
 use wire::{WireFault, write_fault};
@@ -38,23 +38,6 @@ const UNABLE_AT_LAST: &[u8] =
 /// The most bytes of an answer's head.
 const MOST_OF_HEAD: usize = 136;
 
-/// The code and the phrase of a status.
-fn status_line(status: Status) -> &'static str
-    ensures { result.now ≡ status_line status }
-{
-    match status {
-        Status::Ok => "200 OK",
-        Status::BadRequest => "400 Bad Request",
-        Status::NotFound => "404 Not Found",
-        Status::MethodNotAllowed => "405 Method Not Allowed",
-        Status::LengthRequired => "411 Length Required",
-        Status::ContentTooLarge => "413 Payload Too Large",
-        Status::FieldsTooLarge => "431 Request Header Fields Too Large",
-        Status::NotImplemented => "501 Not Implemented",
-        Status::Unavailable => "503 Service Unavailable",
-    }
-}
-
 /// The line that says that the connection ends.
 fn closing_line(closes: bool) -> &'static str
     ensures { result.now ≡ closing_line closes }
@@ -68,33 +51,32 @@ fn closing_line(closes: bool) -> &'static str
 /// The growth of its text was refused.
 pub fn response(
     alloc: Global,
-    status: Status,
+    status: StatusCode,
     closes: bool,
     body: &str,
 ) -> Result<String, AllocError>
     ensures { IfOk result (λ s. string_bytes s ≡ response status closes body.now) }
 {
-    let line = status_line(status);
     let closing = closing_line(closes);
     let length = body.len();
     let mut text = String::with_capacity(alloc, MOST_OF_HEAD + length)?;
     write!(
         text,
-        "HTTP/1.1 {line}\r\nContent-Type: application/json\r\nContent-Length: {length}\r\n{closing}\r\n{body}"
+        "HTTP/1.1 {status}\r\nContent-Type: application/json\r\nContent-Length: {length}\r\n{closing}\r\n{body}"
     )?;
     Ok(text)
 }
 
 /// The bytes of an answer where there is no memory, no store or no clock.
 fn unable() -> &'static [u8]
-    ensures { result.now ≡ response Unavailable false unable }
+    ensures { result.now ≡ response service_unavailable false unable }
 {
     UNABLE
 }
 
 /// The answer where there is no memory, no store or no clock, before the connection ends.
 fn unable_at_last() -> &'static [u8]
-    ensures { result.now ≡ response Unavailable true unable }
+    ensures { result.now ≡ response service_unavailable true unable }
 {
     UNABLE_AT_LAST
 }
@@ -114,18 +96,17 @@ pub fn write_text<W: Write>(writer: &mut W, text: &[u8]) -> Result<(), StreamFau
 /// The head of an answer whose body is a text of so many bytes.
 fn text_head(
     alloc: Global,
-    status: Status,
+    status: StatusCode,
     closes: bool,
     length: usize,
 ) -> Result<String, AllocError>
     ensures { IfOk result (λ s. string_bytes s ≡ text_head status closes length) }
 {
-    let line = status_line(status);
     let closing = closing_line(closes);
     let mut text = String::with_capacity(alloc, MOST_OF_HEAD)?;
     write!(
         text,
-        "HTTP/1.1 {line}\r\nContent-Type: text/plain\r\nContent-Length: {length}\r\n{closing}\r\n"
+        "HTTP/1.1 {status}\r\nContent-Type: text/plain\r\nContent-Length: {length}\r\n{closing}\r\n"
     )?;
     Ok(text)
 }
@@ -138,7 +119,7 @@ fn text_head(
 pub fn tell_text<W: Write>(
     alloc: Global,
     writer: &mut W,
-    status: Status,
+    status: StatusCode,
     closes: bool,
     body: &[u8],
 ) -> Result<(), StreamFault>
@@ -172,9 +153,9 @@ fn write_both<W: Write>(writer: &mut W, first: &[u8], second: &[u8]) -> Result<(
 /// `Write` where the writer failed. Then a beginning of it is written.
 pub fn tell_unable<W: Write>(writer: &mut W, closes: bool) -> Result<(), StreamFault>
     ensures ok { OnOk result (Appends (W.contents writer.old) (W.contents writer.new)
-        (response Unavailable closes unable)) }
+        (response service_unavailable closes unable)) }
     ensures err { OnErr result (Begins (W.contents writer.old) (W.contents writer.new)
-        (response Unavailable closes unable)) }
+        (response service_unavailable closes unable)) }
     ensures fault { OnErr result (result ≡ Err StreamFault.Write) }
 {
     if closes {
@@ -191,7 +172,7 @@ pub fn tell_unable<W: Write>(writer: &mut W, closes: bool) -> Result<(), StreamF
 pub fn tell_refusal<W: Write>(
     alloc: Global,
     writer: &mut W,
-    status: Status,
+    status: StatusCode,
     closes: bool,
 ) -> Result<(), StreamFault>
     ensures ok { OnOk result
@@ -209,14 +190,14 @@ pub fn tell_refusal<W: Write>(
 /// The answer to a request that isn't read; None where memory ran out.
 fn fault_response(alloc: Global, fault: WireFault, closes: bool) -> Option<String>
     ensures text { IfSome result
-        (λ s. string_bytes s ≡ response BadRequest closes (fault_text fault)) }
+        (λ s. string_bytes s ≡ response bad_request closes (fault_text fault)) }
     ensures memory { fault ≡ Memory → result ≡ None }
 {
     match fault {
         WireFault::Memory => None,
         _ => {
             let body = write_fault(alloc, fault).ok()?;
-            response(alloc, Status::BadRequest, closes, body.as_str()).ok()
+            response(alloc, StatusCode::BAD_REQUEST, closes, body.as_str()).ok()
         }
     }
 }

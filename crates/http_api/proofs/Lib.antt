@@ -3,3 +3,4 @@ pub mod RequestReplies
 pub mod StatementReplies
 pub mod Continuing
 pub mod Taking
+pub mod Statuses

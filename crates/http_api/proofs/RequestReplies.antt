@@ -18,8 +18,7 @@ pub use Rattle.keepers.proofs.Placed.{on_err as at_err}
 use Rattle.charging.specs.Accepted.{Accepted}
 use Rattle.charging.specs.Continued.{ForEachList}
 use Rattle.charging.specs.Served.{AreTables, Serves, moment_of}
-use Rattle.http_heads.specs.declared.status.Status.{Status}
-use Rattle.http_heads.specs.declared.status.Status.TheVariants as status
+use Rattle.http_heads.specs.Statuses as status
 use Rattle.http_answers.specs.Asking.{Asking, refuses, reads, states, IsAsked}
 use Rattle.http_answers.specs.declared.asking.StatementAsked.{StatementAsked}
 use Rattle.http_answers.specs.declared.asking.Asked.TheVariants as told
@@ -95,12 +94,12 @@ module _ {C : Type 0} (gives : C → Option ℕ → C → Type 0) (b : Book) (cl
   pub unserved_reply : (asking : Asking) (moments : List (Option ℕ)) (c0 c1 : C)
       (old new : Tables) → MayAsk asking moments → GivesInTurn gives c0 moments c1 →
       ForEachList b old (λ list. AreTables b list new) →
-      Writes (response status.Unavailable closes unable) →
+      Writes (response status.service_unavailable closes unable) →
       Replies gives b asking closes c0 c1 Writes old new
   unserved_reply asking moments c0 c1 old new may given same w = record {
     moments = moments;
     given = given;
-    text = response status.Unavailable closes unable;
+    text = response status.service_unavailable closes unable;
     written = w;
     replied = λ list time are. record {
       reply = unserved list;
@@ -112,7 +111,7 @@ module _ {C : Type 0} (gives : C → Option ℕ → C → Type 0) (b : Book) (cl
   }
 
   -- a request that changes nothing, without the clock
-  due_reply : (asking : Asking) (code : Status) (body : List ℕ) (c : C) (tables : Tables) →
+  due_reply : (asking : Asking) (code : ℕ) (body : List ℕ) (c : C) (tables : Tables) →
       ((list : List Accepted) → IsDue b list asking [] (refusal list code body)) →
       Writes (response code closes body) → Replies gives b asking closes c c Writes tables tables
   due_reply asking code body c tables due w = record {
@@ -129,7 +128,7 @@ module _ {C : Type 0} (gives : C → Option ℕ → C → Type 0) (b : Book) (cl
     };
   }
 
-  refused_by : (code : Status) (c : C) (tables : Tables) → TellsRefusal closes code Writes →
+  refused_by : (code : ℕ) (c : C) (tables : Tables) → TellsRefusal closes code Writes →
       Replies gives b (refuses code) closes c c Writes tables tables
   refused_by code c tables (inl w) =
       due_reply (refuses code) code no_members c tables (λ list. (refl, refl)) w
@@ -137,7 +136,7 @@ module _ {C : Type 0} (gives : C → Option ℕ → C → Type 0) (b : Book) (cl
       unserved_reply (refuses code) [] c c tables tables refl refl (λ list time are. are) w
 
   -- a refusal
-  pub refused_reply : (code : Status) (c : C) (tables : Tables) →
+  pub refused_reply : (code : ℕ) (c : C) (tables : Tables) →
       TellsRefusal closes code Writes → (asking : Asking) → IsAsked asking (told.Refused code) →
       Replies gives b asking closes c c Writes tables tables
   refused_reply code c tables tells (refuses s) asked =
@@ -150,9 +149,9 @@ module _ {C : Type 0} (gives : C → Option ℕ → C → Type 0) (b : Book) (cl
       TellsFault closes fault Writes → (¬ (fault ≡ Memory) → read ≡ Err fault) →
       Replies gives b (reads read) closes c c Writes tables tables
   unread_by fault c tables read (inl w) fails =
-      due_reply (reads read) status.BadRequest (fault_text fault) c tables
+      due_reply (reads read) status.bad_request (fault_text fault) c tables
       (λ list. subst (λ r. IsDue b list (reads r) []
-      (refusal list status.BadRequest (fault_text fault))) (sym (fails w.0)) (refl, refl)) w.1
+      (refusal list status.bad_request (fault_text fault))) (sym (fails w.0)) (refl, refl)) w.1
   unread_by fault c tables read (inr w) fails = unserved_reply (reads read) [] c c tables tables
       (may_not (reads read)) refl (λ list time are. are) w
 
@@ -192,7 +191,7 @@ module _ {C : Type 0} (gives : C → Option ℕ → C → Type 0) (b : Book) (cl
 
   -- a clock that doesn't answer
   pub unclocked_reply : (c : Command) (c0 c1 : C) (tables : Tables) →
-      gives c0 None c1 → Writes (response status.Unavailable closes unable) →
+      gives c0 None c1 → Writes (response status.service_unavailable closes unable) →
       Replies gives b (reads (Ok c)) closes c0 c1 Writes tables tables
   unclocked_reply c c0 c1 tables given w = unserved_reply (reads (Ok c))
       (None ∷ []) c0 c1 tables tables (may_once c None) (c1, given, refl) (λ list time are. are) w
@@ -200,7 +199,7 @@ module _ {C : Type 0} (gives : C → Option ℕ → C → Type 0) (b : Book) (cl
   -- a store fault
   pub failed_reply : (c : Command) (t : ℕ) (c0 c1 : C) (old new : Tables) (fault : StoreFault) →
       gives c0 (Some t) c1 → Serves b c t old new (Err fault) →
-      Writes (response status.Unavailable closes unable) →
+      Writes (response status.service_unavailable closes unable) →
       Replies gives b (reads (Ok c)) closes c0 c1 Writes old new
   failed_reply c t c0 c1 old new fault given serves w =
       unserved_reply (reads (Ok c)) (Some t ∷ []) c0 c1 old new (may_once c (Some t)) (
@@ -212,19 +211,19 @@ module _ {C : Type 0} (gives : C → Option ℕ → C → Type 0) (b : Book) (cl
   -- a command that is served, and its answer told
   served_reply : (c : Command) (t : ℕ) (c0 c1 : C) (old new : Tables) (answer : Answer) →
       gives c0 (Some t) c1 → Serves b c t old new (Ok answer) →
-      Writes (response status.Ok closes (answer_text answer)) →
+      Writes (response status.ok closes (answer_text answer)) →
       Replies gives b (reads (Ok c)) closes c0 c1 Writes old new
   served_reply c t c0 c1 old new answer given serves w = record {
     moments = Some t ∷ [];
     given = (c1, given, refl);
-    text = response status.Ok closes (answer_text answer);
+    text = response status.ok closes (answer_text answer);
     written = w;
     replied = λ list time are.
         let served = serves list time are in
         record {
           reply = reply_at b list c (Some t);
           is_reply = inl (Some t, refl, refl);
-          written = ap (λ a. response status.Ok closes (answer_text a)) served.answer;
+          written = ap (λ a. response status.ok closes (answer_text a)) served.answer;
           tables = served.tables;
           time = served.time;
         };
@@ -234,7 +233,7 @@ module _ {C : Type 0} (gives : C → Option ℕ → C → Type 0) (b : Book) (cl
   untold_reply : (c : Command) (t : ℕ) (c0 c1 : C) (old new : Tables) (answer : Answer) →
       gives c0 (Some t) c1 → Serves b c t old new (Ok answer) →
       is_unaccepted (is_read_command c) answer ≡ true →
-      Writes (response status.Unavailable closes unable) →
+      Writes (response status.service_unavailable closes unable) →
       Replies gives b (reads (Ok c)) closes c0 c1 Writes old new
   untold_reply c t c0 c1 old new answer given serves is w =
       unserved_reply (reads (Ok c)) (Some t ∷ []) c0 c1 old new (may_once c (Some t))

@@ -20,7 +20,7 @@ use Rattle.charging.specs.Served.{AreTables, history, moment_of}
 use Rattle.charging.specs.States.{IsState, IsStateAt, TellsState}
 use Rattle.charging.specs.declared.balances.AccountState.{AccountState}
 use Rattle.statements.specs.Texts.{statement_text}
-use Rattle.http_heads.specs.declared.status.Status.TheVariants as status
+use Rattle.http_heads.specs.Statuses as status
 use Rattle.http_answers.specs.Asking.{states}
 use Rattle.http_answers.specs.declared.asking.StatementAsked.{StatementAsked}
 use Rattle.http_answers.specs.declared.text.Media.TheVariants.{Text}
@@ -67,7 +67,7 @@ module _ {C : Type 0} (gives : C → Option ℕ → C → Type 0) (b : Book) (cl
     (Writes : List ℕ → Type 0) (q : StatementAsked) where
   -- a clock that doesn't answer, no memory or no store
   pub unstated_reply : (m : Option ℕ) (c0 c1 : C) (old new : Tables) →
-      gives c0 m c1 → new ≡ old → Writes (response status.Unavailable closes unable) →
+      gives c0 m c1 → new ≡ old → Writes (response status.service_unavailable closes unable) →
       Replies gives b (states q) closes c0 c1 Writes old new
   unstated_reply m c0 c1 old new given same w =
       unserved_reply gives b closes Writes (states q) (m ∷ []) c0 c1 old new (once m q)
@@ -75,21 +75,21 @@ module _ {C : Type 0} (gives : C → Option ℕ → C → Type 0) (b : Book) (cl
 
   -- the text of an account that isn't there
   unknown_text : (t : ℕ) (list : List Accepted) (h : History) → h.opened ≡ false →
-      response status.Ok closes (answer_text (Refused AccountUnknown))
+      response status.ok closes (answer_text (Refused AccountUnknown))
       ≡ reply_text closes (statement_reply b list q t h)
   unknown_text t list h closed =
-      sym (ap (λ v. response_of (statement_media v) status.Ok closes (if v then statement_text b
+      sym (ap (λ v. response_of (statement_media v) status.ok closes (if v then statement_text b
       q.account q.month t (charge_rows h.ledger) (by_number (buckets_at b.validity t h.ledger))
       else answer_text (Refused AccountUnknown))) closed)
 
   unknown_told : (t : ℕ) (c0 c1 : C) (old new : Tables) (found : Option AccountState) →
       gives c0 (Some t) c1 → TellsState b q.account t old found → found ≡ None → new ≡ old →
-      Writes (response status.Ok closes (answer_text (Refused AccountUnknown))) →
+      Writes (response status.ok closes (answer_text (Refused AccountUnknown))) →
       Replies gives b (states q) closes c0 c1 Writes old new
   unknown_told t c0 c1 old new found given tells is same w = record {
     moments = Some t ∷ [];
     given = (c1, given, refl);
-    text = response status.Ok closes (answer_text (Refused AccountUnknown));
+    text = response status.ok closes (answer_text (Refused AccountUnknown));
     written = w;
     replied = λ list time are.
         let h : History = history b q.account list in
@@ -116,13 +116,13 @@ module _ {C : Type 0} (gives : C → Option ℕ → C → Type 0) (b : Book) (cl
   -- the text of one whose state was found
   stated_text : (t : ℕ) (list : List Accepted) (h : History) (s : AccountState) → h.opened ≡ true →
       IsStateAt b t h.ledger s →
-      response_of Text status.Ok closes
+      response_of Text status.ok closes
       (statement_text b q.account q.month s.moment (charge_rows h.ledger) s.buckets.items)
       ≡ reply_text closes (statement_reply b list q t h)
   stated_text t list h s opened is =
-      (λ i. response_of Text status.Ok closes
+      (λ i. response_of Text status.ok closes
       (statement_text b q.account q.month (is.moment i) (charge_rows h.ledger) (is.buckets i)))
-      ∙ sym (ap (λ v. response_of (statement_media v) status.Ok closes (if v then statement_text b
+      ∙ sym (ap (λ v. response_of (statement_media v) status.ok closes (if v then statement_text b
       q.account q.month t (charge_rows h.ledger) (by_number (buckets_at b.validity t h.ledger))
       else answer_text (Refused AccountUnknown))) opened)
 
@@ -174,20 +174,20 @@ module _ {C : Type 0} (gives : C → Option ℕ → C → Type 0) (b : Book) (cl
 
 module _ (charges : ℕ → Option ChargeColumns) (body : List ChargeColumns → List ℕ) (closes : Bool)
     (Writes : List ℕ → Type 0) where
-  pub tells_nothing : Writes (response status.Unavailable closes unable) →
+  pub tells_nothing : Writes (response status.service_unavailable closes unable) →
       TellsCharges charges body closes Writes
   tells_nothing w = record {
-    text = response status.Unavailable closes unable;
+    text = response status.service_unavailable closes unable;
     written = w;
     told = λ rows are. inr refl;
   }
 
   pub tells_body : (text : List ℕ) →
       ((rows : List ChargeColumns) → AreCharges charges rows → text ≡ body rows) →
-      TellsText closes status.Ok text Writes → TellsCharges charges body closes Writes
+      TellsText closes status.ok text Writes → TellsCharges charges body closes Writes
   tells_body text is (inl w) = record {
-    text = response_of Text status.Ok closes text;
+    text = response_of Text status.ok closes text;
     written = w;
-    told = λ rows are. inl (ap (response_of Text status.Ok closes) (is rows are));
+    told = λ rows are. inl (ap (response_of Text status.ok closes) (is rows are));
   }
   tells_body text is (inr w) = tells_nothing w

@@ -11,6 +11,8 @@ use Rattle.tariffs.specs.Books.{Book}
 use Rattle.keepers.specs.Tables.{Tables}
 use Rattle.charging.specs.Accepted.{Accepted}
 use Rattle.charging.specs.Continued.{ForEachList}
+use Rattle.http_heads.specs.Parts.{first_part}
+use Rattle.http_heads.proofs.Refusals.{refused_says}
 use Rattle.http_heads.specs.Requests.{Next, asks, refused, ended, IsNext}
 use Rattle.http_answers.specs.Asking.{Asking, refuses, asked_of, IsAsked}
 use Rattle.http_answers.specs.Texts.{Begins}
@@ -26,6 +28,7 @@ use Rattle.http_api.specs.Connections.{IsBegun, OwesNext, IsOutOfMemory, IsUnrea
 use Rattle.http_api.specs.Connections.{IsTakenWith, IsCutOff, ServesConnection}
 use Rattle.http_api.specs.Told.{Owes}
 use Rattle.http_api.proofs.Continuing.{continued_none}
+use Rattle.http_api.proofs.Statuses.{SaysStatus, asked_says, reply_says}
 
 plus_one : (n : ℕ) → suc n ≡ n + 1
 plus_one n = omega arith
@@ -50,29 +53,33 @@ record IsHeard (b : Book) (next : Next) (heard : Heard) (left : Option (List ℕ
   asking : Asking
   rest : List ℕ
   asked : IsAsked asking heard.asked
+  says : SaysStatus asking
   takes : (old new : Connection) → IsAnswered b asking heard.closes rest old new →
       Takes b next old new
   goes_on : heard.closes ≡ false → left ≡ Some rest
 
-heard_case : (b : Book) (next : Next) (heard : Heard) (left : Option (List ℕ)) →
-    HearsNext next (Some heard) left → IsHeard b next heard left
-heard_case b (asks ask rest) heard left h = record {
+heard_case : (b : Book) (stream : List ℕ) (next : Next) (heard : Heard)
+    (left : Option (List ℕ)) → IsNext stream next → HearsNext next (Some heard) left →
+    IsHeard b next heard left
+heard_case b stream (asks ask rest) heard left is_next h = record {
   asking = asked_of ask;
   rest = rest;
   asked = h.0;
+  says = asked_says ask;
   takes = λ old new answered.
       subst (λ closes. IsAnswered b (asked_of ask) closes rest old new) h.1 answered;
   goes_on = λ e. h.2;
 }
-heard_case b (refused status) heard left h = record {
+heard_case b stream (refused status) heard left is_next h = record {
   asking = refuses status;
   rest = [];
   asked = h.0;
+  says = refused_says (first_part stream) status is_next;
   takes = λ old new answered.
       subst (λ closes. IsAnswered b (refuses status) closes [] old new) h.1 answered;
   goes_on = λ e. absurd (true≢false (sym h.1 ∙ e));
 }
-heard_case b ended heard left h = absurd h
+heard_case b stream ended heard left is_next h = absurd h
 
 ended_case : (next : Next) (left : Option (List ℕ)) → HearsNext next None left → next ≡ ended
 ended_case (asks ask rest) left h = absurd h
@@ -120,13 +127,13 @@ record IsMoreAt (b : Book) (stream : List ℕ) (count left : ℕ) (closes : Bool
 more-at : (b : Book) (stream : List ℕ) (count left : ℕ) (rest after : List ℕ)
     (moments ms : List (Option ℕ)) (text more : List ℕ) (mid new : Tables) (list : List Accepted)
     (asking : Asking) (closes : Bool) (next : Next) →
-    0 < left → IsNext rest next →
+    0 < left → IsNext rest next → SaysStatus asking →
     ((old last : Connection) → IsAnswered b asking closes after old last → Takes b next old last) →
     (at : IsAt b stream count left rest moments text mid list) →
     IsReplied b asking (left_after closes left == 0) ms more new at.taken.last.list →
     IsMoreAt b stream count left closes after (moments ++ ms) text more new list
 more-at b stream count left rest after moments ms text more mid new list asking closes next some
-    is_next takes at replied =
+    is_next says takes at replied =
     let old : Connection = at.taken.last in
     let last : Connection = after_reply old closes after ms replied.reply in
     record {
@@ -143,6 +150,7 @@ more-at b stream count left rest after moments ms text more mid new list asking 
             moments = ms;
             reply = replied.reply;
             is_reply = replied.is_reply;
+            status = reply_says b old.list asking ms replied.reply says replied.is_reply;
             after = refl;
           });
         };
@@ -226,7 +234,7 @@ module _ {C : Type 0} (gives : C → Option ℕ → C → Type 0) (b : Book) whe
   one_more stream count left r1 r2 c0 c1 c2 w0 w1 Writes old mid new heard some so hears replies =
       let here : Hears so.rest (Some heard) r2 =
       subst (λ (r : Option (List ℕ)). IfSome r (λ s. Hears s (Some heard) r2)) so.rest_is hears in
-      let case : IsHeard b here.next heard r2 = heard_case b here.next heard r2 here.hears in
+      let case : IsHeard b here.next heard r2 = heard_case b so.rest here.next heard r2 here.is_next here.hears in
       let reply : Replies gives b case.asking
       (left_after heard.closes left == 0) c1 c2 Writes mid new = replies case.asking case.asked in
       let moments : List (Option ℕ) = so.moments ++ reply.moments in
@@ -235,8 +243,8 @@ module _ {C : Type 0} (gives : C → Option ℕ → C → Type 0) (b : Book) whe
       let at : IsAt b stream count left so.rest so.moments so.text mid list =
       so.at list time are in
       more-at b stream count left so.rest case.rest so.moments reply.moments so.text
-      reply.text mid new list case.asking heard.closes here.next some here.is_next case.takes
-      at (reply.replied at.taken.last.list at.taken.time at.taken.tables) in
+      reply.text mid new list case.asking heard.closes here.next some here.is_next case.says
+      case.takes at (reply.replied at.taken.last.list at.taken.time at.taken.tables) in
       record {
         rest = case.rest;
         rest_is = case.goes_on;

@@ -10,6 +10,7 @@ use Rattle.keepers.specs.Tables.{Tables}
 use Rattle.charging.specs.Accepted.{Accepted, IsInTime}
 use Rattle.charging.specs.Continued.{ForEachList, Continues}
 use Rattle.charging.specs.Served.{AreTables}
+use Rattle.http_heads.specs.Statuses.{IsAnswerStatus}
 use Rattle.http_heads.specs.Requests.{Ask, Next, asks, refused, ended, IsNext}
 use Rattle.http_answers.specs.Asking.{Asking, refuses, asked_of}
 use Rattle.http_answers.specs.Texts.{Begins}
@@ -48,12 +49,13 @@ after_reply old closes rest moments reply = record {
   written = old.written ++ reply_text (left_after closes old.left == 0) reply;
 }
 
--- a request is answered
+-- a request is answered, with one of the statuses of answers
 pub record IsAnswered (b : Book) (asking : Asking) (closes : Bool) (rest : List ℕ)
     (old new : Connection) : Type 0 where
   pub moments : List (Option ℕ)
   pub reply : Reply
   pub is_reply : IsReply b old.list asking moments reply
+  pub status : IsAnswerStatus reply.status
   pub after : new ≡ after_reply old closes rest moments reply
 
 -- what comes next is answered; after a refusal of the head or of the length nothing more is read

@@ -18,8 +18,7 @@ use Rattle.charging.specs.Balances.{by_number}
 use Rattle.charging.specs.Continued.{ForEachList, Continues}
 use Rattle.charging.specs.Histories.{History}
 use Rattle.charging.specs.Served.{AreTables, history, moment_of, answer_to, with_command}
-use Rattle.http_heads.specs.declared.status.Status.{Status}
-use Rattle.http_heads.specs.declared.status.Status.TheVariants as status
+use Rattle.http_heads.specs.Statuses as status
 use Rattle.http_answers.specs.Asking.{Asking, refuses, reads, states}
 use Rattle.http_answers.specs.declared.asking.StatementAsked.{StatementAsked}
 use Rattle.http_answers.specs.declared.text.Media.{Media}
@@ -29,24 +28,24 @@ use Rattle.http_api.specs.Clocks.{GivesInTurn}
 
 -- an answer's status and body, what the body is, and the accepted commands after it
 pub record Reply : Type 0 where
-  pub status : Status
+  pub status : ℕ
   pub media : Media
   pub body : List ℕ
   pub after : List Accepted
 
 -- a request that isn't accepted leaves the list
-abbrev pub refusal : List Accepted → Status → List ℕ → Reply
+abbrev pub refusal : List Accepted → ℕ → List ℕ → Reply
 refusal list code text = record { status = code; media = Json; body = text; after = list }
 
 -- no memory, no store or no clock
 abbrev pub unserved : List Accepted → Reply
-unserved list = refusal list status.Unavailable unable
+unserved list = refusal list status.service_unavailable unable
 
 -- a command at the clock's moment; without one it isn't served
 abbrev pub reply_at : Book → List Accepted → Command → Option ℕ → Reply
 reply_at b list c None = unserved list
 reply_at b list c (Some t) = record {
-  status = status.Ok;
+  status = status.ok;
   media = Json;
   body = answer_text (answer_to b list c (moment_of list t));
   after = with_command b list c (moment_of list t);
@@ -67,7 +66,7 @@ statement_body b q t h = if h.opened
 
 abbrev pub statement_reply : Book → List Accepted → StatementAsked → ℕ → History → Reply
 statement_reply b list q t h = record {
-  status = status.Ok;
+  status = status.ok;
   media = statement_media h.opened;
   body = statement_body b q t h;
   after = list;
@@ -88,7 +87,7 @@ reply_text closes reply = response_of reply.media reply.status closes reply.body
 abbrev pub IsDue : Book → List Accepted → Asking → List (Option ℕ) → Reply → Type 0
 IsDue b list (refuses code) moments reply = (moments ≡ []) × (reply ≡ refusal list code no_members)
 IsDue b list (reads (Err fault)) moments reply = (moments ≡ [])
-    × (reply ≡ refusal list status.BadRequest (fault_text fault))
+    × (reply ≡ refusal list status.bad_request (fault_text fault))
 IsDue b list (reads (Ok c)) moments reply = (m : Option ℕ) × (moments ≡ m ∷ [])
     × (reply ≡ reply_at b list c m)
 IsDue b list (states q) moments reply = (m : Option ℕ) × (moments ≡ m ∷ [])

@@ -11,7 +11,7 @@ use Rattle.charging.specs.Continued.{ForEachList}
 use Rattle.charging.specs.Served.{moment_of, answer_to}
 use Rattle.reserving.specs.ChargeColumns.{ChargeColumns}
 use Rattle.charge_sources.specs.Rows.{AreCharges}
-use Rattle.http_heads.specs.declared.status.Status.TheVariants.{Ok, Unavailable}
+use Rattle.http_heads.specs.Statuses.{ok, service_unavailable}
 use Rattle.http_answers.specs.declared.text.Media.TheVariants.{Text}
 use Rattle.http_answers.specs.Asking.{Asking, reads}
 use Rattle.http_answers.specs.Texts.{response, response_of, unable}
@@ -20,8 +20,8 @@ use Rattle.http_api.specs.Unaccepted.{is_read_command, is_unaccepted}
 -- an answer is told, to a read or to another command; or that there is no memory, where no accepted
 -- command gets it
 abbrev pub TellsAnswer : Bool → Answer → Bool → (List ℕ → Type 0) → Type 0
-TellsAnswer read answer closes Writes = Writes (response Ok closes (answer_text answer))
-    ⊎ ((is_unaccepted read answer ≡ true) × Writes (response Unavailable closes unable))
+TellsAnswer read answer closes Writes = Writes (response ok closes (answer_text answer))
+    ⊎ ((is_unaccepted read answer ≡ true) × Writes (response service_unavailable closes unable))
 
 -- the text of an answer is owed: a command was served at the clock's moment, and an accepted one
 -- may get its answer
@@ -36,8 +36,8 @@ pub record Owes {C : Type 0} (gives : C → Option ℕ → C → Type 0) (b : Bo
 
 -- the body is told, or that there is no memory or no store
 abbrev pub IsTold : Bool → List ℕ → List ℕ → Type 0
-IsTold closes body text = (text ≡ response_of Text Ok closes body)
-    ⊎ (text ≡ response Unavailable closes unable)
+IsTold closes body text = (text ≡ response_of Text ok closes body)
+    ⊎ (text ≡ response service_unavailable closes unable)
 
 -- a text is written, and it tells the body that is made of an account's charges
 pub record TellsCharges (charges : ℕ → Option ChargeColumns) (body : List ChargeColumns → List ℕ)

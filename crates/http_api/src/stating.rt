@@ -19,8 +19,8 @@ use byte_streams::StreamFault;
 use charge_sources::ChargeSource;
 use charging::{AccountState, account_state};
 use commands::{Answer, Refusal};
+use http::StatusCode;
 use http_answers::{StatementAsked, tell_text, tell_unable};
-use http_heads::Status;
 use statements::{AccountMonth, StatementFault, statement};
 use std::alloc::Global;
 use std::io::Write;
@@ -89,7 +89,7 @@ fn tell_statement<W: Write, K: ChargeSource>(
     ensures failures { K.failed keeper.old ≤ K.failed keeper.new }
 {
     match statement_of(alloc, keeper, book, asked, state) {
-        Ok(text) => tell_text(alloc, writer, Status::Ok, closes, text.as_slice()),
+        Ok(text) => tell_text(alloc, writer, StatusCode::OK, closes, text.as_slice()),
         Err(_) => tell_unable(writer, closes),
     }
 }

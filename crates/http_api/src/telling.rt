@@ -3,7 +3,7 @@
 ghost use Rattle.std.specs.Prelude.{◌≡◌, IfOk, IsErrOf, OnOk, OnErr, false, string_bytes};
 ghost use Rattle.std.specs.Io.KnownBytes.{Appends};
 ghost use Rattle.wire_answers.specs.Spelled.{answer_text};
-ghost use Rattle.http_heads.specs.declared.status.Status.TheVariants.{Ok};
+ghost use Rattle.http_heads.specs.Statuses.{ok};
 ghost use Rattle.http_answers.specs.Texts.{response, Begins};
 ghost use Rattle.http_api.specs.Told.{TellsAnswer};
 ghost use Rattle.http_api.specs.Unaccepted.{is_read_command, is_refusing, is_refused, is_refusal};
@@ -12,8 +12,8 @@ ghost use Rattle.http_api.specs.Unaccepted.{is_unaccepted};
 use byte_streams::StreamFault;
 use commands::{Answer, Command, Failure, Outcome};
 use decisions::is_read;
+use http::StatusCode;
 use http_answers::{response, tell_unable, write_text};
-use http_heads::Status;
 use std::alloc::{AllocError, Global};
 use std::io::Write;
 use wire::write_answer;
@@ -77,10 +77,10 @@ fn is_refusal(answer: &Answer) -> bool
 
 /// The bytes of the response with an answer.
 fn answer_response(alloc: Global, answer: &Answer, closes: bool) -> Result<String, AllocError>
-    ensures { IfOk result (λ s. string_bytes s ≡ response Ok closes (answer_text answer.now)) }
+    ensures { IfOk result (λ s. string_bytes s ≡ response ok closes (answer_text answer.now)) }
 {
     let body = write_answer(alloc, answer)?;
-    response(alloc, Status::Ok, closes, body.as_str())
+    response(alloc, StatusCode::OK, closes, body.as_str())
 }
 
 /// Writes the answer to a command, a read or another; where memory is refused for its text and no

@@ -6,7 +6,6 @@ use Rattle.std.specs.Prelude.{if◌then◌else◌, Result}
 use Rattle.httparse.specs.Spans.{header_bytes}
 use Rattle.httparse.specs.declared.spans.HeaderSpan.{HeaderSpan}
 use Rattle.http_heads.specs.declared.fields.Found.{Found}
-use Rattle.http_heads.specs.declared.status.Status.{Status}
 use Rattle.http_heads.specs.Fields.{Fields, same_name, values_of, length_unless}
 use Rattle.http_heads.specs.Found.{IsFound}
 
@@ -44,6 +43,6 @@ found_more part name fields i d found new within h goes =
     (goes (values_of name (map (header_bytes part) (take i fields))) h)
 
 -- no coding
-pub unless_none : (values : List (List ℕ)) (length result : Result ℕ Status) → values ≡ [] →
+pub unless_none : (values : List (List ℕ)) (length result : Result ℕ ℕ) → values ≡ [] →
     result ≡ length → result ≡ length_unless values length
 unless_none values length result none h = h ∙ sym (ap (λ v. length_unless v length) none)

@@ -8,21 +8,21 @@ use Rattle.http_heads.specs.declared.head_part.HeadPart.{HeadPart}
 use Rattle.http_heads.specs.declared.head_part.HeadPart.TheVariants as head_part
 use Rattle.http_heads.specs.declared.requests.Taken.{Taken}
 use Rattle.http_heads.specs.declared.requests.Taken.TheVariants as taken
-use Rattle.http_heads.specs.declared.status.Status.TheVariants.{BadRequest, FieldsTooLarge}
+use Rattle.http_heads.specs.Statuses.{bad_request, fields_too_large}
 use Rattle.http_heads.specs.Parts.{Part, whole, too_long, cut, IsHeadPart}
 use Rattle.http_heads.specs.Requests.{IsHeadIn, IsHeadOf, after_head, refused, ended, Tells}
 use Rattle.http_heads.specs.Requests.{TellsNext}
 
 long_next : (begun : Part) (left right : Option (List ℕ)) →
-    IsHeadPart begun head_part.TooLong left → TellsNext begun (taken.Refused FieldsTooLarge) right
+    IsHeadPart begun head_part.TooLong left → TellsNext begun (taken.Refused fields_too_large) right
 long_next (whole part rest) left right h = absurd h
 long_next too_long left right h =
-    record { next = refused FieldsTooLarge; is_next = refl; tells = refl }
+    record { next = refused fields_too_large; is_next = refl; tells = refl }
 long_next cut left right h = absurd h
 
 pub next_long : (part : HeadPart) (begun : Part) (left right : Option (List ℕ)) →
     part ≡ head_part.TooLong → IsHeadPart begun part left →
-    TellsNext begun (taken.Refused FieldsTooLarge) right
+    TellsNext begun (taken.Refused fields_too_large) right
 next_long part begun left right e h =
     long_next begun left right (subst (λ p. IsHeadPart begun p left) e h)
 
@@ -64,10 +64,10 @@ next_whole (Ok told) part bytes given left right is same h = λ begun k.
 -- it is no head
 pub next_none : (part : List ℕ) (o : Option Head) (left right : Option (List ℕ)) →
     o ≡ None → IsHeadIn part o →
-    IfSome left (λ rest. TellsNext (whole part rest) (taken.Refused BadRequest) right)
+    IfSome left (λ rest. TellsNext (whole part rest) (taken.Refused bad_request) right)
 next_none part o None right e h = tt
 next_none part o (Some rest) right e h = record {
-  next = refused BadRequest;
+  next = refused bad_request;
   is_next = inr (subst (IsHeadIn part) e h, refl);
   tells = refl;
 }

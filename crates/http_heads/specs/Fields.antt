@@ -5,23 +5,13 @@ use Rattle.std.specs.List.{list_all}
 use Rattle.std.specs.Char.{to_ascii_lowercase, is_ascii_digit}
 use Rattle.std.specs.Str.{bytes_eq}
 use Rattle.std.specs.Str.Parse.{digits_value}
-use Rattle.http_heads.specs.declared.method.Method.{Method}
-use Rattle.http_heads.specs.declared.method.Method.TheVariants.{Get, Post, Put, Other}
-use Rattle.http_heads.specs.declared.status.Status.{Status}
-use Rattle.http_heads.specs.declared.status.Status.TheVariants.{BadRequest, LengthRequired}
-use Rattle.http_heads.specs.declared.status.Status.TheVariants.{ContentTooLarge, NotImplemented}
+use Rattle.http_heads.specs.Methods.{is_post, is_put}
+use Rattle.http_heads.specs.Statuses.{bad_request, length_required, payload_too_large}
+use Rattle.http_heads.specs.Statuses.{not_implemented}
 
 -- the fields of a head, each with its name and its value
 abbrev pub Fields : Type 0
 Fields = List (List ℕ × List ℕ)
-
--- methods are compared with case (RFC 9110 section 9.1)
-abbrev pub method_of : List ℕ → Method
-method_of bytes =
-    if bytes_eq bytes (codes "GET") then Get
-    else if bytes_eq bytes (codes "POST") then Post
-    else if bytes_eq bytes (codes "PUT") then Put
-    else Other
 
 -- names of fields without regard to ASCII case (RFC 9110 section 5.1)
 abbrev pub same_name : List ℕ → List ℕ → Bool
@@ -42,33 +32,30 @@ said_number value =
     then Some (digits_value 10 value) else None
 
 -- a length of at most 65,536 bytes is taken
-abbrev pub taken_length : Option ℕ → Result ℕ Status
-taken_length None = Err BadRequest
-taken_length (Some n) = if nat_le n 65536 then Ok n else Err ContentTooLarge
+abbrev pub taken_length : Option ℕ → Result ℕ ℕ
+taken_length None = Err bad_request
+taken_length (Some n) = if nat_le n 65536 then Ok n else Err payload_too_large
 
-abbrev pub said_length : List ℕ → Result ℕ Status
+abbrev pub said_length : List ℕ → Result ℕ ℕ
 said_length value = taken_length (said_number value)
 
 -- a request without a length has no body, and a POST or a PUT must have one
-abbrev pub length_without : Method → Result ℕ Status
-length_without Get = Ok 0
-length_without Post = Err LengthRequired
-length_without Put = Err LengthRequired
-length_without Other = Ok 0
+abbrev pub length_without : List ℕ → Result ℕ ℕ
+length_without method = if is_post method || is_put method then Err length_required else Ok 0
 
 -- by the values of Content-Length: not more than one
-abbrev pub length_by : Method → List (List ℕ) → Result ℕ Status
+abbrev pub length_by : List ℕ → List (List ℕ) → Result ℕ ℕ
 length_by method [] = length_without method
 length_by method (value ∷ []) = said_length value
-length_by method (value ∷ other ∷ more) = Err BadRequest
+length_by method (value ∷ other ∷ more) = Err bad_request
 
 -- by the values of Transfer-Encoding: none is taken
-abbrev pub length_unless : List (List ℕ) → Result ℕ Status → Result ℕ Status
+abbrev pub length_unless : List (List ℕ) → Result ℕ ℕ → Result ℕ ℕ
 length_unless [] length = length
-length_unless (coding ∷ codings) length = Err NotImplemented
+length_unless (coding ∷ codings) length = Err not_implemented
 
 -- the length of the body, or the status of a refusal
-abbrev pub body_length : Method → Fields → Result ℕ Status
+abbrev pub body_length : List ℕ → Fields → Result ℕ ℕ
 body_length method fields =
     length_unless (values_of (codes "Transfer-Encoding") fields)
     (length_by method (values_of (codes "Content-Length") fields))

@@ -1,4 +1,6 @@
 pub mod Parts
+pub mod Methods
+pub mod Statuses
 pub mod Fields
 pub mod Found
 pub mod Requests

@@ -3,19 +3,17 @@ use Rattle.std.specs.Prelude.{◌≡◌, ℕ, Bool, List, [], map, length, take,
 use Rattle.std.specs.Prelude.{if◌then◌else◌, Option, Some, None, Result, Ok, Err, ◌⊎◌, string_bytes}
 use Rattle.httparse.specs.Grammar.{RequestHead, ReadsRequest}
 use Rattle.httparse.specs.Spans.{name_and_value}
-use Rattle.http_heads.specs.declared.method.Method.{Method}
-use Rattle.http_heads.specs.declared.status.Status.{Status}
-use Rattle.http_heads.specs.declared.status.Status.TheVariants.{BadRequest, FieldsTooLarge}
 use Rattle.http_heads.specs.declared.head.Head.{Head}
 use Rattle.http_heads.specs.declared.requests.Request.{Request}
 use Rattle.http_heads.specs.declared.requests.Taken.{Taken}
 use Rattle.http_heads.specs.declared.requests.Taken.TheVariants as taken
 use Rattle.http_heads.specs.Parts.{Part, whole, too_long, cut, first_part}
-use Rattle.http_heads.specs.Fields.{Fields, method_of, body_length, closes}
+use Rattle.http_heads.specs.Statuses.{bad_request, fields_too_large, IsAnswerStatus}
+use Rattle.http_heads.specs.Fields.{Fields, body_length, closes}
 
 -- what a request asks, and whether it ends the connection
 pub record Ask : Type 0 where
-  pub method : Method
+  pub method : List ℕ
   pub target : List ℕ
   pub closes : Bool
   pub body : List ℕ
@@ -23,7 +21,7 @@ pub record Ask : Type 0 where
 -- a request and the bytes after it, a refusal, or the stream's end before a request's
 pub data Next : Type 0 where
   asks : Ask → List ℕ → Next
-  refused : Status → Next
+  refused : ℕ → Next
   ended : Next
 
 -- ---- a head
@@ -36,12 +34,12 @@ IsHead part head = ReadsRequest part head []
 abbrev pub fields_of : RequestHead → Fields
 fields_of head = map name_and_value head.fields
 
-abbrev pub length_of : RequestHead → Result ℕ Status
-length_of head = body_length (method_of head.method) (fields_of head)
+abbrev pub length_of : RequestHead → Result ℕ ℕ
+length_of head = body_length head.method (fields_of head)
 
 abbrev pub ask_of : RequestHead → List ℕ → Ask
 ask_of head body = record {
-  method = method_of head.method;
+  method = head.method;
   target = head.target;
   closes = closes head.minor (fields_of head);
   body = body;
@@ -50,7 +48,7 @@ ask_of head body = record {
 -- ---- what follows
 
 -- the body is the next so many bytes
-abbrev pub after_length : RequestHead → Result ℕ Status → List ℕ → Next
+abbrev pub after_length : RequestHead → Result ℕ ℕ → List ℕ → Next
 after_length head (Err status) rest = refused status
 after_length head (Ok n) rest =
     if nat_lt (length rest) n then ended else asks (ask_of head (take n rest)) (drop n rest)
@@ -62,8 +60,8 @@ after_head head rest = after_length head (length_of head) rest
 abbrev pub IsNextOf : Part → Next → Type 0
 IsNextOf (whole part rest) next =
     ((head : RequestHead) × IsHead part head × (next ≡ after_head head rest))
-    ⊎ (((head : RequestHead) → ¬ (IsHead part head)) × (next ≡ refused BadRequest))
-IsNextOf too_long next = next ≡ refused FieldsTooLarge
+    ⊎ (((head : RequestHead) → ¬ (IsHead part head)) × (next ≡ refused bad_request))
+IsNextOf too_long next = next ≡ refused fields_too_large
 IsNextOf cut next = next ≡ ended
 
 abbrev pub IsNext : List ℕ → Next → Type 0
@@ -72,7 +70,7 @@ IsNext stream next = IsNextOf (first_part stream) next
 -- ---- as it is told
 
 pub record IsHeadOf (head : RequestHead) (told : Head) : Type 0 where
-  pub method : told.method ≡ method_of head.method
+  pub method : told.method ≡ head.method
   pub target : string_bytes told.target ≡ head.target
   pub length : told.length ≡ length_of head
   pub closes : told.closes ≡ closes head.minor (fields_of head)
@@ -104,6 +102,12 @@ pub record TellsNext (part : Part) (told : Taken) (left : Option (List ℕ)) : T
   pub next : Next
   pub is_next : IsNextOf part next
   pub tells : Tells next told left
+
+-- a refusal says one of the statuses of answers
+abbrev pub SaysStatus : Taken → Type 0
+SaysStatus (taken.Request told) = Unit {0}
+SaysStatus (taken.Refused status) = IsAnswerStatus status
+SaysStatus taken.Ended = Unit {0}
 
 -- a request as it is told
 abbrev pub seen : Request → Ask

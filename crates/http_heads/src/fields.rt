@@ -5,11 +5,10 @@ ghost use Rattle.std.specs.Char.{is_ascii_digit};
 ghost use Rattle.std.specs.Str.Parse.{digits_value};
 ghost use Rattle.httparse.specs.Spans.{IsHeaderWithin, header_bytes};
 ghost use Rattle.http_heads.specs.Fields.{same_name, values_of, said_number, said_length};
-ghost use Rattle.http_heads.specs.Fields.{length_by, body_length, says_close};
+ghost use Rattle.http_heads.specs.Fields.{length_without, length_by, body_length, says_close};
 ghost use Rattle.http_heads.specs.Found.{IsFound, FoundWithin};
 
-use crate::method::Method;
-use crate::status::Status;
+use http::{Method, StatusCode};
 use httparse::spans::{HeaderSpan, Span};
 
 /// The most digits of a Content-Length.
@@ -87,16 +86,16 @@ fn said_number(value: &[u8]) -> Option<u64>
 }
 
 /// The length that a Content-Length says.
-fn said_length(value: &[u8]) -> Result<usize, Status>
+fn said_length(value: &[u8]) -> Result<usize, StatusCode>
     ensures { result ≡ said_length value.now }
 {
     match said_number(value) {
-        None => Err(Status::BadRequest),
+        None => Err(StatusCode::BAD_REQUEST),
         Some(length) => {
             if length <= MAX_BODY {
                 Ok(length as usize)
             } else {
-                Err(Status::ContentTooLarge)
+                Err(StatusCode::PAYLOAD_TOO_LARGE)
             }
         }
     }
@@ -109,21 +108,27 @@ fn is_digits(bytes: &[u8]) -> bool
     bytes.iter().all(|b| b.is_ascii_digit())
 }
 
+/// The length of a request that says none.
+fn length_without(method: &Method) -> Result<usize, StatusCode>
+    ensures { result ≡ length_without method.now }
+{
+    if *method == Method::POST || *method == Method::PUT {
+        Err(StatusCode::LENGTH_REQUIRED)
+    } else {
+        Ok(0)
+    }
+}
+
 /// The length by the values of Content-Length.
-fn length_by(method: Method, part: &[u8], found: Found) -> Result<usize, Status>
+fn length_by(method: &Method, part: &[u8], found: Found) -> Result<usize, StatusCode>
     requires { FoundWithin (length part.now) found }
     ensures { (values : List (List ℕ)) → IsFound part.now values found →
-        result ≡ length_by method values }
+        result ≡ length_by method.now values }
 {
     match found {
-        Found::None => match method {
-            Method::Get => Ok(0),
-            Method::Post => Err(Status::LengthRequired),
-            Method::Put => Err(Status::LengthRequired),
-            Method::Other => Ok(0),
-        },
+        Found::None => length_without(method),
         Found::One(value) => said_length(value.of(part)),
-        Found::Many => Err(Status::BadRequest),
+        Found::Many => Err(StatusCode::BAD_REQUEST),
     }
 }
 
@@ -131,24 +136,23 @@ fn length_by(method: Method, part: &[u8], found: Found) -> Result<usize, Status>
 /// section 6.3).
 ///
 /// # Errors
-/// `NotImplemented` at a Transfer-Encoding; `BadRequest` at more than one Content-Length or one
-/// that isn't 1 to 18 digits; `ContentTooLarge` above 65,536; `LengthRequired` at a POST or a PUT
-/// without one.
+/// 501 at a Transfer-Encoding; 400 at more than one Content-Length or one that isn't 1 to 18
+/// digits; 413 above 65,536; 411 at a POST or a PUT without one.
 pub(crate) fn body_length(
-    method: Method,
+    method: &Method,
     part: &[u8],
     fields: &[HeaderSpan],
-) -> Result<usize, Status>
+) -> Result<usize, StatusCode>
     requires { All (IsHeaderWithin (length part.now)) fields.now }
-    ensures { result ≡ body_length method (map (header_bytes part.now) fields.now) }
+    ensures { result ≡ body_length method.now (map (header_bytes part.now) fields.now) }
 {
     match find_field(part, fields, "Transfer-Encoding") {
         Found::None => {
             let found = find_field(part, fields, "Content-Length");
             length_by(method, part, found)
         }
-        Found::One(_) => Err(Status::NotImplemented),
-        Found::Many => Err(Status::NotImplemented),
+        Found::One(_) => Err(StatusCode::NOT_IMPLEMENTED),
+        Found::Many => Err(StatusCode::NOT_IMPLEMENTED),
     }
 }
 

@@ -1,11 +1,12 @@
 ghost use Rattle.std.specs.Prelude.{◌≡◌, ◌≤◌, ◌*◌, List, ℕ, length, IfOk, IfSome, IfNone};
+ghost use Rattle.http.specs.Token.{IsToken};
 ghost use Rattle.httparse.specs.Grammar.{RequestHead};
 ghost use Rattle.httparse.specs.Spans.{IsRequestAt, IsRequestWithin};
 ghost use Rattle.http_heads.specs.Requests.{IsHead, IsHeadIn};
 
 use crate::fields::{body_length, count_closing};
-use crate::method::Method;
-use crate::status::Status;
+use http::method::MethodError;
+use http::{Method, StatusCode};
 use httparse::Status as ParseStatus;
 use httparse::spans::{HeaderSpan, RequestSpans, parse_request};
 use std::alloc::{AllocError, Global};
@@ -18,7 +19,7 @@ pub struct Head {
     /// The target, as it stands.
     pub target: String,
     /// The length of the body in bytes, or why the request is refused.
-    pub length: Result<usize, Status>,
+    pub length: Result<usize, StatusCode>,
     /// Whether the connection ends after the request.
     pub closes: bool,
 }
@@ -44,6 +45,21 @@ fn whole_head(part: &[u8], room: &mut [HeaderSpan]) -> Option<RequestSpans>
     }
 }
 
+/// The method of these bytes; none where they are no token.
+///
+/// # Errors
+/// A growth was refused.
+fn method_of(alloc: Global, bytes: &[u8]) -> Result<Option<Method>, AllocError>
+    ensures some { IfOk result (λ found. IfSome found (λ method. method ≡ bytes.now)) }
+    ensures none { IfOk result (λ found. IfNone found (¬ (IsToken bytes.now))) }
+{
+    match Method::from_bytes(alloc, bytes) {
+        Ok(method) => Ok(Some(method)),
+        Err(MethodError::Invalid) => Ok(None),
+        Err(MethodError::OutOfMemory) => Err(AllocError),
+    }
+}
+
 /// What a head part says as a whole; none where it is no head (RFC 9112 sections 3 and 5).
 ///
 /// # Errors
@@ -63,9 +79,11 @@ pub(crate) fn read_head(
         return Ok(None);
     };
     let target = String::from_str(alloc, target)?;
-    let method = Method::of(spans.method.of(part));
+    let Some(method) = method_of(alloc, spans.method.of(part))? else {
+        return Ok(None);
+    };
     let fields = &room[..spans.headers];
-    let length = body_length(method, part, fields);
+    let length = body_length(&method, part, fields);
     let closes = spans.version == 0 || count_closing(part, fields) > 0;
     Ok(Some(Head {
         method,

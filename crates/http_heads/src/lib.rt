@@ -5,13 +5,9 @@
 mod fields;
 mod head;
 mod head_part;
-mod method;
 mod requests;
-mod status;
 
 pub use crate::head::Head;
 pub use crate::head_part::{HeadPart, MAX_HEAD_PART, next_head_part};
-pub use crate::method::Method;
 pub use crate::requests::{MAX_FIELDS, Request, Taken, next_request};
-pub use crate::status::Status;
 pub use httparse::spans::{EMPTY_HEADER_SPAN, HeaderSpan};

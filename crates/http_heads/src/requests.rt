@@ -1,13 +1,12 @@
 ghost use Rattle.std.specs.Prelude.{◌≡◌, ◌≤◌, ◌*◌, length, IfOk, IsErrOf, IfSome};
 ghost use Rattle.httparse.specs.Grammar.{RequestHead};
 ghost use Rattle.http_heads.specs.Parts.{Part, whole, first_part, IsHeadPart, IsShort};
-ghost use Rattle.http_heads.specs.Requests.{TellsNext, IsHeadOf, Tells, after_head};
+ghost use Rattle.http_heads.specs.Requests.{TellsNext, IsHeadOf, Tells, after_head, SaysStatus};
 
 use crate::head::{Head, read_head};
 use crate::head_part::{HeadPart, next_head_part};
-use crate::method::Method;
-use crate::status::Status;
 use byte_streams::{StreamFault, next_bytes};
+use http::{Method, StatusCode};
 use httparse::spans::HeaderSpan;
 use std::alloc::Global;
 use std::io::BufRead;
@@ -34,7 +33,7 @@ pub enum Taken {
     /// The next request, with its body.
     Request(Request),
     /// A refusal, after which nothing more is read.
-    Refused(Status),
+    Refused(StatusCode),
     /// The stream ends before a request does.
     Ended,
 }
@@ -52,6 +51,7 @@ pub fn next_request<R: BufRead>(
     requires room { 8192 ≤ 3 * length room.old }
     ensures next { IfOk result (λ taken. IfSome (R.remaining reader.old)
         (λ stream. TellsNext (first_part stream) taken (R.remaining reader.new))) }
+    ensures status { IfOk result SaysStatus }
     ensures fault { IsErrOf result StreamFault.Write → ⊥ }
 {
     let part = next_head_part(alloc, reader)?;
@@ -69,11 +69,12 @@ fn after_part<R: BufRead>(
     requires room { 8192 ≤ 3 * length room.old }
     ensures next { IfOk result (λ taken. (begun : Part) → IsHeadPart begun part
         (R.remaining reader.old) → TellsNext begun taken (R.remaining reader.new)) }
+    ensures status { IfOk result SaysStatus }
     ensures fault { IsErrOf result StreamFault.Write → ⊥ }
 {
     match part {
         HeadPart::Whole(part) => after_bytes(alloc, reader, part.as_slice(), room),
-        HeadPart::TooLong => Ok(Taken::Refused(Status::FieldsTooLarge)),
+        HeadPart::TooLong => Ok(Taken::Refused(StatusCode::REQUEST_HEADER_FIELDS_TOO_LARGE)),
         HeadPart::Ended => Ok(Taken::Ended),
     }
 }
@@ -89,11 +90,12 @@ fn after_bytes<R: BufRead>(
     requires room { 8192 ≤ 3 * length room.old }
     ensures next { IfOk result (λ taken. IfSome (R.remaining reader.old)
         (λ rest. TellsNext (whole part.now rest) taken (R.remaining reader.new))) }
+    ensures status { IfOk result SaysStatus }
     ensures fault { IsErrOf result StreamFault.Write → ⊥ }
 {
     let head = read_head(alloc, part, room)?;
     match head {
-        None => Ok(Taken::Refused(Status::BadRequest)),
+        None => Ok(Taken::Refused(StatusCode::BAD_REQUEST)),
         Some(head) => with_body(alloc, reader, head),
     }
 }
@@ -103,24 +105,20 @@ fn with_body<R: BufRead>(alloc: Global, reader: &mut R, head: Head) -> Result<Ta
     ensures tells { IfOk result (λ taken. IfSome (R.remaining reader.old)
         (λ rest. (said : RequestHead) → IsHeadOf said head →
         Tells (after_head said rest) taken (R.remaining reader.new))) }
+    ensures status { IfOk result (λ taken. (said : RequestHead) → IsHeadOf said head →
+        SaysStatus taken) }
     ensures fault { IsErrOf result StreamFault.Write → ⊥ }
 {
-    let Head {
-        method,
-        target,
-        length,
-        closes,
-    } = head;
-    let length = match length {
+    let length = match head.length {
         Ok(length) => length,
         Err(status) => return Ok(Taken::Refused(status)),
     };
     match next_bytes(alloc, reader, length)? {
         None => Ok(Taken::Ended),
         Some(body) => Ok(Taken::Request(Request {
-            method,
-            target,
-            closes,
+            method: head.method,
+            target: head.target,
+            closes: head.closes,
             body,
         })),
     }

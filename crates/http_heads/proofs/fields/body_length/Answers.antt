@@ -9,5 +9,5 @@ returns-in-None c =
     let fields = map (header_bytes c.args.part.now) c.args.fields.now in
     let lengths = values_of (codes "Content-Length") fields in
     unless_none (values_of (codes "Transfer-Encoding") fields)
-    (length_by c.args.method lengths) c.length_by.result c.in-None.ensures.found
+    (length_by c.args.method.now lengths) c.length_by.result c.in-None.ensures.found
     (c.length_by.ensures lengths c.find_field-found.ensures.found)
