@@ -1,4 +1,4 @@
-//! Tests of civil time, prices and accounts: `calendar`, `rating` and `reserving`.
+//! Tests of the rules: names, civil time, the tariff book, prices, accounts and vouchers.
 #![tactic(auto)]
 
 #[cfg(test)]

@@ -1,6 +1,10 @@
-//! The tests, by what they are of.
+//! The tests, by what they are of, and what they share: one loop for all tables, and the making of
+//! values.
 
+mod account;
 mod moments;
-mod prices;
-mod restoring;
-mod scenarios;
+mod names;
+mod tables;
+mod tariff;
+mod values;
+mod voucher;

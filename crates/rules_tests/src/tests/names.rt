@@ -1,28 +1,38 @@
-use crate::{AccountNumber, RedirectAddress, Reference, SessionId, VoucherCode};
-use std::test::Fail;
+//! Tests of `identifiers`: each text is made and told, and what is no address is refused.
+
+use crate::tests::values::session_id;
+use identifiers::{AccountNumber, RedirectAddress, Reference, VoucherCode};
+use std::alloc::Global;
+use std::process::Abort;
 
 #[test]
-fn names(rt: HostRuntime) -> Result<(), Fail> {
+fn names(rt: HostRuntime) {
     let alloc = rt.alloc();
-    let session = SessionId::new(alloc, "gw01.example;1876543210;523")?.ok_or("a session")?;
+    let session = session_id(&rt, alloc, "gw01.example;1876543210;523");
     assert_eq!(rt; session.as_str(), "gw01.example;1876543210;523");
-    assert!(rt; session.clone()? == session);
-    let account = AccountNumber::new(alloc, "491511234567890")?.ok_or("an account")?;
+    let copy: Result<_, _> = session.clone();
+    assert!(rt; copy.expect(&rt, "memory") == session);
+    let account = AccountNumber::new(alloc, "491511234567890").expect(&rt, "memory");
+    let account = account.expect(&rt, "an account");
     assert_eq!(rt; account.as_str(), "491511234567890");
-    let reference = Reference::new(alloc, "v1")?.ok_or("a reference")?;
+    let reference = Reference::new(alloc, "v1").expect(&rt, "memory");
+    let reference = reference.expect(&rt, "a reference");
     assert_eq!(rt; reference.as_str(), "v1");
-    let code = VoucherCode::new(alloc, "000000000001")?.ok_or("a code")?;
+    let code = VoucherCode::new(alloc, "000000000001").expect(&rt, "memory");
+    let code = code.expect(&rt, "a code");
     assert_eq!(rt; code.as_str(), "000000000001");
-    Ok(())
+}
+
+fn address(rt: &impl Abort, alloc: Global, text: &str) -> Option<RedirectAddress> {
+    RedirectAddress::new(alloc, text).expect(rt, "memory")
 }
 
 #[test]
-fn redirect_addresses(rt: HostRuntime) -> Result<(), Fail> {
+fn redirect_addresses(rt: HostRuntime) {
     let alloc = rt.alloc();
-    assert!(rt; RedirectAddress::new(alloc, "a b")?.is_none());
-    let address = RedirectAddress::new(alloc, "http://topup.example/")?.ok_or("an address")?;
-    assert_eq!(rt; address.as_str(), "http://topup.example/");
-    let other = RedirectAddress::new(alloc, "http://topup.example")?.ok_or("an address")?;
-    assert!(rt; address != other);
-    Ok(())
+    assert!(rt; address(&rt, alloc, "a b").is_none());
+    let first = address(&rt, alloc, "http://topup.example/").expect(&rt, "an address");
+    assert_eq!(rt; first.as_str(), "http://topup.example/");
+    let other = address(&rt, alloc, "http://topup.example").expect(&rt, "an address");
+    assert!(rt; first != other);
 }

@@ -1,72 +1,70 @@
-//! Tables of cases: a case is a line of a constant text, and a line that begins with two spaces
-//! goes on with the one before it.
+//! Tables of cases: a case is a line of a constant text, `CASE => WHAT IS TOLD OF IT`, and a line
+//! that begins with two spaces goes on with the one before it. All tables have one loop.
 
-use crate::tests::faults::outcome;
-use crate::tests::lookups::{group_of_case, moment_of_case};
-use crate::tests::one_prices;
-use crate::tests::switches::window_of_case;
+use core::fmt::Debug;
 use std::alloc::Global;
 use std::process::Abort;
-use std::test::Fail;
-use worked_book::{changed, joined};
+use std::str::FromStr;
 
-/// What the cases of a table tell.
+/// What tells of the cases of a table.
+pub(crate) trait Teller {
+    /// What is told of a case.
+    fn tell<R: Abort>(&mut self, rt: &R, alloc: Global, case: &str) -> String;
+}
+
+/// Tries the cases of a table.
+pub(crate) fn try_table<R: Abort, T: Teller>(rt: &R, alloc: Global, teller: &mut T, cases: &str) {
+    let lines = cases.replace(alloc, "\n  ", "").expect(rt, "memory");
+    for line in lines.as_str().lines() {
+        try_line(rt, alloc, teller, line);
+    }
+}
+
+fn try_line<R: Abort, T: Teller>(rt: &R, alloc: Global, teller: &mut T, line: &str) {
+    let (case, expected) = line.split_once(" => ").expect(rt, "a case");
+    let told = teller.tell(rt, alloc, case);
+    try_told(rt, case, told.as_str(), expected);
+}
+
+fn try_told(rt: &impl Abort, case: &str, told: &str, expected: &str) {
+    assert_eq!(rt; told, expected, "{case}");
+}
+
+/// The words of a case, read one after another.
 #[derive(Clone, Copy)]
-pub(crate) enum Table {
-    /// What the worked book says of a group in a period.
-    Groups,
-    /// What the worked book says of a moment, in a zone.
-    Moments,
-    /// The switch within so many seconds of a moment, in a zone.
-    Windows,
-    /// What a book of one price says of itself and of a group.
-    Books,
-    /// What a book of one price says of a moment.
-    BookMoments,
+pub(crate) struct Words<'a> {
+    rest: &'a str,
 }
 
-/// What is said of a case.
-fn said(alloc: Global, table: Table, case: &str) -> Result<String, Fail> {
-    match table {
-        Table::Groups => group_of_case(alloc, case),
-        Table::Moments => moment_of_case(alloc, case),
-        Table::Windows => window_of_case(alloc, case),
-        Table::Books => one_prices::book_of_case(alloc, case),
-        Table::BookMoments => one_prices::moment_of_case(alloc, case),
+impl<'a> Words<'a> {
+    /// The words of a text, of which none is read yet.
+    pub(crate) fn of(text: &'a str) -> Words<'a> {
+        Words { rest: text }
     }
-}
 
-/// Tries the cases of a table, each `CASE -> WHAT IS SAID OF IT`.
-pub(crate) fn try_table(
-    rt: &impl Abort,
-    alloc: Global,
-    table: Table,
-    cases: &str,
-) -> Result<(), Fail> {
-    let cases = joined(alloc, cases)?;
-    for line in cases.as_str().lines() {
-        let (case, expected) = line.split_once(" -> ").ok_or("a case")?;
-        let found = said(alloc, table, case)?;
-        assert_eq!(rt; found.as_str(), expected, "{case}");
+    /// The next word; empty where none is left.
+    pub(crate) fn word(&mut self) -> &'a str {
+        match self.rest.split_once(" ") {
+            Some((word, rest)) => {
+                self.rest = rest;
+                word
+            }
+            None => self.rest(),
+        }
     }
-    Ok(())
-}
 
-/// Tries the cases of a document, each `FAULT: CHANGES`, in whose texts `|` stands for the end of a
-/// line.
-pub(crate) fn try_changes(
-    rt: &impl Abort,
-    alloc: Global,
-    document: &str,
-    cases: &str,
-) -> Result<(), Fail> {
-    let cases = joined(alloc, cases)?;
-    for line in cases.as_str().lines() {
-        let line = line.replace(alloc, "|", "\n")?;
-        let (fault, changes) = line.as_str().split_once(": ").ok_or("a case")?;
-        let text = changed(alloc, document, changes)?;
-        let told = outcome(alloc, text.as_str().as_bytes());
-        assert_eq!(rt; told, fault.parse::<u8>()?, "{changes}");
+    /// The next word as a number.
+    pub(crate) fn number<N: FromStr>(&mut self, rt: &impl Abort) -> N
+    where
+        N::Err: Debug,
+    {
+        self.word().parse::<N>().expect(rt, "a number")
     }
-    Ok(())
+
+    /// All words that are left.
+    pub(crate) fn rest(&mut self) -> &'a str {
+        let rest = self.rest;
+        self.rest = "";
+        rest
+    }
 }

@@ -3,10 +3,12 @@
 //! 1048576, of which the first 100 of a month are free and the others cost 10000; and events at
 //! 90000. What tiers give is compared with a sum over blocks.
 
+use crate::tests::tables::{Teller, Words, try_table};
+use crate::tests::values::book;
 use calendar::Period;
-use rating::{Grant, Part, Rated, greatest_grant, rate, rate_report};
+use rating::{Part, greatest_grant, rate, rate_report};
 use std::alloc::Global;
-use std::test::Fail;
+use std::process::Abort;
 use tariffs::{Prices, Side, TariffBook, Tier};
 use units::{Amount, Blocks, Units};
 use worked_book::BOOK;
@@ -68,165 +70,96 @@ max_grant = 100"#,
 ];
 
 /// Prices by many tiers, in blocks of one.
-fn book_of_tiers(alloc: Global) -> Result<TariffBook, Fail> {
-    let mut text = String::from_str(alloc, HALVES)?;
+fn book_of_tiers(rt: &impl Abort, alloc: Global) -> TariffBook {
+    let mut text = String::from_str(alloc, HALVES).expect(rt, "memory");
     for [head, off, peak] in GROUPS {
-        text.push_str("[[group]]\n")?;
-        text.push_str(head)?;
-        text.push_str("\nblock = 1\nslice = 1\ncycle = \"none\"\nfinal = \"terminate\"\n")?;
-        text.push_str("price = [{period = \"off\", tiers = [")?;
-        text.push_str(off)?;
-        text.push_str("]}, {period = \"peak\", tiers = [")?;
-        text.push_str(peak)?;
-        text.push_str("]}]\n")?;
+        push_group(rt, &mut text, head, off, peak);
     }
-    Ok(TariffBook::read(alloc, text.as_bytes())?)
+    book(rt, alloc, text.as_str())
 }
 
-fn grant_of(blocks: u64, units: u64, amount: u128) -> Grant {
-    Grant {
-        blocks: Blocks(blocks),
-        units: Units(units),
-        amount: Amount(amount),
+fn push_group(rt: &impl Abort, text: &mut String, head: &str, off: &str, peak: &str) {
+    for piece in [
+        "[[group]]\n",
+        head,
+        "\nblock = 1\nslice = 1\ncycle = \"none\"\nfinal = \"terminate\"\n",
+        "price = [{period = \"off\", tiers = [",
+        off,
+        "]}, {period = \"peak\", tiers = [",
+        peak,
+        "]}]\n",
+    ] {
+        text.push_str(piece).expect(rt, "memory");
     }
 }
 
-#[test]
-fn grants(rt: HostRuntime) -> Result<(), Fail> {
-    let book = TariffBook::read(rt.alloc(), BOOK.as_bytes())?;
-    let cases = [
-        // At 07:30, half an hour before the dearer period.
-        (10, OFF, 0, 0, 600, 1_000_000, grant_of(10, 600, 1_000_000)),
-        (10, OFF, 0, 0, 600, 999_999, grant_of(9, 540, 900_000)),
-        // Within the dearer period.
-        (10, PEAK, 0, 0, 600, 250_000, grant_of(2, 120, 200_000)),
-        // After 61 seconds the second block runs on to 120.
-        (10, PEAK, 61, 2, 600, 800_000, grant_of(8, 539, 800_000)),
-        (10, PEAK, 61, 2, 600, 99_999, grant_of(0, 59, 0)),
-        (10, PEAK, 60, 1, 600, 99_999, grant_of(0, 0, 0)),
-        // Up to the last free block but one, and then over it.
-        (
-            20,
-            PEAK,
-            0,
-            0,
-            103_809_024,
-            50_000,
-            grant_of(99, 103_809_024, 0),
-        ),
-        (
-            20,
-            PEAK,
-            103_809_024,
-            99,
-            2_097_152,
-            50_000,
-            grant_of(2, 2_097_152, 10_000),
-        ),
-    ];
-    for (group, before, used, place, wanted, funds, grant) in cases {
-        let Some(prices) = book.prices(group, before, PEAK) else {
-            return Err(Fail::from("no such group"));
-        };
-        let found = greatest_grant(&prices, Units(used), place, Units(wanted), Amount(funds));
-        assert_eq!(rt; found, grant, "{used} used, {funds}");
+/// The prices of a group over a switch to the dearer period.
+fn prices_of<'b>(rt: &impl Abort, book: &'b TariffBook, group: u32, before: u8) -> Prices<'b> {
+    let prices = book.prices(group, Period(before), PEAK);
+    prices.expect(rt, "a group of the book")
+}
+
+/// The side of a switch: `before` it or `after` it.
+fn side(word: &str) -> Side {
+    if word == "before" {
+        Side::Before
+    } else {
+        Side::After
     }
-    Ok(())
 }
 
-#[test]
-fn blocks_are_rated(rt: HostRuntime) -> Result<(), Fail> {
-    let book = TariffBook::read(rt.alloc(), BOOK.as_bytes())?;
-    let Some(prices) = book.prices(20, OFF, PEAK) else {
-        return Err(Fail::from("no group 20"));
-    };
-    assert_eq!(rt; rate(&prices, Side::Before, 99, Blocks(2)), Amount(10_000));
-    assert_eq!(rt;
-        rate(&prices, Side::Before, u64::MAX, Blocks(2)),
-        Amount(20_000)
-    );
-    Ok(())
+/// Tells what the rules say of the prices of a book.
+#[derive(Clone, Copy)]
+struct Rater<'b> {
+    book: &'b TariffBook,
 }
 
-fn rated_on(prices: &Prices, side: Side, place: u64, blocks: u64) -> Amount {
-    rate(prices, side, place, Blocks(blocks))
-}
-
-#[test]
-fn a_billion_blocks_are_rated(rt: HostRuntime) -> Result<(), Fail> {
-    let book = book_of_tiers(rt.alloc())?;
-    let Some(prices) = book.prices(40, OFF, PEAK) else {
-        return Err(Fail::from("no group 40"));
-    };
-    let cases = [
-        (Side::Before, 0, 1_000_000_000, 2_600_000_000),
-        (Side::After, 0, 1_000_000_000, 3_400_000_000),
-        (Side::Before, 399_999_999, 1_000_000_000, 2_999_999_999),
-        (Side::After, 600_000_000, 1_000_000_000, 7_000_000_000),
-    ];
-    for (side, place, blocks, amount) in cases {
-        let found = rated_on(&prices, side, place, blocks);
-        assert_eq!(rt; found, Amount(amount), "{blocks} blocks after {place}");
+impl Teller for Rater<'_> {
+    fn tell<R: Abort>(&mut self, rt: &R, alloc: Global, case: &str) -> String {
+        let mut words = Words::of(case);
+        match words.word() {
+            "grant" => grant(rt, alloc, self.book, &mut words),
+            "rate" => rated(rt, alloc, self.book, &mut words),
+            _ => reported(rt, alloc, self.book, &mut words),
+        }
     }
-    Ok(())
 }
 
-#[test]
-fn a_billion_blocks_of_a_book_are_rated(rt: HostRuntime) -> Result<(), Fail> {
-    let book = TariffBook::read(rt.alloc(), BOOK.as_bytes())?;
-    let Some(octets) = book.prices(20, OFF, PEAK) else {
-        return Err(Fail::from("no group 20"));
-    };
-    let Some(events) = book.prices(30, OFF, PEAK) else {
-        return Err(Fail::from("no group 30"));
-    };
-    // All but the first 100 at 10000; and all at 90000.
-    assert_eq!(rt;
-        rated_on(&octets, Side::Before, 0, 1_000_000_000),
-        Amount(9_999_999_000_000)
-    );
-    assert_eq!(rt;
-        rated_on(&events, Side::After, 0, 1_000_000_000),
-        Amount(90_000_000_000_000)
-    );
-    Ok(())
+/// `GROUP BEFORE USED PLACE WANTED FUNDS`: the blocks of the greatest grant, its units and its
+/// price, where the first period is that before the switch.
+fn grant(rt: &impl Abort, alloc: Global, book: &TariffBook, words: &mut Words<'_>) -> String {
+    let (group, before) = (words.number(rt), words.number(rt));
+    let (used, place) = (Units(words.number(rt)), words.number(rt));
+    let (wanted, funds) = (Units(words.number(rt)), Amount(words.number(rt)));
+    let prices = prices_of(rt, book, group, before);
+    let grant = greatest_grant(&prices, used, place, wanted, funds);
+    let (blocks, units, amount) = (grant.blocks.0, grant.units.0, grant.amount.0);
+    format!(in alloc; "{blocks} {units} {amount}").expect(rt, "memory")
 }
 
-/// The grant of a session's first units, with a switch to the dearer period.
-fn granted_over_switch(prices: &Prices, wanted: u64, funds: u128) -> Grant {
-    greatest_grant(prices, Units(0), 0, Units(wanted), Amount(funds))
+/// `GROUP SIDE PLACE BLOCKS`: the price of so many blocks after a place.
+fn rated(rt: &impl Abort, alloc: Global, book: &TariffBook, words: &mut Words<'_>) -> String {
+    let (group, side) = (words.number(rt), side(words.word()));
+    let (place, blocks) = (words.number(rt), Blocks(words.number(rt)));
+    let amount = rate(&prices_of(rt, book, group, 0), side, place, blocks);
+    format!(in alloc; "{}", amount.0).expect(rt, "memory")
 }
 
-#[test]
-fn a_billion_blocks_are_granted(rt: HostRuntime) -> Result<(), Fail> {
-    let book = book_of_tiers(rt.alloc())?;
-    let Some(prices) = book.prices(40, OFF, PEAK) else {
-        return Err(Fail::from("no group 40"));
-    };
-    // The dearer prices are 2 up to 400000000, 3 up to 600000000, and then 7.
-    let cases = [
-        (
-            4_200_000_000,
-            grant_of(1_000_000_000, 1_000_000_000, 4_200_000_000),
-        ),
-        (
-            4_199_999_999,
-            grant_of(999_999_999, 999_999_999, 4_199_999_993),
-        ),
-        (800_000_002, grant_of(400_000_000, 400_000_000, 800_000_000)),
-    ];
-    for (funds, grant) in cases {
-        let found = granted_over_switch(&prices, 1_000_000_000, funds);
-        assert_eq!(rt; found, grant, "{funds}");
+/// `GROUP USED PLACE SIDE UNITS SIDE UNITS`: the rated amount and the blocks of a report of two
+/// parts.
+fn reported(rt: &impl Abort, alloc: Global, book: &TariffBook, words: &mut Words<'_>) -> String {
+    let (group, used, place) = (words.number(rt), Units(words.number(rt)), words.number(rt));
+    let parts = [part(rt, words), part(rt, words), NONE, NONE];
+    let rated = rate_report(&prices_of(rt, book, group, 0), used, place, &parts);
+    let (amount, blocks) = (rated.amount.0, rated.blocks);
+    format!(in alloc; "{amount} {blocks}").expect(rt, "memory")
+}
+
+fn part(rt: &impl Abort, words: &mut Words<'_>) -> Part {
+    Part {
+        side: side(words.word()),
+        units: Units(words.number(rt)),
     }
-    Ok(())
-}
-
-/// The rated amount and the blocks of a report of at most two parts.
-fn rated(prices: &Prices, used: u64, place: u64, first: Part, second: Part) -> (u128, u128) {
-    let parts = [first, second, NONE, NONE];
-    let Rated { amount, blocks } = rate_report(prices, Units(used), place, &parts);
-    (amount.0, blocks)
 }
 
 const NONE: Part = Part {
@@ -234,49 +167,60 @@ const NONE: Part = Part {
     units: Units(0),
 };
 
-fn part(side: Side, units: u64) -> Part {
-    Part {
-        side,
-        units: Units(units),
-    }
-}
+/// Group 10 at 07:30, half an hour before the dearer period: ten blocks, and one micro-unit less.
+/// Within the dearer period: two blocks; after 61 seconds, when the second block runs on to 120;
+/// and after 60.
+/// Group 20 up to the last free block but one, and then over it.
+const GRANTS: &str = "\
+grant 10 0 0 0 600 1000000 => 10 600 1000000
+grant 10 0 0 0 600 999999 => 9 540 900000
+grant 10 1 0 0 600 250000 => 2 120 200000
+grant 10 1 61 2 600 800000 => 8 539 800000
+grant 10 1 61 2 600 99999 => 0 59 0
+grant 10 1 60 1 600 99999 => 0 0 0
+grant 20 1 0 0 103809024 50000 => 99 103809024 0
+grant 20 1 103809024 99 2097152 50000 => 2 2097152 10000";
+
+/// Of a thousand million blocks of the book all but the first 100 at 10000, and all at 90000.
+const RATES: &str = "\
+rate 20 before 99 2 => 10000
+rate 20 before 18446744073709551615 2 => 20000
+rate 20 before 0 1000000000 => 9999999000000
+rate 30 after 0 1000000000 => 90000000000000";
+
+/// 300 seconds before the dearer period and 90 in it; 61 seconds, and then the 59 that are left of
+/// the second block; the last free block and the first one that isn't.
+const REPORTS: &str = "\
+report 10 0 0 before 300 after 90 => 450000 7
+report 10 0 0 after 61 after 0 => 200000 2
+report 10 61 2 after 59 after 0 => 0 0
+report 20 0 0 after 103809024 after 0 => 0 99
+report 20 103809024 99 after 2097152 after 0 => 10000 2";
 
 #[test]
-fn reports_are_rated(rt: HostRuntime) -> Result<(), Fail> {
-    let book = TariffBook::read(rt.alloc(), BOOK.as_bytes())?;
-    let Some(seconds) = book.prices(10, OFF, PEAK) else {
-        return Err(Fail::from("no group 10"));
-    };
-    let Some(octets) = book.prices(20, OFF, PEAK) else {
-        return Err(Fail::from("no group 20"));
-    };
-    // 300 seconds before the dearer period and 90 in it.
-    assert_eq!(rt;
-        rated(
-            &seconds,
-            0,
-            0,
-            part(Side::Before, 300),
-            part(Side::After, 90)
-        ),
-        (450_000, 7)
-    );
-    // 61 seconds, and then the 59 that are left of the second block.
-    assert_eq!(rt;
-        rated(&seconds, 0, 0, part(Side::After, 61), NONE),
-        (200_000, 2)
-    );
-    assert_eq!(rt; rated(&seconds, 61, 2, part(Side::After, 59), NONE), (0, 0));
-    // The last free block and the first one that isn't.
-    assert_eq!(rt;
-        rated(&octets, 0, 0, part(Side::After, 103_809_024), NONE),
-        (0, 99)
-    );
-    assert_eq!(rt;
-        rated(&octets, 103_809_024, 99, part(Side::After, 2_097_152), NONE),
-        (10_000, 2)
-    );
-    Ok(())
+fn prices_of_the_worked_book(rt: HostRuntime) {
+    let book = book(&rt, rt.alloc(), BOOK);
+    let mut rater = Rater { book: &book };
+    try_table(&rt, rt.alloc(), &mut rater, GRANTS);
+    try_table(&rt, rt.alloc(), &mut rater, RATES);
+    try_table(&rt, rt.alloc(), &mut rater, REPORTS);
+}
+
+/// A thousand million blocks of group 40, and grants of as many with a switch to the dearer period:
+/// the dearer prices are 2 up to 400000000, 3 up to 600000000, and then 7.
+const MANY_BLOCKS: &str = "\
+rate 40 before 0 1000000000 => 2600000000
+rate 40 after 0 1000000000 => 3400000000
+rate 40 before 399999999 1000000000 => 2999999999
+rate 40 after 600000000 1000000000 => 7000000000
+grant 40 0 0 0 1000000000 4200000000 => 1000000000 1000000000 4200000000
+grant 40 0 0 0 1000000000 4199999999 => 999999999 999999999 4199999993
+grant 40 0 0 0 1000000000 800000002 => 400000000 400000000 800000000";
+
+#[test]
+fn a_billion_blocks(rt: HostRuntime) {
+    let book = book_of_tiers(&rt, rt.alloc());
+    try_table(&rt, rt.alloc(), &mut Rater { book: &book }, MANY_BLOCKS);
 }
 
 /// The price of the block at a place, by a look at one tier after another.
@@ -323,7 +267,7 @@ fn rated_otherwise(prices: &Prices, side: Side, blocks: u64) -> u64 {
     let mut count: u64 = 0;
     for place in 0..20 {
         let sum = sum_by_blocks(prices.tiers(side), place, blocks);
-        if rated_on(prices, side, place, blocks).0 != sum {
+        if rate(prices, side, place, Blocks(blocks)).0 != sum {
             count = count.saturating_add(1);
         }
     }
@@ -337,7 +281,7 @@ fn granted_otherwise(prices: &Prices, funds: u128) -> u64 {
         let (before, after) = (prices.tiers(Side::Before), prices.tiers(Side::After));
         let (blocks, amount) = covered_by_blocks(before, after, place, funds);
         let grant = greatest_grant(prices, Units(0), place, Units(20), Amount(funds));
-        if grant != grant_of(blocks, blocks, amount) {
+        if (grant.blocks.0, grant.units.0, grant.amount.0) != (blocks, blocks, amount) {
             count = count.saturating_add(1);
         }
     }
@@ -356,17 +300,18 @@ fn told_otherwise(prices: &Prices) -> u64 {
     count
 }
 
-#[test]
-fn tiers_tell_what_blocks_do(rt: HostRuntime) -> Result<(), Fail> {
-    let book = book_of_tiers(rt.alloc())?;
-    for group in [1, 2, 3] {
-        for (before, after) in [(OFF, OFF), (OFF, PEAK), (PEAK, OFF)] {
-            let Some(prices) = book.prices(group, before, after) else {
-                return Err(Fail::from("no such group"));
-            };
-            let otherwise = told_otherwise(&prices);
-            assert_eq!(rt; otherwise, 0, "group {group}");
-        }
+fn try_group(rt: &impl Abort, book: &TariffBook, group: u32) {
+    for (before, after) in [(OFF, OFF), (OFF, PEAK), (PEAK, OFF)] {
+        let prices = book.prices(group, before, after).expect(rt, "a group");
+        let otherwise = told_otherwise(&prices);
+        assert_eq!(rt; otherwise, 0, "group {group}");
     }
-    Ok(())
+}
+
+#[test]
+fn tiers_tell_what_blocks_do(rt: HostRuntime) {
+    let book = book_of_tiers(&rt, rt.alloc());
+    for group in [1, 2, 3] {
+        try_group(&rt, &book, group);
+    }
 }

@@ -1,7 +1,7 @@
 //! The documents of the tests.
 
 use std::alloc::Global;
-use std::test::Fail;
+use std::process::Abort;
 
 /// A small book, each of whose members can be changed by a replacement of its text. A line that
 /// begins with two spaces goes on with the one before it.
@@ -17,69 +17,75 @@ group = [{id = 10, unit = "time", block = 60, slice = 600, max_grant = 3600, cyc
 "#;
 
 /// A minute of the day as `hh:mm`.
-fn clock_text(alloc: Global, minute: u32) -> Result<String, Fail> {
+fn clock_text(rt: &impl Abort, alloc: Global, minute: u32) -> String {
     let hour = minute / 60;
     let rest = minute % 60;
-    Ok(format!(in alloc; "{}{}:{}{}", hour / 10, hour % 10, rest / 10, rest % 10)?)
+    let text = format!(in alloc; "{}{}:{}{}", hour / 10, hour % 10, rest / 10, rest % 10);
+    text.expect(rt, "memory")
 }
 
 /// An entry of the week, from a minute of its days to another.
 pub(crate) fn entry(
+    rt: &impl Abort,
     alloc: Global,
     period: &str,
     days: &str,
     from: u32,
     to: u32,
-) -> Result<String, Fail> {
-    let from = clock_text(alloc, from)?;
-    let to = clock_text(alloc, to)?;
-    let head = format!(in alloc; "[[week]]\nperiod = \"{period}\"\ndays = [{days}]\n")?;
-    Ok(format!(in alloc; "{head}from = \"{from}\"\nto = \"{to}\"\n")?)
+) -> String {
+    let from = clock_text(rt, alloc, from);
+    let to = clock_text(rt, alloc, to);
+    let head = format!(in alloc; "[[week]]\nperiod = \"{period}\"\ndays = [{days}]\n");
+    let head = head.expect(rt, "memory");
+    format!(in alloc; "{head}from = \"{from}\"\nto = \"{to}\"\n").expect(rt, "memory")
 }
 
 /// So many entries of equal length in some days, numbered on; of each four the second and third are
 /// of one period.
-fn slices(alloc: Global, days: &str, first: u32, count: u32) -> Result<String, Fail> {
+fn slices(rt: &impl Abort, alloc: Global, days: &str, first: u32, count: u32) -> String {
     let mut text = String::new(alloc);
-    let length = 1440_u32.checked_div(count).ok_or("a count")?;
+    let length = 1440_u32.checked_div(count).expect(rt, "a count");
     for i in 0..count {
-        let number = first.checked_add(i).ok_or("a number")?;
-        let from = length.checked_mul(i).ok_or("a minute")?;
-        let to = from.checked_add(length).ok_or("a minute")?;
+        let number = first.checked_add(i).expect(rt, "a number");
+        let from = length.checked_mul(i).expect(rt, "a minute");
+        let to = from.checked_add(length).expect(rt, "a minute");
         let period = match number % 4 {
             0 => "a",
             1 | 2 => "b",
             _ => "c",
         };
-        let entry = entry(alloc, period, days, from, to)?;
-        text.push_str(entry.as_str())?;
+        let entry = entry(rt, alloc, period, days, from, to);
+        text.push_str(entry.as_str()).expect(rt, "memory");
     }
-    Ok(text)
+    text
 }
 
 /// A book with one entry for the whole week.
-pub(crate) fn whole_week(alloc: Global, zone: &str) -> Result<String, Fail> {
-    let week = slices(alloc, "1, 2, 3, 4, 5, 6, 7", 0, 1)?;
-    book_of(alloc, zone, week.as_str())
+pub(crate) fn whole_week(rt: &impl Abort, alloc: Global, zone: &str) -> String {
+    let week = slices(rt, alloc, "1, 2, 3, 4, 5, 6, 7", 0, 1);
+    book_of(rt, alloc, zone, week.as_str())
 }
 
 /// A book whose weekdays and weekends have so many entries of equal length.
 pub(crate) fn sliced(
+    rt: &impl Abort,
     alloc: Global,
     zone: &str,
     weekdays: u32,
     weekend: u32,
-) -> Result<String, Fail> {
-    let workdays = slices(alloc, "1, 2, 3, 4, 5", 0, weekdays)?;
-    let others = slices(alloc, "6, 7", weekdays, weekend)?;
-    let week = format!(in alloc; "{workdays}{others}")?;
-    book_of(alloc, zone, week.as_str())
+) -> String {
+    let workdays = slices(rt, alloc, "1, 2, 3, 4, 5", 0, weekdays);
+    let others = slices(rt, alloc, "6, 7", weekdays, weekend);
+    let week = format!(in alloc; "{workdays}{others}").expect(rt, "memory");
+    book_of(rt, alloc, zone, week.as_str())
 }
 
 /// The book of a week's entries, with one group.
-fn book_of(alloc: Global, zone: &str, week: &str) -> Result<String, Fail> {
-    let head = format!(in alloc; "zone = \"{zone}\"\ncurrency = 978\nvalidity = 43200\n")?;
-    Ok(format!(in alloc; "{head}periods = [\"a\", \"b\", \"c\"]\n{week}{GROUP_OF_THREE}")?)
+fn book_of(rt: &impl Abort, alloc: Global, zone: &str, week: &str) -> String {
+    let head = format!(in alloc; "zone = \"{zone}\"\ncurrency = 978\nvalidity = 43200\n");
+    let head = head.expect(rt, "memory");
+    let text = format!(in alloc; "{head}periods = [\"a\", \"b\", \"c\"]\n{week}{GROUP_OF_THREE}");
+    text.expect(rt, "memory")
 }
 
 const GROUP_OF_THREE: &str = "[[group]]

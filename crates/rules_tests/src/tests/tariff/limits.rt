@@ -1,9 +1,10 @@
 //! Books with as many entries, groups, periods and tiers as there may be, and with one more.
 
-use crate::tests::documents::entry;
-use crate::tests::faults::outcome;
+use crate::tests::tables::{Teller, Words, try_table};
+use crate::tests::tariff::documents::entry;
+use crate::tests::tariff::faults::outcome;
 use std::alloc::Global;
-use std::test::Fail;
+use std::process::Abort;
 
 const HEAD: &str = "zone = \"+00:00\"
 currency = 978
@@ -20,7 +21,7 @@ final = \"terminate\"
 ";
 
 /// So many entries: each of a minute of each day, and the last of what is left of the days.
-fn week(alloc: Global, count: u32) -> Result<String, Fail> {
+fn week(rt: &impl Abort, alloc: Global, count: u32) -> String {
     let mut text = String::new(alloc);
     for minute in 0..count {
         let to = if minute + 1 == count {
@@ -28,58 +29,71 @@ fn week(alloc: Global, count: u32) -> Result<String, Fail> {
         } else {
             minute + 1
         };
-        let entry = entry(alloc, "h", "1, 2, 3, 4, 5, 6, 7", minute, to)?;
-        text.push_str(entry.as_str())?;
+        let entry = entry(rt, alloc, "h", "1, 2, 3, 4, 5, 6, 7", minute, to);
+        text.push_str(entry.as_str()).expect(rt, "memory");
     }
-    Ok(text)
+    text
 }
 
 /// So many tiers, each of one place but the last.
-fn tiers(alloc: Global, count: u32) -> Result<String, Fail> {
+fn tiers(rt: &impl Abort, alloc: Global, count: u32) -> String {
     let mut text = String::new(alloc);
     for upto in 1..count {
-        let tier = format!(in alloc; "{{upto = {upto}, price = {upto}}}, ")?;
-        text.push_str(tier.as_str())?;
+        let tier = format!(in alloc; "{{upto = {upto}, price = {upto}}}, ").expect(rt, "memory");
+        text.push_str(tier.as_str()).expect(rt, "memory");
     }
-    text.push_str("{price = 1000000000}")?;
-    Ok(text)
+    text.push_str("{price = 1000000000}").expect(rt, "memory");
+    text
 }
 
 /// The prices of the eight periods, each with so many tiers.
-fn prices(alloc: Global, count: u32) -> Result<String, Fail> {
-    let tiers = tiers(alloc, count)?;
+fn prices(rt: &impl Abort, alloc: Global, count: u32) -> String {
+    let tiers = tiers(rt, alloc, count);
     let mut text = String::new(alloc);
     for period in ["a", "b", "c", "d", "e", "f", "g", "h"] {
-        let price = format!(in alloc; "{{period = \"{period}\", tiers = [{tiers}]}}, ")?;
-        text.push_str(price.as_str())?;
+        let price = format!(in alloc; "{{period = \"{period}\", tiers = [{tiers}]}}, ");
+        let price = price.expect(rt, "memory");
+        text.push_str(price.as_str()).expect(rt, "memory");
     }
-    Ok(text)
+    text
 }
 
-/// A book of so many entries and groups, with so many tiers in each of eight periods.
-fn book(alloc: Global, entries: u32, groups: u32, tiers: u32) -> Result<String, Fail> {
-    let week = week(alloc, entries)?;
-    let prices = prices(alloc, tiers)?;
-    let mut text = format!(in alloc; "{HEAD}{week}")?;
-    for id in 0..groups {
-        let group = format!(in alloc; "[[group]]\nid = {id}\n{GROUP}price = [{prices}]\n")?;
-        text.push_str(group.as_str())?;
+/// So many groups of the same prices.
+fn groups(rt: &impl Abort, alloc: Global, count: u32, prices: &str) -> String {
+    let mut text = String::new(alloc);
+    for id in 0..count {
+        let group = format!(in alloc; "[[group]]\nid = {id}\n{GROUP}price = [{prices}]\n");
+        let group = group.expect(rt, "memory");
+        text.push_str(group.as_str()).expect(rt, "memory");
     }
-    Ok(text)
+    text
 }
+
+/// Tells the fault of a book of so many entries and groups, with so many tiers in each of eight
+/// periods.
+#[derive(Clone, Copy)]
+struct Sizes;
+
+impl Teller for Sizes {
+    fn tell<R: Abort>(&mut self, rt: &R, alloc: Global, case: &str) -> String {
+        let mut words = Words::of(case);
+        let week = week(rt, alloc, words.number(rt));
+        let count = words.number(rt);
+        let prices = prices(rt, alloc, words.number(rt));
+        let groups = groups(rt, alloc, count, prices.as_str());
+        let text = format!(in alloc; "{HEAD}{week}{groups}").expect(rt, "memory");
+        let told = outcome(alloc, text.as_str().as_bytes());
+        format!(in alloc; "{told}").expect(rt, "memory")
+    }
+}
+
+const SIZES: &str = "\
+64 64 8 => 0
+65 1 1 => 8
+1 65 1 => 8
+1 1 9 => 8";
 
 #[test]
-fn full_books(rt: HostRuntime) -> Result<(), Fail> {
-    let alloc = rt.alloc();
-    for (entries, groups, tiers, fault) in [
-        (64, 64, 8, 0),
-        (65, 1, 1, 8),
-        (1, 65, 1, 8),
-        (1, 1, 9, 8),
-    ] {
-        let text = book(alloc, entries, groups, tiers)?;
-        let told = outcome(alloc, text.as_str().as_bytes());
-        assert_eq!(rt; told, fault, "{entries} {groups} {tiers}");
-    }
-    Ok(())
+fn full_books(rt: HostRuntime) {
+    try_table(&rt, rt.alloc(), &mut Sizes, SIZES);
 }

@@ -1,12 +1,14 @@
 //! Vouchers as lines of text, over one code and the days of a zone: `add AMOUNT DAYS SCOPE` and
 //! `redeem ACCOUNT MOMENT`; `-` is no days and no scope.
 
-use calendar::{Calendar, Entry, Period, Zone};
+use crate::tests::tables::{Teller, Words};
+use crate::tests::values::{calendar, moment, money};
+use calendar::{Calendar, Entry, Period};
 use identifiers::AccountNumber;
 use redemptions::{Addition, CivilDays, Redemption, Voucher, VoucherTerms, add, redeem};
 use std::alloc::{AllocError, Global};
-use std::test::Fail;
-use units::{Moment, Money};
+use std::process::Abort;
+use units::Moment;
 
 /// The civil days of a zone.
 #[derive(Drop)]
@@ -36,50 +38,49 @@ fn whole_week(alloc: Global) -> Result<Vec<Entry>, AllocError> {
 }
 
 /// The days of the zone that is so many minutes ahead of UTC.
-pub(crate) fn days_of(alloc: Global, minutes: i16) -> Result<Days, Fail> {
-    let zone = Zone::fixed(minutes).ok_or("a zone")?;
-    let calendar = Calendar::new(zone, whole_week(alloc)?).ok_or("a week")?;
-    Ok(Days { calendar })
-}
-
-pub(crate) fn moment(word: &str) -> Result<Moment, Fail> {
-    Ok(Moment::of_command(word.parse::<u64>()?).ok_or("a moment")?)
+pub(crate) fn days_of(rt: &impl Abort, alloc: Global, minutes: i16) -> Days {
+    let week = whole_week(alloc).expect(rt, "memory");
+    let calendar = calendar(rt, minutes, week).expect(rt, "a week");
+    Days { calendar }
 }
 
 /// A number, or `-`.
-pub(crate) fn optional(word: &str) -> Result<Option<u32>, Fail> {
+pub(crate) fn optional(rt: &impl Abort, word: &str) -> Option<u32> {
     if word == "-" {
-        return Ok(None);
+        return None;
     }
-    Ok(Some(word.parse::<u32>()?))
+    Some(word.parse::<u32>().expect(rt, "a number"))
 }
 
-/// `AMOUNT DAYS SCOPE`; None where they are no terms of a voucher.
-pub(crate) fn terms(words: &str) -> Result<Option<VoucherTerms>, Fail> {
-    let (amount, words) = words.split_once(" ").ok_or("an amount")?;
-    let (days, scope) = words.split_once(" ").ok_or("days and a scope")?;
-    let amount = Money::new(amount.parse::<u64>()?).ok_or("money")?;
-    Ok(VoucherTerms::new(amount, optional(days)?, optional(scope)?))
+/// None where they are no terms of a voucher.
+pub(crate) fn terms(
+    rt: &impl Abort,
+    amount: u64,
+    days: Option<u32>,
+    scope: Option<u32>,
+) -> Option<VoucherTerms> {
+    VoucherTerms::new(money(rt, amount), days, scope)
 }
 
 /// A number that may be absent.
-fn or_dash(alloc: Global, number: Option<u32>) -> Result<String, Fail> {
+fn or_dash(rt: &impl Abort, alloc: Global, number: Option<u32>) -> String {
     match number {
-        Some(number) => Ok(format!(in alloc; "{number}")?),
-        None => Ok(String::from_str(alloc, "-")?),
+        Some(number) => format!(in alloc; "{number}").expect(rt, "memory"),
+        None => String::from_str(alloc, "-").expect(rt, "memory"),
     }
 }
 
 /// `AMOUNT FROM UNTIL SCOPE by ACCOUNT`.
-fn redeemed(alloc: Global, redemption: &Redemption) -> Result<String, Fail> {
+fn redeemed(rt: &impl Abort, alloc: Global, redemption: &Redemption) -> String {
     let (from, until) = (redemption.from.seconds(), redemption.until.seconds());
-    let scope = or_dash(alloc, redemption.scope)?;
+    let scope = or_dash(rt, alloc, redemption.scope);
     let account = match &redemption.voucher.redeemer {
         Some(account) => account.as_str(),
         None => "none",
     };
     let amount = redemption.amount.micros();
-    Ok(format!(in alloc; "{amount} {from} {until} {scope} by {account}")?)
+    let text = format!(in alloc; "{amount} {from} {until} {scope} by {account}");
+    text.expect(rt, "memory")
 }
 
 /// What stands under a code, and the days by which it is redeemed.
@@ -95,42 +96,60 @@ impl Office {
         Office { days, found: None }
     }
 
-    /// `AMOUNT DAYS SCOPE`
-    fn add(&mut self, alloc: Global, words: &str) -> Result<String, Fail> {
-        let terms = terms(words)?.ok_or("terms")?;
-        let told = match add(&self.found, terms) {
+    /// Adds a voucher of these terms.
+    fn add(&mut self, terms: VoucherTerms) -> &'static str {
+        match add(&self.found, terms) {
             Addition::New(voucher) => {
                 self.found = Some(voucher);
                 "new"
             }
             Addition::Present => "present",
             Addition::Conflicting => "conflicting",
-        };
-        Ok(String::from_str(alloc, told)?)
-    }
-
-    /// `ACCOUNT MOMENT`
-    fn redeem(&mut self, alloc: Global, words: &str) -> Result<String, Fail> {
-        let (account, at) = words.split_once(" ").ok_or("an account and a moment")?;
-        let account = AccountNumber::new(alloc, account)?.ok_or("an account")?;
-        let found = self.found.clone()?;
-        match redeem(found, account, moment(at)?, &self.days) {
-            Ok(redemption) => {
-                let told = redeemed(alloc, &redemption)?;
-                self.found = Some(redemption.voucher);
-                Ok(told)
-            }
-            Err(refusal) => Ok(format!(in alloc; "{refusal}")?),
         }
     }
 
-    /// What a line comes to.
-    pub(crate) fn tell(&mut self, alloc: Global, line: &str) -> Result<String, Fail> {
-        let (name, words) = line.split_once(" ").ok_or("a command")?;
-        if name == "add" {
-            self.add(alloc, words)
+    fn redeem(
+        &mut self,
+        rt: &impl Abort,
+        alloc: Global,
+        account: AccountNumber,
+        at: Moment,
+    ) -> String {
+        let found: Result<_, _> = self.found.clone();
+        match redeem(found.expect(rt, "memory"), account, at, &self.days) {
+            Ok(redemption) => {
+                let told = redeemed(rt, alloc, &redemption);
+                self.found = Some(redemption.voucher);
+                told
+            }
+            Err(refusal) => format!(in alloc; "{refusal}").expect(rt, "memory"),
+        }
+    }
+
+    /// `AMOUNT DAYS SCOPE`
+    fn tell_addition(&mut self, rt: &impl Abort, alloc: Global, words: &mut Words<'_>) -> String {
+        let amount = words.number(rt);
+        let (days, scope) = (optional(rt, words.word()), optional(rt, words.word()));
+        let terms = terms(rt, amount, days, scope).expect(rt, "terms");
+        String::from_str(alloc, self.add(terms)).expect(rt, "memory")
+    }
+
+    /// `ACCOUNT MOMENT`
+    fn tell_redemption(&mut self, rt: &impl Abort, alloc: Global, words: &mut Words<'_>) -> String {
+        let account = AccountNumber::new(alloc, words.word()).expect(rt, "memory");
+        let account = account.expect(rt, "an account");
+        let at = moment(rt, words.number(rt));
+        self.redeem(rt, alloc, account, at)
+    }
+}
+
+impl Teller for Office {
+    fn tell<R: Abort>(&mut self, rt: &R, alloc: Global, case: &str) -> String {
+        let mut words = Words::of(case);
+        if words.word() == "add" {
+            self.tell_addition(rt, alloc, &mut words)
         } else {
-            self.redeem(alloc, words)
+            self.tell_redemption(rt, alloc, &mut words)
         }
     }
 }
