@@ -1,8 +1,8 @@
 //! Tables of cases: a case is a line of a constant text, `CASE => WHAT IS TOLD OF IT`, and a line
 //! that begins with two spaces goes on with the one before it. All tables have one loop.
 
-use core::fmt::Debug;
 use std::alloc::Global;
+use std::fmt::Debug;
 use std::process::Abort;
 use std::str::FromStr;
 
