@@ -1,0 +1,6 @@
+//! Tests of `rating`, `buckets` and `reserving`.
+
+mod prices;
+mod purses;
+mod restoring;
+mod scenarios;

@@ -1,0 +1,72 @@
+//! The money of an account: what is held is charged after its bucket's end, and what isn't there
+//! isn't collected.
+
+use crate::tests::values::{TEN, end, moment, money};
+use buckets::{Bucket, Hold, Purse};
+use units::{Amount, Moment};
+
+fn columns(bucket: &Bucket) -> [u64; 5] {
+    [
+        bucket.credited(),
+        bucket.available(),
+        bucket.reserved(),
+        bucket.charged(),
+        bucket.expired(),
+    ]
+}
+
+/// Two buckets, the first of which ends at 10:10; 300,000 are held at 10:00, 100,000 charged at
+/// 10:15.
+#[test]
+fn held_money_is_charged_after_the_end_of_its_bucket(rt: HostRuntime) {
+    let mut purse = Purse::new(rt.alloc());
+    let (ten, later) = (moment(&rt, TEN), moment(&rt, TEN + 900));
+    let (first, second) = (money(&rt, 150_000), money(&rt, 300_000));
+    let credit = purse.credit(1, ten, end(&rt, TEN + 600), None, first);
+    credit.expect(&rt, "the first bucket");
+    let credit = purse.credit(2, ten, Moment::no_end(), None, second);
+    credit.expect(&rt, "the second bucket");
+
+    let mut holds = purse.hold(10, ten, Amount(300_000)).expect(&rt, "holds");
+    let held = [1, 2].map(|bucket| Hold {
+        bucket,
+        amount: 150_000,
+    });
+    assert_eq!(rt; holds.as_slice(), held.as_slice());
+
+    let charged = purse.charge(&mut holds, 10, later, Amount(100_000));
+    let charged = charged.expect(&rt, "memory");
+    assert_eq!(rt; charged.collected, Amount(100_000));
+    assert_eq!(rt; charged.uncollected, Amount(0));
+    purse.release(holds, later);
+    purse.expire(later);
+    let buckets = purse.buckets();
+    assert_eq!(rt; buckets.len(), 2);
+    assert_eq!(rt; columns(&buckets[0]), [150_000, 0, 0, 100_000, 50_000]);
+    assert_eq!(rt; columns(&buckets[1]), [300_000, 300_000, 0, 0, 0]);
+}
+
+#[test]
+fn a_shortfall_is_uncollected(rt: HostRuntime) {
+    let mut purse = Purse::new(rt.alloc());
+    let ten = moment(&rt, TEN);
+    let credit = purse.credit(
+        1,
+        moment(&rt, 0),
+        Moment::no_end(),
+        Some(10),
+        money(&rt, 250_000),
+    );
+    credit.expect(&rt, "a bucket");
+    assert!(rt; purse.hold(20, ten, Amount(1)).is_err());
+    let room = purse.room().expect(&rt, "memory");
+    let funds = purse.funds(10, ten);
+    assert!(rt; funds.0 == 250_000);
+    let holds = purse.hold_in(room, 10, ten, Amount(200_000));
+    let charged = purse.settle(holds, 10, ten, Amount(500_000));
+    assert_eq!(rt; charged.collected, Amount(250_000));
+    assert_eq!(rt; charged.uncollected, Amount(250_000));
+    let buckets = purse.buckets();
+    assert_eq!(rt; buckets.len(), 1);
+    assert_eq!(rt; columns(&buckets[0]), [250_000, 0, 0, 250_000, 0]);
+}

@@ -1,0 +1,529 @@
+//! Scenarios of an account over a tariff book: what each call gives, and the account's buckets
+//! after it. They are reckoned by hand from the book's prices: seconds in blocks of 60 at 100000
+//! micro-units on weekdays from 08:00 to 20:00, else at 50000; octets in blocks of 1048576, of
+//! which the first 100 of a month are free and the others cost 10000; events at 90000. 1767607200
+//! is 10:00 of a Monday.
+//!
+//! A line is a moment, a call with its words, what it gives, and the buckets, each as its credited
+//! amount and what of it is available, reserved, charged and expired.
+
+ghost use Rattle.std.specs.Prelude.{◌≡◌, true, false, None};
+ghost use Rattle.reserving.specs.Sessions.{session_in};
+ghost use Rattle.reserving.specs.Prepared.{reservation_in};
+
+use crate::tests::tables::{Teller, Words, try_table};
+use crate::tests::values::{account, book, end, moment, money, session_id};
+use buckets::Bucket;
+use identifiers::SessionId;
+use reserving::{Account, Granted, Session, SessionGroup, Settled};
+use std::alloc::Global;
+use std::process::Abort;
+use tariffs::TariffBook;
+use units::{Moment, TariffChangeUsage, Units, UsedPart};
+use worked_book::BOOK;
+
+/// Whether no request of the session is recorded.
+fn is_new(sessions: &[Session], id: &SessionId) -> bool
+    ensures { result ≡ true → session_in id.now sessions.now ≡ None }
+{
+    for session in sessions {
+        if session.id == *id {
+            return false;
+        }
+    }
+    true
+}
+
+/// Whether the session has no reservation of the group.
+fn is_free(groups: &[SessionGroup], id: &SessionId, group: u32) -> bool
+    ensures { result ≡ true → reservation_in id.now group groups.now ≡ None }
+{
+    for row in groups {
+        if row.session == *id && row.group == group {
+            return row.reservation.is_none();
+        }
+    }
+    true
+}
+
+fn tag(word: &str) -> TariffChangeUsage {
+    match word {
+        "before" => TariffChangeUsage::UnitBeforeTariffChange,
+        "after" => TariffChangeUsage::UnitAfterTariffChange,
+        _ => TariffChangeUsage::UnitIndeterminate,
+    }
+}
+
+/// A part of a report: `300`, or `300:before`.
+fn part(rt: &impl Abort, word: &str) -> UsedPart {
+    let (units, change) = match word.split_once(":") {
+        Some((units, change)) => (units, Some(tag(change))),
+        None => (word, None),
+    };
+    UsedPart {
+        units: Units(units.parse::<u64>().expect(rt, "units")),
+        change,
+    }
+}
+
+fn report(rt: &impl Abort, alloc: Global, words: &str) -> Vec<UsedPart> {
+    let mut parts = Vec::new(alloc);
+    for word in words.split(" ") {
+        parts.push(part(rt, word)).expect(rt, "memory");
+    }
+    parts
+}
+
+fn answer(rt: &impl Abort, alloc: Global, text: &str) -> String {
+    String::from_str(alloc, text).expect(rt, "memory")
+}
+
+/// `UNTIL AMOUNT`: the bucket's number.
+fn credit(
+    rt: &impl Abort,
+    alloc: Global,
+    account: &mut Account,
+    words: &mut Words<'_>,
+    at: Moment,
+) -> String {
+    let (until, amount) = (end(rt, words.number(rt)), money(rt, words.number(rt)));
+    assert!(rt; account.as_of() <= at);
+    let number = account
+        .credit(at, until, None, amount, at)
+        .expect(rt, "a bucket");
+    format!(in alloc; "{number}").expect(rt, "memory")
+}
+
+/// Opens a session.
+fn open(
+    rt: &impl Abort,
+    alloc: Global,
+    account: &mut Account,
+    id: &SessionId,
+    at: Moment,
+) -> String {
+    assert!(rt; account.as_of() <= at && is_new(account.sessions(), id));
+    account.open(id, 0, at).expect(rt, "a session");
+    answer(rt, alloc, "opened")
+}
+
+/// Records a session that isn't opened.
+fn deny(
+    rt: &impl Abort,
+    alloc: Global,
+    account: &mut Account,
+    id: &SessionId,
+    at: Moment,
+) -> String {
+    assert!(rt; account.as_of() <= at && is_new(account.sessions(), id));
+    account.deny(id, 0, at).expect(rt, "a session");
+    answer(rt, alloc, "denied")
+}
+
+/// `SESSION NUMBER`.
+fn touch(
+    rt: &impl Abort,
+    alloc: Global,
+    account: &mut Account,
+    words: &mut Words<'_>,
+    at: Moment,
+) -> String {
+    let id = session_id(rt, alloc, words.word());
+    let number = words.number(rt);
+    assert!(rt; account.as_of() <= at && account.is_live(&id, at));
+    account.touch(&id, number, at);
+    answer(rt, alloc, "touched")
+}
+
+/// Closes a session.
+fn close(
+    rt: &impl Abort,
+    alloc: Global,
+    account: &mut Account,
+    id: &SessionId,
+    at: Moment,
+) -> String {
+    assert!(rt; account.as_of() <= at && account.is_live(id, at));
+    account.close(id, at);
+    answer(rt, alloc, "closed")
+}
+
+fn described(rt: &impl Abort, alloc: Global, granted: Granted) -> String {
+    match granted {
+        Granted::Nothing => answer(rt, alloc, "nothing"),
+        Granted::Units {
+            units,
+            switch,
+            validity,
+            fewer,
+        } => {
+            let switch = switch.map(Moment::seconds);
+            let of = if fewer { "fewer" } else { "all" };
+            let text = format!(in alloc; "{} {:?} {} {}", units.0, switch, validity, of);
+            text.expect(rt, "memory")
+        }
+    }
+}
+
+/// `SESSION GROUP UNITS`: the units granted, the switch, the validity, and whether they are fewer
+/// than wanted.
+fn reserve(
+    rt: &impl Abort,
+    alloc: Global,
+    account: &mut Account,
+    words: &mut Words<'_>,
+    at: Moment,
+) -> String {
+    let id = session_id(rt, alloc, words.word());
+    let (group, units) = (words.number(rt), Units(words.number(rt)));
+    assert!(rt; account.as_of() <= at && account.is_live(&id, at));
+    assert!(rt; is_free(account.groups(), &id, group));
+    let granted = account
+        .reserve(&id, group, Some(units), at)
+        .expect(rt, "a grant");
+    described(rt, alloc, granted)
+}
+
+/// The blocks, their price, and what of it is collected and isn't.
+fn charged(rt: &impl Abort, alloc: Global, settled: Settled) -> String {
+    let (blocks, rated) = (settled.blocks.0, settled.rated.0);
+    let (collected, uncollected) = (settled.collected.0, settled.uncollected.0);
+    let text = format!(in alloc; "{blocks} {rated} {collected} {uncollected}");
+    text.expect(rt, "memory")
+}
+
+/// `SESSION GROUP PARTS`: what is charged.
+fn settle(
+    rt: &impl Abort,
+    alloc: Global,
+    account: &mut Account,
+    words: &mut Words<'_>,
+    at: Moment,
+) -> String {
+    let id = session_id(rt, alloc, words.word());
+    let group = words.number(rt);
+    let parts = report(rt, alloc, words.rest());
+    assert!(rt; account.as_of() <= at && account.is_live(&id, at));
+    let settled = account
+        .settle(&id, group, &parts, at)
+        .expect(rt, "a settlement");
+    charged(rt, alloc, settled)
+}
+
+/// `SESSION GROUP CHARGES PARTS`: whether a report would pass a limit after so many charges.
+fn limit(
+    rt: &impl Abort,
+    alloc: Global,
+    account: &Account,
+    words: &mut Words<'_>,
+    at: Moment,
+) -> String {
+    let id = session_id(rt, alloc, words.word());
+    let (group, charges) = (words.number(rt), words.number(rt));
+    let parts = report(rt, alloc, words.rest());
+    assert!(rt; account.as_of() <= at && account.is_live(&id, at));
+    let passes = account.would_pass(&id, group, &parts, charges, at);
+    format!(in alloc; "{passes}").expect(rt, "memory")
+}
+
+/// `SESSION GROUP UNITS`: what is charged, if the funds cover it.
+fn debit(
+    rt: &impl Abort,
+    alloc: Global,
+    account: &mut Account,
+    words: &mut Words<'_>,
+    at: Moment,
+) -> String {
+    let id = session_id(rt, alloc, words.word());
+    let (group, units) = (words.number(rt), Units(words.number(rt)));
+    assert!(rt; account.as_of() <= at);
+    match account.debit(&id, group, units, at).expect(rt, "a debit") {
+        Some(settled) => charged(rt, alloc, settled),
+        None => answer(rt, alloc, "not covered"),
+    }
+}
+
+/// `GROUP UNITS`: what they would cost as an event.
+fn quote(
+    rt: &impl Abort,
+    alloc: Global,
+    account: &Account,
+    words: &mut Words<'_>,
+    at: Moment,
+) -> String {
+    let (group, units) = (words.number(rt), Units(words.number(rt)));
+    let price = account.quote(group, units, at);
+    format!(in alloc; "{}", price.0).expect(rt, "memory")
+}
+
+/// The funds for a group, and whether 600 units of it would be granted.
+fn funds(rt: &impl Abort, alloc: Global, account: &Account, group: u32, at: Moment) -> String {
+    assert!(rt; account.as_of() <= at);
+    let grants = account.would_grant(group, Some(Units(600)), at);
+    let funds = account.funds(group, at);
+    format!(in alloc; "{} {grants}", funds.0).expect(rt, "memory")
+}
+
+/// The last number of a session, its state, and whether it is live at the moment.
+fn told(rt: &impl Abort, alloc: Global, account: &Account, id: &SessionId, at: Moment) -> String {
+    let live = account.is_live(id, at);
+    for row in account.sessions() {
+        if row.id == *id {
+            let text = format!(in alloc; "{} {:?} {live}", row.last_number, row.state);
+            return text.expect(rt, "memory");
+        }
+    }
+    answer(rt, alloc, "unknown")
+}
+
+/// Each counter's group, cycle and blocks.
+fn counters(rt: &impl Abort, alloc: Global, account: &Account) -> String {
+    let mut text = String::new(alloc);
+    for counter in account.counters() {
+        let line = format!(in alloc; "{} {} {};", counter.group, counter.cycle, counter.blocks);
+        text.push_str(line.expect(rt, "memory").as_str())
+            .expect(rt, "memory");
+    }
+    text
+}
+
+fn advance(rt: &impl Abort, alloc: Global, account: &mut Account, at: Moment) -> String {
+    assert!(rt; account.as_of() <= at);
+    account.advance(at);
+    answer(rt, alloc, "advanced")
+}
+
+/// `on` or `off`: whether the account is barred then.
+fn bar(rt: &impl Abort, alloc: Global, account: &mut Account, word: &str, at: Moment) -> String {
+    assert!(rt; account.as_of() <= at);
+    account.set_barred(word == "on", at);
+    format!(in alloc; "{}", account.is_barred()).expect(rt, "memory")
+}
+
+/// What a call of a session alone gives.
+fn session_call(
+    rt: &impl Abort,
+    alloc: Global,
+    account: &mut Account,
+    call: &str,
+    words: &mut Words<'_>,
+    at: Moment,
+) -> String {
+    let id = session_id(rt, alloc, words.word());
+    match call {
+        "open" => open(rt, alloc, account, &id, at),
+        "deny" => deny(rt, alloc, account, &id, at),
+        "close" => close(rt, alloc, account, &id, at),
+        _ => told(rt, alloc, account, &id, at),
+    }
+}
+
+/// What a call gives.
+fn outcome(
+    rt: &impl Abort,
+    alloc: Global,
+    account: &mut Account,
+    words: &mut Words<'_>,
+    at: Moment,
+) -> String {
+    let call = words.word();
+    match call {
+        "credit" => credit(rt, alloc, account, words, at),
+        "open" | "deny" | "close" | "session" => session_call(rt, alloc, account, call, words, at),
+        "touch" => touch(rt, alloc, account, words, at),
+        "reserve" => reserve(rt, alloc, account, words, at),
+        "settle" => settle(rt, alloc, account, words, at),
+        "limit" => limit(rt, alloc, account, words, at),
+        "debit" => debit(rt, alloc, account, words, at),
+        "quote" => quote(rt, alloc, account, words, at),
+        "bar" => bar(rt, alloc, account, words.word(), at),
+        "funds" => funds(rt, alloc, account, words.number(rt), at),
+        "counters" => counters(rt, alloc, account),
+        _ => advance(rt, alloc, account, at),
+    }
+}
+
+/// A bucket: its credited amount, and what of it is available, reserved, charged and expired.
+fn columns(rt: &impl Abort, alloc: Global, bucket: &Bucket) -> String {
+    let (credited, available, expired) = (bucket.credited(), bucket.available(), bucket.expired());
+    let (reserved, charged) = (bucket.reserved(), bucket.charged());
+    let text = format!(in alloc; " ({credited}; {available}, {reserved}, {charged}, {expired})");
+    text.expect(rt, "memory")
+}
+
+/// The account's buckets.
+fn buckets(rt: &impl Abort, alloc: Global, account: &Account) -> String {
+    let mut text = String::new(alloc);
+    for bucket in account.purse().buckets() {
+        let columns = columns(rt, alloc, bucket);
+        text.push_str(columns.as_str()).expect(rt, "memory");
+    }
+    text
+}
+
+/// Tells what a line's call gives, and the buckets of the account's copy after it.
+#[derive(Drop)]
+struct Player<'b> {
+    account: Account<'b>,
+}
+
+impl Teller for Player<'_> {
+    fn tell<R: Abort>(&mut self, rt: &R, alloc: Global, case: &str) -> String {
+        let mut words = Words::of(case);
+        let at = moment(rt, words.number(rt));
+        let outcome = outcome(rt, alloc, &mut self.account, &mut words, at);
+        let copy = self.account.copy().expect(rt, "memory");
+        let buckets = buckets(rt, alloc, &copy);
+        format!(in alloc; "{outcome}{buckets}").expect(rt, "memory")
+    }
+}
+
+/// Tries the lines of a scenario on an account that begins empty.
+fn play(rt: &impl Abort, alloc: Global, book: &TariffBook, lines: &str) {
+    let account = account(alloc, book);
+    try_table(rt, alloc, &mut Player { account }, lines);
+}
+
+/// At 07:30 a grant is held at the price from 08:00 on. Five minutes are used before the switch,
+/// and two begun after it.
+const SWITCH: &str = "\
+1767598200 credit 4102444800 1000000 => 1 (1000000; 1000000, 0, 0, 0)
+1767598200 open s1 => opened (1000000; 1000000, 0, 0, 0)
+1767598200 reserve s1 10 600 => 600 Some(1767600000) 3600 all (1000000; 0, 1000000, 0, 0)
+1767600300 settle s1 10 300:before 90:after => 7 450000 450000 0 (1000000; 550000, 0, 450000, 0)";
+
+/// 250,000 micro-units cover two minutes of ten. Five are used, and half their price isn't
+/// collected.
+const SHORT: &str = "\
+1767571200 credit 4102444800 250000 => 1 (250000; 250000, 0, 0, 0)
+1767607200 open s3 => opened (250000; 250000, 0, 0, 0)
+1767607200 funds 10 => 250000 true (250000; 250000, 0, 0, 0)
+1767607200 reserve s3 10 600 => 120 None 3600 fewer (250000; 50000, 200000, 0, 0)
+1767607500 touch s3 1 => touched (250000; 50000, 200000, 0, 0)
+1767607500 settle s3 10 300 => 5 500000 250000 250000 (250000; 0, 0, 250000, 0)
+1767607500 close s3 => closed (250000; 0, 0, 250000, 0)
+1767607500 session s3 => 1 Ended false (250000; 0, 0, 250000, 0)";
+
+/// 61 of 600 seconds start two minutes, and the rest of the second is free in the next grant.
+const STARTED: &str = "\
+1767607200 credit 4102444800 1000000 => 1 (1000000; 1000000, 0, 0, 0)
+1767607200 open s5 => opened (1000000; 1000000, 0, 0, 0)
+1767607200 reserve s5 10 600 => 600 None 3600 all (1000000; 0, 1000000, 0, 0)
+1767607500 settle s5 10 61 => 2 200000 200000 0 (1000000; 800000, 0, 200000, 0)
+1767607500 reserve s5 10 600 => 539 None 3600 fewer (1000000; 0, 800000, 200000, 0)
+1767607560 settle s5 10 59 => 0 0 0 0 (1000000; 800000, 0, 200000, 0)";
+
+/// Two buckets are held in the order of their ends. What is given up after the first one's end is
+/// expired.
+const BUCKETS: &str = "\
+1767607200 credit 1767607800 150000 => 1 (150000; 150000, 0, 0, 0)
+1767607200 credit 4102444800 300000 => 2 (150000; 150000, 0, 0, 0) (300000; 300000, 0, 0, 0)
+1767607200 open s6 => opened (150000; 150000, 0, 0, 0) (300000; 300000, 0, 0, 0)
+1767607200 reserve s6 10 180 => 180 None 3600 all (150000; 0, 150000, 0, 0) (300000; 150000, 150000, 0, 0)
+1767608100 settle s6 10 60 => 1 100000 100000 0 (150000; 0, 0, 100000, 50000) (300000; 300000, 0, 0, 0)";
+
+/// The first 100 blocks of the month are free: 99 are granted and used, and then two more. January
+/// 2026 is the 684th month after January 1969.
+const MONTH: &str = "\
+1767607200 credit 4102444800 50000 => 1 (50000; 50000, 0, 0, 0)
+1767607200 open s7 => opened (50000; 50000, 0, 0, 0)
+1767607200 reserve s7 20 103809024 => 103809024 None 3600 all (50000; 50000, 0, 0, 0)
+1767607500 settle s7 20 103809024 => 99 0 0 0 (50000; 50000, 0, 0, 0)
+1767607500 reserve s7 20 2097152 => 2097152 None 3600 all (50000; 40000, 10000, 0, 0)
+1767607800 settle s7 20 2097152 => 2 10000 10000 0 (50000; 40000, 0, 10000, 0)
+1767607800 counters of all => 20 684 101; (50000; 40000, 0, 10000, 0)";
+
+/// 40,000 micro-units cover no minute: the request is recorded, and no session lives that could be
+/// ended. Two validity times after a session's last request what it holds is given up.
+const FORGOTTEN: &str = "\
+1767607200 credit 4102444800 40000 => 1 (40000; 40000, 0, 0, 0)
+1767607200 funds 10 => 40000 false (40000; 40000, 0, 0, 0)
+1767607200 deny s12 => denied (40000; 40000, 0, 0, 0)
+1767607200 session s12 => 0 NeverOpened false (40000; 40000, 0, 0, 0)
+1767607260 credit 4102444800 1000000 => 2 (40000; 40000, 0, 0, 0) (1000000; 1000000, 0, 0, 0)
+1767607320 open s12b => opened (40000; 40000, 0, 0, 0) (1000000; 1000000, 0, 0, 0)
+1767607320 reserve s12b 10 600 => 600 None 3600 all (40000; 0, 40000, 0, 0) (1000000; 40000, 960000, 0, 0)
+1767614519 session s12b => 0 Open true (40000; 0, 40000, 0, 0) (1000000; 40000, 960000, 0, 0)
+1767614520 session s12b => 0 Open false (40000; 0, 40000, 0, 0) (1000000; 40000, 960000, 0, 0)
+1767614520 funds 10 => 1040000 true (40000; 0, 40000, 0, 0) (1000000; 40000, 960000, 0, 0)
+1767614520 advance to it => advanced (40000; 40000, 0, 0, 0) (1000000; 1000000, 0, 0, 0)
+1767614520 session s12b => 0 Ended false (40000; 40000, 0, 0, 0) (1000000; 1000000, 0, 0, 0)";
+
+/// Both groups are settled before the grant of one: what the other gave up is there for it.
+const TWO_GROUPS: &str = "\
+1767607200 credit 4102444800 500000 => 1 (500000; 500000, 0, 0, 0)
+1767607200 open s17 => opened (500000; 500000, 0, 0, 0)
+1767607200 reserve s17 10 180 => 180 None 3600 all (500000; 200000, 300000, 0, 0)
+1767607200 reserve s17 30 2 => 2 None 3600 all (500000; 20000, 480000, 0, 0)
+1767607500 settle s17 30 1 => 1 90000 90000 0 (500000; 110000, 300000, 90000, 0)
+1767607500 settle s17 10 60 => 1 100000 100000 0 (500000; 310000, 0, 190000, 0)
+1767607500 reserve s17 30 3 => 3 None 3600 all (500000; 40000, 270000, 190000, 0)";
+
+/// A barred account keeps what it holds, until its session's time is over.
+const BARRED: &str = "\
+1767607200 credit 4102444800 1000000 => 1 (1000000; 1000000, 0, 0, 0)
+1767607200 open s20 => opened (1000000; 1000000, 0, 0, 0)
+1767607200 reserve s20 10 600 => 600 None 3600 all (1000000; 0, 1000000, 0, 0)
+1767607260 bar on => true (1000000; 0, 1000000, 0, 0)
+1767614399 bar on => true (1000000; 0, 1000000, 0, 0)
+1767614400 bar off => false (1000000; 1000000, 0, 0, 0)";
+
+/// An event of 90,000 micro-units isn't charged where 89,999 are there. With one more it is, and
+/// with no more, to both buckets in their order.
+const EVENTS: &str = "\
+1767571200 credit 4102444800 89999 => 1 (89999; 89999, 0, 0, 0)
+1767607200 quote 30 1 => 90000 (89999; 89999, 0, 0, 0)
+1767607200 debit e8 30 1 => not covered (89999; 89999, 0, 0, 0)
+1767607200 counters of all =>  (89999; 89999, 0, 0, 0)
+1767607200 credit 4102444800 1 => 2 (89999; 89999, 0, 0, 0) (1; 1, 0, 0, 0)
+1767607200 debit e8 30 1 => 1 90000 90000 0 (89999; 0, 0, 89999, 0) (1; 0, 0, 1, 0)
+1767607200 counters of all => 30 0 1; (89999; 0, 0, 89999, 0) (1; 0, 0, 1, 0)";
+
+/// An event is charged whole from one bucket.
+const EVENT: &str = "\
+1767571200 credit 4102444800 90000 => 1 (90000; 90000, 0, 0, 0)
+1767607200 debit e8 30 1 => 1 90000 90000 0 (90000; 0, 0, 90000, 0)";
+
+/// What is held isn't there for an event, and its charge leaves what is held. Each event starts a
+/// block of its own, whatever was used before.
+const BESIDE: &str = "\
+1767607200 credit 4102444800 350000 => 1 (350000; 350000, 0, 0, 0)
+1767607200 open s21 => opened (350000; 350000, 0, 0, 0)
+1767607200 reserve s21 10 60 => 60 None 3600 all (350000; 250000, 100000, 0, 0)
+1767607200 debit s21 10 1 => 1 100000 100000 0 (350000; 150000, 100000, 100000, 0)
+1767607200 quote 10 1 => 100000 (350000; 150000, 100000, 100000, 0)
+1767607200 debit s21 10 61 => not covered (350000; 150000, 100000, 100000, 0)
+1767607260 settle s21 10 59 => 0 0 0 0 (350000; 250000, 0, 100000, 0)
+1767607260 debit s21 10 61 => 2 200000 200000 0 (350000; 50000, 0, 300000, 0)";
+
+/// A session uses at most 10^18 units of a group, and the greatest number of a charge is
+/// 4,294,967,295.
+const LIMITS: &str = "\
+1767607200 open s22 => opened
+1767607200 limit s22 10 0 1000000000000000000 => false
+1767607200 limit s22 10 0 1000000000000000001 => true
+1767607200 limit s22 10 4294967294 1 => false
+1767607200 limit s22 10 4294967295 1 => true
+1767607200 settle s22 30 999999999999999999 => 999999999999999999 89999999999999999910000 0 89999999999999999910000
+1767607200 limit s22 30 0 1 => false
+1767607200 limit s22 30 0 2 => true
+1767607200 limit s22 10 4294967293 1 => false
+1767607200 limit s22 10 4294967294 1 => true";
+
+#[test]
+fn sessions_and_their_charges(rt: HostRuntime) {
+    let book = book(&rt, rt.alloc(), BOOK);
+    for lines in [
+        SWITCH, SHORT, STARTED, BUCKETS, MONTH, FORGOTTEN, TWO_GROUPS, BARRED,
+    ] {
+        play(&rt, rt.alloc(), &book, lines);
+    }
+}
+
+#[test]
+fn events_and_limits(rt: HostRuntime) {
+    let book = book(&rt, rt.alloc(), BOOK);
+    for lines in [EVENTS, EVENT, BESIDE, LIMITS] {
+        play(&rt, rt.alloc(), &book, lines);
+    }
+}

@@ -1,0 +1,8 @@
+//! Tests of `tariffs` and `one_price`.
+
+mod documents;
+mod faults;
+mod limits;
+mod lookups;
+mod one_prices;
+mod switches;

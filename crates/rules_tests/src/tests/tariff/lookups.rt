@@ -1,0 +1,206 @@
+//! What the look-ups say of the book of three groups. Expected values are the document's, and for
+//! moments those of Python's `datetime` with a fixed offset: the weekday and hour, the date's
+//! ordinal, its year and month, the timestamp of a midnight, and a search over each minute of the
+//! next hour.
+
+ghost use Rattle.std.specs.Prelude.{◌<◌};
+
+use crate::tests::tables::{Teller, Words, try_table};
+use crate::tests::values::{book, moment};
+use calendar::{Cycle, Period};
+use std::alloc::Global;
+use std::process::Abort;
+use tariffs::{Tariff, TariffBook};
+use units::Moment;
+use worked_book::BOOK;
+
+/// What a tariff says of itself, but for its prices.
+fn described(rt: &impl Abort, alloc: Global, tariff: &Tariff) -> String {
+    let numbers = format!(in alloc;
+        "{} {} {} {}",
+        tariff.group(),
+        tariff.block(),
+        tariff.slice(),
+        tariff.max_grant()
+    );
+    let numbers = numbers.expect(rt, "memory");
+    let words = format!(in alloc;
+        "{:?} {:?} {:?}",
+        tariff.unit(),
+        tariff.cycle(),
+        tariff.final_action()
+    );
+    let words = words.expect(rt, "memory");
+    format!(in alloc; "{numbers} {words}").expect(rt, "memory")
+}
+
+/// The bounds and prices of its tiers in a period.
+fn tiers(rt: &impl Abort, alloc: Global, tariff: &Tariff, period: u8) -> String {
+    let mut text = String::new(alloc);
+    for tier in tariff.tiers(Period(period)) {
+        let line = format!(in alloc; " / {:?} {}", tier.upto, tier.price).expect(rt, "memory");
+        text.push_str(line.as_str()).expect(rt, "memory");
+    }
+    text
+}
+
+/// A group of a book: what it says, and its tiers in a period.
+pub(crate) fn told_of_group(
+    rt: &impl Abort,
+    alloc: Global,
+    book: &TariffBook,
+    group: u32,
+    period: u8,
+) -> String {
+    match book.tariff(group) {
+        Some(tariff) => {
+            let described = described(rt, alloc, tariff);
+            let tiers = tiers(rt, alloc, tariff, period);
+            format!(in alloc; "{described}{tiers}").expect(rt, "memory")
+        }
+        None => String::from_str(alloc, "none").expect(rt, "memory"),
+    }
+}
+
+/// Tells what a book says of a group in a period.
+#[derive(Clone, Copy)]
+struct Groups<'b> {
+    book: &'b TariffBook,
+}
+
+impl Teller for Groups<'_> {
+    fn tell<R: Abort>(&mut self, rt: &R, alloc: Global, case: &str) -> String {
+        let mut words = Words::of(case);
+        let (group, period) = (words.number(rt), words.number(rt));
+        told_of_group(rt, alloc, self.book, group, period)
+    }
+}
+
+const GROUPS: &str = "\
+10 0 => 10 60 600 3600 Time None Terminate / None 50000
+10 1 => 10 60 600 3600 Time None Terminate / None 100000
+10 2 => 10 60 600 3600 Time None Terminate
+20 0 => 20 1048576 10485760 1048576000 TotalOctets Month
+   Redirect(RedirectAddress { text: \"http://topup.example/\" }) / Some(100) 0 / None 10000
+30 1 => 30 1 1 100 ServiceSpecific None Terminate / None 90000
+99 0 => none";
+
+#[test]
+fn groups_of_the_book(rt: HostRuntime) {
+    let book = book(&rt, rt.alloc(), BOOK);
+    try_table(&rt, rt.alloc(), &mut Groups { book: &book }, GROUPS);
+}
+
+/// What a book says of a moment: its period and the switch within an hour of it, the validity from
+/// it, the numbers of its cycles, and the end of its day and of the 30th day after it.
+fn told_of_moment(rt: &impl Abort, alloc: Global, book: &TariffBook, at: Moment) -> String
+    requires { at < 4_102_444_800 }
+{
+    let Period(period) = book.period_at(at);
+    let switch = book.next_switch(at, 3600).map(Moment::seconds);
+    let validity = book.validity_from(at);
+    let first = format!(in alloc; "{period} {switch:?} {validity}").expect(rt, "memory");
+    let none = book.cycle_of(Cycle::None, at);
+    let day = book.cycle_of(Cycle::Day, at);
+    let month = book.cycle_of(Cycle::Month, at);
+    let today = book.day_end(at, 0).map(Moment::seconds);
+    let later = book.day_end(at, 30).map(Moment::seconds);
+    let second = format!(in alloc; "{none} {day} {month} {today:?} {later:?}");
+    let second = second.expect(rt, "memory");
+    format!(in alloc; "{first} {second}").expect(rt, "memory")
+}
+
+/// Tells what the book of a document says, in another zone, of a moment.
+#[derive(Clone, Copy)]
+struct Moments<'a> {
+    document: &'a str,
+}
+
+impl Teller for Moments<'_> {
+    fn tell<R: Abort>(&mut self, rt: &R, alloc: Global, case: &str) -> String {
+        let mut words = Words::of(case);
+        let zone = words.word();
+        let at = moment(rt, words.number(rt));
+        let text = self
+            .document
+            .replace(alloc, "+00:00", zone)
+            .expect(rt, "memory");
+        let book = book(rt, alloc, text.as_str());
+        told_of_moment(rt, alloc, &book, at)
+    }
+}
+
+/// The edges of minutes, days, months and years in four zones.
+const MOMENTS: &str = "\
++00:00 1767598200 => 0 Some(1767600000) 3600 0 20459 684 Some(1767657600) Some(1770249600)
+-14:00 1767275999 => 0 None 3600 0 20454 683 Some(1767276000) Some(1769868000)
+-14:00 1767276000 => 0 None 3600 0 20455 684 Some(1767362400) Some(1769954400)
+-14:00 1709301599 => 0 None 3600 0 19783 661 Some(1709301600) Some(1711893600)
+-14:00 1709301600 => 0 None 3600 0 19784 662 Some(1709388000) Some(1711980000)
+-14:00 1767650399 => 0 Some(1767650400) 3600 0 20459 684 Some(1767708000) Some(1770300000)
+-14:00 1767650400 => 1 None 3600 0 20459 684 Some(1767708000) Some(1770300000)
+-14:00 1768039140 => 1 Some(1768039200) 3600 0 20463 684 Some(1768053600) Some(1770645600)
+-14:00 1768039200 => 0 None 3600 0 20463 684 Some(1768053600) Some(1770645600)
++00:00 1767225599 => 0 None 3600 0 20454 683 Some(1767225600) Some(1769817600)
++00:00 1767225600 => 0 None 3600 0 20455 684 Some(1767312000) Some(1769904000)
++00:00 1709251199 => 0 None 3600 0 19783 661 Some(1709251200) Some(1711843200)
++00:00 1709251200 => 0 None 3600 0 19784 662 Some(1709337600) Some(1711929600)
++00:00 1767599999 => 0 Some(1767600000) 3600 0 20459 684 Some(1767657600) Some(1770249600)
++00:00 1767600000 => 1 None 3600 0 20459 684 Some(1767657600) Some(1770249600)
++00:00 1767988740 => 1 Some(1767988800) 3600 0 20463 684 Some(1768003200) Some(1770595200)
++00:00 1767988800 => 0 None 3600 0 20463 684 Some(1768003200) Some(1770595200)
++05:45 1767204899 => 0 None 3600 0 20454 683 Some(1767204900) Some(1769796900)
++05:45 1767204900 => 0 None 3600 0 20455 684 Some(1767291300) Some(1769883300)
++05:45 1709230499 => 0 None 3600 0 19783 661 Some(1709230500) Some(1711822500)
++05:45 1709230500 => 0 None 3600 0 19784 662 Some(1709316900) Some(1711908900)
++05:45 1767579299 => 0 Some(1767579300) 3600 0 20459 684 Some(1767636900) Some(1770228900)
++05:45 1767579300 => 1 None 3600 0 20459 684 Some(1767636900) Some(1770228900)
++05:45 1767968040 => 1 Some(1767968100) 3600 0 20463 684 Some(1767982500) Some(1770574500)
++05:45 1767968100 => 0 None 3600 0 20463 684 Some(1767982500) Some(1770574500)
++14:00 1767175199 => 0 None 3600 0 20454 683 Some(1767175200) Some(1769767200)
++14:00 1767175200 => 0 None 3600 0 20455 684 Some(1767261600) Some(1769853600)
++14:00 1709200799 => 0 None 3600 0 19783 661 Some(1709200800) Some(1711792800)
++14:00 1709200800 => 0 None 3600 0 19784 662 Some(1709287200) Some(1711879200)
++14:00 1767549599 => 0 Some(1767549600) 3600 0 20459 684 Some(1767607200) Some(1770199200)
++14:00 1767549600 => 1 None 3600 0 20459 684 Some(1767607200) Some(1770199200)
++14:00 1767938340 => 1 Some(1767938400) 3600 0 20463 684 Some(1767952800) Some(1770544800)
++14:00 1767938400 => 0 None 3600 0 20463 684 Some(1767952800) Some(1770544800)";
+
+/// From 07:50 the period changes at 08:00 and 08:20: the validity ends at the second change.
+const CUT: &str = "\
++00:00 1767599400 => 0 Some(1767600000) 1800 0 20459 684 Some(1767657600) Some(1770249600)";
+
+#[test]
+fn moments_of_the_book(rt: HostRuntime) {
+    try_table(&rt, rt.alloc(), &mut Moments { document: BOOK }, MOMENTS);
+    let text = BOOK
+        .replace(rt.alloc(), "20:00", "08:20")
+        .expect(&rt, "memory");
+    let document = text.as_str();
+    try_table(&rt, rt.alloc(), &mut Moments { document }, CUT);
+}
+
+fn names_of(rt: &impl Abort, alloc: Global, book: &TariffBook) -> String {
+    let mut text = String::new(alloc);
+    for i in 0..3 {
+        let line = format!(in alloc; "{:?} ", book.period_name(Period(i))).expect(rt, "memory");
+        text.push_str(line.as_str()).expect(rt, "memory");
+    }
+    for name in ["off", "peak", "night"] {
+        let line = format!(in alloc; "{:?} ", book.period_named(name)).expect(rt, "memory");
+        text.push_str(line.as_str()).expect(rt, "memory");
+    }
+    text
+}
+
+#[test]
+fn names_of_the_book(rt: HostRuntime) {
+    let book = book(&rt, rt.alloc(), BOOK);
+    let found = names_of(&rt, rt.alloc(), &book);
+    assert_eq!(rt;
+        found.as_str(),
+        "Some(\"off\") Some(\"peak\") None Some(Period(0)) Some(Period(1)) None "
+    );
+    assert_eq!(rt; book.currency(), 978);
+    assert_eq!(rt; book.validity(), 3600);
+}
