@@ -25,25 +25,24 @@ fn kept_of(rt: &impl Abort, alloc: Global, body: &str) -> KeptAnswer {
     }
 }
 
-fn texts_told(rt: &impl Abort, alloc: Global, texts: &Result<Option<Kept>, ReadFault>) -> String {
-    let told = match texts {
-        Ok(Some(texts)) => {
-            let (content, answer) = (texts.content.as_str(), texts.answer.as_str());
-            format!(in alloc; "{content} {answer}")
-        }
-        Ok(None) => String::from_str(alloc, "none"),
-        Err(ReadFault::Rules) => String::from_str(alloc, "out of the rules"),
-        Err(_) => String::from_str(alloc, "a fault"),
-    };
-    told.expect(rt, "room")
+/// The content or the answer of what is kept.
+fn texts_told<'a>(kind: &str, texts: &'a Result<Option<Kept>, ReadFault>) -> &'a str {
+    match texts {
+        Ok(Some(texts)) if kind == "answer" => texts.answer.as_str(),
+        Ok(Some(texts)) => texts.content.as_str(),
+        Ok(None) => "none",
+        Err(ReadFault::Rules) => "out of the rules",
+        Err(_) => "a fault",
+    }
 }
 
-/// `ACCOUNT BODY`: what this account keeps, the content and the answer.
-fn texts_of(rt: &impl Abort, alloc: Global, words: &str) -> String {
+/// `ACCOUNT BODY`: the content or the answer that this account keeps.
+fn texts_of(rt: &impl Abort, alloc: Global, kind: &str, words: &str) -> String {
     let (word, body) = words.split_once(" ").expect(rt, "an account and a body");
     let number = account(rt, alloc, word);
     let kept = Some(kept_of(rt, alloc, body));
-    texts_told(rt, alloc, &kept_texts(alloc, &number, &kept))
+    let texts = kept_texts(alloc, &number, &kept);
+    String::from_str(alloc, texts_told(kind, &texts)).expect(rt, "room")
 }
 
 /// The head of an account by the number of its next charge.
@@ -77,12 +76,14 @@ fn may_be(rt: &impl Abort, alloc: Global, book: &TariffBook, words: &str) -> boo
 }
 
 fn answer_to(rt: &impl Abort, alloc: Global, book: &TariffBook, question: &str) -> String {
-    let (kind, words) = question.split_once(" ").expect(rt, "a question and its words");
-    if kind == "texts" {
-        texts_of(rt, alloc, words)
-    } else {
+    let (kind, words) = question
+        .split_once(" ")
+        .expect(rt, "a question and its words");
+    if kind == "rows" {
         let may = may_be(rt, alloc, book, words);
         format!(in alloc; "{may}").expect(rt, "room")
+    } else {
+        texts_of(rt, alloc, kind, words)
     }
 }
 
@@ -92,21 +93,27 @@ fn is_told(rt: &impl Abort, told: &str, wanted: &str, line: &str) {
 
 fn try_all(rt: &impl Abort, alloc: Global, book: &TariffBook, lines: &str) {
     for line in lines.lines() {
-        let (question, wanted) = line.split_once(" -> ").expect(rt, "a question and an answer");
-        is_told(rt, answer_to(rt, alloc, book, question).as_str(), wanted, line);
+        let (question, wanted) = line
+            .split_once(" -> ")
+            .expect(rt, "a question and an answer");
+        is_told(
+            rt,
+            answer_to(rt, alloc, book, question).as_str(),
+            wanted,
+            line,
+        );
     }
 }
 
-/// The content is the body's members that are there, in byte order of their names; the answer is
-/// that of a credit which made the first bucket.
-///
-/// Charges are numbered one after another. A reservation stands in an open session, with two of the
-/// book's periods, which are two.
-const CASES: &str = r#"texts 49152 {"Amount":1,"Reference":"v1"} -> out of the rules
-texts 49151 {"Amount":1,"Reference":"v1"} -> {"Amount":1,"Reference":"v1"} {"Bucket":1,"Result-Code":2001}
-texts 49151 {"Scope":0,"Reference":"v","Amount":1} -> {"Amount":1,"Reference":"v","Scope":0} {"Bucket":1,"Result-Code":2001}
-texts 49151 {"Reference":"v","From":0,"Amount":1} -> {"Amount":1,"From":0,"Reference":"v"} {"Bucket":1,"Result-Code":2001}
-texts 49151 {"Until":1,"Reference":"v","Amount":1} -> {"Amount":1,"Reference":"v","Until":1} {"Bucket":1,"Result-Code":2001}
+/// The content is the body's members that are there, in byte order of their names. Charges are
+/// numbered one after another. A reservation stands in an open session, with two of the book's
+/// periods, which are two.
+const CASES: &str = r#"content 49152 {"Amount":1,"Reference":"v1"} -> out of the rules
+content 49151 {"Amount":1,"Reference":"v1"} -> {"Amount":1,"Reference":"v1"}
+content 49151 {"Scope":0,"Reference":"v","Amount":1} -> {"Amount":1,"Reference":"v","Scope":0}
+content 49151 {"Reference":"v","From":0,"Amount":1} -> {"Amount":1,"From":0,"Reference":"v"}
+content 49151 {"Until":1,"Reference":"v","Amount":1} -> {"Amount":1,"Reference":"v","Until":1}
+answer 49151 {"Amount":1,"Reference":"v1"} -> {"Bucket":1,"Result-Code":2001}
 rows 1 3 & charge 1 9 s1 10 1 5 5 0 & charge 2 9 s1 10 1 5 5 0 -> true
 rows 3 4 & charge 3 9 s1 10 1 5 5 0 -> true
 rows 1 1 &  -> true

@@ -73,7 +73,9 @@ fn is_left(beginnings: &[String], count: usize, found: &str) -> bool {
 fn begin_the_wanted(rt: &impl Abort, alloc: Global, answers: &[Answer]) -> bool {
     let mut text = String::new(alloc);
     push_answers(rt, alloc, &mut text, answers);
-    wanted_answers(rt, alloc).as_str().starts_with(text.as_str())
+    wanted_answers(rt, alloc)
+        .as_str()
+        .starts_with(text.as_str())
 }
 
 /// The commands over files that stop after so many calls: the answers and all that a stop may leave

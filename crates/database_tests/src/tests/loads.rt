@@ -47,7 +47,9 @@ fn tell_view(
     number: &AccountNumber,
     text: &mut String,
 ) {
-    let view = keeper.view(book, number, moment(rt, AT)).expect(rt, "a view");
+    let view = keeper
+        .view(book, number, moment(rt, AT))
+        .expect(rt, "a view");
     match &view {
         Some(account) => push_account(rt, text, account),
         None => push(rt, text, "no account\n"),
@@ -82,7 +84,10 @@ fn views(
     let (same, same_again) = (account_with(rt, alloc, FIVE), account_with(rt, alloc, FIVE));
     commit(rt, alloc, keeper, (same, same_again));
     tell_view(rt, keeper, book, &number, text);
-    let (old, new) = (account_with(rt, alloc, SEVEN), account_with(rt, alloc, FIVE));
+    let (old, new) = (
+        account_with(rt, alloc, SEVEN),
+        account_with(rt, alloc, FIVE),
+    );
     commit(rt, alloc, keeper, (old, new));
     tell_view(rt, keeper, book, &number, text);
 }

@@ -11,10 +11,7 @@ use tariffs::TariffBook;
 use units::Moment;
 
 /// A keeper of the worked book over a new database, and the book.
-pub(crate) fn new_keeper(
-    rt: &impl Abort,
-    alloc: Global,
-) -> (SqlKeeper<MemStore>, TariffBook) {
+pub(crate) fn new_keeper(rt: &impl Abort, alloc: Global) -> (SqlKeeper<MemStore>, TariffBook) {
     let conn = Connection::open_in_memory(alloc).expect(rt, "a database");
     let made = SqlKeeper::create(alloc, conn, worked_book::BOOK);
     made.ok().expect(rt, "a keeper")

@@ -24,7 +24,17 @@ pub(crate) struct Given {
 
 /// `NUMBER FROM UNTIL SCOPE CREDITED AVAILABLE RESERVED CHARGED EXPIRED`.
 fn bucket(rt: &impl Abort, words: &[&str]) -> Bucket {
-    let [number, from, until, scope, credited, available, reserved, charged, expired] = words
+    let [
+        number,
+        from,
+        until,
+        scope,
+        credited,
+        available,
+        reserved,
+        charged,
+        expired,
+    ] = words
     else {
         panic!(rt; "a bucket")
     };
@@ -117,7 +127,17 @@ fn group(rt: &impl Abort, alloc: Global, words: &[&str]) -> SessionGroup {
 
 /// `NUMBER MOMENT SESSION GROUP BLOCKS RATED COLLECTED UNCOLLECTED`.
 fn charge(rt: &impl Abort, alloc: Global, words: &[&str]) -> ChargeRow {
-    let [number, moment, name, of_group, blocks, rated, collected, uncollected] = words else {
+    let [
+        number,
+        moment,
+        name,
+        of_group,
+        blocks,
+        rated,
+        collected,
+        uncollected,
+    ] = words
+    else {
         panic!(rt; "a charge")
     };
     let collected = large(rt, collected) as u128;
@@ -214,12 +234,7 @@ pub(crate) fn stored_rows(
 }
 
 /// An account that isn't barred, of these rows as of a moment; its next bucket is the third.
-pub(crate) fn stored(
-    rt: &impl Abort,
-    alloc: Global,
-    as_of: Moment,
-    text: &str,
-) -> StoredAccount {
+pub(crate) fn stored(rt: &impl Abort, alloc: Global, as_of: Moment, text: &str) -> StoredAccount {
     let head = Head {
         barred: false,
         as_of,

@@ -279,7 +279,9 @@ fn rows_are_put_and_read(rt: HostRuntime) {
     let mut text = String::new(alloc);
     let mut conn = new_tables(&rt, alloc);
     try_all(&rt, alloc, &mut conn, &names, &other, &mut text);
-    let parts = [NO_ROWS, NO_ANSWERS, HEADS, NO_ROWS, ROWS, GROUPS, NO_ANSWERS, ANSWERS];
+    let parts = [
+        NO_ROWS, NO_ANSWERS, HEADS, NO_ROWS, ROWS, GROUPS, NO_ANSWERS, ANSWERS,
+    ];
     let wanted = parts.concat(alloc).expect(&rt, "room");
     assert_eq!(rt; text.as_str(), wanted.as_str());
 }

@@ -50,8 +50,14 @@ fn tell_account(
 ) {
     write!(text, "{digits}\n").expect(rt, "room");
     let number = account(rt, alloc, digits);
-    push_buckets(rt, text, &keeper.dead_buckets(&number).expect(rt, "buckets"));
-    let view = keeper.view(book, &number, moment(rt, SWEEP)).expect(rt, "a view");
+    push_buckets(
+        rt,
+        text,
+        &keeper.dead_buckets(&number).expect(rt, "buckets"),
+    );
+    let view = keeper
+        .view(book, &number, moment(rt, SWEEP))
+        .expect(rt, "a view");
     match &view {
         Some(account) => push_account(rt, text, account),
         None => push(rt, text, "no account\n"),

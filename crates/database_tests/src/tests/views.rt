@@ -47,7 +47,9 @@ fn tell_voucher<K: ChargeSource>(
     keeper: &mut K,
     text: &mut String,
 ) {
-    let found = keeper.find_voucher(&code(rt, alloc, CODE)).expect(rt, "a look");
+    let found = keeper
+        .find_voucher(&code(rt, alloc, CODE))
+        .expect(rt, "a look");
     match &found {
         Some(voucher) => push_voucher(rt, text, voucher),
         None => push(rt, text, "no voucher\n"),
@@ -100,7 +102,9 @@ fn tell_charges<K: ChargeSource>(
     };
     let number = account(rt, alloc, ACCOUNT);
     let (first, end) = (Moment::first(), Moment::no_end());
-    keeper.each(&number, first, end, &mut shown).expect(rt, "charges");
+    keeper
+        .each(&number, first, end, &mut shown)
+        .expect(rt, "charges");
     assert!(rt; shown.is_whole);
     push_charges(rt, text, &shown.rows);
 }

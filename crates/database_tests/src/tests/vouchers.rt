@@ -40,7 +40,9 @@ fn tell_voucher(
     digits: &str,
     text: &mut String,
 ) {
-    let found = keeper.find_voucher(&code(rt, alloc, digits)).expect(rt, "a look");
+    let found = keeper
+        .find_voucher(&code(rt, alloc, digits))
+        .expect(rt, "a look");
     match &found {
         Some(voucher) => push_voucher(rt, text, voucher),
         None => push(rt, text, "no voucher\n"),
@@ -69,16 +71,13 @@ fn add(
     at: Moment,
 ) {
     let code = code(rt, alloc, "000000000001");
-    keeper.add_voucher(code, terms, at).expect(rt, "an addition");
+    keeper
+        .add_voucher(code, terms, at)
+        .expect(rt, "an addition");
 }
 
 /// An account redeems the first voucher.
-fn redeem(
-    rt: &impl Abort,
-    alloc: Global,
-    keeper: &mut SqlKeeper<MemStore>,
-    book: &TariffBook,
-) {
+fn redeem(rt: &impl Abort, alloc: Global, keeper: &mut SqlKeeper<MemStore>, book: &TariffBook) {
     let before = Account::new(alloc, book).into_stored();
     let after = Account::new(alloc, book).into_stored();
     let mut change = change_of(rt, alloc, moment(rt, REDEEMED), "49151", (before, after));

@@ -28,8 +28,14 @@ pub(crate) fn keep_reserved<S: Alter>(
 {
     let (bucket, amount) = (1, 5);
     let first = Hold { bucket, amount };
-    let second = Hold { bucket: 2, amount: 7 };
-    let again = Hold { bucket: 2, amount: 9 };
+    let second = Hold {
+        bucket: 2,
+        amount: 7,
+    };
+    let again = Hold {
+        bucket: 2,
+        amount: 9,
+    };
     let mut tx = conn.transaction();
     put_group_reserved(&mut tx, account, session, group, 60, "day", "night").expect(rt, "a row");
     put_holds(&mut tx, account, session, group, &[first, second]).expect(rt, "holds");

@@ -85,5 +85,9 @@ pub(crate) fn tell_accounts<S: Alter>(
     push_head(rt, text, &first);
     let second = read_account(conn, numbers.1).expect(rt, "a reading");
     push_head(rt, text, &second);
-    push_numbers(rt, text, &read_accounts(conn, alloc).expect(rt, "a reading"));
+    push_numbers(
+        rt,
+        text,
+        &read_accounts(conn, alloc).expect(rt, "a reading"),
+    );
 }

@@ -133,9 +133,21 @@ fn tell_counters<S: Alter>(
     requires ready { IsReady (state S.Store conn.old) }
     ensures ready { IsReady (state S.Store conn.new) }
 {
-    push_counter(rt, text, read_counter(conn, account, 10, 2).expect(rt, "a reading"));
-    push_counter(rt, text, read_counter(conn, account, 10, 3).expect(rt, "a reading"));
-    push_counter(rt, text, read_counter(conn, account, 10, 4).expect(rt, "a reading"));
+    push_counter(
+        rt,
+        text,
+        read_counter(conn, account, 10, 2).expect(rt, "a reading"),
+    );
+    push_counter(
+        rt,
+        text,
+        read_counter(conn, account, 10, 3).expect(rt, "a reading"),
+    );
+    push_counter(
+        rt,
+        text,
+        read_counter(conn, account, 10, 4).expect(rt, "a reading"),
+    );
     push(rt, text, "of cycle 3\n");
     let third = read_counters_in(conn, alloc, account, 3).expect(rt, "a reading");
     push_counters(rt, text, &third);
