@@ -1,4 +1,5 @@
-//! Tests of databases in files: made, closed, opened again.
+//! Tests of databases: the statements over the ten tables, the keeper over them, and files that
+//! stop.
 #![tactic(auto)]
 
 #[cfg(test)]

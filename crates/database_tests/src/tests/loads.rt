@@ -1,0 +1,125 @@
+//! What is loaded of an account that was written, and which of its rows a change writes.
+
+use crate::tests::new_keepers::{change_of, new_keeper};
+use crate::tests::row_readers::stored;
+use crate::tests::row_writers::{push, push_account};
+use crate::tests::values::{account, moment};
+use identifiers::AccountNumber;
+use reserving::{Account, StoredAccount};
+use sql_keeper::SqlKeeper;
+use sqlite::MemStore;
+use std::alloc::Global;
+use std::process::Abort;
+use tariffs::TariffBook;
+
+/// Monday, 2026-01-05, 10:00: the month has number 684.
+const AT: u64 = 1_767_607_200;
+
+/// A dead bucket.
+const FIRST: &str = "bucket 1 1767607200 1767700000 - 10 0 0 10 0";
+
+/// A bucket that has 7.
+const SEVEN: &str = "bucket 2 1767607200 1767700000 - 10 7 3 0 0";
+
+/// The same once 2 more were charged.
+const FIVE: &str = "bucket 2 1767607200 1767700000 - 10 5 3 2 0";
+
+/// Counters of two months, two sessions, one of them over, and what they have of a rating group.
+const OTHERS: &str = "counter 10 0 2
+counter 20 683 9
+counter 20 684 4
+session open 1 1767607200 open
+session over 1 1767607200 ended
+group open 10 60 1 0 2 3
+group over 10 120";
+
+/// An account whose second bucket is this.
+fn account_with(rt: &impl Abort, alloc: Global, bucket: &str) -> StoredAccount {
+    let rows = format!(in alloc; "{FIRST}\n{bucket}\n{OTHERS}").expect(rt, "room");
+    stored(rt, alloc, moment(rt, AT), rows.as_str())
+}
+
+/// What is viewed of the account.
+fn tell_view(
+    rt: &impl Abort,
+    keeper: &mut SqlKeeper<MemStore>,
+    book: &TariffBook,
+    number: &AccountNumber,
+    text: &mut String,
+) {
+    let view = keeper
+        .view(book, number, moment(rt, AT))
+        .expect(rt, "a view");
+    match &view {
+        Some(account) => push_account(rt, text, account),
+        None => push(rt, text, "no account\n"),
+    }
+}
+
+/// Commits the change of the account from these rows to those.
+fn commit(
+    rt: &impl Abort,
+    alloc: Global,
+    keeper: &mut SqlKeeper<MemStore>,
+    rows: (StoredAccount, StoredAccount),
+) {
+    let change = change_of(rt, alloc, moment(rt, AT), "49151", rows);
+    keeper.commit(change).expect(rt, "a commit");
+}
+
+/// What is viewed before the account is written, and after; after a change by which its second
+/// bucket has 5 before and after; and after one by which it has 7 and then 5.
+fn views(
+    rt: &impl Abort,
+    alloc: Global,
+    keeper: &mut SqlKeeper<MemStore>,
+    book: &TariffBook,
+    text: &mut String,
+) {
+    let number = account(rt, alloc, "49151");
+    tell_view(rt, keeper, book, &number, text);
+    let new = Account::new(alloc, book).into_stored();
+    commit(rt, alloc, keeper, (new, account_with(rt, alloc, SEVEN)));
+    tell_view(rt, keeper, book, &number, text);
+    let (same, same_again) = (account_with(rt, alloc, FIVE), account_with(rt, alloc, FIVE));
+    commit(rt, alloc, keeper, (same, same_again));
+    tell_view(rt, keeper, book, &number, text);
+    let (old, new) = (
+        account_with(rt, alloc, SEVEN),
+        account_with(rt, alloc, FIVE),
+    );
+    commit(rt, alloc, keeper, (old, new));
+    tell_view(rt, keeper, book, &number, text);
+}
+
+/// What may still change is viewed. A row that is the same before and after isn't written, whatever
+/// stands there; one that differs is.
+const VIEWS: &str = "no account
+account as of 1767607200, next charge 1
+bucket 2 1767607200 1767700000 - 10 7 3 0 0
+counter 10 0 2
+counter 20 684 4
+session open 1 1767607200 open
+group open 10 60 1 0 2 3
+account as of 1767607200, next charge 1
+bucket 2 1767607200 1767700000 - 10 7 3 0 0
+counter 10 0 2
+counter 20 684 4
+session open 1 1767607200 open
+group open 10 60 1 0 2 3
+account as of 1767607200, next charge 1
+bucket 2 1767607200 1767700000 - 10 5 3 2 0
+counter 10 0 2
+counter 20 684 4
+session open 1 1767607200 open
+group open 10 60 1 0 2 3
+";
+
+#[test]
+fn what_may_still_change_is_loaded_and_what_differs_written(rt: HostRuntime) {
+    let alloc = rt.alloc();
+    let (mut keeper, book) = new_keeper(&rt, alloc);
+    let mut text = String::new(alloc);
+    views(&rt, alloc, &mut keeper, &book, &mut text);
+    assert_eq!(rt; text.as_str(), VIEWS);
+}

@@ -1,0 +1,38 @@
+//! A keeper over a new database in memory, and changes of accounts.
+
+use crate::tests::values::account;
+use keepers::Change;
+use reserving::StoredAccount;
+use sql_keeper::SqlKeeper;
+use sqlite::{Connection, MemStore};
+use std::alloc::Global;
+use std::process::Abort;
+use tariffs::TariffBook;
+use units::Moment;
+
+/// A keeper of the worked book over a new database, and the book.
+pub(crate) fn new_keeper(rt: &impl Abort, alloc: Global) -> (SqlKeeper<MemStore>, TariffBook) {
+    let conn = Connection::open_in_memory(alloc).expect(rt, "a database");
+    let made = SqlKeeper::create(alloc, conn, worked_book::BOOK);
+    made.ok().expect(rt, "a keeper")
+}
+
+/// The change of an account from these rows to those, without charges.
+pub(crate) fn change_of(
+    rt: &impl Abort,
+    alloc: Global,
+    moment: Moment,
+    number: &str,
+    rows: (StoredAccount, StoredAccount),
+) -> Change {
+    let (before, after) = rows;
+    Change {
+        moment,
+        number: account(rt, alloc, number),
+        after,
+        before,
+        charges: Vec::new(alloc),
+        kept: None,
+        redeemed: None,
+    }
+}

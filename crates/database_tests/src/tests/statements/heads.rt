@@ -1,0 +1,93 @@
+//! What is kept once, and accounts.
+
+ghost use Rattle.database_tests.specs.Ready.{IsReady};
+ghost use Rattle.sqlite.specs.Held.{state};
+
+use crate::tests::row_writers::push;
+use identifiers::AccountNumber;
+use sql_rows::{Head, put_account, put_meta, read_account, read_accounts, read_meta};
+use sqlite::{Alter, Connection};
+use std::alloc::Global;
+use std::process::Abort;
+use units::Moment;
+
+pub(crate) fn keep_meta<S: Alter>(
+    rt: &impl Abort,
+    conn: &mut Connection<S>,
+    version: u32,
+    book: &str,
+    last: Moment,
+)
+    requires ready { IsReady (state S.Store conn.old) }
+    ensures ready { IsReady (state S.Store conn.new) }
+{
+    let mut tx = conn.transaction();
+    put_meta(&mut tx, version, book, last).expect(rt, "a row");
+    tx.commit().expect(rt, "a commit");
+}
+
+pub(crate) fn tell_meta<S: Alter>(rt: &impl Abort, conn: &mut Connection<S>, text: &mut String)
+    requires ready { IsReady (state S.Store conn.old) }
+    ensures ready { IsReady (state S.Store conn.new) }
+{
+    let meta = read_meta(conn).expect(rt, "a reading");
+    let Some(meta) = &meta else {
+        return push(rt, text, "no meta\n");
+    };
+    let (version, book, last) = (meta.version, meta.book.as_str(), meta.last.seconds());
+    write!(text, "meta {version} {book} {last}\n").expect(rt, "room");
+}
+
+pub(crate) fn keep_account<S: Alter>(
+    rt: &impl Abort,
+    conn: &mut Connection<S>,
+    account: &AccountNumber,
+    head: &Head,
+)
+    requires ready { IsReady (state S.Store conn.old) }
+    ensures ready { IsReady (state S.Store conn.new) }
+{
+    let mut tx = conn.transaction();
+    put_account(&mut tx, account, head).expect(rt, "a row");
+    tx.commit().expect(rt, "a commit");
+}
+
+fn push_head(rt: &impl Abort, text: &mut String, head: &Option<Head>) {
+    let Some(head) = head else {
+        return push(rt, text, "none, ");
+    };
+    let (barred, at) = (head.barred, head.as_of.seconds());
+    write!(text, "{barred} {at}").expect(rt, "room");
+    let (bucket, charge) = (head.next_bucket, head.next_charge);
+    write!(text, " {bucket} {charge}, ").expect(rt, "room");
+}
+
+fn push_numbers(rt: &impl Abort, text: &mut String, numbers: &[AccountNumber]) {
+    for number in numbers {
+        push(rt, text, number.as_str());
+        push(rt, text, ";");
+    }
+    push(rt, text, "\n");
+}
+
+/// Both accounts, and the numbers of all.
+pub(crate) fn tell_accounts<S: Alter>(
+    rt: &impl Abort,
+    alloc: Global,
+    conn: &mut Connection<S>,
+    numbers: (&AccountNumber, &AccountNumber),
+    text: &mut String,
+)
+    requires ready { IsReady (state S.Store conn.old) }
+    ensures ready { IsReady (state S.Store conn.new) }
+{
+    let first = read_account(conn, numbers.0).expect(rt, "a reading");
+    push_head(rt, text, &first);
+    let second = read_account(conn, numbers.1).expect(rt, "a reading");
+    push_head(rt, text, &second);
+    push_numbers(
+        rt,
+        text,
+        &read_accounts(conn, alloc).expect(rt, "a reading"),
+    );
+}

@@ -1,0 +1,133 @@
+//! A voucher that is added, redeemed by a change, and added once more.
+
+use crate::tests::new_keepers::{change_of, new_keeper};
+use crate::tests::row_writers::{push, push_voucher};
+use crate::tests::values::{account, code, moment, money};
+use keepers::Redeemed;
+use redemptions::{Voucher, VoucherTerms};
+use reserving::Account;
+use sql_keeper::SqlKeeper;
+use sqlite::MemStore;
+use std::alloc::Global;
+use std::process::Abort;
+use tariffs::TariffBook;
+use units::Moment;
+
+/// Monday, 2026-01-05, 10:00.
+const ADDED: u64 = 1_767_607_200;
+
+/// An hour later.
+const REDEEMED: u64 = 1_767_610_800;
+
+/// And an hour more.
+const ADDED_AGAIN: u64 = 1_767_614_400;
+
+/// 5 units for 30 days of the rating group 10.
+fn terms(rt: &impl Abort) -> VoucherTerms {
+    VoucherTerms::new(money(rt, 5_000_000), Some(30), Some(10)).expect(rt, "terms")
+}
+
+/// A micro-unit without an end, for all groups.
+fn other_terms(rt: &impl Abort) -> VoucherTerms {
+    VoucherTerms::new(money(rt, 1), None, None).expect(rt, "terms")
+}
+
+/// What stands under a code.
+fn tell_voucher(
+    rt: &impl Abort,
+    alloc: Global,
+    keeper: &mut SqlKeeper<MemStore>,
+    digits: &str,
+    text: &mut String,
+) {
+    let found = keeper
+        .find_voucher(&code(rt, alloc, digits))
+        .expect(rt, "a look");
+    match &found {
+        Some(voucher) => push_voucher(rt, text, voucher),
+        None => push(rt, text, "no voucher\n"),
+    }
+}
+
+/// What stands under two codes, and the moment of the last change.
+fn tell_vouchers(
+    rt: &impl Abort,
+    alloc: Global,
+    keeper: &mut SqlKeeper<MemStore>,
+    text: &mut String,
+) {
+    tell_voucher(rt, alloc, keeper, "000000000001", text);
+    tell_voucher(rt, alloc, keeper, "000000000002", text);
+    let last = keeper.last().expect(rt, "a moment").seconds();
+    write!(text, "last {last}\n").expect(rt, "room");
+}
+
+/// Adds the first voucher.
+fn add(
+    rt: &impl Abort,
+    alloc: Global,
+    keeper: &mut SqlKeeper<MemStore>,
+    terms: VoucherTerms,
+    at: Moment,
+) {
+    let code = code(rt, alloc, "000000000001");
+    keeper
+        .add_voucher(code, terms, at)
+        .expect(rt, "an addition");
+}
+
+/// An account redeems the first voucher.
+fn redeem(rt: &impl Abort, alloc: Global, keeper: &mut SqlKeeper<MemStore>, book: &TariffBook) {
+    let before = Account::new(alloc, book).into_stored();
+    let after = Account::new(alloc, book).into_stored();
+    let mut change = change_of(rt, alloc, moment(rt, REDEEMED), "49151", (before, after));
+    change.redeemed = Some(Redeemed {
+        code: code(rt, alloc, "000000000001"),
+        voucher: Voucher {
+            terms: terms(rt),
+            redeemer: Some(account(rt, alloc, "49151")),
+        },
+    });
+    keeper.commit(change).expect(rt, "a commit");
+}
+
+/// What stands there before the voucher is added, after it is, after it is redeemed, and after
+/// another is added in its place.
+const VOUCHERS: &str = "no voucher
+no voucher
+last 0
+voucher 5000000 30 10 unspent
+no voucher
+last 1767607200
+voucher 5000000 30 10 spent by 49151
+no voucher
+last 1767610800
+voucher 1 - - unspent
+no voucher
+last 1767614400
+";
+
+fn try_vouchers(
+    rt: &impl Abort,
+    alloc: Global,
+    keeper: &mut SqlKeeper<MemStore>,
+    book: &TariffBook,
+    text: &mut String,
+) {
+    tell_vouchers(rt, alloc, keeper, text);
+    add(rt, alloc, keeper, terms(rt), moment(rt, ADDED));
+    tell_vouchers(rt, alloc, keeper, text);
+    redeem(rt, alloc, keeper, book);
+    tell_vouchers(rt, alloc, keeper, text);
+    add(rt, alloc, keeper, other_terms(rt), moment(rt, ADDED_AGAIN));
+    tell_vouchers(rt, alloc, keeper, text);
+}
+
+#[test]
+fn a_voucher_is_added_and_redeemed(rt: HostRuntime) {
+    let alloc = rt.alloc();
+    let (mut keeper, book) = new_keeper(&rt, alloc);
+    let mut text = String::new(alloc);
+    try_vouchers(&rt, alloc, &mut keeper, &book, &mut text);
+    assert_eq!(rt; text.as_str(), VOUCHERS);
+}

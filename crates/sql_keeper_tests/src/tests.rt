@@ -1,7 +1,0 @@
-//! The tests, by what they are of.
-
-mod changes;
-mod loads;
-mod making;
-mod redeeming;
-mod sweeps;
