@@ -15,8 +15,9 @@ use units::{Moment, Money};
 /// The request of a line that begins with its moment.
 pub(crate) fn request_of(rt: &impl Abort, alloc: Global, line: &str) -> (Request, Moment) {
     let dated = dated(rt, alloc, line);
+    let moment = dated.moment;
     match dated.command {
-        Command::Ccr(request) => (request, dated.moment),
+        Command::Ccr(request) => (request, moment),
         _ => panic!(rt; "a request"),
     }
 }
@@ -94,6 +95,7 @@ fn credited<'b>(rt: &impl Abort, alloc: Global, book: &'b TariffBook) -> Account
     let mut account = Account::new(alloc, book);
     let amount = Money::new(1_000_000).expect(rt, "an amount");
     let (from, until) = (Moment::first(), Moment::no_end());
+    assert!(rt; account.as_of() <= from);
     let number = account.credit(from, until, None, amount, from);
     assert_eq!(rt; number.expect(rt, "memory"), 1);
     account
