@@ -1,11 +1,10 @@
 mod balances;
-mod book;
 mod deciding;
 mod denials;
 mod ends;
 mod events;
 mod failures;
-mod keeping;
+mod keys;
 mod lines;
 mod operators;
 mod redeeming;

@@ -1,8 +1,7 @@
 //! Balances: what became of an account's money at a moment.
 
 use crate::tests::ends::HELD_BY_TWO;
-use crate::tests::scenarios::try_in_turn;
-use std::test::Fail;
+use crate::tests::scenarios::try_all;
 
 /// Of an account that isn't there none is told.
 const NO_BUCKETS: &str = r##"1767571200 balance 49151
@@ -61,6 +60,7 @@ last: 1767608160
 unchanged"##;
 
 #[test]
-fn balances(rt: HostRuntime) -> Result<(), Fail> {
-    try_in_turn(&rt, rt.alloc(), &[NO_BUCKETS, HELD_BY_TWO, BALANCES])
+fn balances_at_moments(rt: HostRuntime) {
+    let alloc = rt.alloc();
+    try_all(&rt, alloc, &[NO_BUCKETS, HELD_BY_TWO, BALANCES]);
 }

@@ -1,7 +1,6 @@
 //! Ends of buckets and of sessions, and sweeps.
 
-use crate::tests::scenarios::{try_all, try_in_turn};
-use std::test::Fail;
+use crate::tests::scenarios::try_all;
 
 const OPENED: &str = r##"1767571200 open 49151
 = {"Result-Code":2001}"##;
@@ -28,11 +27,6 @@ const ENDED: &str = r##"1767608100 {"Session-Id":"s6","CC-Request-Type":2,"CC-Re
   "Result-Code":2001}],"Result-Code":2001,"Session-Id":"s6"}
 buckets: (150000; 0, 0, 100000, 50000) (300000; 300000, 0, 0, 0)
 charges: 1 at 1767608100 of s6 10 1 100000 100000 0;"##;
-
-#[test]
-fn a_bucket_that_ends_within_a_grant(rt: HostRuntime) -> Result<(), Fail> {
-    try_in_turn(&rt, rt.alloc(), &[OPENED, HELD_BY_TWO, ENDED])
-}
 
 /// A sweep at every minute before it: nobody sees them.
 const SWEPT: &str = r##"1767607260 sweep
@@ -69,11 +63,6 @@ buckets: (150000; 0, 150000, 0, 0) (300000; 150000, 150000, 0, 0)
 1767608100 sweep
 = {"Accounts":1,"Result-Code":2001}"##;
 
-#[test]
-fn sweeps_that_nobody_sees(rt: HostRuntime) -> Result<(), Fail> {
-    try_in_turn(&rt, rt.alloc(), &[OPENED, HELD_BY_TWO, SWEPT, ENDED])
-}
-
 /// A session holds ten minutes.
 const TEN_MINUTES: &str = r##"1767571200 open 49151
 = {"Result-Code":2001}
@@ -98,11 +87,6 @@ last: 1767614399
 buckets: (1000000; 0, 1000000, 0, 0)
 sessions: s13 1 1767614399 Open;"##;
 
-#[test]
-fn the_last_second_of_a_session(rt: HostRuntime) -> Result<(), Fail> {
-    try_in_turn(&rt, rt.alloc(), &[TEN_MINUTES, ALMOST])
-}
-
 /// A second later its request is of no open session and changes nothing. A sweep releases what it
 /// held.
 const LEFT: &str = r##"1767614400 {"Session-Id":"s13","CC-Request-Type":2,"CC-Request-Number":1,
@@ -117,11 +101,6 @@ last: 1767607200
 last: 1767614400
 buckets: (1000000; 1000000, 0, 0, 0)
 sessions: s13 0 1767607200 Ended;"##;
-
-#[test]
-fn a_session_left_alone(rt: HostRuntime) -> Result<(), Fail> {
-    try_in_turn(&rt, rt.alloc(), &[TEN_MINUTES, LEFT])
-}
 
 /// A moment before the last accepted one is taken as that: money that has ended stays so.
 const LATER: &str = r##"1767571200 open 49151
@@ -143,6 +122,11 @@ last: 1767607800
 buckets: (90000; 0, 0, 0, 90000)"##;
 
 #[test]
-fn a_moment_that_falls(rt: HostRuntime) -> Result<(), Fail> {
-    try_all(&rt, rt.alloc(), LATER)
+fn ends_of_buckets_and_sessions(rt: HostRuntime) {
+    let alloc = rt.alloc();
+    try_all(&rt, alloc, &[OPENED, HELD_BY_TWO, ENDED]);
+    try_all(&rt, alloc, &[OPENED, HELD_BY_TWO, SWEPT, ENDED]);
+    try_all(&rt, alloc, &[TEN_MINUTES, ALMOST]);
+    try_all(&rt, alloc, &[TEN_MINUTES, LEFT]);
+    try_all(&rt, alloc, &[LATER]);
 }

@@ -1,29 +1,20 @@
-//! A store that fails at a call: what was accepted is a beginning of the list of commands.
+//! A store that fails at a call: what was accepted is a beginning of the list of commands, and what
+//! is handed in later goes on from there.
 
-use crate::tests::book::book;
-use crate::tests::lines::dated_commands;
-use crate::tests::rows::rows;
-use crate::tests::scenarios::{answered, try_all, whole_lines};
+use crate::tests::lines::commands_between;
+use crate::tests::rows::push_rows;
+use crate::tests::scenarios::{book, push_answer, try_all, whole_lines};
 use charging::run;
 use keepers::{Failing, Keeper, MemoryKeeper, StoreFault};
 use std::alloc::Global;
-use std::test::Fail;
+use std::process::Abort;
 use tariffs::TariffBook;
 
-/// A report, and its answer.
-const UPDATE: &str = r##"{"Session-Id":"s1","CC-Request-Type":2,"CC-Request-Number":1,
-  "Subscription-Id":{"Subscription-Id-Type":0,"Subscription-Id-Data":"49151"},
-  "Multiple-Services-Credit-Control":[{"Rating-Group":10,"Requested-Service-Unit":{"CC-Time":60},
-  "Used-Service-Unit":[{"CC-Time":60}]}]}
-= {"CC-Request-Number":1,"CC-Request-Type":2,
-  "Multiple-Services-Credit-Control":[{"Granted-Service-Unit":{"CC-Time":60},"Rating-Group":10,
-  "Result-Code":2001,"Validity-Time":3600}],"Result-Code":2001,"Session-Id":"s1"}"##;
-
-/// Ten commands: an account is opened and credited; a session begins, reports, and sends its report
-/// again; the account is barred and gets money back; a voucher is added, and the account redeems
-/// it;
-/// and a sweep ends the session.
-const TEN: &str = r##"1767571200 open 49151
+/// Twelve commands, which call a keeper in each way that there is: an account is opened and
+/// credited; a session begins, reports, and sends its report again; the account is barred and gets
+/// money back; a voucher is added, and the account redeems it; its money is checked; a sweep ends
+/// the session; and a balance is asked for.
+const TWELVE: &str = r##"1767571200 open 49151
 = {"Result-Code":2001}
 1767571200 credit 49151 {"Amount":1000000,"Reference":"c1"}
 = {"Bucket":1,"Result-Code":2001}
@@ -33,8 +24,20 @@ const TEN: &str = r##"1767571200 open 49151
 = {"CC-Request-Number":0,"CC-Request-Type":1,
   "Multiple-Services-Credit-Control":[{"Granted-Service-Unit":{"CC-Time":600},"Rating-Group":10,
   "Result-Code":2001,"Validity-Time":3600}],"Result-Code":2001,"Session-Id":"s1"}
-1767607500 UPDATE
-1767607560 UPDATE
+1767607500 {"Session-Id":"s1","CC-Request-Type":2,"CC-Request-Number":1,
+  "Subscription-Id":{"Subscription-Id-Type":0,"Subscription-Id-Data":"49151"},
+  "Multiple-Services-Credit-Control":[{"Rating-Group":10,"Requested-Service-Unit":{"CC-Time":60},
+  "Used-Service-Unit":[{"CC-Time":60}]}]}
+= {"CC-Request-Number":1,"CC-Request-Type":2,
+  "Multiple-Services-Credit-Control":[{"Granted-Service-Unit":{"CC-Time":60},"Rating-Group":10,
+  "Result-Code":2001,"Validity-Time":3600}],"Result-Code":2001,"Session-Id":"s1"}
+1767607560 {"Session-Id":"s1","CC-Request-Type":2,"CC-Request-Number":1,
+  "Subscription-Id":{"Subscription-Id-Type":0,"Subscription-Id-Data":"49151"},
+  "Multiple-Services-Credit-Control":[{"Rating-Group":10,"Requested-Service-Unit":{"CC-Time":60},
+  "Used-Service-Unit":[{"CC-Time":60}]}]}
+= {"CC-Request-Number":1,"CC-Request-Type":2,
+  "Multiple-Services-Credit-Control":[{"Granted-Service-Unit":{"CC-Time":60},"Rating-Group":10,
+  "Result-Code":2001,"Validity-Time":3600}],"Result-Code":2001,"Session-Id":"s1"}
 1767607560 bar 49151
 = {"Result-Code":2001}
 1767607620 {"Session-Id":"r1","CC-Request-Type":4,"CC-Request-Number":0,
@@ -46,8 +49,19 @@ const TEN: &str = r##"1767571200 open 49151
 = {"Result-Code":2001}
 1767607740 redeem 49151 000000000001 v1
 = {"Bucket":3,"Result-Code":2001}
+1767607800 {"Session-Id":"k1","CC-Request-Type":4,"CC-Request-Number":0,
+  "Subscription-Id":{"Subscription-Id-Type":0,"Subscription-Id-Data":"49151"},"Requested-Action":2,
+  "Multiple-Services-Credit-Control":[{"Rating-Group":30,"Requested-Service-Unit":{}}]}
+= {"CC-Request-Number":0,"CC-Request-Type":4,"Check-Balance-Result":0,"Result-Code":2001,
+  "Session-Id":"k1"}
 1767614700 sweep
 = {"Accounts":1,"Result-Code":2001}
+1767614700 balance 49151
+= {"Account":"49151","Barred":true,"Buckets":[{"Available":900000,"Charged":100000,
+  "Credited":1000000,"Expired":0,"From":1767571200,"Number":1,"Reserved":0,"Until":4102444800},
+  {"Available":1,"Charged":0,"Credited":1,"Expired":0,"From":1767607620,"Number":2,"Reserved":0,
+  "Until":4102444800},{"Available":5000000,"Charged":0,"Credited":5000000,"Expired":0,
+  "From":1767607740,"Number":3,"Reserved":0,"Until":1770249600}],"Moment":1767614700}
 last: 1767614700
 voucher 000000000001: 49151
 account: 1767614700 true 2
@@ -57,34 +71,22 @@ sessions: r1 0 1767607620 NeverOpened; s1 1 1767607500 Ended;
 groups: s1 10 used 60 not reserved;
 charges: 1 at 1767607500 of s1 10 1 100000 100000 0;"##;
 
-/// Their text, a line a command or an answer.
-fn ten(alloc: Global) -> Result<String, Fail> {
-    let ten = TEN.replace(alloc, "UPDATE", UPDATE)?;
-    Ok(whole_lines(alloc, ten.as_str())?)
-}
-
 #[test]
-fn ten_commands(rt: HostRuntime) -> Result<(), Fail> {
-    let ten = ten(rt.alloc())?;
-    try_all(&rt, rt.alloc(), ten.as_str())
+fn twelve_commands(rt: HostRuntime) {
+    try_all(&rt, rt.alloc(), &[TWELVE]);
 }
 
-/// What the ten commands come to over a store that fails at the call after so many: how many are
-/// answered; and as text whether the answers are a beginning of those above, the store fault or 0,
-/// the count of failures, and the rows.
-fn failing_after(alloc: Global, book: &TariffBook, calls: u64) -> Result<(usize, String), Fail> {
-    let mut keeper = Failing::new(MemoryKeeper::new(alloc), calls);
-    let ten = ten(alloc)?;
-    let commands = dated_commands(alloc, ten.as_str(), 10)?;
-    let run = run(alloc, &mut keeper, book, commands);
-    let failures = keeper.failures();
-    let mut keeper = keeper.into_inner();
-    let answers = answered(alloc, ten.as_str(), &run.answers)?;
-    let beginning = ten.as_str().starts_with(answers.as_str());
-    let rows = rows(alloc, &mut keeper, book)?;
-    let fault = fault_number(run.fault);
-    let text = format!(in alloc; "{} {} {}\n{}", beginning, fault, failures, rows.as_str())?;
-    Ok((run.answers.len(), text))
+/// What commands come to over a store.
+#[derive(Drop)]
+struct Outcome {
+    /// How many are answered.
+    answered: usize,
+    /// The number of the store fault that stopped them; 0 where none did.
+    fault: u8,
+    /// How many failures the keeper has counted.
+    failures: u64,
+    /// The answers, and the rows after them.
+    text: String,
 }
 
 /// The number of a store fault; 0 where there is none.
@@ -95,33 +97,69 @@ fn fault_number(fault: Option<StoreFault>) -> u8 {
     }
 }
 
-/// The same of a run that a failure of the store stopped after so many answers, or of the whole
-/// run: the rows are those that these commands leave over a store that doesn't fail.
-fn stopped_after(alloc: Global, book: &TariffBook, most: usize) -> Result<String, Fail> {
-    let mut keeper = MemoryKeeper::new(alloc);
-    let ten = ten(alloc)?;
-    let commands = dated_commands(alloc, ten.as_str(), most)?;
-    let _answers = run(alloc, &mut keeper, book, commands);
-    let rows = rows(alloc, &mut keeper, book)?;
-    let store = if most < 10 { "2 1" } else { "0 0" };
-    Ok(format!(in alloc; "true {}\n{}", store, rows.as_str())?)
+/// Hands in the commands among these lines from the one after so many on, as far as so many.
+fn hand_in(
+    rt: &impl Abort,
+    alloc: Global,
+    keeper: &mut Failing<MemoryKeeper>,
+    book: &TariffBook,
+    lines: &str,
+    between: (usize, usize),
+) -> Outcome {
+    let commands = commands_between(rt, alloc, lines, between);
+    let run = run(alloc, keeper, book, commands);
+    let failures = keeper.failures();
+    let mut text = String::new(alloc);
+    for answer in &run.answers {
+        push_answer(rt, alloc, &mut text, answer);
+    }
+    push_rows(rt, alloc, &mut text, &mut keeper.inner, book);
+    Outcome {
+        answered: run.answers.len(),
+        fault: fault_number(run.fault),
+        failures,
+        text,
+    }
+}
+
+/// How many of these commands a store answers that fails at the call after so many. Then the rows
+/// are those that these commands leave, and the commands from the one on that failed go on as if
+/// nothing had failed.
+fn try_failing_after(
+    rt: &impl Abort,
+    alloc: Global,
+    book: &TariffBook,
+    lines: &str,
+    calls: u64,
+) -> usize {
+    let mut failing = Failing::new(MemoryKeeper::new(alloc), calls);
+    let mut sound = Failing::new(MemoryKeeper::new(alloc), u64::MAX);
+    let stopped = hand_in(rt, alloc, &mut failing, book, lines, (0, 12));
+    let answered = stopped.answered;
+    let beginning = hand_in(rt, alloc, &mut sound, book, lines, (0, answered));
+    assert_eq!(rt; stopped.text.as_str(), beginning.text.as_str(), "{calls}");
+    let (fault, failures) = if answered < 12 { (2, 1) } else { (0, 0) };
+    assert_eq!(rt; stopped.fault, fault, "{calls}");
+    assert_eq!(rt; stopped.failures, failures, "{calls}");
+    let later = hand_in(rt, alloc, &mut failing, book, lines, (answered, 12));
+    let others = hand_in(rt, alloc, &mut sound, book, lines, (answered, 12));
+    assert_eq!(rt; later.text.as_str(), others.text.as_str(), "{calls}");
+    assert_eq!(rt; later.failures, failures, "{calls}");
+    answered
 }
 
 /// The store fails at its first call, then at its second, and so on until a run meets no failure.
 #[test]
-fn a_store_that_fails_at_each_call(rt: HostRuntime) -> Result<(), Fail> {
+fn a_store_that_fails_at_each_call(rt: HostRuntime) {
     let alloc = rt.alloc();
-    let book = book(alloc)?;
-    let mut whole = false;
-    for calls in 0..64 {
-        let (answered, found) = failing_after(alloc, &book, calls)?;
-        let expected = stopped_after(alloc, &book, answered)?;
-        assert_eq!(rt; found.as_str(), expected.as_str(), "{calls}");
-        if answered == 10 {
-            whole = 10 < calls;
+    let book = book(&rt, alloc);
+    let lines = whole_lines(&rt, alloc, TWELVE);
+    let mut calls_of_all = 0;
+    for calls in 0..99 {
+        if try_failing_after(&rt, alloc, &book, lines.as_str(), calls) == 12 {
+            calls_of_all = calls;
             break;
         }
     }
-    assert!(rt; whole);
-    Ok(())
+    assert!(rt; 12 < calls_of_all);
 }

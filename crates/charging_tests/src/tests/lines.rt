@@ -8,102 +8,126 @@ use commands::{Command, Credit, VoucherAddition, VoucherRedemption};
 use identifiers::{AccountNumber, Reference, VoucherCode};
 use redemptions::VoucherTerms;
 use std::alloc::Global;
-use std::test::Fail;
+use std::process::Abort;
 use units::{Moment, Money};
 use wire::{read_credit, read_request};
 
-pub(crate) fn account(alloc: Global, word: &str) -> Result<AccountNumber, Fail> {
-    Ok(AccountNumber::new(alloc, word)?.ok_or("an account")?)
+/// The first word of these, and the others.
+pub(crate) fn first_word<'w>(rt: &impl Abort, words: &'w str) -> (&'w str, &'w str) {
+    words.split_once(" ").expect(rt, "a word and others")
 }
 
-fn moment(word: &str) -> Result<Moment, Fail> {
-    Ok(Moment::of_command(word.parse::<u64>()?).ok_or("a moment")?)
+pub(crate) fn account(rt: &impl Abort, alloc: Global, word: &str) -> AccountNumber {
+    let number = AccountNumber::new(alloc, word).expect(rt, "memory");
+    number.expect(rt, "an account")
 }
 
-/// `ACCOUNT BODY`
-fn credit(alloc: Global, words: &str) -> Result<Command, Fail> {
-    let (number, body) = words.split_once(" ").ok_or("an account and a body")?;
-    let number = account(alloc, number)?;
-    Ok(Command::Credit(read_credit(alloc, number, body.as_bytes())?))
+fn reference(rt: &impl Abort, alloc: Global, word: &str) -> Reference {
+    let reference = Reference::new(alloc, word).expect(rt, "memory");
+    reference.expect(rt, "a reference")
 }
 
-/// `ACCOUNT REFERENCE`: a credit of 0, which no body can tell.
-fn nothing(alloc: Global, words: &str) -> Result<Command, Fail> {
-    let (number, reference) = words.split_once(" ").ok_or("an account and a reference")?;
-    Ok(Command::Credit(Credit {
-        account: account(alloc, number)?,
-        amount: Money::new(0).ok_or("an amount")?,
-        from: None,
-        until: None,
-        scope: None,
-        reference: Reference::new(alloc, reference)?.ok_or("a reference")?,
-    }))
+pub(crate) fn code(rt: &impl Abort, alloc: Global, word: &str) -> VoucherCode {
+    let code = VoucherCode::new(alloc, word).expect(rt, "memory");
+    code.expect(rt, "a code")
 }
 
-pub(crate) fn code(alloc: Global, word: &str) -> Result<VoucherCode, Fail> {
-    Ok(VoucherCode::new(alloc, word)?.ok_or("a code")?)
+fn moment(rt: &impl Abort, word: &str) -> Moment {
+    let seconds = word.parse::<u64>().expect(rt, "seconds");
+    Moment::of_command(seconds).expect(rt, "a moment")
+}
+
+fn money(rt: &impl Abort, word: &str) -> Money {
+    let micros = word.parse::<u64>().expect(rt, "micro-units");
+    Money::new(micros).expect(rt, "money")
 }
 
 /// A number, or `-`.
-fn optional(word: &str) -> Result<Option<u32>, Fail> {
+fn optional(rt: &impl Abort, word: &str) -> Option<u32> {
     if word == "-" {
-        return Ok(None);
+        return None;
     }
-    Ok(Some(word.parse::<u32>()?))
+    Some(word.parse::<u32>().expect(rt, "a number"))
+}
+
+/// `ACCOUNT BODY`
+fn credit(rt: &impl Abort, alloc: Global, words: &str) -> Command {
+    let (number, body) = first_word(rt, words);
+    let number = account(rt, alloc, number);
+    Command::Credit(read_credit(alloc, number, body.as_bytes()).expect(rt, "a credit"))
+}
+
+/// `ACCOUNT REFERENCE`: a credit of 0, which no body can tell.
+fn nothing(rt: &impl Abort, alloc: Global, words: &str) -> Command {
+    let (number, name) = first_word(rt, words);
+    let amount = money(rt, "0");
+    Command::Credit(Credit {
+        account: account(rt, alloc, number),
+        amount,
+        from: None,
+        until: None,
+        scope: None,
+        reference: reference(rt, alloc, name),
+    })
 }
 
 /// `AMOUNT DAYS SCOPE`
-fn terms(words: &str) -> Result<VoucherTerms, Fail> {
-    let (amount, words) = words.split_once(" ").ok_or("an amount")?;
-    let (days, scope) = words.split_once(" ").ok_or("days and a scope")?;
-    let amount = Money::new(amount.parse::<u64>()?).ok_or("money")?;
-    let terms = VoucherTerms::new(amount, optional(days)?, optional(scope)?);
-    Ok(terms.ok_or("terms of a voucher")?)
+fn terms(rt: &impl Abort, words: &str) -> VoucherTerms {
+    let (amount, words) = first_word(rt, words);
+    let (days, scope) = first_word(rt, words);
+    let amount = money(rt, amount);
+    let terms = VoucherTerms::new(amount, optional(rt, days), optional(rt, scope));
+    terms.expect(rt, "terms of a voucher")
 }
 
 /// `CODE AMOUNT DAYS SCOPE`
-fn addition(alloc: Global, words: &str) -> Result<Command, Fail> {
-    let (word, words) = words.split_once(" ").ok_or("a code and terms")?;
-    let code = code(alloc, word)?;
-    let terms = terms(words)?;
-    Ok(Command::AddVoucher(VoucherAddition { code, terms }))
+fn addition(rt: &impl Abort, alloc: Global, words: &str) -> Command {
+    let (word, words) = first_word(rt, words);
+    let terms = terms(rt, words);
+    let code = code(rt, alloc, word);
+    Command::AddVoucher(VoucherAddition { code, terms })
 }
 
 /// `ACCOUNT CODE REFERENCE`
-fn redemption(alloc: Global, words: &str) -> Result<Command, Fail> {
-    let (number, words) = words.split_once(" ").ok_or("an account and a code")?;
-    let (word, reference) = words.split_once(" ").ok_or("a code and a reference")?;
-    Ok(Command::Redeem(VoucherRedemption {
-        code: code(alloc, word)?,
-        account: account(alloc, number)?,
-        reference: Reference::new(alloc, reference)?.ok_or("a reference")?,
-    }))
+fn redemption(rt: &impl Abort, alloc: Global, words: &str) -> Command {
+    let (number, words) = first_word(rt, words);
+    let (word, name) = first_word(rt, words);
+    Command::Redeem(VoucherRedemption {
+        code: code(rt, alloc, word),
+        account: account(rt, alloc, number),
+        reference: reference(rt, alloc, name),
+    })
 }
 
-fn command(alloc: Global, name: &str, words: &str) -> Result<Command, Fail> {
+fn command(rt: &impl Abort, alloc: Global, name: &str, words: &str) -> Command {
     match name {
-        "open" => Ok(Command::OpenAccount(account(alloc, words)?)),
-        "credit" => credit(alloc, words),
-        "credit-nothing" => nothing(alloc, words),
-        "bar" => Ok(Command::Bar(account(alloc, words)?)),
-        "unbar" => Ok(Command::Unbar(account(alloc, words)?)),
-        "add" => addition(alloc, words),
-        "redeem" => redemption(alloc, words),
-        "balance" => Ok(Command::Balance(account(alloc, words)?)),
-        _ => Ok(Command::Sweep),
+        "open" => Command::OpenAccount(account(rt, alloc, words)),
+        "credit" => credit(rt, alloc, words),
+        "credit-nothing" => nothing(rt, alloc, words),
+        "bar" => Command::Bar(account(rt, alloc, words)),
+        "unbar" => Command::Unbar(account(rt, alloc, words)),
+        "add" => addition(rt, alloc, words),
+        "redeem" => redemption(rt, alloc, words),
+        "balance" => Command::Balance(account(rt, alloc, words)),
+        _ => Command::Sweep,
     }
 }
 
-fn dated(alloc: Global, line: &str) -> Result<DatedCommand, Fail> {
-    let (at, words) = line.split_once(" ").ok_or("a moment and a command")?;
-    let moment = moment(at)?;
-    let command = if words.starts_with("{") {
-        read_request(alloc, words.as_bytes())?
-    } else {
-        let (name, words) = words.split_once(" ").unwrap_or((words, ""));
-        command(alloc, name, words)?
-    };
-    Ok(DatedCommand { moment, command })
+/// A command but for its moment.
+fn read(rt: &impl Abort, alloc: Global, words: &str) -> Command {
+    if words.starts_with("{") {
+        return read_request(alloc, words.as_bytes()).expect(rt, "a request");
+    }
+    let (name, words) = words.split_once(" ").unwrap_or((words, ""));
+    command(rt, alloc, name, words)
+}
+
+/// The command of a line.
+pub(crate) fn dated(rt: &impl Abort, alloc: Global, line: &str) -> DatedCommand {
+    let (at, words) = first_word(rt, line);
+    let moment = moment(rt, at);
+    let command = read(rt, alloc, words);
+    DatedCommand { moment, command }
 }
 
 /// Whether a line is a command: it begins with a moment, and each moment here with such digits.
@@ -111,17 +135,27 @@ pub(crate) fn is_command(line: &str) -> bool {
     line.starts_with("17") || line.starts_with("410")
 }
 
-/// The first commands among these lines, at most so many.
-pub(crate) fn dated_commands(
+/// The commands among these lines, from the one after so many on, as far as so many.
+pub(crate) fn commands_between(
+    rt: &impl Abort,
     alloc: Global,
     lines: &str,
-    most: usize,
-) -> Result<Vec<DatedCommand>, Fail> {
+    (from, until): (usize, usize),
+) -> Vec<DatedCommand> {
     let mut commands = Vec::new(alloc);
+    let mut place: usize = 0;
     for line in lines.lines() {
-        if is_command(line) && commands.len() < most {
-            commands.push(dated(alloc, line)?)?;
+        if is_command(line) {
+            if from <= place && place < until {
+                commands.push(dated(rt, alloc, line)).expect(rt, "memory");
+            }
+            place = place.saturating_add(1);
         }
     }
-    Ok(commands)
+    commands
+}
+
+/// All commands among these lines.
+pub(crate) fn all_commands(rt: &impl Abort, alloc: Global, lines: &str) -> Vec<DatedCommand> {
+    commands_between(rt, alloc, lines, (0, usize::MAX))
 }

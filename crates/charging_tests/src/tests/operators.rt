@@ -1,8 +1,6 @@
-//! Operators' commands over two accounts, and a request that would pass the limit of a stored
-//! number.
+//! Operators' commands over two accounts.
 
-use crate::tests::scenarios::{try_all, try_with};
-use std::test::Fail;
+use crate::tests::scenarios::try_all;
 
 /// Before it is opened an account can only be opened, which is refused the second time. Each
 /// account numbers its buckets and keeps its references for itself.
@@ -43,11 +41,6 @@ account: 1767571380 false 1
 buckets: (1000000; 1000000, 0, 0, 0)
 49152 account: 1767571440 false 1
 49152 buckets: (180000; 180000, 0, 0, 0)"##;
-
-#[test]
-fn accounts_are_opened(rt: HostRuntime) -> Result<(), Fail> {
-    try_all(&rt, rt.alloc(), OPENED)
-}
 
 /// A reference stands for one credit for good: the same again gets its first answer, another one is
 /// refused. So is a credit of nothing, and one that no moment is left for.
@@ -91,11 +84,6 @@ unchanged
 = {"Accounts":1,"Result-Code":2001}
 last: 1767571440
 buckets: (7; 0, 0, 0, 7) (5; 5, 0, 0, 0) (1000000; 1000000, 0, 0, 0)"##;
-
-#[test]
-fn accounts_are_credited(rt: HostRuntime) -> Result<(), Fail> {
-    try_all(&rt, rt.alloc(), CREDITED)
-}
 
 /// A barred account is denied its events, and each bar is accepted; a bucket for one rating group
 /// pays no other; and no command reaches the other account but a sweep, which brings both to its
@@ -171,96 +159,51 @@ last: 1767607440
 account: 1767607440 false 2
 49152 account: 1767607440 true 2"##;
 
-#[test]
-fn accounts_are_barred_and_swept(rt: HostRuntime) -> Result<(), Fail> {
-    try_all(&rt, rt.alloc(), BARRED)
-}
+/// A credit ends at 1767607800, and a sweep at that moment brings both accounts to it.
+const SWEPT: &str = r##"1767607200 sweep
+= {"Accounts":0,"Result-Code":2001}
+last: 1767607200
+account: no such table
+charges:
 
-/// Two rating groups with the same terms.
-const LARGE_BLOCKS: &str = r#"zone = "+00:00"
-currency = 978
-validity = 3600
-periods = ["all"]
-[[week]]
-period = "all"
-days = [1, 2, 3, 4, 5, 6, 7]
-from = "00:00"
-to = "24:00"
-[[group]]
-id = 10
-TERMS[[group]]
-id = 11
-TERMS"#;
-
-/// Blocks of 10^15 octets at one micro-unit.
-const TERMS: &str = r#"unit = "octets"
-block = 1000000000000000
-slice = 1000000000000000
-max_grant = 1000000000000000
-cycle = "none"
-final = "terminate"
-price = [{period = "all", tiers = [{price = 1}]}]
-"#;
-
-/// A session's use ends at 10^18 octets. A report of one more is refused as a whole and changes
-/// nothing, nor does a report of another group beside it, whichever stands first.
-const PASSED: &str = r##"1767571200 open 49151
+1767607200 open 49151
 = {"Result-Code":2001}
-1767571200 credit 49151 {"Amount":2000,"Reference":"c1"}
+account: 1767607200 false 1
+buckets:
+
+1767607200 credit 49151 {"Amount":150000,"Reference":"v1","Until":1767607800}
 = {"Bucket":1,"Result-Code":2001}
-1767607200 {"Session-Id":"s1","CC-Request-Type":1,"CC-Request-Number":0,
-  "Subscription-Id":{"Subscription-Id-Type":0,"Subscription-Id-Data":"49151"},
-  "Multiple-Services-Credit-Control":[{"Rating-Group":10,
-  "Requested-Service-Unit":{"CC-Total-Octets":1000000000000000}}]}
-= {"CC-Request-Number":0,"CC-Request-Type":1,
-  "Multiple-Services-Credit-Control":[{"Granted-Service-Unit":{"CC-Total-Octets":1000000000000000},
-  "Rating-Group":10,"Result-Code":2001,"Validity-Time":3600}],"Result-Code":2001,"Session-Id":"s1"}
-1767607260 {"Session-Id":"s1","CC-Request-Type":2,"CC-Request-Number":1,
-  "Subscription-Id":{"Subscription-Id-Type":0,"Subscription-Id-Data":"49151"},
-  "Multiple-Services-Credit-Control":[{"Rating-Group":10,
-  "Used-Service-Unit":[{"CC-Total-Octets":1000000000000000000}]}]}
-= {"CC-Request-Number":1,"CC-Request-Type":2,"Multiple-Services-Credit-Control":[{"Rating-Group":10,
-  "Result-Code":2001}],"Result-Code":2001,"Session-Id":"s1"}
-account: 1767607260 false 2
-buckets: (2000; 1000, 0, 1000, 0)
-groups: s1 10 used 1000000000000000000 not reserved;
-charges: 1 at 1767607260 of s1 10 1000 1000 1000 0;
+last: 1767607200
+account: 1767607200 false 1
+buckets: (150000; 150000, 0, 0, 0)
+49152 account: no such table
 
-1767607320 {"Session-Id":"s1","CC-Request-Type":2,"CC-Request-Number":2,
-  "Subscription-Id":{"Subscription-Id-Type":0,"Subscription-Id-Data":"49151"},
-  "Multiple-Services-Credit-Control":[{"Rating-Group":10,
-  "Used-Service-Unit":[{"CC-Total-Octets":1}]}]}
-= {"CC-Request-Number":2,"CC-Request-Type":2,"Result-Code":5012,"Session-Id":"s1"}
+1767607200 credit 49151 {"Amount":150000,"Reference":"v1","Until":1767607800}
+= {"Bucket":1,"Result-Code":2001}
+1767607200 credit 49152 {"Amount":150000,"Reference":"v1","Until":1767607800}
+= {"Refusal":"O2"}
 unchanged
 
-1767607320 {"Session-Id":"s1","CC-Request-Type":2,"CC-Request-Number":2,
-  "Subscription-Id":{"Subscription-Id-Type":0,"Subscription-Id-Data":"49151"},
-  "Multiple-Services-Credit-Control":[
-  {"Rating-Group":11,"Used-Service-Unit":[{"CC-Total-Octets":1}]},
-  {"Rating-Group":10,"Used-Service-Unit":[{"CC-Total-Octets":1}]}]}
-= {"CC-Request-Number":2,"CC-Request-Type":2,"Result-Code":5012,"Session-Id":"s1"}
-unchanged
+1767607200 open 49152
+= {"Result-Code":2001}
+1767607260 bar 49151
+= {"Result-Code":2001}
+account: 1767607260 true 1
+buckets: (150000; 150000, 0, 0, 0)
+49152 account: 1767607200 false 1
+49152 buckets:
 
-1767607320 {"Session-Id":"s1","CC-Request-Type":2,"CC-Request-Number":2,
-  "Subscription-Id":{"Subscription-Id-Type":0,"Subscription-Id-Data":"49151"},
-  "Multiple-Services-Credit-Control":[
-  {"Rating-Group":10,"Used-Service-Unit":[{"CC-Total-Octets":1}]},
-  {"Rating-Group":11,"Used-Service-Unit":[{"CC-Total-Octets":1}]}]}
-= {"CC-Request-Number":2,"CC-Request-Type":2,"Result-Code":5012,"Session-Id":"s1"}
-unchanged
-
-1767607320 {"Session-Id":"s1","CC-Request-Type":2,"CC-Request-Number":2,
-  "Subscription-Id":{"Subscription-Id-Type":0,"Subscription-Id-Data":"49151"},
-  "Multiple-Services-Credit-Control":[{"Rating-Group":11,
-  "Used-Service-Unit":[{"CC-Total-Octets":1}]}]}
-= {"CC-Request-Number":2,"CC-Request-Type":2,"Multiple-Services-Credit-Control":[{"Rating-Group":11,
-  "Result-Code":2001}],"Result-Code":2001,"Session-Id":"s1"}
-buckets: (2000; 999, 0, 1001, 0)
-groups: s1 10 used 1000000000000000000 not reserved; s1 11 used 1 not reserved;
-charges: 1 at 1767607260 of s1 10 1000 1000 1000 0; 2 at 1767607320 of s1 11 1 1 1 0;"##;
+1767607800 sweep
+= {"Accounts":2,"Result-Code":2001}
+last: 1767607800
+account: 1767607800 true 1
+buckets: (150000; 0, 0, 0, 150000)"##;
 
 #[test]
-fn a_report_past_a_stored_limit(rt: HostRuntime) -> Result<(), Fail> {
-    let book = LARGE_BLOCKS.replace(rt.alloc(), "TERMS", TERMS)?;
-    try_with(&rt, rt.alloc(), book.as_str(), PASSED)
+fn accounts_of_operators(rt: HostRuntime) {
+    let alloc = rt.alloc();
+    try_all(&rt, alloc, &[OPENED]);
+    try_all(&rt, alloc, &[CREDITED]);
+    try_all(&rt, alloc, &[BARRED]);
+    try_all(&rt, alloc, &[SWEPT]);
 }

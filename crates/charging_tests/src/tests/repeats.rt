@@ -1,16 +1,6 @@
 //! Requests that come again.
 
 use crate::tests::scenarios::try_all;
-use std::test::Fail;
-
-/// An update, and its answer.
-const UPDATE: &str = r##"{"Session-Id":"s11","CC-Request-Type":2,"CC-Request-Number":1,
-  "Subscription-Id":{"Subscription-Id-Type":0,"Subscription-Id-Data":"49151"},
-  "Multiple-Services-Credit-Control":[{"Rating-Group":10,"Requested-Service-Unit":{"CC-Time":60},
-  "Used-Service-Unit":[{"CC-Time":60}]}]}
-= {"CC-Request-Number":1,"CC-Request-Type":2,
-  "Multiple-Services-Credit-Control":[{"Granted-Service-Unit":{"CC-Time":60},"Rating-Group":10,
-  "Result-Code":2001,"Validity-Time":3600}],"Result-Code":2001,"Session-Id":"s11"}"##;
 
 /// An update that comes again gets its first answer; with another use it is refused. Neither
 /// changes a row.
@@ -24,12 +14,24 @@ const REPEATED: &str = r##"1767571200 open 49151
 = {"CC-Request-Number":0,"CC-Request-Type":1,
   "Multiple-Services-Credit-Control":[{"Granted-Service-Unit":{"CC-Time":600},"Rating-Group":10,
   "Result-Code":2001,"Validity-Time":3600}],"Result-Code":2001,"Session-Id":"s11"}
-1767607500 UPDATE
+1767607500 {"Session-Id":"s11","CC-Request-Type":2,"CC-Request-Number":1,
+  "Subscription-Id":{"Subscription-Id-Type":0,"Subscription-Id-Data":"49151"},
+  "Multiple-Services-Credit-Control":[{"Rating-Group":10,"Requested-Service-Unit":{"CC-Time":60},
+  "Used-Service-Unit":[{"CC-Time":60}]}]}
+= {"CC-Request-Number":1,"CC-Request-Type":2,
+  "Multiple-Services-Credit-Control":[{"Granted-Service-Unit":{"CC-Time":60},"Rating-Group":10,
+  "Result-Code":2001,"Validity-Time":3600}],"Result-Code":2001,"Session-Id":"s11"}
 last: 1767607500
 buckets: (1000000; 800000, 100000, 100000, 0)
 counters: 10 0 1;
 
-1767607560 UPDATE
+1767607560 {"Session-Id":"s11","CC-Request-Type":2,"CC-Request-Number":1,
+  "Subscription-Id":{"Subscription-Id-Type":0,"Subscription-Id-Data":"49151"},
+  "Multiple-Services-Credit-Control":[{"Rating-Group":10,"Requested-Service-Unit":{"CC-Time":60},
+  "Used-Service-Unit":[{"CC-Time":60}]}]}
+= {"CC-Request-Number":1,"CC-Request-Type":2,
+  "Multiple-Services-Credit-Control":[{"Granted-Service-Unit":{"CC-Time":60},"Rating-Group":10,
+  "Result-Code":2001,"Validity-Time":3600}],"Result-Code":2001,"Session-Id":"s11"}
 unchanged
 last: 1767607500
 
@@ -41,12 +43,6 @@ last: 1767607500
   "Session-Id":"s11"}
 unchanged
 last: 1767607500"##;
-
-#[test]
-fn an_update_that_comes_again(rt: HostRuntime) -> Result<(), Fail> {
-    let scenario = REPEATED.replace(rt.alloc(), "UPDATE", UPDATE)?;
-    try_all(&rt, rt.alloc(), scenario.as_str())
-}
 
 /// A denied initial request stays denied when money has come; a new session is granted units.
 const DENIED: &str = r##"1767571200 open 49151
@@ -81,6 +77,8 @@ last: 1767607260
 buckets: (40000; 0, 40000, 0, 0) (1000000; 40000, 960000, 0, 0)"##;
 
 #[test]
-fn a_denied_request_that_comes_again(rt: HostRuntime) -> Result<(), Fail> {
-    try_all(&rt, rt.alloc(), DENIED)
+fn requests_that_come_again(rt: HostRuntime) {
+    let alloc = rt.alloc();
+    try_all(&rt, alloc, &[REPEATED]);
+    try_all(&rt, alloc, &[DENIED]);
 }

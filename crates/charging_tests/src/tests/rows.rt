@@ -1,205 +1,162 @@
-//! The rows of accounts as text, a line a table.
+//! The rows of accounts as text, a line a table. No other file says how a row is told.
 
 use crate::tests::lines::{account, code};
 use buckets::Bucket;
-use identifiers::AccountNumber;
-use keepers::{Keeper, MemoryKeeper, StoreFault, WholeAccount};
-use reserving::{Account, ChargeRow, Counter, Reservation, Session, SessionGroup};
-use std::alloc::{AllocError, Global};
-use std::test::Fail;
+use keepers::{Keeper, MemoryKeeper, WholeAccount};
+use reserving::{Account, ChargeRow, Counter, Session, SessionGroup};
+use std::alloc::Global;
+use std::process::Abort;
 use tariffs::TariffBook;
 
-/// Each bucket in the order of use: what was credited; what of it is available, reserved, charged
-/// and expired.
-pub(crate) fn bucket_amounts(alloc: Global, rows: &[Bucket]) -> Result<String, AllocError> {
-    let mut text = String::new(alloc);
-    for bucket in rows {
-        let (credited, available) = (bucket.credited(), bucket.available());
-        let first = format!(in alloc; " ({}; {}", credited, available)?;
-        let (reserved, charged) = (bucket.reserved(), bucket.charged());
-        let rest = format!(in alloc; ", {}, {}, {})", reserved, charged, bucket.expired())?;
-        text.push_str(first.as_str())?;
-        text.push_str(rest.as_str())?;
-    }
-    Ok(text)
+/// Puts words behind a text.
+pub(crate) fn push(rt: &impl Abort, text: &mut String, words: &str) {
+    text.push_str(words).expect(rt, "memory");
 }
 
-fn buckets(alloc: Global, rows: &[Bucket]) -> Result<String, AllocError> {
-    let amounts = bucket_amounts(alloc, rows)?;
-    format!(in alloc; "buckets:{}", amounts.as_str())
+/// Each bucket: what was credited; what of it is available, reserved, charged and expired.
+pub(crate) fn push_buckets(rt: &impl Abort, text: &mut String, rows: &[Bucket]) {
+    push(rt, text, "buckets:");
+    for row in rows {
+        let (credited, available) = (row.credited(), row.available());
+        let (reserved, charged, expired) = (row.reserved(), row.charged(), row.expired());
+        write!(text, " ({credited}; {available}, {reserved}").expect(rt, "memory");
+        write!(text, ", {charged}, {expired})").expect(rt, "memory");
+    }
 }
 
 /// Each counter's group, cycle and blocks.
-fn counters(alloc: Global, rows: &[Counter]) -> Result<String, AllocError> {
-    let mut text = String::from_str(alloc, "counters:")?;
-    for counter in rows {
-        let piece = format!(in alloc; " {} {} {};", counter.group, counter.cycle, counter.blocks)?;
-        text.push_str(piece.as_str())?;
+fn push_counters(rt: &impl Abort, text: &mut String, rows: &[Counter]) {
+    push(rt, text, "counters:");
+    for row in rows {
+        write!(text, " {} {} {};", row.group, row.cycle, row.blocks).expect(rt, "memory");
     }
-    Ok(text)
 }
 
 /// Each session's name, last number, last moment and state. Those that weren't loaded by the last
 /// change stand first.
-fn sessions(alloc: Global, rows: &[Session]) -> Result<String, AllocError> {
-    let mut text = String::from_str(alloc, "sessions:")?;
+fn push_sessions(rt: &impl Abort, text: &mut String, rows: &[Session]) {
+    push(rt, text, "sessions:");
     for row in rows {
         let (id, touched) = (row.id.as_str(), row.touched.seconds());
-        let piece = format!(in alloc; " {} {} {} {:?};", id, row.last_number, touched, row.state)?;
-        text.push_str(piece.as_str())?;
+        write!(text, " {id} {} {touched} {:?};", row.last_number, row.state).expect(rt, "memory");
     }
-    Ok(text)
 }
 
-/// What a reservation holds, as bucket and amount.
-fn holds(alloc: Global, reservation: &Reservation) -> Result<String, AllocError> {
-    let mut text = String::new(alloc);
+/// What is held, as bucket and amount.
+fn push_held(rt: &impl Abort, text: &mut String, row: &SessionGroup) {
+    let Some(reservation) = &row.reservation else {
+        push(rt, text, " not reserved;");
+        return;
+    };
+    push(rt, text, " holds");
     for hold in reservation.holds.as_slice() {
-        let piece = format!(in alloc; " {} {}", hold.bucket, hold.amount)?;
-        text.push_str(piece.as_str())?;
+        write!(text, " {} {}", hold.bucket, hold.amount).expect(rt, "memory");
     }
-    Ok(text)
-}
-
-fn reserved(alloc: Global, row: &SessionGroup) -> Result<String, AllocError> {
-    match &row.reservation {
-        Some(reservation) => {
-            let holds = holds(alloc, reservation)?;
-            format!(in alloc; "holds{}", holds.as_str())
-        }
-        None => String::from_str(alloc, "not reserved"),
-    }
+    push(rt, text, ";");
 }
 
 /// What each session has used of each group, and what it holds for it.
-fn groups(alloc: Global, rows: &[SessionGroup]) -> Result<String, AllocError> {
-    let mut text = String::from_str(alloc, "groups:")?;
+fn push_groups(rt: &impl Abort, text: &mut String, rows: &[SessionGroup]) {
+    push(rt, text, "groups:");
     for row in rows {
-        let reserved = reserved(alloc, row)?;
-        let (id, reserved) = (row.session.as_str(), reserved.as_str());
-        let piece = format!(in alloc; " {} {} used {} {};", id, row.group, row.used, reserved)?;
-        text.push_str(piece.as_str())?;
+        let id = row.session.as_str();
+        write!(text, " {id} {} used {}", row.group, row.used).expect(rt, "memory");
+        push_held(rt, text, row);
     }
-    Ok(text)
-}
-
-/// The rows of an account but its charges; first its moment, whether it is barred, and the number
-/// of its next charge.
-fn account_rows(
-    alloc: Global,
-    account: &Account,
-    whole: &WholeAccount,
-) -> Result<String, AllocError> {
-    let (at, barred) = (account.as_of().seconds(), account.is_barred());
-    let first = format!(in alloc; "account: {} {} {}", at, barred, account.next_charge())?;
-    let buckets = buckets(alloc, whole.buckets.as_slice())?;
-    let counters = counters(alloc, whole.counters.as_slice())?;
-    let sessions = sessions(alloc, whole.sessions.as_slice())?;
-    let groups = groups(alloc, whole.groups.as_slice())?;
-    let money = format!(in alloc; "{}\n{}\n", first.as_str(), buckets.as_str())?;
-    let use_of = format!(in alloc; "{}\n{}\n", counters.as_str(), sessions.as_str())?;
-    format!(in alloc;
-        "{}{}{}\n",
-        money.as_str(),
-        use_of.as_str(),
-        groups.as_str()
-    )
-}
-
-/// Every row of the account; none where there is no account.
-fn kept_rows(
-    alloc: Global,
-    keeper: &mut MemoryKeeper,
-    book: &TariffBook,
-    number: &AccountNumber,
-) -> Result<String, StoreFault> {
-    let last = keeper.last()?;
-    let Some(account) = keeper.view(book, number, last)? else {
-        return Ok(String::new(alloc));
-    };
-    let mut whole = keeper.whole(number)?;
-    whole
-        .buckets
-        .sort_by_key(|bucket| (bucket.until().seconds(), bucket.number()))?;
-    Ok(account_rows(alloc, &account, &whole)?)
 }
 
 /// Each charge's number, moment, session and group, its blocks, and its amounts: rated, collected,
 /// uncollected.
-fn charges(alloc: Global, rows: &[ChargeRow]) -> Result<String, AllocError> {
-    let mut text = String::from_str(alloc, "charges:")?;
+pub(crate) fn push_charges(rt: &impl Abort, text: &mut String, rows: &[ChargeRow]) {
+    push(rt, text, "charges:");
     for row in rows {
         let (at, id) = (row.moment.seconds(), row.session.as_str());
-        let of = format!(in alloc; " {} at {} of {} {}", row.number, at, id, row.group)?;
+        write!(text, " {} at {at} of {id} {}", row.number, row.group).expect(rt, "memory");
         let (rated, collected) = (row.rated.0, row.collected.0);
-        let uncollected = row.uncollected.0;
-        let amounts = format!(in alloc;
-            " {} {} {} {};",
-            row.blocks.0, rated, collected, uncollected
-        )?;
-        text.push_str(of.as_str())?;
-        text.push_str(amounts.as_str())?;
+        let (blocks, uncollected) = (row.blocks.0, row.uncollected.0);
+        write!(text, " {blocks} {rated} {collected} {uncollected};").expect(rt, "memory");
     }
-    Ok(text)
 }
 
-/// The rows of an account and its charges, each line after this word.
-fn rows_of(
+/// Its moment, whether it is barred, and the number of its next charge.
+fn push_account(rt: &impl Abort, text: &mut String, account: &Account) {
+    let (at, barred) = (account.as_of().seconds(), account.is_barred());
+    write!(text, "account: {at} {barred} {}", account.next_charge()).expect(rt, "memory");
+}
+
+/// The rows of an account but its charges, its buckets in the order of use, each line after this
+/// word.
+fn push_whole(rt: &impl Abort, text: &mut String, whole: &mut WholeAccount, word: &str) {
+    let sorted = whole
+        .buckets
+        .sort_by_key(|bucket| (bucket.until().seconds(), bucket.number()));
+    sorted.expect(rt, "memory");
+    push(rt, text, word);
+    push_buckets(rt, text, whole.buckets.as_slice());
+    push(rt, text, word);
+    push_counters(rt, text, whole.counters.as_slice());
+    push(rt, text, word);
+    push_sessions(rt, text, whole.sessions.as_slice());
+    push(rt, text, word);
+    push_groups(rt, text, whole.groups.as_slice());
+    push(rt, text, word);
+}
+
+/// The rows of an account, each line after this word: a line break and perhaps its number. Where
+/// there is no account, the charges alone.
+fn push_rows_of(
+    rt: &impl Abort,
     alloc: Global,
+    text: &mut String,
     keeper: &mut MemoryKeeper,
     book: &TariffBook,
-    number: &str,
-    word: &str,
-) -> Result<String, Fail> {
-    let number = account(alloc, number)?;
-    let account = kept_rows(alloc, keeper, book, &number)?;
-    let charges = charges(alloc, keeper.charges(&number))?;
-    let rows = format!(in alloc; "{}{}", account.as_str(), charges.as_str())?;
-    let mut text = String::new(alloc);
-    for line in rows.lines() {
-        let line = format!(in alloc; "{}{}\n", word, line)?;
-        text.push_str(line.as_str())?;
+    (number, word): (&str, &str),
+) {
+    let number = account(rt, alloc, number);
+    let last = keeper.last().expect(rt, "a moment");
+    push(rt, text, word);
+    if let Some(account) = keeper.view(book, &number, last).expect(rt, "a look") {
+        push_account(rt, text, &account);
+        let mut whole = keeper.whole(&number).expect(rt, "memory");
+        push_whole(rt, text, &mut whole, word);
     }
-    Ok(text)
+    push_charges(rt, text, keeper.charges(&number));
 }
 
-/// What stands under the code: the account that redeemed it, `unspent`, or nothing.
-fn voucher(alloc: Global, keeper: &mut MemoryKeeper, word: &str) -> Result<String, Fail> {
-    let code = code(alloc, word)?;
-    let Some(voucher) = keeper.find_voucher(&code)? else {
-        return Ok(String::new(alloc));
+/// What stands under the code, in a line: the account that redeemed it, `unspent`, or nothing.
+fn push_voucher(
+    rt: &impl Abort,
+    alloc: Global,
+    text: &mut String,
+    keeper: &mut MemoryKeeper,
+    word: &str,
+) {
+    let code = code(rt, alloc, word);
+    let Some(voucher) = keeper.find_voucher(&code).expect(rt, "a look") else {
+        return;
     };
     let redeemer = match &voucher.redeemer {
         Some(account) => account.as_str(),
         None => "unspent",
     };
-    Ok(format!(in alloc; "voucher {}: {}\n", word, redeemer)?)
+    write!(text, "\nvoucher {word}: {redeemer}").expect(rt, "memory");
 }
 
-/// What stands under the first three codes, a line each.
-fn vouchers(alloc: Global, keeper: &mut MemoryKeeper) -> Result<String, Fail> {
-    let first = voucher(alloc, keeper, "000000000001")?;
-    let second = voucher(alloc, keeper, "000000000002")?;
-    let third = voucher(alloc, keeper, "000000000003")?;
-    Ok(format!(in alloc; "{}{}{}", first.as_str(), second.as_str(), third.as_str())?)
-}
-
-/// The moment of the last accepted command, the vouchers, the rows of account 49151, and those of
-/// account 49152 after its number.
-pub(crate) fn rows(
+/// The moment of the last accepted command, the vouchers of the first three codes, the rows of
+/// account 49151, and those of account 49152 after its number.
+pub(crate) fn push_rows(
+    rt: &impl Abort,
     alloc: Global,
+    text: &mut String,
     keeper: &mut MemoryKeeper,
     book: &TariffBook,
-) -> Result<String, Fail> {
-    let last = keeper.last()?.seconds();
-    let first = rows_of(alloc, keeper, book, "49151", "")?;
-    let second = rows_of(alloc, keeper, book, "49152", "49152 ")?;
-    let vouchers = vouchers(alloc, keeper)?;
-    let accounts = format!(in alloc; "{}{}", first.as_str(), second.as_str())?;
-    Ok(format!(in alloc;
-        "last: {}\n{}{}",
-        last,
-        vouchers.as_str(),
-        accounts.as_str()
-    )?)
+) {
+    let last = keeper.last().expect(rt, "a moment");
+    write!(text, "last: {}", last.seconds()).expect(rt, "memory");
+    push_voucher(rt, alloc, text, keeper, "000000000001");
+    push_voucher(rt, alloc, text, keeper, "000000000002");
+    push_voucher(rt, alloc, text, keeper, "000000000003");
+    push_rows_of(rt, alloc, text, keeper, book, ("49151", "\n"));
+    push_rows_of(rt, alloc, text, keeper, book, ("49152", "\n49152 "));
+    push(rt, text, "\n");
 }

@@ -1,7 +1,6 @@
 //! Sessions: grants, reports and their settlement.
 
 use crate::tests::scenarios::try_all;
-use std::test::Fail;
 
 /// A grant at 07:30 is held at the price from 08:00 on. Five minutes are used before the switch,
 /// and two begun after it.
@@ -31,11 +30,6 @@ buckets: (1000000; 550000, 0, 450000, 0)
 counters: 10 0 7;
 charges: 1 at 1767600300 of s1 10 7 450000 450000 0;"##;
 
-#[test]
-fn a_switch_within_a_grant(rt: HostRuntime) -> Result<(), Fail> {
-    try_all(&rt, rt.alloc(), SWITCH)
-}
-
 /// 250,000 micro-units cover two minutes of ten. Five are used, and half their price isn't
 /// collected.
 const SHORT: &str = r##"1767571200 open 49151
@@ -64,11 +58,6 @@ counters: 10 0 5;
 sessions: s3 1 1767607500 Ended;
 groups: s3 10 used 300 not reserved;
 charges: 1 at 1767607500 of s3 10 5 500000 250000 250000;"##;
-
-#[test]
-fn a_short_grant_and_its_settlement(rt: HostRuntime) -> Result<(), Fail> {
-    try_all(&rt, rt.alloc(), SHORT)
-}
 
 /// 61 of 600 seconds start two minutes, and the rest of the second is free in the next grant.
 const STARTED: &str = r##"1767571200 open 49151
@@ -102,11 +91,6 @@ charges: 1 at 1767607500 of s5 10 2 200000 200000 0;
 buckets: (1000000; 800000, 0, 200000, 0)
 counters: 10 0 2;
 charges: 1 at 1767607500 of s5 10 2 200000 200000 0; 2 at 1767607560 of s5 10 0 0 0 0;"##;
-
-#[test]
-fn a_started_minute(rt: HostRuntime) -> Result<(), Fail> {
-    try_all(&rt, rt.alloc(), STARTED)
-}
 
 /// The first hundred blocks of a month are free: 99 are used, and then one that is free and one
 /// that isn't.
@@ -145,11 +129,6 @@ charges: 1 at 1767607500 of s7 20 99 0 0 0;
 buckets: (50000; 40000, 0, 10000, 0)
 counters: 20 684 101;"##;
 
-#[test]
-fn free_blocks_of_a_month(rt: HostRuntime) -> Result<(), Fail> {
-    try_all(&rt, rt.alloc(), FREE)
-}
-
 /// Both groups of a session are settled before three events are granted.
 const GROUPS: &str = r##"1767571200 open 49151
 = {"Result-Code":2001}
@@ -177,11 +156,6 @@ buckets: (500000; 20000, 480000, 0, 0)
   "Result-Code":2001}],"Result-Code":2001,"Session-Id":"s17"}
 buckets: (500000; 40000, 270000, 190000, 0)
 charges: 1 at 1767607500 of s17 30 1 90000 90000 0; 2 at 1767607500 of s17 10 1 100000 100000 0;"##;
-
-#[test]
-fn two_groups_of_a_session(rt: HostRuntime) -> Result<(), Fail> {
-    try_all(&rt, rt.alloc(), GROUPS)
-}
 
 /// A report of more than 10^9 blocks is refused; one of 10^9 blocks is rated whole, collected as
 /// far as there is money.
@@ -216,7 +190,71 @@ buckets: (90000; 0, 0, 90000, 0)
 counters: 30 0 1000000000;
 charges: 1 at 1767607320 of s16 30 1000000000 90000000000000 90000 89999999910000;"##;
 
+/// Two reports of two groups each: an account's charges stand in the order in which they were made,
+/// whatever comes between them and after them. Of the other account there are none.
+const NUMBERED: &str = r##"1767607200 open 49151
+= {"Result-Code":2001}
+1767607200 open 49152
+= {"Result-Code":2001}
+1767607200 credit 49151 {"Amount":1000000,"Reference":"c1"}
+= {"Bucket":1,"Result-Code":2001}
+1767607200 {"Session-Id":"s1","CC-Request-Type":1,"CC-Request-Number":0,
+  "Subscription-Id":{"Subscription-Id-Type":0,"Subscription-Id-Data":"49151"},
+  "Multiple-Services-Credit-Control":[{"Rating-Group":10,"Requested-Service-Unit":{"CC-Time":120}},
+  {"Rating-Group":30,"Requested-Service-Unit":{"CC-Service-Specific-Units":2}}]}
+= {"CC-Request-Number":0,"CC-Request-Type":1,
+  "Multiple-Services-Credit-Control":[{"Granted-Service-Unit":{"CC-Time":120},"Rating-Group":10,
+  "Result-Code":2001,"Validity-Time":3600},{"Granted-Service-Unit":{"CC-Service-Specific-Units":2},
+  "Rating-Group":30,"Result-Code":2001,"Validity-Time":3600}],"Result-Code":2001,"Session-Id":"s1"}
+buckets: (1000000; 620000, 380000, 0, 0)
+charges:
+
+1767607200 {"Session-Id":"s1","CC-Request-Type":2,"CC-Request-Number":1,
+  "Subscription-Id":{"Subscription-Id-Type":0,"Subscription-Id-Data":"49151"},
+  "Multiple-Services-Credit-Control":[{"Rating-Group":10,"Requested-Service-Unit":{"CC-Time":60},
+  "Used-Service-Unit":[{"CC-Time":60}]},{"Rating-Group":30,
+  "Requested-Service-Unit":{"CC-Service-Specific-Units":1},
+  "Used-Service-Unit":[{"CC-Service-Specific-Units":1}]}]}
+= {"CC-Request-Number":1,"CC-Request-Type":2,
+  "Multiple-Services-Credit-Control":[{"Granted-Service-Unit":{"CC-Time":60},"Rating-Group":10,
+  "Result-Code":2001,"Validity-Time":3600},{"Granted-Service-Unit":{"CC-Service-Specific-Units":1},
+  "Rating-Group":30,"Result-Code":2001,"Validity-Time":3600}],"Result-Code":2001,"Session-Id":"s1"}
+buckets: (1000000; 620000, 190000, 190000, 0)
+charges: 1 at 1767607200 of s1 10 1 100000 100000 0; 2 at 1767607200 of s1 30 1 90000 90000 0;
+
+1767607200 credit 49151 {"Amount":150000,"Reference":"v1","Until":1767607800}
+= {"Bucket":2,"Result-Code":2001}
+charges: 1 at 1767607200 of s1 10 1 100000 100000 0; 2 at 1767607200 of s1 30 1 90000 90000 0;
+
+1767607200 {"Session-Id":"s1","CC-Request-Type":2,"CC-Request-Number":2,
+  "Subscription-Id":{"Subscription-Id-Type":0,"Subscription-Id-Data":"49153"},
+  "Multiple-Services-Credit-Control":[{"Rating-Group":10,"Used-Service-Unit":[{"CC-Time":60}]}]}
+= {"CC-Request-Number":2,"CC-Request-Type":2,"Result-Code":5030,"Session-Id":"s1"}
+unchanged
+
+1767607260 {"Session-Id":"s1","CC-Request-Type":3,"CC-Request-Number":2,
+  "Subscription-Id":{"Subscription-Id-Type":0,"Subscription-Id-Data":"49151"},
+  "Multiple-Services-Credit-Control":[{"Rating-Group":10,"Used-Service-Unit":[{"CC-Time":60}]},
+  {"Rating-Group":30,"Used-Service-Unit":[{"CC-Service-Specific-Units":1}]}]}
+= {"CC-Request-Number":2,"CC-Request-Type":3,"Multiple-Services-Credit-Control":[{"Rating-Group":10,
+  "Result-Code":2001},{"Rating-Group":30,"Result-Code":2001}],"Result-Code":2001,"Session-Id":"s1"}
+buckets: (150000; 150000, 0, 0, 0) (1000000; 620000, 0, 380000, 0)
+
+1767607800 sweep
+= {"Accounts":2,"Result-Code":2001}
+buckets: (150000; 0, 0, 0, 150000) (1000000; 620000, 0, 380000, 0)
+charges: 1 at 1767607200 of s1 10 1 100000 100000 0; 2 at 1767607200 of s1 30 1 90000 90000 0;
+   3 at 1767607260 of s1 10 1 100000 100000 0; 4 at 1767607260 of s1 30 1 90000 90000 0;
+49152 charges:"##;
+
 #[test]
-fn a_report_of_a_thousand_million_blocks(rt: HostRuntime) -> Result<(), Fail> {
-    try_all(&rt, rt.alloc(), LARGE)
+fn grants_and_settlements(rt: HostRuntime) {
+    let alloc = rt.alloc();
+    try_all(&rt, alloc, &[SWITCH]);
+    try_all(&rt, alloc, &[SHORT]);
+    try_all(&rt, alloc, &[STARTED]);
+    try_all(&rt, alloc, &[FREE]);
+    try_all(&rt, alloc, &[GROUPS]);
+    try_all(&rt, alloc, &[LARGE]);
+    try_all(&rt, alloc, &[NUMBERED]);
 }

@@ -1,20 +1,20 @@
 //! Credits that are used up: what a further command loads and writes is no more than after the
 //! first.
 
-use crate::tests::book::book;
-use crate::tests::lines::{account, dated_commands};
-use crate::tests::scenarios::whole_lines;
+use crate::tests::deciding::request_of;
+use crate::tests::lines::{account, all_commands};
+use crate::tests::rows::push;
+use crate::tests::scenarios::{book, whole_lines};
 use charging::run;
-use commands::{Answer, Command, Content, Request};
+use commands::{Answer, Content, Request};
 use decisions::decide;
-use identifiers::AccountNumber;
 use keepers::{
     Change, Keeper, KeptAnswer, Loaded, MemoryKeeper, is_new_bucket, is_new_counter, is_new_group,
     is_new_session,
 };
-use reserving::StoredAccount;
-use std::alloc::{AllocError, Global};
-use std::test::Fail;
+use reserving::{Account, StoredAccount};
+use std::alloc::Global;
+use std::process::Abort;
 use tariffs::TariffBook;
 use units::Moment;
 
@@ -36,176 +36,151 @@ fn moment_of(turn: u64, seconds: u64) -> u64 {
         .saturating_add(seconds)
 }
 
-fn credit(alloc: Global, turn: u64) -> Result<String, AllocError> {
-    let at = moment_of(turn, 0);
-    format!(in alloc; "{} credit 49151 {}{}{}\n", at, CREDIT.0, turn, CREDIT.1)
+fn push_credit(rt: &impl Abort, text: &mut String, turn: u64) {
+    write!(text, "{} credit 49151 {}", moment_of(turn, 0), CREDIT.0).expect(rt, "memory");
+    write!(text, "{}{}\n", turn, CREDIT.1).expect(rt, "memory");
 }
 
-fn debit(alloc: Global, turn: u64) -> Result<String, AllocError> {
-    let at = moment_of(turn, 60);
-    let text = format!(in alloc; "{} {}{}{}\n", at, DEBIT.0, turn, DEBIT.1)?;
-    whole_lines(alloc, text.as_str())
+fn push_debit(rt: &impl Abort, text: &mut String, turn: u64) {
+    write!(text, "{} {}", moment_of(turn, 60), DEBIT.0).expect(rt, "memory");
+    write!(text, "{}{}\n", turn, DEBIT.1).expect(rt, "memory");
 }
 
 /// An account is opened, credited and debited so many times, and credited once more.
-fn turns(alloc: Global, count: u64) -> Result<String, AllocError> {
-    let mut text = String::from_str(alloc, "1767607200 open 49151\n")?;
+fn push_turns(rt: &impl Abort, text: &mut String, count: u64) {
+    push(rt, text, "1767607200 open 49151\n");
     for turn in 0..count {
-        let credit = credit(alloc, turn)?;
-        let debit = debit(alloc, turn)?;
-        text.push_str(credit.as_str())?;
-        text.push_str(debit.as_str())?;
+        push_credit(rt, text, turn);
+        push_debit(rt, text, turn);
     }
-    let credit = credit(alloc, count)?;
-    text.push_str(credit.as_str())?;
-    Ok(text)
+    push_credit(rt, text, count);
 }
 
-/// The request of a debit, and its moment.
-fn request_of(alloc: Global, line: &str) -> Result<(Request, Moment), Fail> {
-    let mut commands = dated_commands(alloc, line, 1)?;
-    let Some(dated) = commands.pop() else {
-        return Err(Fail::from("a debit"));
-    };
-    let moment = dated.moment;
-    match dated.command {
-        Command::Ccr(request) => Ok((request, moment)),
-        _ => Err(Fail::from("a debit")),
-    }
-}
-
-fn new_buckets(before: &StoredAccount, after: &StoredAccount) -> usize {
-    let (mut cursor, mut count) = (0, 0usize);
+/// How many rows of each kind differ from all before: buckets, counters, sessions, groups.
+fn push_new_rows(
+    rt: &impl Abort,
+    text: &mut String,
+    before: &StoredAccount,
+    after: &StoredAccount,
+) {
+    let (mut cursor, mut buckets) = (0, 0usize);
     for row in after.purse().buckets() {
-        if is_new_bucket(before, &mut cursor, row) {
-            count = count.saturating_add(1);
-        }
+        buckets = buckets.saturating_add(usize::from(is_new_bucket(before, &mut cursor, row)));
     }
-    count
-}
-
-fn new_counters(before: &StoredAccount, after: &StoredAccount) -> usize {
-    let (mut cursor, mut count) = (0, 0usize);
+    write!(text, " {buckets}").expect(rt, "memory");
+    let (mut cursor, mut counters) = (0, 0usize);
     for row in after.counters() {
-        if is_new_counter(before, &mut cursor, row) {
-            count = count.saturating_add(1);
-        }
+        counters = counters.saturating_add(usize::from(is_new_counter(before, &mut cursor, row)));
     }
-    count
+    write!(text, " {counters}").expect(rt, "memory");
+    push_new_sessions(rt, text, before, after);
 }
 
-fn new_sessions(before: &StoredAccount, after: &StoredAccount) -> usize {
-    let (mut cursor, mut count) = (0, 0usize);
+/// The same of sessions and groups.
+fn push_new_sessions(
+    rt: &impl Abort,
+    text: &mut String,
+    before: &StoredAccount,
+    after: &StoredAccount,
+) {
+    let (mut cursor, mut sessions) = (0, 0usize);
     for row in after.sessions() {
-        if is_new_session(before, &mut cursor, row) {
-            count = count.saturating_add(1);
-        }
+        sessions = sessions.saturating_add(usize::from(is_new_session(before, &mut cursor, row)));
     }
-    count
-}
-
-fn new_groups(before: &StoredAccount, after: &StoredAccount) -> usize {
-    let (mut cursor, mut count) = (0, 0usize);
+    write!(text, " {sessions}").expect(rt, "memory");
+    let (mut cursor, mut groups) = (0, 0usize);
     for row in after.groups() {
-        if is_new_group(before, &mut cursor, row) {
-            count = count.saturating_add(1);
-        }
+        groups = groups.saturating_add(usize::from(is_new_group(before, &mut cursor, row)));
     }
-    count
+    write!(text, " {groups}").expect(rt, "memory");
 }
 
 /// How many rows of each kind a change names after a command at this moment: of the moment, the
 /// account, buckets, counters, sessions, groups, answers and charges.
-fn rows_named(alloc: Global, change: &Change, last: Moment) -> Result<String, AllocError> {
+fn push_named(rt: &impl Abort, text: &mut String, change: &Change, last: Moment) {
     let (before, after) = (&change.before, &change.after);
     let account = before.as_of() != after.as_of() || before.next_charge() != after.next_charge();
-    let (buckets, counters) = (new_buckets(before, after), new_counters(before, after));
-    let (sessions, groups) = (new_sessions(before, after), new_groups(before, after));
-    let first = format!(in alloc;
-        "{} {}",
-        usize::from(change.moment != last),
-        usize::from(account)
-    )?;
-    let rows = format!(in alloc; "{} {} {} {}", buckets, counters, sessions, groups)?;
+    let (moment, account) = (usize::from(change.moment != last), usize::from(account));
+    write!(text, " rows: {moment} {account}").expect(rt, "memory");
+    push_new_rows(rt, text, before, after);
     let (answers, charges) = (usize::from(change.kept.is_some()), change.charges.len());
-    format!(in alloc;
-        "{} {} {} {}",
-        first.as_str(),
-        rows.as_str(),
-        answers,
-        charges
-    )
+    write!(text, " {answers} {charges}").expect(rt, "memory");
 }
 
-/// The numbers of the buckets that a debit loads, and the rows that its change names.
-fn told(
-    alloc: Global,
-    keeper: &mut MemoryKeeper,
-    book: &TariffBook,
-    number: &AccountNumber,
-    line: &str,
-) -> Result<String, Fail> {
-    let (request, at) = request_of(alloc, line)?;
-    let last = keeper.last()?;
-    let loaded = keeper.load(book, number, at)?;
-    let Some(
-        Loaded {
-            number,
-            mut account,
-            before,
-        },
-    ) = loaded
-    else {
-        return Err(Fail::from("an account"));
-    };
-    let mut text = String::from_str(alloc, "buckets:")?;
+/// The numbers of an account's buckets.
+fn push_numbers(rt: &impl Abort, text: &mut String, account: &Account) {
+    push(rt, text, " buckets:");
     for bucket in account.purse().buckets() {
-        let piece = format!(in alloc; " {}", bucket.number())?;
-        text.push_str(piece.as_str())?;
+        write!(text, " {};", bucket.number()).expect(rt, "memory");
     }
-    if at < account.as_of() {
-        return Err(Fail::from("a later moment"));
-    }
-    let decided = decide(alloc, &mut account, &request, false, at)?;
-    let change = Change {
-        moment: at,
-        number,
-        after: account.into_stored(),
-        before,
-        charges: decided.charges,
-        kept: Some(KeptAnswer {
-            content: Content::Request(request),
-            answer: Answer::Request(decided.answer),
-        }),
-        redeemed: None,
+}
+
+/// What a debit changes of what was loaded.
+fn change_of(
+    rt: &impl Abort,
+    alloc: Global,
+    mut loaded: Loaded,
+    request: Request,
+    at: Moment,
+) -> Change {
+    assert!(rt; loaded.account.as_of() <= at);
+    let decided = decide(alloc, &mut loaded.account, &request, false, at).expect(rt, "memory");
+    let kept = KeptAnswer {
+        content: Content::Request(request),
+        answer: Answer::Request(decided.answer),
     };
-    let named = rows_named(alloc, &change, last)?;
-    Ok(format!(in alloc; "{}; rows: {}", text.as_str(), named.as_str())?)
+    loaded.into_change(at, decided.charges, Some(kept), None)
 }
 
 /// After so many credits that were used up and one that wasn't, how many commands were answered,
 /// and what a debit loads and writes.
-fn after_turns(alloc: Global, count: u64) -> Result<String, Fail> {
-    let book = book(alloc)?;
-    let number = account(alloc, "49151")?;
+fn after_turns(rt: &impl Abort, alloc: Global, count: u64) -> String {
+    let book = book(rt, alloc);
     let mut keeper = MemoryKeeper::new(alloc);
-    let lines = turns(alloc, count)?;
-    let commands = dated_commands(alloc, lines.as_str(), lines.len())?;
-    let run = run(alloc, &mut keeper, &book, commands);
-    let line = debit(alloc, count)?;
-    let told = told(alloc, &mut keeper, &book, &number, line.as_str())?;
-    Ok(format!(in alloc; "answers: {}; {}", run.answers.len(), told.as_str())?)
+    let mut lines = String::new(alloc);
+    push_turns(rt, &mut lines, count);
+    let lines = whole_lines(rt, alloc, lines.as_str());
+    let run = run(
+        alloc,
+        &mut keeper,
+        &book,
+        all_commands(rt, alloc, lines.as_str()),
+    );
+    let mut text = String::new(alloc);
+    write!(text, "answers: {};", run.answers.len()).expect(rt, "memory");
+    push_last_debit(rt, alloc, &mut text, &mut keeper, &book, count);
+    text
+}
+
+/// The numbers of the buckets that the debit of a turn loads, and the rows that its change names.
+fn push_last_debit(
+    rt: &impl Abort,
+    alloc: Global,
+    text: &mut String,
+    keeper: &mut MemoryKeeper,
+    book: &TariffBook,
+    turn: u64,
+) {
+    let mut line = String::new(alloc);
+    push_debit(rt, &mut line, turn);
+    let line = whole_lines(rt, alloc, line.as_str());
+    let number = account(rt, alloc, "49151");
+    let (request, at) = request_of(rt, alloc, line.as_str());
+    let last = keeper.last().expect(rt, "a moment");
+    let loaded = keeper.load(book, &number, at).expect(rt, "rows");
+    let loaded = loaded.expect(rt, "an account");
+    push_numbers(rt, text, &loaded.account);
+    let change = change_of(rt, alloc, loaded, request, at);
+    push_named(rt, text, &change, last);
 }
 
 /// One bucket is loaded, and eight rows are written: the moment, the account, its bucket, counter,
 /// session and group, the answer and the charge.
 #[test]
-fn a_debit_after_a_hundred_that_are_used_up(rt: HostRuntime) -> Result<(), Fail> {
-    let alloc = rt.alloc();
-    let told = after_turns(alloc, 100)?;
+fn a_debit_after_a_hundred_that_are_used_up(rt: HostRuntime) {
+    let told = after_turns(&rt, rt.alloc(), 100);
     assert_eq!(rt;
         told.as_str(),
         "answers: 202; buckets: 101; rows: 1 1 1 1 1 1 1 1"
     );
-    Ok(())
 }
