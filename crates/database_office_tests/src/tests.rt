@@ -1,3 +1,0 @@
-mod days;
-mod imports;
-mod lines;

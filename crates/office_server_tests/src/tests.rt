@@ -1,2 +1,0 @@
-mod connections;
-mod ports;

@@ -1,4 +1,0 @@
-mod days;
-mod imports;
-mod lines;
-mod months;

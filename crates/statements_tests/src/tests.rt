@@ -1,4 +1,0 @@
-mod accounts;
-mod broken;
-mod failing;
-mod months;
