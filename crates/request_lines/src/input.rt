@@ -1,3 +1,5 @@
+//! The lines of a stream as they are read: what each is told, and the requests among them.
+
 ghost use Rattle.std.specs.Prelude.{◌≡◌, ◌≢◌, ◌++◌, ◌∷◌, [], map, List, Result, Some, None, OnOk};
 ghost use Rattle.std.specs.Prelude.{OnErr, IfOk, IfSome};
 ghost use Rattle.byte_streams.specs.Lines.{lines_of};

@@ -1,3 +1,5 @@
+//! Lines that are read, run and told.
+
 ghost use Rattle.std.specs.Prelude.{◌≡◌, ◌≤◌, ◌+◌, Err, Some, min};
 ghost use Rattle.byte_streams.specs.declared.StreamFault.{StreamFault};
 ghost use Rattle.charging.specs.Continued.{ForEachList};

@@ -1,3 +1,5 @@
+//! What opens the account of the first request.
+
 ghost use Rattle.std.specs.Prelude.{◌≡◌, codes, IfOk};
 ghost use Rattle.request_lines.specs.Served.{opening_for, opened_with};
 

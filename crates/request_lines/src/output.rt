@@ -1,3 +1,5 @@
+//! What lines are told, written.
+
 ghost use Rattle.std.specs.Prelude.{◌≡◌, map, option_map, string_bytes, OnOk, OnErr, IfOk};
 ghost use Rattle.std.specs.Io.KnownBytes.{Appends};
 ghost use Rattle.request_lines.specs.Served.{texts_of};

@@ -1,3 +1,5 @@
+//! A line as a request with its moment.
+
 ghost use Rattle.std.specs.Prelude.{◌≡◌, option_map, IfSome};
 ghost use Rattle.json_fields.specs.Gives.{Gives};
 ghost use Rattle.request_lines.specs.Lines.{line_moment, line_rest, line_request};
