@@ -33,11 +33,11 @@ use Rattle.ocs.specs.Ends.{IsRefused, Says, Stores}
 use Rattle.ocs.specs.Told.{AreUnread, IsReached, IsReachedByLines, IsSilent, IsTextTold, IsTold}
 use Rattle.ocs.specs.Told.{IsToldAtEnd, IsToldBy, IsToldOf, LeavesOutput, ServesConnections, TellsAs}
 use Rattle.ocs.specs.Told.{TellsFault, fault_line, line_of}
-use Rattle.ocs.specs.declared.fault.LinesFault.{LinesFault}
-use Rattle.ocs.specs.declared.fault.LinesFault.TheVariants.{Read, Store, Both, Write}
+use Rattle.request_lines.specs.declared.fault.LinesFault.{LinesFault}
+use Rattle.request_lines.specs.declared.fault.LinesFault.TheVariants.{Read, Store, Both, Write}
 use Rattle.ocs.specs.declared.fault.ProgramFault.{ProgramFault}
 use Rattle.ocs.specs.declared.fault.ProgramFault.TheVariants as program
-use Rattle.ocs.proofs.Answered.{no_cause}
+use Rattle.ocs.proofs.OnceLemmas.{no_cause}
 
 -- ---- lines over a store that never fails
 

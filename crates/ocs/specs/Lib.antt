@@ -1,7 +1,3 @@
-pub mod Lines
-pub mod Faults
-pub mod Served
-pub mod Input
-pub mod Output
+pub mod Once
 pub mod Ends
 pub mod Told

@@ -7,7 +7,7 @@ use Rattle.byte_streams.specs.declared.StreamFault.{StreamFault}
 use Rattle.byte_streams.specs.declared.StreamFault.TheVariants as stream
 use Rattle.clap.specs.Words.{Text}
 use Rattle.keepers.specs.declared.fault.StoreFault.TheVariants as store
-use Rattle.office.specs.Told.{store_line, stream_line}
+use Rattle.office.specs.Told.{stream_line}
 use Rattle.office.specs.Written.{WritesBeginning}
 use Rattle.office.specs.declared.status.Status.{Status}
 use Rattle.office.specs.declared.status.Status.TheVariants.{Done, Failed, Unread}
@@ -21,22 +21,16 @@ use Rattle.database_office.specs.Opening.{IsUnanswered, IsUnasked}
 use Rattle.database_office.specs.Told.{fault_line as database_line}
 use Rattle.database_office.specs.declared.fault.DatabaseFault.{DatabaseFault}
 use Rattle.office_server.specs.Told.{IsUnlistened, TellsFaults, listening_line}
+use Rattle.request_lines.specs.Told.{lines_line}
 use Rattle.vouchers.specs.Faults.{number_of}
 use Rattle.vouchers.specs.declared.fault.VoucherFault.{VoucherFault}
 use Rattle.ocs.specs.Ends.{Imports, IsRefused, Says, Stores}
-use Rattle.ocs.specs.declared.fault.LinesFault.{LinesFault}
-use Rattle.ocs.specs.declared.fault.LinesFault.TheVariants.{Read, Store, Both, Write}
+use Rattle.request_lines.specs.declared.fault.LinesFault.{LinesFault}
+use Rattle.request_lines.specs.declared.fault.LinesFault.TheVariants.{Read, Store, Both, Write}
 use Rattle.ocs.specs.declared.fault.ProgramFault.{ProgramFault}
 use Rattle.ocs.specs.declared.fault.ProgramFault.TheVariants as program
 
 -- ---- lines, without their line feeds
-
--- a fault of lines
-abbrev pub lines_line : LinesFault → List ℕ
-lines_line (Read fault) = stream_line fault
-lines_line (Store fault) = store_line fault
-lines_line (Both fault) = store_line fault
-lines_line (Write fault) = stream_line fault
 
 -- a fault of a file of vouchers
 abbrev pub voucher_line : VoucherFault → List ℕ

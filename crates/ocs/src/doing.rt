@@ -7,18 +7,18 @@ ghost use Rattle.office.specs.Written.{WritesBeginning};
 ghost use Rattle.one_price.specs.OnceBook.{once_book};
 ghost use Rattle.operator.specs.Read.{IsInRange, IsOnceInRange};
 ghost use Rattle.ocs.specs.Ends.{HasPrinted, IfOnce, Imports, IsRefused, Stores};
-ghost use Rattle.ocs.specs.Served.{BeginsOnce, WritesOnce};
+ghost use Rattle.ocs.specs.Once.{BeginsOnce, WritesOnce};
 ghost use Rattle.ocs.specs.Told.{IfLines, IsReached, IsReachedByLines, IsSilent, IsToldAtEnd};
 ghost use Rattle.ocs.specs.Told.{AreUnread, line_of};
 
-use crate::fault::{LinesFault, ProgramFault};
-use crate::lines::lines;
+use crate::fault::ProgramFault;
 use crate::serving::answer_serve;
 use crate::storing::{answer_import, answer_init, answer_office, answer_replay, answer_statement};
 use keepers::MemoryKeeper;
 use office::Status;
 use one_price::once_book;
 use operator::{OnceWords, ProgramWords};
+use request_lines::{LinesFault, lines};
 use std::alloc::Global;
 use std::io::{Read, Write};
 

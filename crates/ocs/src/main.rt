@@ -3,11 +3,6 @@
 
 mod doing;
 mod fault;
-mod input;
-mod lines;
-mod opening;
-mod output;
-mod reading;
 mod serving;
 mod storing;
 mod telling;
@@ -22,7 +17,7 @@ ghost use Rattle.operator.specs.declared.parsed.OnceWords.{OnceWords};
 ghost use Rattle.operator.specs.declared.parsed.ProgramWords.{ProgramWords};
 ghost use Rattle.operator.specs.declared.parsed.ProgramWords.TheVariants.{Once};
 ghost use Rattle.ocs.specs.Ends.{HasPrinted, IfOnce, IsEnd, IsEndBy};
-ghost use Rattle.ocs.specs.Served.{once_text};
+ghost use Rattle.ocs.specs.Once.{once_text};
 ghost use Rattle.ocs.specs.Told.{IsTold, IsToldBy, line_of};
 
 use crate::doing::do_said;
@@ -125,6 +120,3 @@ fn run_said<I: Read, O: Write, E: Write>(
         Err(fault) => tell_fault(rt.alloc(), errors, fault),
     }
 }
-
-#[cfg(test)]
-mod tests;

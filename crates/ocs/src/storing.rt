@@ -7,12 +7,11 @@ ghost use Rattle.office.specs.Months.{unknown_line};
 ghost use Rattle.office.specs.Printed.{IsEnded, PrintsAnswer, PrintsCounts};
 ghost use Rattle.office.specs.Written.{WritesBeginning};
 ghost use Rattle.office.specs.declared.status.Status.TheVariants.{Failed};
-ghost use Rattle.ocs.specs.Served.{AnswersLines};
+ghost use Rattle.request_lines.specs.Served.{AnswersLines};
 ghost use Rattle.ocs.specs.Told.{IfDatabase, IfLines, IfStream, IsReached, IsReachedByLines};
 ghost use Rattle.ocs.specs.Told.{AreUnread};
 
-use crate::fault::{LinesFault, ProgramFault};
-use crate::lines::lines;
+use crate::fault::ProgramFault;
 use byte_streams::{StreamFault, write_whole};
 use database_office::{
     ImportFault, Office, command_office, import_office, make_database, open_file, open_office,
@@ -21,6 +20,7 @@ use database_office::{
 use keepers::Keeper;
 use office::Status;
 use operator::{ImportWords, InitWords, OfficeWords, ReplayWords, StatementWords};
+use request_lines::{LinesFault, lines};
 use std::alloc::Global;
 use std::io::{BufReader, Read, Write};
 use tariffs::TariffBook;

@@ -6,6 +6,7 @@ mod broken;
 mod byte_lines;
 mod clocks;
 mod connections;
+mod failing_lines;
 mod months;
 mod pieces;
 mod requests;

@@ -2,7 +2,7 @@ use Rattle.std.proofs.Common.{ap}
 use Rattle.one_price.specs.OnceBook.{once_book}
 use Rattle.operator.specs.Read.{texts_of}
 use Rattle.operator.specs.declared.parsed.ProgramWords.TheVariants.{Once}
-use Rattle.ocs.specs.Served.{once_text}
+use Rattle.ocs.specs.Once.{once_text}
 use Rattle.std.specs.Io.KnownBytes.{Appends}
 use Rattle.office.specs.Written.{WritesBeginning}
 use Rattle.ocs.specs.Told.{line_of}

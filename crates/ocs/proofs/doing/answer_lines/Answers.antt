@@ -1,4 +1,4 @@
-use Rattle.ocs.proofs.Answered.{once-answered, once-begun}
+use Rattle.ocs.proofs.OnceLemmas.{once-answered, once-begun}
 use Rattle.ocs.proofs.EndLemmas.{reached_lines}
 use Rattle.ocs.proofs.doing.answer_lines.Goals as goal
 

@@ -1,0 +1,44 @@
+-- What `once` writes: lines before any command, over a store in memory.
+use Rattle.std.proofs.Common.{◌≡◌, ℕ, List, [], sym, subst, Option, Some, None, IfSome, Result, Ok}
+use Rattle.std.proofs.Common.{Err, ◌+◌, ◌≤◌, arith}
+use Rattle.std.specs.Prelude.{min, OnOk, OnErr}
+use Rattle.std.specs.Io.KnownBytes.{Appends}
+use Rattle.tariffs.specs.Books.{Book}
+use Rattle.keepers.specs.Faults.{max_failures}
+use Rattle.keepers.specs.Tables.{Tables, no_tables}
+use Rattle.charging.proofs.AcceptedTables.{tables_none}
+use Rattle.charging.specs.Outcomes.{book_days, outcome}
+use Rattle.charging.specs.Continued.{ForEachList}
+use Rattle.charging.specs.Served.{AreTables}
+use Rattle.office.specs.Written.{WritesBeginning}
+use Rattle.request_lines.specs.Served.{IsAnswered, IsBegun}
+use Rattle.request_lines.proofs.Answered.{begins}
+use Rattle.ocs.specs.Once.{once_text}
+
+pub once-answered : {A E : Type 0} (result : Result A E) (b c : Book) (credit : ℕ)
+    (r w0 w1 : Option (List ℕ)) (old new : Tables) → b ≡ c → old ≡ no_tables →
+    OnOk result
+    (IfSome r (λ stream. ForEachList b old (IsAnswered b (Some credit) stream w0 w1 new))) →
+    OnOk result (IfSome r (λ stream. Appends w0 w1 (once_text c credit stream)))
+once-answered (Err e) b c credit r w0 w1 old new same none h = tt
+once-answered (Ok x) b c credit None w0 w1 old new same none h = tt
+once-answered (Ok x) b c credit (Some stream) w0 w1 old new same none h =
+    subst (λ (book : Book). Appends w0 w1 (once_text book credit stream)) same
+    (h [] tt (subst (AreTables b []) (sym none) (tables_none (book_days b) (outcome b) b))).written
+
+pub once-begun : {A E : Type 0} (result : Result A E) (b c : Book) (credit : ℕ)
+    (r w0 w1 : Option (List ℕ)) (old new : Tables) → b ≡ c → old ≡ no_tables →
+    OnErr result
+    (IfSome r (λ stream. ForEachList b old (IsBegun b (Some credit) stream w0 w1 new))) →
+    OnErr result (IfSome r (λ stream. WritesBeginning w0 w1 (once_text c credit stream)))
+once-begun (Ok x) b c credit r w0 w1 old new same none h = tt
+once-begun (Err e) b c credit None w0 w1 old new same none h = tt
+once-begun (Err e) b c credit (Some stream) w0 w1 old new same none h =
+    let begun : IsBegun b (Some credit) stream w0 w1 new [] =
+    h [] tt (subst (AreTables b []) (sym none) (tables_none (book_days b) (outcome b) b)) in
+    subst (λ (book : Book). WritesBeginning w0 w1 (once_text book credit stream)) same
+    (begins b [] (Some credit) stream begun.count w0 w1 begun.written)
+
+-- a count that stays at 0 has no cause
+pub no_cause : min (0 + 1) max_failures ≤ 0 → ⊥
+no_cause h = omega (arith, h)

@@ -1,0 +1,6 @@
+pub mod Parts
+pub mod SoFar
+pub mod Streams
+pub mod Texts
+pub mod Answered
+pub mod Ended

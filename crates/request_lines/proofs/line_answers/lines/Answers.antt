@@ -1,0 +1,80 @@
+use Rattle.std.proofs.Common.{◌≡◌, ℕ, List, subst, map, refl}
+use Rattle.std.specs.Io.KnownBytes.{Appends}
+use Rattle.std.specs.Prelude.{OnErr, OnOk}
+use Rattle.charging.specs.declared.running.DatedCommand.{DatedCommand}
+use Rattle.keepers.specs.declared.fault.StoreFault.TheVariants.{Store as StoreFailed}
+use Rattle.office.specs.Written.{WritesBeginning}
+use Rattle.request_lines.specs.Input.{told_fault}
+use Rattle.request_lines.specs.Served.{opening_for, texts_of}
+use Rattle.office.proofs.Beginnings.{on_err}
+use Rattle.request_lines.proofs.Answered.{continued-run}
+use Rattle.request_lines.proofs.Ended.{IsWritten, ended-answered, ended-begun, ended-both, ended-cut}
+use Rattle.request_lines.proofs.Ended.{ended-read, ended-stopped, ended-store, ended-untold, none_answered}
+use Rattle.request_lines.proofs.line_answers.lines.Goals as goal
+
+pub returns-in-Err-clause-answers : goal.returns-in-Err-clause-answers
+returns-in-Err-clause-answers g c = none_answered c.args.book.now c.args.opening
+    (g.R.Read.remaining c.args.reader.now) (g.W.Write.contents c.args.writer.now)
+    g.K.Keeper.content g.K.Keeper.failed g.K.Keeper.clean c.args.keeper.now _ _ refl
+
+pub returns-in_default-clause-answers : goal.returns-in_default-clause-answers
+returns-in_default-clause-answers g c = none_answered c.args.book.now c.args.opening
+    (g.R.Read.remaining c.args.reader.now) (g.W.Write.contents c.args.writer.now)
+    g.K.Keeper.content g.K.Keeper.failed g.K.Keeper.clean c.args.keeper.now _ _ refl
+
+pub returns : goal.returns
+returns g c =
+    let b = c.args.book.now in
+    let opening = c.args.opening in
+    let w0 = g.W.Write.contents c.args.writer.now in
+    let w1 = g.W.Write.contents c.write_output-written.new.writer in
+    let r = g.R.Read.remaining c.args.reader.now in
+    let old = g.K.Keeper.content c.args.keeper.now in
+    let new = g.K.Keeper.content c.run_opened-answers.new.keeper in
+    let fault = c.run_opened-answers.result.fault in
+    let written = c.write_output-written.result in
+    let result = c.ended_as.result in
+    let is = c.ended_as.ensures in
+    let h : g.K.Keeper.clean c.run_opened-answers.new.keeper →
+    IsWritten b opening w0 w1 r old new fault written =
+    λ clean. record {
+      input = c.in-Ok.input;
+      opening = c.in-Ok-open_first.opening.items;
+      given = c.run_opened-answers.result.answers.items;
+      read = c.in-Ok.ensures;
+      opened = subst (λ (rs : List DatedCommand).
+          c.in-Ok-open_first.opening.items ≡ opening_for opening rs) c.deref.ensures.value
+          c.in-Ok-open_first.ensures;
+      runs = c.run_opened-answers.ensures.runs clean;
+      whole = subst (λ (t : List ℕ). OnOk written (Appends w0 w1 t))
+          (λ i. texts_of (map told_fault (c.deref-2.ensures.value i)) (c.deref-3.ensures.value i))
+          c.write_output-written.ensures.written;
+      part = subst (λ (t : List ℕ). OnErr written (WritesBeginning w0 w1 t))
+          (λ i. texts_of (map told_fault (c.deref-2.ensures.value i)) (c.deref-3.ensures.value i))
+          c.write_output-written.ensures.err;
+    } in
+    record {
+      answers = record {
+        answered = λ clean.
+            ended-answered b opening w0 w1 r old new fault written result is (h clean);
+        begun = λ clean.
+            on_err result (ended-begun b opening w0 w1 r old new fault written (h clean));
+        stopped = λ f k clean.
+            ended-stopped b opening w0 w1 r old new fault written result f is k (h clean);
+        both = λ f k clean.
+            ended-cut b opening w0 w1 r old new fault written result f is k (h clean);
+        untold = λ f k clean.
+            ended-untold b opening w0 w1 r old new fault written result f is k (h clean);
+        continued = λ clean. continued-run b c.in-Ok-open_first.opening.items
+            c.in-Ok.input.requests.items old new c.run_opened-answers.result.answers.items fault
+            (c.run_opened-answers.ensures.runs clean);
+        cleanness = c.run_opened-answers.ensures.cleanness;
+        failures = c.run_opened-answers.ensures.failures;
+        cause = λ k. c.run_opened-answers.ensures.cause
+            (ended-store fault written result StoreFailed is k);
+        cause_of_both = λ k. c.run_opened-answers.ensures.cause
+            (ended-both fault written result StoreFailed is k);
+      };
+      unread = λ f k. absurd (ended-read fault written result f is k);
+      unwritten = λ f k. absurd (ended-read fault written result f is k);
+    }

@@ -1,0 +1,28 @@
+-- The lines of a stream as they are kept: what each is told, and the requests among them.
+-- Source: profile.
+use Rattle.std.specs.Prelude.{◌≡◌, List, map, Option, Some, None, Result}
+use Rattle.json_fields.specs.declared.fault.WireFault.{WireFault}
+use Rattle.json_fields.specs.declared.fault.WireFault.TheVariants as wire
+use Rattle.charging.specs.declared.running.DatedCommand.{DatedCommand}
+use Rattle.request_lines.specs.declared.input.Input.{Input}
+use Rattle.request_lines.specs.declared.input.Line.{Line}
+use Rattle.request_lines.specs.declared.input.Line.TheVariants.{Request, Fault}
+use Rattle.request_lines.specs.declared.input.LineFault.{LineFault}
+use Rattle.request_lines.specs.declared.input.LineFault.TheVariants.{NotRequest, Missing, Invalid}
+use Rattle.request_lines.specs.Served.{requests_of, fault_of}
+
+-- a line's fault among those of reading
+abbrev pub wire_fault : LineFault → WireFault
+wire_fault NotRequest = wire.NotRequest
+wire_fault (Missing avp) = wire.Missing avp
+wire_fault (Invalid avp) = wire.Invalid avp
+
+-- the fault that a line is told
+abbrev pub told_fault : Line → Option WireFault
+told_fault Request = None
+told_fault (Fault fault) = Some (wire_fault fault)
+
+-- the input is that of lines that were read so
+pub record IsInput (read : List (Result DatedCommand WireFault)) (input : Input) : Type 0 where
+  pub requests : input.requests.items ≡ requests_of read
+  pub lines : map told_fault input.lines.items ≡ map fault_of read

@@ -1,0 +1,191 @@
+-- What the lines of a stream come to: the commands that they hand in, and the text that each line
+-- is told.
+-- Source: profile.
+use Rattle.std.specs.Prelude.{ℕ, List, [], ◌∷◌, ◌++◌, codes, length, map, take, drop, Option, Some}
+use Rattle.std.specs.Prelude.{None, IfNone, IfSome, Result, Ok, Err, ◌≡◌, ◌<◌, ◌≤◌, ◌+◌, min}
+use Rattle.std.specs.Prelude.{OnOk, OnErr}
+use Rattle.std.specs.Io.KnownBytes.{Appends}
+use Rattle.byte_streams.specs.Lines.{lines_of}
+use Rattle.byte_streams.specs.declared.StreamFault.{StreamFault}
+use Rattle.commands.specs.declared.answer.Answer.{Answer}
+use Rattle.commands.specs.declared.command.Command.{Command}
+use Rattle.commands.specs.declared.command.Command.TheVariants.{Ccr, OpenAccount, Credit}
+use Rattle.json_fields.specs.declared.fault.WireFault.{WireFault}
+use Rattle.wire_answers.specs.Spelled.{answer_text, fault_text}
+use Rattle.tariffs.specs.Books.{Book}
+use Rattle.keepers.specs.Faults.{max_failures}
+use Rattle.keepers.specs.Tables.{Tables}
+use Rattle.keepers.specs.declared.fault.StoreFault.{StoreFault}
+use Rattle.keepers.specs.declared.fault.StoreFault.TheVariants.{Store as StoreFailed}
+use Rattle.charging.specs.Accepted.{Accepted, IsInTime}
+use Rattle.charging.specs.Continued.{ForEachList, Continues}
+use Rattle.charging.specs.declared.running.DatedCommand.{DatedCommand}
+use Rattle.charging.specs.Served.{AreTables}
+use Rattle.charging.specs.Runs.{answers_to, after_commands}
+use Rattle.request_lines.specs.Lines.{line_request}
+use Rattle.request_lines.specs.declared.fault.LinesFault.{LinesFault}
+use Rattle.request_lines.specs.declared.fault.LinesFault.TheVariants.{Both, Store, Write}
+use Rattle.office.specs.Written.{WritesBeginning}
+
+-- ---- commands
+
+-- the lines that are read as requests
+abbrev pub requests_of : List (Result DatedCommand WireFault) → List DatedCommand
+requests_of [] = []
+requests_of (Ok d ∷ lines) = d ∷ requests_of lines
+requests_of (Err fault ∷ lines) = requests_of lines
+
+-- the requests of a stream
+abbrev pub requests_in : List ℕ → List DatedCommand
+requests_in stream = requests_of (map line_request (lines_of stream))
+
+-- an account is opened with one bucket, from the beginning and without end
+abbrev pub opened_with : ℕ → List ℕ → List DatedCommand
+opened_with amount account =
+    record { moment = 0; command = OpenAccount account }
+    ∷ record {
+      moment = 0;
+      command = Credit (record {
+        account = account;
+        amount = amount;
+        from = None;
+        until = None;
+        scope = None;
+        reference = codes "once";
+      });
+    }
+    ∷ []
+
+-- the account that a request names
+abbrev pub opened_before : ℕ → Command → List DatedCommand
+opened_before amount (Ccr r) = opened_with amount r.account
+opened_before amount command = []
+
+-- what opens the account of the first request, where an amount for it is handed in
+abbrev pub opening_for : Option ℕ → List DatedCommand → List DatedCommand
+opening_for None requests = []
+opening_for (Some amount) [] = []
+opening_for (Some amount) (d ∷ ds) = opened_before amount d.command
+
+abbrev pub opening_in : Option ℕ → List ℕ → List DatedCommand
+opening_in amount stream = opening_for amount (requests_in stream)
+
+-- the commands of a stream: its requests, behind what opens the first one's account
+abbrev pub commands_of : Option ℕ → List ℕ → List DatedCommand
+commands_of amount stream = opening_in amount stream ++ requests_in stream
+
+-- ---- texts
+
+abbrev pub fault_of : Result DatedCommand WireFault → Option WireFault
+fault_of (Ok d) = None
+fault_of (Err fault) = Some fault
+
+-- the fault of each line of a stream
+abbrev pub faults_in : List ℕ → List (Option WireFault)
+faults_in stream = map fault_of (map line_request (lines_of stream))
+
+-- each line is told its fault, or the next answer, with a line feed after it, up to a request that
+-- has no answer
+abbrev pub texts_of : List (Option WireFault) → List Answer → List ℕ
+texts_of [] answers = []
+texts_of (Some fault ∷ lines) answers = fault_text fault ++ 10 ∷ texts_of lines answers
+texts_of (None ∷ lines) [] = []
+texts_of (None ∷ lines) (a ∷ answers) = answer_text a ++ 10 ∷ texts_of lines answers
+
+-- the text of a stream with these answers to its commands: those of the opening aren't written
+abbrev pub told_text : Option ℕ → List ℕ → List Answer → List ℕ
+told_text amount stream answers =
+    texts_of (faults_in stream) (drop (length (opening_in amount stream)) answers)
+
+-- the text of a stream, after a list of accepted commands
+abbrev pub text_of : Book → List Accepted → Option ℕ → List ℕ → List ℕ
+text_of b list amount stream =
+    told_text amount stream (answers_to b list (commands_of amount stream))
+
+-- as far as so many commands are answered
+abbrev pub text_to : ℕ → Book → List Accepted → Option ℕ → List ℕ → List ℕ
+text_to count b list amount stream =
+    told_text amount stream (answers_to b list (take count (commands_of amount stream)))
+
+-- ---- a run
+
+-- all is written, and the tables are those of all commands
+pub record IsAnswered (b : Book) (opening : Option ℕ) (stream : List ℕ) (old new : Option (List ℕ))
+    (content : Tables) (list : List Accepted) : Type 0 where
+  pub written : Appends old new (text_of b list opening stream)
+  pub tables : AreTables b (after_commands b list (commands_of opening stream)) content
+
+-- the tables are those of all commands, and a beginning of the text is written
+pub record IsUntold (b : Book) (opening : Option ℕ) (stream : List ℕ) (old new : Option (List ℕ))
+    (content : Tables) (list : List Accepted) : Type 0 where
+  pub tables : AreTables b (after_commands b list (commands_of opening stream)) content
+  pub written : WritesBeginning old new (text_of b list opening stream)
+
+-- the tables are those of fewer commands than there are, and what is written is of the text as far
+-- as these are answered
+pub record IsShort (b : Book) (opening : Option ℕ) (stream : List ℕ) (Writes : List ℕ → Type 0)
+    (content : Tables) (list : List Accepted) : Type 0 where
+  pub count : ℕ
+  pub few : count < length (commands_of opening stream)
+  pub tables : AreTables b (after_commands b list (take count (commands_of opening stream))) content
+  pub written : Writes (text_to count b list opening stream)
+
+-- all of that text
+abbrev pub IsStopped : Book → Option ℕ → List ℕ → Option (List ℕ) → Option (List ℕ) → Tables →
+    List Accepted → Type 0
+IsStopped b opening stream old new content list =
+    IsShort b opening stream (Appends old new) content list
+
+-- or a beginning of it
+abbrev pub IsCut : Book → Option ℕ → List ℕ → Option (List ℕ) → Option (List ℕ) → Tables →
+    List Accepted → Type 0
+IsCut b opening stream old new content list =
+    IsShort b opening stream (WritesBeginning old new) content list
+
+-- the same, where all commands may have been run
+pub record IsBegun (b : Book) (opening : Option ℕ) (stream : List ℕ) (old new : Option (List ℕ))
+    (content : Tables) (list : List Accepted) : Type 0 where
+  pub count : ℕ
+  pub tables : AreTables b (after_commands b list (take count (commands_of opening stream))) content
+  pub written : WritesBeginning old new (text_to count b list opening stream)
+
+-- ---- what opens an account, and then requests
+
+-- so many of the commands are run, all where there is no fault, and fewer where there is one; the
+-- answers are those to the requests among them
+pub record IsRunOpened {F : Type 0} (b : Book) (opening requests : List DatedCommand)
+    (content : Tables) (given : List Answer) (fault : Option F)
+    (list : List Accepted) : Type 0 where
+  pub count : ℕ
+  pub tables : AreTables b (after_commands b list (take count (opening ++ requests))) content
+  pub time : IsInTime (after_commands b list (take count (opening ++ requests)))
+  pub answers : given ≡ drop (length opening) (answers_to b list (take count (opening ++ requests)))
+  pub whole : IfNone fault (take count (opening ++ requests) ≡ opening ++ requests)
+  pub few : IfSome fault (λ _. count < length (opening ++ requests))
+
+-- ---- over a keeper, a reader and a writer
+
+-- what answering lines leaves of a keeper that stays clean, where the reader tells its bytes: all
+-- are answered, or a beginning of them, and the faults of the keeper and of the writer say which
+pub record AnswersLines {A K : Type 0} (b : Book) (opening : Option ℕ)
+    (bytes empty full : Option (List ℕ)) (content : K → Tables) (failed : K → ℕ)
+    (clean : K → Type 0) (old new : K) (result : Result A LinesFault) : Type 0 where
+  pub answered : clean new → OnOk result (IfSome bytes (λ stream. ForEachList b (content old)
+      (IsAnswered b opening stream empty full (content new))))
+  pub begun : clean new → OnErr result (IfSome bytes (λ stream. ForEachList b (content old)
+      (IsBegun b opening stream empty full (content new))))
+  pub stopped : (fault : StoreFault) → result ≡ Err (Store fault) → clean new →
+      IfSome bytes (λ stream. ForEachList b (content old)
+      (IsStopped b opening stream empty full (content new)))
+  pub both : (fault : StoreFault) → result ≡ Err (Both fault) → clean new →
+      IfSome bytes (λ stream. ForEachList b (content old)
+      (IsCut b opening stream empty full (content new)))
+  pub untold : (fault : StreamFault) → result ≡ Err (Write fault) → clean new →
+      IfSome bytes (λ stream. ForEachList b (content old)
+      (IsUntold b opening stream empty full (content new)))
+  pub continued : clean new → Continues b (content old) (content new)
+  pub cleanness : clean new → clean old
+  pub failures : failed old ≤ failed new
+  pub cause : result ≡ Err (Store StoreFailed) → min (failed old + 1) max_failures ≤ failed new
+  pub cause_of_both : result ≡ Err (Both StoreFailed) →
+      min (failed old + 1) max_failures ≤ failed new

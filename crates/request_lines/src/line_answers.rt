@@ -1,0 +1,97 @@
+//! Lines that are read, run and told.
+
+ghost use Rattle.std.specs.Prelude.{◌≡◌, ◌≤◌, ◌+◌, Err, Some, min};
+ghost use Rattle.byte_streams.specs.declared.StreamFault.{StreamFault};
+ghost use Rattle.charging.specs.Continued.{ForEachList};
+ghost use Rattle.keepers.specs.Faults.{max_failures};
+ghost use Rattle.keepers.specs.declared.fault.StoreFault.TheVariants.{Store as StoreFailed};
+ghost use Rattle.request_lines.specs.declared.fault.LinesFault.TheVariants.{Read};
+ghost use Rattle.request_lines.specs.Faults.{ended_as};
+ghost use Rattle.request_lines.specs.Served.{AnswersLines, IsRunOpened};
+
+use crate::fault::LinesFault;
+use crate::input::{Input, read_input};
+use crate::opening::open_first;
+use crate::output::write_output;
+use byte_streams::StreamFault;
+use charging::{DatedCommand, Run, run};
+use keepers::{Keeper, StoreFault};
+use std::alloc::Global;
+use std::io::{Read, Write};
+use tariffs::TariffBook;
+use units::Money;
+
+/// Answers lines `MOMENT JSON` of requests for credit control, a line each. All lines are read
+/// first; then the requests are run, and what each line is told is written: a request's answer, or
+/// the fault of a line that isn't read as one. Where an opening amount in micro-units is handed in,
+/// the first request's account is opened before it with one bucket of this amount, from the
+/// beginning and without end (profile; the requests: RFC 8506 sections 5.2 to 5.4 and 6).
+///
+/// # Errors
+/// `Read` where memory ran out before the requests were run, or the reader failed: then nothing has
+/// changed. `Store` where the keeper failed: a beginning of the requests is accepted, and the
+/// answers before that are written. `Both` where writing those failed too: then a beginning of them
+/// is written. `Write` where all requests were run, and memory ran out for an answer's text or the
+/// writer failed: then a beginning of the answers is written.
+pub fn lines<K: Keeper, R: Read, W: Write>(
+    alloc: Global,
+    keeper: &mut K,
+    book: &TariffBook,
+    opening: Option<Money>,
+    reader: &mut R,
+    writer: &mut W,
+) -> Result<(), LinesFault>
+    ensures answers { AnswersLines book.now opening (R.remaining reader.old)
+        (W.contents writer.old) (W.contents writer.new)
+        K.content K.failed K.clean keeper.old keeper.new result }
+    ensures unread { (fault : StreamFault) → result ≡ Err (Read fault) → keeper.new ≡ keeper.old }
+    ensures unwritten { (fault : StreamFault) → result ≡ Err (Read fault) →
+        writer.new ≡ writer.old }
+{
+    let Input { lines, requests } = match read_input(alloc, reader) {
+        Ok(input) => input,
+        Err(fault) => return Err(LinesFault::Read(fault)),
+    };
+    let Ok(opening) = open_first(alloc, opening, &requests) else {
+        return Err(LinesFault::Read(StreamFault::Memory));
+    };
+    let Run { answers, fault } = run_opened(alloc, keeper, book, opening, requests);
+    let written = write_output(alloc, writer, &lines, &answers);
+    ended_as(fault, written)
+}
+
+/// What answering ends with: the keeper's fault, whatever became of writing the answers.
+fn ended_as(fault: Option<StoreFault>, written: Result<(), StreamFault>) -> Result<(), LinesFault>
+    ensures { result ≡ ended_as fault written }
+{
+    match (fault, written) {
+        (None, Ok(())) => Ok(()),
+        (None, Err(fault)) => Err(LinesFault::Write(fault)),
+        (Some(fault), Ok(())) => Err(LinesFault::Store(fault)),
+        (Some(fault), Err(_)) => Err(LinesFault::Both(fault)),
+    }
+}
+
+/// Runs what opens an account, and then requests; the answers are those to the requests.
+fn run_opened<K: Keeper>(
+    alloc: Global,
+    keeper: &mut K,
+    book: &TariffBook,
+    opening: Vec<DatedCommand>,
+    requests: Vec<DatedCommand>,
+) -> Run
+    ensures runs { K.clean keeper.new → ForEachList book.now (K.content keeper.old)
+        (IsRunOpened book.now opening.items requests.items
+        (K.content keeper.new) result.answers.items result.fault) }
+    ensures cleanness { K.clean keeper.new → K.clean keeper.old }
+    ensures failures { K.failed keeper.old ≤ K.failed keeper.new }
+    ensures cause { result.fault ≡ Some StoreFailed →
+        min (K.failed keeper.old + 1) max_failures ≤ K.failed keeper.new }
+{
+    let Run { answers: _, fault } = run(alloc, keeper, book, opening);
+    if fault.is_some() {
+        let answers = Vec::new(alloc);
+        return Run { answers, fault };
+    }
+    run(alloc, keeper, book, requests)
+}

@@ -1,0 +1,58 @@
+//! What lines are told, written.
+
+ghost use Rattle.std.specs.Prelude.{◌≡◌, map, option_map, string_bytes, OnOk, OnErr, IfOk};
+ghost use Rattle.std.specs.Io.KnownBytes.{Appends};
+ghost use Rattle.request_lines.specs.Served.{texts_of};
+ghost use Rattle.request_lines.specs.Input.{told_fault};
+ghost use Rattle.request_lines.specs.Output.{line_text};
+ghost use Rattle.office.specs.Written.{WritesBeginning};
+
+use crate::input::Line;
+use byte_streams::StreamFault;
+use commands::Answer;
+use office::write_line;
+use std::alloc::{AllocError, Global};
+use std::io::Write;
+use wire::{write_answer, write_fault};
+
+/// Writes what each line is told: its fault, or the next answer. It ends at the first request that
+/// has no answer.
+pub(crate) fn write_output<W: Write>(
+    alloc: Global,
+    writer: &mut W,
+    lines: &[Line],
+    answers: &[Answer],
+) -> Result<(), StreamFault>
+    ensures written { OnOk result (Appends (W.contents writer.old) (W.contents writer.new)
+        (texts_of (map told_fault lines.now) answers.now)) }
+    ensures err { OnErr result (WritesBeginning (W.contents writer.old) (W.contents writer.new)
+        (texts_of (map told_fault lines.now) answers.now)) }
+{
+    let mut next = 0;
+    for line in lines {
+        let Some(text) = line_text(alloc, *line, answers.get(next))? else {
+            return Ok(());
+        };
+        write_line(writer, text)?;
+        if line.is_request() {
+            next += 1;
+        }
+    }
+    Ok(())
+}
+
+/// What a line is told: its fault, or the answer, where there is one.
+fn line_text(
+    alloc: Global,
+    line: Line,
+    answer: Option<&Answer>,
+) -> Result<Option<String>, AllocError>
+    ensures { IfOk result (λ text. option_map string_bytes text
+        ≡ line_text (told_fault line) (option_map (λ a. a.now) answer.entry)) }
+{
+    match (line, answer) {
+        (Line::Fault(fault), _) => Ok(Some(write_fault(alloc, fault.into())?)),
+        (Line::Request, Some(answer)) => Ok(Some(write_answer(alloc, answer)?)),
+        (Line::Request, None) => Ok(None),
+    }
+}

@@ -1,0 +1,219 @@
+//! Lines of requests where the store, the reader or the writer fails.
+
+use byte_streams::StreamFault;
+use keepers::{Failing, MemoryKeeper, StoreFault};
+use one_price::once_book;
+use request_lines::{LinesFault, lines};
+use std::alloc::Global;
+use std::io::{self, ErrorKind, Read, Write};
+use std::process::Abort;
+use tariffs::TariffBook;
+use units::Money;
+
+/// The text on fewer lines: one that begins with two spaces goes on with the one before it.
+fn joined(rt: &impl Abort, alloc: Global, text: &str) -> String {
+    text.replace(alloc, "\n  ", "").expect(rt, "memory")
+}
+
+/// A book of one price: 100,000 micro-units a minute.
+fn minutes(rt: &impl Abort, alloc: Global) -> TariffBook {
+    once_book(alloc, 100_000, 60).expect(rt, "memory")
+}
+
+// ---- a store that fails
+
+/// Two debits of a minute.
+const DEBITS: &str = r#"1767607200 {"Session-Id":"d8","CC-Request-Type":4,"CC-Request-Number":0,
+  "Subscription-Id":{"Subscription-Id-Type":0,"Subscription-Id-Data":"49151"},
+  "Requested-Action":0,"Multiple-Services-Credit-Control":[{"Rating-Group":10,
+  "Requested-Service-Unit":{"CC-Time":60}}]}
+1767607200 {"Session-Id":"d8b","CC-Request-Type":4,"CC-Request-Number":0,
+  "Subscription-Id":{"Subscription-Id-Type":0,"Subscription-Id-Data":"49151"},
+  "Requested-Action":0,"Multiple-Services-Credit-Control":[{"Rating-Group":10,
+  "Requested-Service-Unit":{"CC-Time":60}}]}
+"#;
+
+/// The answer to the first.
+const DEBITED: &str = r#"{"CC-Request-Number":0,"CC-Request-Type":4,
+  "Multiple-Services-Credit-Control":[{"Granted-Service-Unit":{"CC-Time":60},"Rating-Group":10,
+  "Result-Code":2001}],"Result-Code":2001,"Session-Id":"d8"}
+"#;
+
+/// The calls of a keeper by which an account is opened and credited, and one debit is charged.
+const CALLS_OF_ONE_DEBIT: u64 = 12;
+
+/// Answers these lines over a keeper that fails after the first debit.
+fn answer_to_a_fault<W: Write>(
+    alloc: Global,
+    book: &TariffBook,
+    asked: &str,
+    writer: &mut W,
+) -> Result<(), LinesFault> {
+    let credit = Money::new(100_000);
+    let mut reader = asked.as_bytes();
+    let mut keeper = Failing::new(MemoryKeeper::new(alloc), CALLS_OF_ONE_DEBIT);
+    lines(alloc, &mut keeper, book, credit, &mut reader, writer)
+}
+
+/// Answers the debits over that keeper.
+fn debit_to_a_fault<W: Write>(
+    rt: &impl Abort,
+    alloc: Global,
+    writer: &mut W,
+) -> Result<(), LinesFault> {
+    let asked = joined(rt, alloc, DEBITS);
+    let book = minutes(rt, alloc);
+    answer_to_a_fault(alloc, &book, asked.as_str(), writer)
+}
+
+/// At a store fault after the first debit, the answers before it are written.
+#[test]
+fn a_store_fault(rt: HostRuntime) {
+    let alloc = rt.alloc();
+    let wanted = joined(&rt, alloc, DEBITED);
+    let mut written = Vec::new(alloc);
+    let ended = debit_to_a_fault(&rt, alloc, &mut written);
+    assert_eq!(rt; ended, Err(LinesFault::Store(StoreFault::Store)));
+    assert_eq!(rt; written.as_slice(), wanted.as_bytes());
+}
+
+/// Where writing the answers fails too, the store's fault is told, and that they weren't written.
+#[test]
+fn a_store_fault_and_a_writer_that_fails(rt: HostRuntime) {
+    let alloc = rt.alloc();
+    let wanted = joined(&rt, alloc, DEBITED);
+    let mut writer = failing_writer(alloc, 2);
+    let ended = debit_to_a_fault(&rt, alloc, &mut writer);
+    assert_eq!(rt; ended, Err(LinesFault::Both(StoreFault::Store)));
+    assert_eq!(rt; writer.taken.len(), 16);
+    assert!(rt; wanted.as_bytes().starts_with(&writer.taken));
+}
+
+// ---- readers and writers that fail
+
+/// A reader that fails at the call after this many.
+#[derive(Drop)]
+struct FailingReader<'a> {
+    bytes: &'a [u8],
+    left: usize,
+}
+
+impl<'a> Read for FailingReader<'a> {
+    fn read(&mut self, buffer: &mut [u8]) -> io::Result<usize> {
+        if self.left == 0 {
+            return Err(io::Error::from(ErrorKind::BrokenPipe));
+        }
+        self.left -= 1;
+        self.bytes.read(buffer)
+    }
+}
+
+/// A writer that takes up to 8 bytes a call, and fails at the call after this many.
+#[derive(Drop)]
+struct FailingWriter {
+    taken: Vec<u8>,
+    left: usize,
+}
+
+/// A writer that has taken nothing.
+fn failing_writer(alloc: Global, left: usize) -> FailingWriter {
+    FailingWriter {
+        taken: Vec::new(alloc),
+        left,
+    }
+}
+
+impl Write for FailingWriter {
+    fn write(&mut self, bytes: &[u8]) -> io::Result<usize> {
+        if self.left == 0 {
+            return Err(io::Error::from(ErrorKind::BrokenPipe));
+        }
+        self.left -= 1;
+        let count = bytes.len().min(8);
+        self.taken.write(&bytes[..count])
+    }
+
+    fn flush(&mut self) -> io::Result<()> {
+        Ok(())
+    }
+}
+
+/// Two lines that are no requests.
+const UNREAD: &[u8] = b"0 {}\n{}\n";
+
+/// What they are told: 47 bytes and 21, which the writer takes in 6 calls and 3.
+const FAULTS: &[u8] =
+    b"{\"Failed-AVP\":\"Session-Id\",\"Result-Code\":5005}\n{\"Result-Code\":5012}\n";
+
+/// Answers lines that open no account.
+fn answer<R: Read, W: Write>(
+    alloc: Global,
+    book: &TariffBook,
+    reader: &mut R,
+    writer: &mut W,
+) -> Result<(), LinesFault> {
+    let mut keeper = MemoryKeeper::new(alloc);
+    lines(alloc, &mut keeper, book, None, reader, writer)
+}
+
+/// How answering those lines ends over a reader that fails after so many calls, and what is
+/// written.
+fn read_to_a_fault(
+    alloc: Global,
+    book: &TariffBook,
+    left: usize,
+    written: &mut Vec<u8>,
+) -> Result<(), LinesFault> {
+    let mut reader = FailingReader {
+        bytes: UNREAD,
+        left,
+    };
+    answer(alloc, book, &mut reader, written)
+}
+
+/// A reader that fails at this call is told as such; nothing is written.
+fn fail_to_read(rt: &impl Abort, alloc: Global, book: &TariffBook, left: usize) {
+    let mut written = Vec::new(alloc);
+    let ended = read_to_a_fault(alloc, book, left, &mut written);
+    assert_eq!(rt; ended, Err(LinesFault::Read(StreamFault::Read)));
+    assert_eq!(rt; written.len(), 0);
+}
+
+/// A reader that fails at any of its calls, one a byte and one for the end.
+#[test]
+fn a_reader_that_fails(rt: HostRuntime) {
+    let alloc = rt.alloc();
+    let book = minutes(&rt, alloc);
+    for left in 0..9 {
+        fail_to_read(&rt, alloc, &book, left);
+    }
+    let mut written = Vec::new(alloc);
+    let ended = read_to_a_fault(alloc, &book, 9, &mut written);
+    assert_eq!(rt; ended, Ok(()));
+    assert_eq!(rt; written.as_slice(), FAULTS);
+}
+
+/// A writer that fails at this call is told as such; a beginning of the answers is written.
+fn fail_to_write(rt: &impl Abort, alloc: Global, book: &TariffBook, left: usize) {
+    let mut reader = UNREAD;
+    let mut writer = failing_writer(alloc, left);
+    let ended = answer(alloc, book, &mut reader, &mut writer);
+    assert_eq!(rt; ended, Err(LinesFault::Write(StreamFault::Write)));
+    assert!(rt; FAULTS.starts_with(&writer.taken));
+    assert!(rt; writer.taken.len() < FAULTS.len());
+}
+
+/// A writer that fails at any of its calls.
+#[test]
+fn a_writer_that_fails(rt: HostRuntime) {
+    let alloc = rt.alloc();
+    let book = minutes(&rt, alloc);
+    for left in 0..9 {
+        fail_to_write(&rt, alloc, &book, left);
+    }
+    let mut reader = UNREAD;
+    let mut writer = failing_writer(alloc, 9);
+    let ended = answer(alloc, &book, &mut reader, &mut writer);
+    assert_eq!(rt; ended, Ok(()));
+    assert_eq!(rt; writer.taken.as_slice(), FAULTS);
+}
