@@ -245,3 +245,6 @@ impl Purse {
         along::expire_all(&mut self.buckets, at);
     }
 }
+
+#[cfg(test)]
+mod tests;
