@@ -1,23 +1,11 @@
-//! Requests as they are written, and read again.
+//! Requests as they are written and kept, and read again.
 
-use crate::tests::tables::{Told, try_told};
-use commands::{Request, same_request};
+use crate::tests::contents;
+use crate::tests::tables::{Told, same, try_told};
+use commands::{Content, Request, same_request};
 use std::alloc::Global;
-use std::test::Fail;
-use wire::write_request;
-use wire_requests::read_request;
-
-/// The text of the request that the body is, where it is read again as an equal request.
-pub(crate) fn written(alloc: Global, body: &[u8]) -> Result<String, Fail> {
-    let request = read_request(alloc, body)?;
-    let text = write_request(alloc, &request)?;
-    let again = read_request(alloc, text.as_str().as_bytes())?;
-    if same_request(&request, &again) {
-        Ok(text)
-    } else {
-        Ok(String::from_str(alloc, "another request")?)
-    }
-}
+use std::process::Abort;
+use wire_requests::{read_request, write_request};
 
 /// The body of an update of four services.
 const UPDATE: &str = r##"{"Session-Id":"s1","CC-Request-Type":2,"CC-Request-Number":3,
@@ -32,13 +20,35 @@ const UPDATE: &str = r##"{"Session-Id":"s1","CC-Request-Type":2,"CC-Request-Numb
   {"CC-Total-Octets":0}],"Rating-Group":20,"Requested-Service-Unit":{"More":1}},
   {"Rating-Group":40}]}"##;
 
-/// The cases, with that body where they name it.
-pub(crate) fn with_update(alloc: Global, cases: &str) -> Result<String, Fail> {
-    Ok(cases.replace(alloc, "UPDATE", UPDATE)?)
+/// The body of a case, of which one is named.
+fn body_of(text: &str) -> &str {
+    match text {
+        "UPDATE" => UPDATE,
+        _ => text,
+    }
 }
 
-/// A body, and the text of the request.
-pub(crate) const WRITTEN: &str = r##"{"Session-Id":"s1","CC-Request-Type":1,"CC-Request-Number":0,
+fn request(rt: &impl Abort, alloc: Global, text: &str) -> Request {
+    read_request(alloc, body_of(text).as_bytes()).expect(rt, "a request")
+}
+
+/// The text of the request that the body is, which is read again as an equal request.
+pub(crate) fn written(rt: &impl Abort, alloc: Global, text: &str) -> String {
+    let first = request(rt, alloc, text);
+    let written = write_request(alloc, &first).expect(rt, "memory");
+    let again = request(rt, alloc, written.as_str());
+    assert!(rt; same_request(&first, &again), "{text}");
+    written
+}
+
+/// What is kept of the request that the body is.
+pub(crate) fn kept(rt: &impl Abort, alloc: Global, text: &str) -> String {
+    let content = Content::Request(request(rt, alloc, text));
+    contents::kept(rt, alloc, &content)
+}
+
+/// A body, and the text of the request, which is also what is kept of it.
+const WRITTEN: &str = r##"{"Session-Id":"s1","CC-Request-Type":1,"CC-Request-Number":0,
   "Subscription-Id":{"Subscription-Id-Type":0,"Subscription-Id-Data":"49151"},
   "Multiple-Services-Credit-Control":[{"Rating-Group":10,
   "Requested-Service-Unit":{"CC-Time":600}}]} -> {"CC-Request-Number":0,"CC-Request-Type":1,
@@ -142,15 +152,15 @@ UPDATE -> {"CC-Request-Number":3,"CC-Request-Type":2,
   "Subscription-Id":{"Subscription-Id-Data":"49151","Subscription-Id-Type":0}}"##;
 
 #[test]
-fn texts(rt: HostRuntime) -> Result<(), Fail> {
-    let cases = with_update(rt.alloc(), WRITTEN)?;
-    try_told(&rt, rt.alloc(), Told::Request, cases.as_str())
+fn texts(rt: HostRuntime) {
+    try_told(&rt, rt.alloc(), Told::Request, WRITTEN);
+    try_told(&rt, rt.alloc(), Told::KeptRequest, WRITTEN);
 }
 
 /// What the request that the body is shows of itself.
-pub(crate) fn shown(alloc: Global, body: &[u8]) -> Result<String, Fail> {
-    let request = read_request(alloc, body)?;
-    Ok(format!(in alloc; "{request:?}")?)
+pub(crate) fn shown(rt: &impl Abort, alloc: Global, text: &str) -> String {
+    let request = request(rt, alloc, text);
+    format!(in alloc; "{request:?}").expect(rt, "memory")
 }
 
 /// A body, and the value that it is read as.
@@ -220,9 +230,8 @@ UPDATE -> Request { session: SessionId { text: "s1" }, number: 3,
    }, currency: 978 }) }"##;
 
 #[test]
-fn values(rt: HostRuntime) -> Result<(), Fail> {
-    let cases = with_update(rt.alloc(), SHOWN)?;
-    try_told(&rt, rt.alloc(), Told::RequestShown, cases.as_str())
+fn values(rt: HostRuntime) {
+    try_told(&rt, rt.alloc(), Told::RequestShown, SHOWN);
 }
 
 const BODY: &str =
@@ -230,25 +239,21 @@ const BODY: &str =
   "Subscription-Id-Data":"49151"},HERE}"##;
 
 /// The request of the body in which `HERE` stands for the text.
-fn request(alloc: Global, text: &str) -> Result<Request, Fail> {
-    let body = BODY.replace(alloc, "HERE", text)?;
-    Ok(read_request(alloc, body.as_str().as_bytes())?)
+fn request_with(rt: &impl Abort, alloc: Global, text: &str) -> Request {
+    let body = BODY.replace(alloc, "HERE", text).expect(rt, "memory");
+    request(rt, alloc, body.as_str())
 }
 
 /// Whether `A = B` are read as equal requests.
-pub(crate) fn compared(alloc: Global, pair: &str) -> Result<String, Fail> {
-    let (a, b) = pair.split_once(" = ").ok_or("two bodies")?;
-    let a = request(alloc, a)?;
-    let b = request(alloc, b)?;
-    let word = if same_request(&a, &b) {
-        "same"
-    } else {
-        "other"
-    };
-    Ok(String::from_str(alloc, word)?)
+pub(crate) fn compared(rt: &impl Abort, alloc: Global, pair: &str) -> String {
+    let (a, b) = pair.split_once(" = ").expect(rt, "two bodies");
+    let a = request_with(rt, alloc, a);
+    let b = request_with(rt, alloc, b);
+    same(rt, alloc, same_request(&a, &b))
 }
 
-/// Whether two bodies are the same content.
+/// Whether two bodies are the same content. The order of services and of the parts of a report is
+/// content; the order of members, other members, and how money is written aren't.
 const PAIRS: &str = r##""CC-Request-Type":2,"Multiple-Services-Credit-Control":[{"Rating-Group":10,
   "Requested-Service-Unit":{"CC-Time":5}}] = "CC-Request-Type":2,
   "Multiple-Services-Credit-Control":[{"Requested-Service-Unit":{"More":1,"CC-Time":5},
@@ -321,9 +326,7 @@ const PAIRS: &str = r##""CC-Request-Type":2,"Multiple-Services-Credit-Control":[
 "CC-Request-Type":2,"Multiple-Services-Credit-Control":[{"Rating-Group":10}] =
    "CC-Request-Type":3,"Multiple-Services-Credit-Control":[{"Rating-Group":10}] -> other"##;
 
-/// The order of services and of the parts of a report is content; the order of members, other
-/// members, and how money is written aren't.
 #[test]
-fn contents(rt: HostRuntime) -> Result<(), Fail> {
-    try_told(&rt, rt.alloc(), Told::Requests, PAIRS)
+fn contents_of_two(rt: HostRuntime) {
+    try_told(&rt, rt.alloc(), Told::Requests, PAIRS);
 }
