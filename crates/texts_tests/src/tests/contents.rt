@@ -1,0 +1,204 @@
+//! What is kept of accepted commands, written and read again.
+
+use crate::tests::tables::{Told, same, try_told};
+use commands::{Content, Credit, CreditEnd, CreditStart, KeptCredit, same_content};
+use identifiers::{AccountNumber, VoucherCode};
+use std::alloc::Global;
+use std::process::Abort;
+use units::Moment;
+use wire::{read_content, read_credit, read_redeem, write_content};
+
+fn account(rt: &impl Abort, alloc: Global) -> AccountNumber {
+    AccountNumber::new(alloc, "49151")
+        .expect(rt, "memory")
+        .expect(rt, "an account")
+}
+
+fn code(rt: &impl Abort, alloc: Global) -> VoucherCode {
+    VoucherCode::new(alloc, "000000000001")
+        .expect(rt, "memory")
+        .expect(rt, "a code")
+}
+
+/// The account that the content is kept under.
+fn account_of(rt: &impl Abort, content: &Content) -> AccountNumber {
+    let account = match content {
+        Content::Request(request) => &request.account,
+        Content::Credit(kept) => &kept.credit().account,
+        Content::Redeem(redemption) => &redemption.account,
+    };
+    account.clone().expect(rt, "memory")
+}
+
+/// The text that is kept of the content, which is read again as the same content.
+pub(crate) fn kept(rt: &impl Abort, alloc: Global, content: &Content) -> String {
+    let text = write_content(alloc, content).expect(rt, "memory");
+    let account = account_of(rt, content);
+    let again = read_content(alloc, account, text.as_str().as_bytes()).expect(rt, "a content");
+    assert!(rt; same_content(content, &again));
+    text
+}
+
+/// What is kept of a credit.
+fn content_of(rt: &impl Abort, credit: Credit) -> Content {
+    assert!(rt; credit.can_be_kept());
+    Content::Credit(KeptCredit::new(credit))
+}
+
+fn credit(rt: &impl Abort, alloc: Global, body: &str) -> Content {
+    let account = account(rt, alloc);
+    let credit = read_credit(alloc, account, body.as_bytes()).expect(rt, "a credit");
+    content_of(rt, credit)
+}
+
+pub(crate) fn kept_credit(rt: &impl Abort, alloc: Global, body: &str) -> String {
+    let content = credit(rt, alloc, body);
+    kept(rt, alloc, &content)
+}
+
+/// What is kept of the redemption of a voucher by a body.
+pub(crate) fn kept_redemption(rt: &impl Abort, alloc: Global, body: &str) -> String {
+    let code = code(rt, alloc);
+    let redemption = read_redeem(alloc, code, body.as_bytes()).expect(rt, "a redemption");
+    kept(rt, alloc, &Content::Redeem(redemption))
+}
+
+/// The body of a credit, and what is kept of it. Each credit that can be kept is read again, also
+/// the last, which could never be used.
+const CREDITS: &str = r##"{"Amount":1000000,"Reference":"r1"} -> {"Amount":1000000,"Reference":"r1"}
+{"Amount":1,"From":0,"Until":1,"Scope":0,"Reference":"!"} -> {"Amount":1,"From":0,"Reference":"!",
+  "Scope":0,"Until":1}
+{ "Reference" : "a\"b\\c\/d" , "Until" : 4102444800 , "Scope" : 4294967295 , "From" : 4102444799 ,
+   "Amount" : 1000000000000000 , "More" : [ ] } -> {"Amount":1000000000000000,"From":4102444799,
+  "Reference":"a\"b\\c/d","Scope":4294967295,"Until":4102444800}
+{"Amount":5,"Until":1767607800,
+  "Reference":"rrrrrrrrrrrrrrrrrrrrrrrrrrrrrrrrrrrrrrrrrrrrrrrrrrrrrrrrrrrrrrrr"} -> {"Amount":5,
+  "Reference":"rrrrrrrrrrrrrrrrrrrrrrrrrrrrrrrrrrrrrrrrrrrrrrrrrrrrrrrrrrrrrrrr",
+  "Until":1767607800}
+{"Amount":5,"Scope":30,"Reference":"\u0072"} -> {"Amount":5,"Reference":"r","Scope":30}
+{"Amount":5,"From":1767571200,"Reference":"r"} -> {"Amount":5,"From":1767571200,"Reference":"r"}
+{"Amount":1,"From":4102444799,"Until":1,"Scope":7,"Reference":"r1"} -> {"Amount":1,
+  "From":4102444799,"Reference":"r1","Scope":7,"Until":1}"##;
+
+/// The body of a redemption, and what is kept of it.
+const REDEMPTIONS: &str =
+    r##"{"Subscription-Id-Data":"49151","Reference":"v1"} -> {"Reference":"v1",
+  "Subscription-Id-Data":"49151","Voucher-Code":"000000000001"}
+{ "Reference" : "a\"b" , "More" : [ ] , "Subscription-Id-Data" : "0" } -> {"Reference":"a\"b",
+  "Subscription-Id-Data":"0","Voucher-Code":"000000000001"}"##;
+
+#[test]
+fn texts(rt: HostRuntime) {
+    try_told(&rt, rt.alloc(), Told::KeptCredit, CREDITS);
+    try_told(&rt, rt.alloc(), Told::KeptRedemption, REDEMPTIONS);
+}
+
+/// Whether a credit can begin at a moment, and end there.
+pub(crate) fn bounds(rt: &impl Abort, alloc: Global, seconds: &str) -> String {
+    let seconds = seconds.parse::<u64>().expect(rt, "seconds");
+    let moment = Moment::new(seconds).expect(rt, "a moment");
+    let begins = CreditStart::new(moment).is_some();
+    let ends = CreditEnd::new(moment).is_some();
+    format!(in alloc; "{begins} {ends}").expect(rt, "memory")
+}
+
+/// No credit begins past the last moment of a command, or ends at 0 or past "no end".
+const BOUNDS: &str = "4102444799 -> true true
+4102444800 -> false true
+4102444801 -> false false
+0 -> true false";
+
+#[test]
+fn starts_and_ends(rt: HostRuntime) {
+    try_told(&rt, rt.alloc(), Told::Bounds, BOUNDS);
+}
+
+/// What a kept text shows of itself when it is read.
+pub(crate) fn shown(rt: &impl Abort, alloc: Global, text: &str) -> String {
+    match read_content(alloc, account(rt, alloc), text.as_bytes()) {
+        Ok(content) => format!(in alloc; "{content:?}").expect(rt, "memory"),
+        Err(fault) => format!(in alloc; "{fault}").expect(rt, "memory"),
+    }
+}
+
+/// A kept text, and the value that it is read as.
+const SHOWN: &str = r##"{"Amount":1000000,"From":0,"Reference":"r1","Scope":10,
+  "Until":4102444800} -> Credit(KeptCredit { credit: Credit { account: AccountNumber { text:
+   "49151" }, amount: Money { micros: 1000000 }, from: Some(CreditStart { moment: Moment {
+   seconds: 0 } }), until: Some(CreditEnd { moment: Moment { seconds: 4102444800 } }),
+   scope: Some(10), reference: Reference { text: "r1" } } })
+{"Amount":1,"Reference":"r1"} -> Credit(KeptCredit { credit: Credit { account: AccountNumber { text:
+   "49151" }, amount: Money { micros: 1 }, from: None, until: None, scope: None,
+   reference: Reference { text: "r1" } } })
+{"CC-Request-Number":4,"CC-Request-Type":3,"Multiple-Services-Credit-Control":[],
+  "Session-Id":"s1","Subscription-Id":{"Subscription-Id-Data":"49151","Subscription-Id-Type":0}}
+   -> Request(Request { session: SessionId { text: "s1" }, number: 4,
+   account: AccountNumber { text: "49151" }, ask: Termination(TerminationServices { list: [] }) })
+x -> no JSON object
+{"Amount":1} -> Reference is missing
+{"Session-Id":"s1"} -> CC-Request-Type is missing
+{"CC-Request-Number":4,"CC-Request-Type":3,"Multiple-Services-Credit-Control":[],
+  "Session-Id":"s1","Subscription-Id":{"Subscription-Id-Data":"49152","Subscription-Id-Type":0}}
+   -> Subscription-Id-Data is invalid
+{"CC-Request-Number":4,"CC-Request-Type":3,"Session-Id":"s1",
+  "Subscription-Id":{"Subscription-Id-Data":"49151","Subscription-Id-Type":0}} -> no JSON object
+{"Reference":"r1","Amount":1} -> no JSON object
+{"Amount":1, "Reference":"r1"} -> no JSON object
+{"Amount":1,"More":1,"Reference":"r1"} -> no JSON object
+{"Amount":1,"From":4102444800,"Reference":"r1"} -> From is invalid
+{"Amount":1,"Reference":"r1","Until":0} -> Until is invalid"##;
+
+/// What a text is tells its members: a request has a Session-Id, a redemption a Voucher-Code, a
+/// credit neither.
+const KINDS: &str = r##"{"Reference":"v1","Subscription-Id-Data":"49151",
+  "Voucher-Code":"000000000001"} -> Redeem(VoucherRedemption { code: VoucherCode {
+   text: "000000000001" }, account: AccountNumber { text: "49151" }, reference: Reference {
+   text: "v1" } })
+{"Amount":1,"Reference":"v1"} -> Credit(KeptCredit { credit: Credit { account: AccountNumber {
+   text: "49151" }, amount: Money { micros: 1 }, from: None, until: None, scope: None,
+   reference: Reference { text: "v1" } } })
+{"CC-Request-Number":4,"CC-Request-Type":3,"Multiple-Services-Credit-Control":[],"Session-Id":"s1",
+  "Subscription-Id":{"Subscription-Id-Data":"49151","Subscription-Id-Type":0}} -> Request(Request {
+   session: SessionId { text: "s1" }, number: 4, account: AccountNumber { text: "49151" },
+   ask: Termination(TerminationServices { list: [] }) })
+{"Reference":"v1","Subscription-Id-Data":"49151"} -> Amount is missing
+{"Reference":"v1","Subscription-Id-Data":"49151","Voucher-Code":"1"} -> Voucher-Code is invalid
+{"Reference":"v1","Subscription-Id-Data":"49151","Voucher-Code":1} -> Voucher-Code is invalid
+{"Reference":"v1","Subscription-Id-Data":"49152","Voucher-Code":"000000000001"} ->
+   Subscription-Id-Data is invalid
+{"Subscription-Id-Data":"49151","Voucher-Code":"000000000001"} -> Reference is missing
+{"Subscription-Id-Data":"49151","Reference":"v1","Voucher-Code":"000000000001"} -> no JSON object
+{"Reference":"v1","Subscription-Id-Data":"49151","Voucher-Code":"000000000001",
+  "Z":1} -> no JSON object
+{"Amount":1,"Reference":"v1","Subscription-Id-Data":"49151",
+  "Voucher-Code":"000000000001"} -> no JSON object"##;
+
+#[test]
+fn values(rt: HostRuntime) {
+    try_told(&rt, rt.alloc(), Told::ContentShown, SHOWN);
+    try_told(&rt, rt.alloc(), Told::ContentShown, KINDS);
+}
+
+/// Whether `A = B` are the same content as credits.
+pub(crate) fn compared(rt: &impl Abort, alloc: Global, pair: &str) -> String {
+    let (a, b) = pair.split_once(" = ").expect(rt, "two bodies");
+    let a = credit(rt, alloc, a);
+    let b = credit(rt, alloc, b);
+    same(rt, alloc, same_content(&a, &b))
+}
+
+/// Whether two credits are the same content: an absent member is other content than its meaning.
+const PAIRS: &str =
+    r##"{"Amount":1,"Scope":5,"Reference":"r"} = {"More":1,"Reference":"r","Scope":5,
+  "Amount":1} -> same
+{"Amount":1,"Reference":"r"} = {"Amount":2,"Reference":"r"} -> other
+{"Amount":1,"Reference":"r"} = {"Amount":1,"Reference":"R"} -> other
+{"Amount":1,"Reference":"r"} = {"Amount":1,"Until":4102444800,"Reference":"r"} -> other
+{"Amount":1,"Reference":"r"} = {"Amount":1,"From":0,"Reference":"r"} -> other
+{"Amount":1,"Reference":"r"} = {"Amount":1,"Scope":0,"Reference":"r"} -> other
+{"Amount":1,"From":5,"Reference":"r"} = {"Amount":1,"Until":5,"Reference":"r"} -> other"##;
+
+#[test]
+fn contents_of_two(rt: HostRuntime) {
+    try_told(&rt, rt.alloc(), Told::Credits, PAIRS);
+}

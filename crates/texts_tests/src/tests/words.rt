@@ -1,0 +1,153 @@
+//! The words of the program, a line each, and what they say.
+
+use crate::tests::tables::{Told, try_told, word};
+use operator::{
+    OfficeCommand, ProgramWords, ServeWords, StatementWords, WordsFault, program_words,
+};
+use std::alloc::{AllocError, Global};
+use std::process::Abort;
+use units::Moment;
+
+fn seconds(at: Option<Moment>) -> Option<u64> {
+    at.map(|moment| moment.seconds())
+}
+
+fn office(alloc: Global, command: &OfficeCommand) -> Result<String, AllocError> {
+    match command {
+        OfficeCommand::Open(account) => format!(in alloc; "open {}", account.as_str()),
+        OfficeCommand::Bar(account) => format!(in alloc; "bar {}", account.as_str()),
+        OfficeCommand::Unbar(account) => format!(in alloc; "unbar {}", account.as_str()),
+        OfficeCommand::Credit(credit) => format!(in alloc;
+            "credit {} {} {} {} {:?}",
+            credit.account.as_str(),
+            credit.amount.micros(),
+            credit.reference.as_str(),
+            credit.end().seconds(),
+            credit.scope
+        ),
+        OfficeCommand::Sweep => format!(in alloc; "sweep"),
+    }
+}
+
+fn serving(alloc: Global, serve: &ServeWords) -> Result<String, AllocError> {
+    format!(in alloc;
+        "serve {} {} {} {:?}",
+        serve.database.as_str(),
+        serve.port,
+        serve.connections,
+        seconds(serve.at)
+    )
+}
+
+fn stating(alloc: Global, statement: &StatementWords) -> Result<String, AllocError> {
+    format!(in alloc;
+        "statement {} {} {} {} {:?}",
+        statement.database.as_str(),
+        statement.account.as_str(),
+        statement.month.number(),
+        statement.csv,
+        seconds(statement.at)
+    )
+}
+
+/// What words say, as a text.
+fn said(rt: &impl Abort, alloc: Global, words: &ProgramWords) -> Result<String, AllocError> {
+    match words {
+        ProgramWords::Once(once) => format!(in alloc;
+            "once {} {} {}",
+            once.credit.micros(),
+            once.price,
+            once.block
+        ),
+        ProgramWords::Init(init) => format!(in alloc;
+            "init {} {}",
+            init.database.as_str(),
+            init.book.as_str()
+        ),
+        ProgramWords::Serve(serve) => serving(alloc, serve),
+        ProgramWords::Import(import) => format!(in alloc;
+            "import {} {} {:?}",
+            import.database.as_str(),
+            import.file.as_str(),
+            seconds(import.at)
+        ),
+        ProgramWords::Office(words) => format!(in alloc;
+            "{} in {} {:?}",
+            office(alloc, &words.command).expect(rt, "memory").as_str(),
+            words.database.as_str(),
+            seconds(words.at)
+        ),
+        ProgramWords::Statement(statement) => stating(alloc, statement),
+        ProgramWords::Replay(replay) => format!(in alloc;
+            "replay {} {}",
+            replay.database.as_str(),
+            replay.file.as_str()
+        ),
+    }
+}
+
+/// What a line of words says, or how it isn't read.
+pub(crate) fn told(rt: &impl Abort, alloc: Global, line: &str) -> String {
+    let words: Vec<&str> = line.split(' ').collect(alloc).expect(rt, "memory");
+    match program_words(alloc, words.as_slice()) {
+        Ok(words) => said(rt, alloc, &words).expect(rt, "memory"),
+        Err(WordsFault::Unread(error)) => {
+            let code = error.exit_code();
+            format!(in alloc; "unread {code}").expect(rt, "memory")
+        }
+        Err(WordsFault::Invalid) => word(rt, alloc, "invalid"),
+        Err(WordsFault::Memory) => word(rt, alloc, "memory"),
+    }
+}
+
+/// A line's words and what they say: each command with its options, each of them missing, doubled,
+/// and at and past its bounds.
+const LINES: &str = "ocs once --credit 1000000 --price 0 --block 60 -> once 1000000 0 60
+ocs once --block=60 --price=1000000000 --credit=1 -> once 1 1000000000 60
+ocs once --credit 0 --price 0 --block 60 -> invalid
+ocs once --credit 1 --price 0 -> unread 2
+ocs init db book -> init db book
+ocs init db -> unread 2
+ocs init db book more -> unread 2
+ocs init  book -> invalid
+ocs serve db --port 65535 --connections 1000000 --at 0 -> serve db 65535 1000000 Some(0)
+ocs serve --port 1 --connections 1 db -> serve db 1 1 None
+ocs serve db --port 65536 --connections 1 -> invalid
+ocs serve db --port 0 --connections 1 -> invalid
+ocs serve db --port 1 --connections 1000001 -> invalid
+ocs serve db --port 1 -> unread 2
+ocs import db file --at 4102444799 -> import db file Some(4102444799)
+ocs import db file --at 4102444800 -> invalid
+ocs open db 49151 --at 1 -> open 49151 in db Some(1)
+ocs --at 1 open db 49151 -> unread 2
+ocs open --at 1 db 49151 -> open 49151 in db Some(1)
+ocs open db 49151 --at 1 --at 2 -> unread 2
+ocs open db 49151 --at -> unread 2
+ocs open db 1234567890123456 -> invalid
+ocs bar db 0 -> bar 0 in db None
+ocs unbar db 0 -> unbar 0 in db None
+ocs sweep db --at 0000000000000001 -> sweep in db Some(1)
+ocs sweep db --at 00000000000000001 -> invalid
+ocs sweep db --at +1 -> invalid
+ocs credit db 0 1000000000000000 r1 -> credit 0 1000000000000000 r1 4102444800 None in db None
+ocs credit db 0 1 r1 --until 1 --scope 4294967295 -> credit 0 1 r1 1 Some(4294967295) in db None
+ocs credit --scope 10 db 0 1 r1 -> credit 0 1 r1 4102444800 Some(10) in db None
+ocs credit db 0 0 r1 -> invalid
+ocs credit db 0 1 r1 --until 0 -> invalid
+ocs credit db 0 1 r1 --scope 4294967296 -> invalid
+ocs statement db 49151 202601 -> statement db 49151 202601 false None
+ocs statement --csv db 49151 202612 --at 5 -> statement db 49151 202612 true Some(5)
+ocs statement db 49151 202613 -> invalid
+ocs statement db 49151 196912 -> invalid
+ocs replay db file -> replay db file
+ocs replay db file --at 1 -> unread 2
+ocs -> unread 2
+ocs twice -> unread 2
+ocs --help -> unread 0
+ocs credit --help -> unread 0
+ocs --version -> unread 0";
+
+#[test]
+fn each_line_says_its_words(rt: HostRuntime) {
+    try_told(&rt, rt.alloc(), Told::Words, LINES);
+}

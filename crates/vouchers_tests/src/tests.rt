@@ -1,3 +1,0 @@
-mod files;
-mod lines;
-mod words;
