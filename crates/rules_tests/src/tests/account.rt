@@ -3,4 +3,5 @@
 mod prices;
 mod purses;
 mod restoring;
+mod rows;
 mod scenarios;

@@ -26,7 +26,8 @@ fn try_line<R: Abort, T: Teller>(rt: &R, alloc: Global, teller: &mut T, line: &s
     try_told(rt, case, told.as_str(), expected);
 }
 
-fn try_told(rt: &impl Abort, case: &str, told: &str, expected: &str) {
+/// Tries what is told of a case.
+pub(crate) fn try_told(rt: &impl Abort, case: &str, told: &str, expected: &str) {
     assert_eq!(rt; told, expected, "{case}");
 }
 

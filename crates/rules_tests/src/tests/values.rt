@@ -50,6 +50,12 @@ pub(crate) fn book(rt: &impl Abort, alloc: Global, text: &str) -> TariffBook {
     TariffBook::read(alloc, text.as_bytes()).expect(rt, "a book")
 }
 
+/// The book of a document in another zone than UTC.
+pub(crate) fn book_in_zone(rt: &impl Abort, alloc: Global, text: &str, zone: &str) -> TariffBook {
+    let text = text.replace(alloc, "+00:00", zone).expect(rt, "memory");
+    book(rt, alloc, text.as_str())
+}
+
 /// An account without rows.
 pub(crate) fn account(alloc: Global, book: &TariffBook) -> Account<'_> {
     Account::new(alloc, book)

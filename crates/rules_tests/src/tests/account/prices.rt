@@ -17,8 +17,10 @@ const OFF: Period = Period(0);
 
 const PEAK: Period = Period(1);
 
-/// Two periods of half a day each.
-const HALVES: &str = r#"zone = "+00:00"
+/// Two periods of half a day each, and groups in blocks of one. Group 40: the first 400000000 at 2
+/// and the others at 3, or in the dearer period the first 600000000 at 1 and the others at 7.
+/// Groups 1 to 3: up to eight tiers with low bounds.
+const TIERS: &str = r#"zone = "+00:00"
 currency = 978
 validity = 3600
 periods = ["off", "peak"]
@@ -32,70 +34,69 @@ period = "peak"
 days = [1, 2, 3, 4, 5, 6, 7]
 from = "12:00"
 to = "24:00"
+[[group]]
+id = 40
+unit = "octets"
+block = 1
+slice = 1
+max_grant = 999999999
+cycle = "none"
+final = "terminate"
+price = [
+  {period = "off", tiers = [{upto = 400000000, price = 2}, {price = 3}]},
+  {period = "peak", tiers = [{upto = 600000000, price = 1}, {price = 7}]},
+]
+[[group]]
+id = 1
+unit = "events"
+block = 1
+slice = 1
+max_grant = 100
+cycle = "none"
+final = "terminate"
+price = [
+  {period = "off", tiers = [{upto = 1, price = 5}, {price = 3}]},
+  {period = "peak", tiers = [{upto = 2, price = 4}, {upto = 3, price = 9}, {price = 0}]},
+]
+[[group]]
+id = 2
+unit = "events"
+block = 1
+slice = 1
+max_grant = 100
+cycle = "none"
+final = "terminate"
+price = [
+  {period = "off", tiers = [{upto = 1, price = 1}, {upto = 2, price = 9}, {upto = 3, price = 2},
+    {upto = 4, price = 8}, {upto = 5, price = 3}, {upto = 6, price = 7}, {upto = 7, price = 4},
+    {price = 6}]},
+  {period = "peak", tiers = [{upto = 2, price = 6}, {upto = 3, price = 0}, {upto = 5, price = 5},
+    {upto = 7, price = 10}, {upto = 11, price = 1}, {upto = 13, price = 2},
+    {upto = 17, price = 3}, {price = 4}]},
+]
+[[group]]
+id = 3
+unit = "events"
+block = 1
+slice = 1
+max_grant = 100
+cycle = "none"
+final = "terminate"
+price = [
+  {period = "off", tiers = [{price = 7}]},
+  {period = "peak", tiers = [{upto = 10, price = 0}, {price = 20}]},
+]
 "#;
 
-/// Groups in blocks of one: each one's number, unit and greatest grant, and its tiers in both
-/// periods. Group 40: the first 400000000 at 2 and the others at 3, or in the dearer period the
-/// first 600000000 at 1 and the others at 7.
-/// Groups 1 to 3: up to eight tiers with low bounds.
-const GROUPS: [[&str; 3]; 4] = [
-    [
-        r#"id = 40
-unit = "octets"
-max_grant = 999999999"#,
-        "{upto = 400000000, price = 2}, {price = 3}",
-        "{upto = 600000000, price = 1}, {price = 7}",
-    ],
-    [
-        r#"id = 1
-unit = "events"
-max_grant = 100"#,
-        "{upto = 1, price = 5}, {price = 3}",
-        "{upto = 2, price = 4}, {upto = 3, price = 9}, {price = 0}",
-    ],
-    [
-        r#"id = 2
-unit = "events"
-max_grant = 100"#,
-        "{upto = 1, price = 1}, {upto = 2, price = 9}, {upto = 3, price = 2}, {upto = 4, price = 8}, {upto = 5, price = 3}, {upto = 6, price = 7}, {upto = 7, price = 4}, {price = 6}",
-        "{upto = 2, price = 6}, {upto = 3, price = 0}, {upto = 5, price = 5}, {upto = 7, price = 10}, {upto = 11, price = 1}, {upto = 13, price = 2}, {upto = 17, price = 3}, {price = 4}",
-    ],
-    [
-        r#"id = 3
-unit = "events"
-max_grant = 100"#,
-        "{price = 7}",
-        "{upto = 10, price = 0}, {price = 20}",
-    ],
-];
-
-/// Prices by many tiers, in blocks of one.
-fn book_of_tiers(rt: &impl Abort, alloc: Global) -> TariffBook {
-    let mut text = String::from_str(alloc, HALVES).expect(rt, "memory");
-    for [head, off, peak] in GROUPS {
-        push_group(rt, &mut text, head, off, peak);
-    }
-    book(rt, alloc, text.as_str())
-}
-
-fn push_group(rt: &impl Abort, text: &mut String, head: &str, off: &str, peak: &str) {
-    for piece in [
-        "[[group]]\n",
-        head,
-        "\nblock = 1\nslice = 1\ncycle = \"none\"\nfinal = \"terminate\"\n",
-        "price = [{period = \"off\", tiers = [",
-        off,
-        "]}, {period = \"peak\", tiers = [",
-        peak,
-        "]}]\n",
-    ] {
-        text.push_str(piece).expect(rt, "memory");
-    }
-}
-
-/// The prices of a group over a switch to the dearer period.
-fn prices_of<'b>(rt: &impl Abort, book: &'b TariffBook, group: u32, before: u8) -> Prices<'b> {
-    let prices = book.prices(group, Period(before), PEAK);
+/// The prices of a group before a switch and after it.
+fn prices_of<'b>(
+    rt: &impl Abort,
+    book: &'b TariffBook,
+    group: u32,
+    before: Period,
+    after: Period,
+) -> Prices<'b> {
+    let prices = book.prices(group, before, after);
     prices.expect(rt, "a group of the book")
 }
 
@@ -120,7 +121,8 @@ impl Teller for Rater<'_> {
         match words.word() {
             "grant" => grant(rt, alloc, self.book, &mut words),
             "rate" => rated(rt, alloc, self.book, &mut words),
-            _ => reported(rt, alloc, self.book, &mut words),
+            "report" => reported(rt, alloc, self.book, &mut words),
+            _ => otherwise(rt, alloc, self.book, &mut words),
         }
     }
 }
@@ -131,7 +133,7 @@ fn grant(rt: &impl Abort, alloc: Global, book: &TariffBook, words: &mut Words<'_
     let (group, before) = (words.number(rt), words.number(rt));
     let (used, place) = (Units(words.number(rt)), words.number(rt));
     let (wanted, funds) = (Units(words.number(rt)), Amount(words.number(rt)));
-    let prices = prices_of(rt, book, group, before);
+    let prices = prices_of(rt, book, group, Period(before), PEAK);
     let grant = greatest_grant(&prices, used, place, wanted, funds);
     let (blocks, units, amount) = (grant.blocks.0, grant.units.0, grant.amount.0);
     format!(in alloc; "{blocks} {units} {amount}").expect(rt, "memory")
@@ -141,7 +143,7 @@ fn grant(rt: &impl Abort, alloc: Global, book: &TariffBook, words: &mut Words<'_
 fn rated(rt: &impl Abort, alloc: Global, book: &TariffBook, words: &mut Words<'_>) -> String {
     let (group, side) = (words.number(rt), side(words.word()));
     let (place, blocks) = (words.number(rt), Blocks(words.number(rt)));
-    let amount = rate(&prices_of(rt, book, group, 0), side, place, blocks);
+    let amount = rate(&prices_of(rt, book, group, OFF, PEAK), side, place, blocks);
     format!(in alloc; "{}", amount.0).expect(rt, "memory")
 }
 
@@ -150,7 +152,7 @@ fn rated(rt: &impl Abort, alloc: Global, book: &TariffBook, words: &mut Words<'_
 fn reported(rt: &impl Abort, alloc: Global, book: &TariffBook, words: &mut Words<'_>) -> String {
     let (group, used, place) = (words.number(rt), Units(words.number(rt)), words.number(rt));
     let parts = [part(rt, words), part(rt, words), NONE, NONE];
-    let rated = rate_report(&prices_of(rt, book, group, 0), used, place, &parts);
+    let rated = rate_report(&prices_of(rt, book, group, OFF, PEAK), used, place, &parts);
     let (amount, blocks) = (rated.amount.0, rated.blocks);
     format!(in alloc; "{amount} {blocks}").expect(rt, "memory")
 }
@@ -200,10 +202,9 @@ report 20 103809024 99 after 2097152 after 0 => 10000 2";
 #[test]
 fn prices_of_the_worked_book(rt: HostRuntime) {
     let book = book(&rt, rt.alloc(), BOOK);
-    let mut rater = Rater { book: &book };
-    try_table(&rt, rt.alloc(), &mut rater, GRANTS);
-    try_table(&rt, rt.alloc(), &mut rater, RATES);
-    try_table(&rt, rt.alloc(), &mut rater, REPORTS);
+    for cases in &[GRANTS, RATES, REPORTS] {
+        try_table(&rt, rt.alloc(), &mut Rater { book: &book }, cases);
+    }
 }
 
 /// A thousand million blocks of group 40, and grants of as many with a switch to the dearer period:
@@ -219,7 +220,7 @@ grant 40 0 0 0 1000000000 800000002 => 400000000 400000000 800000000";
 
 #[test]
 fn a_billion_blocks(rt: HostRuntime) {
-    let book = book_of_tiers(&rt, rt.alloc());
+    let book = book(&rt, rt.alloc(), TIERS);
     try_table(&rt, rt.alloc(), &mut Rater { book: &book }, MANY_BLOCKS);
 }
 
@@ -300,18 +301,26 @@ fn told_otherwise(prices: &Prices) -> u64 {
     count
 }
 
-fn try_group(rt: &impl Abort, book: &TariffBook, group: u32) {
-    for (before, after) in [(OFF, OFF), (OFF, PEAK), (PEAK, OFF)] {
-        let prices = book.prices(group, before, after).expect(rt, "a group");
-        let otherwise = told_otherwise(&prices);
-        assert_eq!(rt; otherwise, 0, "group {group}");
-    }
+/// `GROUP BEFORE AFTER`: how often tiers and blocks tell otherwise in two periods.
+fn otherwise(rt: &impl Abort, alloc: Global, book: &TariffBook, words: &mut Words<'_>) -> String {
+    let (group, before) = (words.number(rt), Period(words.number(rt)));
+    let prices = prices_of(rt, book, group, before, Period(words.number(rt)));
+    format!(in alloc; "{}", told_otherwise(&prices)).expect(rt, "memory")
 }
+
+const OTHERWISE: &str = "\
+otherwise 1 0 0 => 0
+otherwise 1 0 1 => 0
+otherwise 1 1 0 => 0
+otherwise 2 0 0 => 0
+otherwise 2 0 1 => 0
+otherwise 2 1 0 => 0
+otherwise 3 0 0 => 0
+otherwise 3 0 1 => 0
+otherwise 3 1 0 => 0";
 
 #[test]
 fn tiers_tell_what_blocks_do(rt: HostRuntime) {
-    let book = book_of_tiers(&rt, rt.alloc());
-    for group in [1, 2, 3] {
-        try_group(&rt, &book, group);
-    }
+    let book = book(&rt, rt.alloc(), TIERS);
+    try_table(&rt, rt.alloc(), &mut Rater { book: &book }, OTHERWISE);
 }

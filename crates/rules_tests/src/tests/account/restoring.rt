@@ -1,7 +1,8 @@
 //! An account is made of rows, taken apart and made again; rows that aren't those of an account are
 //! refused.
 
-use crate::tests::tables::{Teller, try_table};
+use crate::tests::account::rows::holds_text;
+use crate::tests::tables::{Teller, try_table, try_told};
 use crate::tests::values::{TEN, moment, money, session_id};
 use buckets::{Bucket, Hold, Holds, Purse};
 use calendar::Period;
@@ -102,23 +103,15 @@ fn push_sessions(rt: &impl Abort, alloc: Global, rows: &[Session], text: &mut St
     }
 }
 
-fn push_holds(rt: &impl Abort, alloc: Global, holds: &[Hold], text: &mut String) {
-    for hold in holds {
-        let piece = format!(in alloc; " {}:{}", hold.bucket, hold.amount).expect(rt, "memory");
-        text.push_str(piece.as_str()).expect(rt, "memory");
+fn push_group(rt: &impl Abort, alloc: Global, row: &SessionGroup, text: &mut String) {
+    let piece = format!(in alloc; "{} {} {}", row.session.as_str(), row.group, row.used);
+    let piece = piece.expect(rt, "memory");
+    text.push_str(piece.as_str()).expect(rt, "memory");
+    if let Some(reservation) = &row.reservation {
+        let holds = holds_text(rt, alloc, reservation.holds.as_slice());
+        text.push_str(holds.as_str()).expect(rt, "memory");
     }
-}
-
-fn push_groups(rt: &impl Abort, alloc: Global, rows: &[SessionGroup], text: &mut String) {
-    for row in rows {
-        let piece = format!(in alloc; "{} {} {}", row.session.as_str(), row.group, row.used);
-        let piece = piece.expect(rt, "memory");
-        text.push_str(piece.as_str()).expect(rt, "memory");
-        if let Some(reservation) = &row.reservation {
-            push_holds(rt, alloc, reservation.holds.as_slice(), text);
-        }
-        text.push_str("; ").expect(rt, "memory");
-    }
+    text.push_str("; ").expect(rt, "memory");
 }
 
 /// Its moment, whether it is barred and its next numbers; then its rows.
@@ -129,7 +122,9 @@ fn told(rt: &impl Abort, alloc: Global, account: &StoredAccount) -> String {
     push_buckets(rt, alloc, account.purse().buckets(), &mut text);
     push_counters(rt, alloc, account.counters(), &mut text);
     push_sessions(rt, alloc, account.sessions(), &mut text);
-    push_groups(rt, alloc, account.groups(), &mut text);
+    for row in account.groups() {
+        push_group(rt, alloc, row, &mut text);
+    }
     text
 }
 
@@ -176,8 +171,8 @@ fn an_account_of_rows(rt: HostRuntime) {
     let again = parts(&rt, alloc, &first);
     let second = StoredAccount::from_rows(alloc, again).expect(&rt, "an account");
     let (first, second) = (told(&rt, alloc, &first), told(&rt, alloc, &second));
-    assert_eq!(rt; first.as_str(), ROWS);
-    assert_eq!(rt; second.as_str(), ROWS);
+    try_told(&rt, "the account of the rows", first.as_str(), ROWS);
+    try_told(&rt, "the account of its own rows", second.as_str(), ROWS);
 }
 
 // ---- what is refused

@@ -11,9 +11,9 @@ ghost use Rattle.std.specs.Prelude.{◌≡◌, true, false, None};
 ghost use Rattle.reserving.specs.Sessions.{session_in};
 ghost use Rattle.reserving.specs.Prepared.{reservation_in};
 
+use crate::tests::account::rows::buckets_text;
 use crate::tests::tables::{Teller, Words, try_table};
 use crate::tests::values::{account, book, end, moment, money, session_id};
-use buckets::Bucket;
 use identifiers::SessionId;
 use reserving::{Account, Granted, Session, SessionGroup, Settled};
 use std::alloc::Global;
@@ -343,24 +343,6 @@ fn outcome(
     }
 }
 
-/// A bucket: its credited amount, and what of it is available, reserved, charged and expired.
-fn columns(rt: &impl Abort, alloc: Global, bucket: &Bucket) -> String {
-    let (credited, available, expired) = (bucket.credited(), bucket.available(), bucket.expired());
-    let (reserved, charged) = (bucket.reserved(), bucket.charged());
-    let text = format!(in alloc; " ({credited}; {available}, {reserved}, {charged}, {expired})");
-    text.expect(rt, "memory")
-}
-
-/// The account's buckets.
-fn buckets(rt: &impl Abort, alloc: Global, account: &Account) -> String {
-    let mut text = String::new(alloc);
-    for bucket in account.purse().buckets() {
-        let columns = columns(rt, alloc, bucket);
-        text.push_str(columns.as_str()).expect(rt, "memory");
-    }
-    text
-}
-
 /// Tells what a line's call gives, and the buckets of the account's copy after it.
 #[derive(Drop)]
 struct Player<'b> {
@@ -373,7 +355,7 @@ impl Teller for Player<'_> {
         let at = moment(rt, words.number(rt));
         let outcome = outcome(rt, alloc, &mut self.account, &mut words, at);
         let copy = self.account.copy().expect(rt, "memory");
-        let buckets = buckets(rt, alloc, &copy);
+        let buckets = buckets_text(rt, alloc, copy.purse().buckets());
         format!(in alloc; "{outcome}{buckets}").expect(rt, "memory")
     }
 }
@@ -419,8 +401,10 @@ const BUCKETS: &str = "\
 1767607200 credit 1767607800 150000 => 1 (150000; 150000, 0, 0, 0)
 1767607200 credit 4102444800 300000 => 2 (150000; 150000, 0, 0, 0) (300000; 300000, 0, 0, 0)
 1767607200 open s6 => opened (150000; 150000, 0, 0, 0) (300000; 300000, 0, 0, 0)
-1767607200 reserve s6 10 180 => 180 None 3600 all (150000; 0, 150000, 0, 0) (300000; 150000, 150000, 0, 0)
-1767608100 settle s6 10 60 => 1 100000 100000 0 (150000; 0, 0, 100000, 50000) (300000; 300000, 0, 0, 0)";
+1767607200 reserve s6 10 180 => 180 None 3600 all (150000; 0, 150000, 0, 0)
+   (300000; 150000, 150000, 0, 0)
+1767608100 settle s6 10 60 => 1 100000 100000 0 (150000; 0, 0, 100000, 50000)
+   (300000; 300000, 0, 0, 0)";
 
 /// The first 100 blocks of the month are free: 99 are granted and used, and then two more. January
 /// 2026 is the 684th month after January 1969.
@@ -442,7 +426,8 @@ const FORGOTTEN: &str = "\
 1767607200 session s12 => 0 NeverOpened false (40000; 40000, 0, 0, 0)
 1767607260 credit 4102444800 1000000 => 2 (40000; 40000, 0, 0, 0) (1000000; 1000000, 0, 0, 0)
 1767607320 open s12b => opened (40000; 40000, 0, 0, 0) (1000000; 1000000, 0, 0, 0)
-1767607320 reserve s12b 10 600 => 600 None 3600 all (40000; 0, 40000, 0, 0) (1000000; 40000, 960000, 0, 0)
+1767607320 reserve s12b 10 600 => 600 None 3600 all (40000; 0, 40000, 0, 0)
+   (1000000; 40000, 960000, 0, 0)
 1767614519 session s12b => 0 Open true (40000; 0, 40000, 0, 0) (1000000; 40000, 960000, 0, 0)
 1767614520 session s12b => 0 Open false (40000; 0, 40000, 0, 0) (1000000; 40000, 960000, 0, 0)
 1767614520 funds 10 => 1040000 true (40000; 0, 40000, 0, 0) (1000000; 40000, 960000, 0, 0)
@@ -504,7 +489,8 @@ const LIMITS: &str = "\
 1767607200 limit s22 10 0 1000000000000000001 => true
 1767607200 limit s22 10 4294967294 1 => false
 1767607200 limit s22 10 4294967295 1 => true
-1767607200 settle s22 30 999999999999999999 => 999999999999999999 89999999999999999910000 0 89999999999999999910000
+1767607200 settle s22 30 999999999999999999 => 999999999999999999 89999999999999999910000 0
+   89999999999999999910000
 1767607200 limit s22 30 0 1 => false
 1767607200 limit s22 30 0 2 => true
 1767607200 limit s22 10 4294967293 1 => false

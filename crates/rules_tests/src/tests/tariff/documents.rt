@@ -40,8 +40,16 @@ pub(crate) fn entry(
     format!(in alloc; "{head}from = \"{from}\"\nto = \"{to}\"\n").expect(rt, "memory")
 }
 
-/// So many entries of equal length in some days, numbered on; of each four the second and third are
-/// of one period.
+/// Of each four entries the second and third are of one period.
+fn period_of(number: u32) -> &'static str {
+    match number % 4 {
+        0 => "a",
+        1 | 2 => "b",
+        _ => "c",
+    }
+}
+
+/// So many entries of equal length in some days, numbered on.
 fn slices(rt: &impl Abort, alloc: Global, days: &str, first: u32, count: u32) -> String {
     let mut text = String::new(alloc);
     let length = 1440_u32.checked_div(count).expect(rt, "a count");
@@ -49,12 +57,7 @@ fn slices(rt: &impl Abort, alloc: Global, days: &str, first: u32, count: u32) ->
         let number = first.checked_add(i).expect(rt, "a number");
         let from = length.checked_mul(i).expect(rt, "a minute");
         let to = from.checked_add(length).expect(rt, "a minute");
-        let period = match number % 4 {
-            0 => "a",
-            1 | 2 => "b",
-            _ => "c",
-        };
-        let entry = entry(rt, alloc, period, days, from, to);
+        let entry = entry(rt, alloc, period_of(number), days, from, to);
         text.push_str(entry.as_str()).expect(rt, "memory");
     }
     text

@@ -307,13 +307,8 @@ periods = ["off", "peak"] -> periods = ["off", "peak", "dusk"] & {period = "peak
 periods = ["off", "peak"] -> periods = ["off", "peak", "dusk"] & id = 10 -> id = -1 => 4
 zone =  -> zone = =  & currency -> xcurrency => 1"##;
 
-#[test]
-fn faults_of_the_small_book(rt: HostRuntime) {
-    let small = SMALL.replace(rt.alloc(), "\n  ", "").expect(&rt, "memory");
-    let mut changes = Changes {
-        document: small.as_str(),
-    };
-    for cases in [
+fn try_small(rt: &impl Abort, alloc: Global, document: &str) {
+    let tables = [
         ZONE_AND_NUMBERS,
         PERIODS,
         WEEK,
@@ -325,24 +320,43 @@ fn faults_of_the_small_book(rt: HostRuntime) {
         TIERS,
         OTHER_KEYS,
         ORDER,
-    ] {
-        try_table(&rt, rt.alloc(), &mut changes, cases);
+    ];
+    for cases in &tables {
+        try_table(rt, alloc, &mut Changes { document }, cases);
     }
+}
+
+/// The small book on fewer lines, as the texts of the changes have them.
+fn small(rt: &impl Abort, alloc: Global) -> String {
+    SMALL.replace(alloc, "\n  ", "").expect(rt, "memory")
+}
+
+#[test]
+fn faults_of_the_small_book(rt: HostRuntime) {
+    try_small(&rt, rt.alloc(), small(&rt, rt.alloc()).as_str());
 }
 
 #[test]
 fn faults_of_the_worked_book(rt: HostRuntime) {
-    let mut changes = Changes { document: BOOK };
-    try_table(&rt, rt.alloc(), &mut changes, THREE_GROUPS);
+    try_table(
+        &rt,
+        rt.alloc(),
+        &mut Changes { document: BOOK },
+        THREE_GROUPS,
+    );
+}
+
+fn try_bytes(rt: &impl Abort, alloc: Global, bytes: &[u8], fault: u8) {
+    let told = outcome(alloc, bytes);
+    assert_eq!(rt; told, fault, "{bytes:?}");
 }
 
 #[test]
-fn no_document(rt: HostRuntime) {
-    let alloc = rt.alloc();
-    let small = SMALL.replace(alloc, "\n  ", "").expect(&rt, "memory");
-    assert_eq!(rt; outcome(alloc, b""), 2);
-    assert_eq!(rt; outcome(alloc, b"zone"), 1);
-    assert_eq!(rt; outcome(alloc, &[0xFF]), 1);
-    assert_eq!(rt; outcome(alloc, small.as_str().as_bytes()), 0);
-    assert_eq!(rt; outcome(alloc, BOOK.as_bytes()), 0);
+fn bytes_with_no_change(rt: HostRuntime) {
+    try_bytes(&rt, rt.alloc(), b"", 2);
+    try_bytes(&rt, rt.alloc(), b"zone", 1);
+    try_bytes(&rt, rt.alloc(), &[0xFF], 1);
+    try_bytes(&rt, rt.alloc(), BOOK.as_bytes(), 0);
+    let small = small(&rt, rt.alloc());
+    try_bytes(&rt, rt.alloc(), small.as_str().as_bytes(), 0);
 }

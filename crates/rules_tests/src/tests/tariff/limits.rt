@@ -50,7 +50,7 @@ fn tiers(rt: &impl Abort, alloc: Global, count: u32) -> String {
 fn prices(rt: &impl Abort, alloc: Global, count: u32) -> String {
     let tiers = tiers(rt, alloc, count);
     let mut text = String::new(alloc);
-    for period in ["a", "b", "c", "d", "e", "f", "g", "h"] {
+    for period in "a b c d e f g h".split(" ") {
         let price = format!(in alloc; "{{period = \"{period}\", tiers = [{tiers}]}}, ");
         let price = price.expect(rt, "memory");
         text.push_str(price.as_str()).expect(rt, "memory");

@@ -3,10 +3,10 @@
 //! ordinal, its year and month, the timestamp of a midnight, and a search over each minute of the
 //! next hour.
 
-ghost use Rattle.std.specs.Prelude.{◌<◌};
+ghost use Rattle.std.specs.Prelude.{◌<◌, ◌≤◌};
 
 use crate::tests::tables::{Teller, Words, try_table};
-use crate::tests::values::{book, moment};
+use crate::tests::values::{book, book_in_zone, moment};
 use calendar::{Cycle, Period};
 use std::alloc::Global;
 use std::process::Abort;
@@ -16,22 +16,17 @@ use worked_book::BOOK;
 
 /// What a tariff says of itself, but for its prices.
 fn described(rt: &impl Abort, alloc: Global, tariff: &Tariff) -> String {
-    let numbers = format!(in alloc;
-        "{} {} {} {}",
+    let text = format!(in alloc;
+        "{} {} {} {} {:?} {:?} {:?}",
         tariff.group(),
         tariff.block(),
         tariff.slice(),
-        tariff.max_grant()
-    );
-    let numbers = numbers.expect(rt, "memory");
-    let words = format!(in alloc;
-        "{:?} {:?} {:?}",
+        tariff.max_grant(),
         tariff.unit(),
         tariff.cycle(),
         tariff.final_action()
     );
-    let words = words.expect(rt, "memory");
-    format!(in alloc; "{numbers} {words}").expect(rt, "memory")
+    text.expect(rt, "memory")
 }
 
 /// The bounds and prices of its tiers in a period.
@@ -91,23 +86,31 @@ fn groups_of_the_book(rt: HostRuntime) {
     try_table(&rt, rt.alloc(), &mut Groups { book: &book }, GROUPS);
 }
 
-/// What a book says of a moment: its period and the switch within an hour of it, the validity from
-/// it, the numbers of its cycles, and the end of its day and of the 30th day after it.
-fn told_of_moment(rt: &impl Abort, alloc: Global, book: &TariffBook, at: Moment) -> String
-    requires { at < 4_102_444_800 }
+/// The period at a moment, the switch within so many seconds of it, and the validity from it.
+pub(crate) fn told_of_period(
+    rt: &impl Abort,
+    alloc: Global,
+    book: &TariffBook,
+    at: Moment,
+    seconds: u32,
+) -> String
+    requires at { at < 4_102_444_800 }
+    requires seconds { seconds ≤ 43_200 }
 {
     let Period(period) = book.period_at(at);
-    let switch = book.next_switch(at, 3600).map(Moment::seconds);
+    let switch = book.next_switch(at, seconds).map(Moment::seconds);
     let validity = book.validity_from(at);
-    let first = format!(in alloc; "{period} {switch:?} {validity}").expect(rt, "memory");
+    format!(in alloc; "{period} {switch:?} {validity}").expect(rt, "memory")
+}
+
+/// The numbers of a moment's cycles, and the end of its day and of the 30th day after it.
+fn told_of_days(rt: &impl Abort, alloc: Global, book: &TariffBook, at: Moment) -> String {
     let none = book.cycle_of(Cycle::None, at);
     let day = book.cycle_of(Cycle::Day, at);
     let month = book.cycle_of(Cycle::Month, at);
     let today = book.day_end(at, 0).map(Moment::seconds);
     let later = book.day_end(at, 30).map(Moment::seconds);
-    let second = format!(in alloc; "{none} {day} {month} {today:?} {later:?}");
-    let second = second.expect(rt, "memory");
-    format!(in alloc; "{first} {second}").expect(rt, "memory")
+    format!(in alloc; "{none} {day} {month} {today:?} {later:?}").expect(rt, "memory")
 }
 
 /// Tells what the book of a document says, in another zone, of a moment.
@@ -121,12 +124,10 @@ impl Teller for Moments<'_> {
         let mut words = Words::of(case);
         let zone = words.word();
         let at = moment(rt, words.number(rt));
-        let text = self
-            .document
-            .replace(alloc, "+00:00", zone)
-            .expect(rt, "memory");
-        let book = book(rt, alloc, text.as_str());
-        told_of_moment(rt, alloc, &book, at)
+        let book = book_in_zone(rt, alloc, self.document, zone);
+        let period = told_of_period(rt, alloc, &book, at, 3600);
+        let days = told_of_days(rt, alloc, &book, at);
+        format!(in alloc; "{period} {days}").expect(rt, "memory")
     }
 }
 
@@ -180,27 +181,46 @@ fn moments_of_the_book(rt: HostRuntime) {
     try_table(&rt, rt.alloc(), &mut Moments { document }, CUT);
 }
 
-fn names_of(rt: &impl Abort, alloc: Global, book: &TariffBook) -> String {
-    let mut text = String::new(alloc);
-    for i in 0..3 {
-        let line = format!(in alloc; "{:?} ", book.period_name(Period(i))).expect(rt, "memory");
-        text.push_str(line.as_str()).expect(rt, "memory");
-    }
-    for name in ["off", "peak", "night"] {
-        let line = format!(in alloc; "{:?} ", book.period_named(name)).expect(rt, "memory");
-        text.push_str(line.as_str()).expect(rt, "memory");
-    }
-    text
+/// Tells the name of a period, the period of a name, or the book's currency and validity.
+#[derive(Clone, Copy)]
+struct Names<'b> {
+    book: &'b TariffBook,
 }
+
+impl Teller for Names<'_> {
+    fn tell<R: Abort>(&mut self, rt: &R, alloc: Global, case: &str) -> String {
+        let mut words = Words::of(case);
+        match words.word() {
+            "period" => name_of(rt, alloc, self.book, words.number(rt)),
+            "name" => period_of(rt, alloc, self.book, words.word()),
+            _ => head_of(rt, alloc, self.book),
+        }
+    }
+}
+
+fn name_of(rt: &impl Abort, alloc: Global, book: &TariffBook, period: u8) -> String {
+    format!(in alloc; "{:?}", book.period_name(Period(period))).expect(rt, "memory")
+}
+
+fn period_of(rt: &impl Abort, alloc: Global, book: &TariffBook, name: &str) -> String {
+    format!(in alloc; "{:?}", book.period_named(name)).expect(rt, "memory")
+}
+
+pub(crate) fn head_of(rt: &impl Abort, alloc: Global, book: &TariffBook) -> String {
+    format!(in alloc; "{} {}", book.currency(), book.validity()).expect(rt, "memory")
+}
+
+const NAMES: &str = "\
+period 0 => Some(\"off\")
+period 1 => Some(\"peak\")
+period 2 => None
+name off => Some(Period(0))
+name peak => Some(Period(1))
+name night => None
+head => 978 3600";
 
 #[test]
 fn names_of_the_book(rt: HostRuntime) {
     let book = book(&rt, rt.alloc(), BOOK);
-    let found = names_of(&rt, rt.alloc(), &book);
-    assert_eq!(rt;
-        found.as_str(),
-        "Some(\"off\") Some(\"peak\") None Some(Period(0)) Some(Period(1)) None "
-    );
-    assert_eq!(rt; book.currency(), 978);
-    assert_eq!(rt; book.validity(), 3600);
+    try_table(&rt, rt.alloc(), &mut Names { book: &book }, NAMES);
 }

@@ -1,14 +1,12 @@
 //! The book of one price: the least and the greatest price, its one group and its one period.
 
 use crate::tests::tables::{Teller, Words, try_table};
-use crate::tests::tariff::lookups::told_of_group;
+use crate::tests::tariff::lookups::{head_of, told_of_group, told_of_period};
 use crate::tests::values::moment;
-use calendar::Period;
 use one_price::once_book;
 use std::alloc::Global;
 use std::process::Abort;
 use tariffs::TariffBook;
-use units::Moment;
 
 fn book_of_price(rt: &impl Abort, alloc: Global, price: u64, block: u64) -> TariffBook {
     assert!(rt; price <= 1_000_000_000 && 1 <= block && block <= 1_000_000_000_000_000);
@@ -24,9 +22,9 @@ impl Teller for Books {
         let mut words = Words::of(case);
         let (price, block, group) = (words.number(rt), words.number(rt), words.number(rt));
         let book = book_of_price(rt, alloc, price, block);
+        let head = head_of(rt, alloc, &book);
         let group = told_of_group(rt, alloc, &book, group, 0);
-        let (currency, validity) = (book.currency(), book.validity());
-        format!(in alloc; "{currency} {validity}, {group}").expect(rt, "memory")
+        format!(in alloc; "{head}, {group}").expect(rt, "memory")
     }
 }
 
@@ -53,10 +51,7 @@ impl Teller for BookMoments {
         let (price, block, seconds) = (words.number(rt), words.number(rt), words.number(rt));
         let at = moment(rt, seconds);
         let book = book_of_price(rt, alloc, price, block);
-        let Period(period) = book.period_at(at);
-        let switch = book.next_switch(at, 43_200).map(Moment::seconds);
-        let validity = book.validity_from(at);
-        format!(in alloc; "{period} {switch:?} {validity}").expect(rt, "memory")
+        told_of_period(rt, alloc, &book, at, 43_200)
     }
 }
 

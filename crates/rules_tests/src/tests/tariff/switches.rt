@@ -3,7 +3,8 @@
 
 use crate::tests::tables::{Teller, Words, try_table};
 use crate::tests::tariff::documents::{sliced, whole_week};
-use crate::tests::values::{book, moment};
+use crate::tests::values::{book, book_in_zone, moment};
+use calendar::Window;
 use std::alloc::Global;
 use std::process::Abort;
 use tariffs::TariffBook;
@@ -65,21 +66,29 @@ const STARTS: [u64; 6] = [
     4_102_444_740,
 ];
 
+fn try_length(rt: &impl Abort, book: &TariffBook, at: u64, seconds: u32) {
+    let agreed = agrees(book, at, seconds);
+    assert!(rt; agreed == Some(true), "{at} {seconds}");
+}
+
 fn try_start(rt: &impl Abort, book: &TariffBook, start: u64) {
     for later in [0, 1, 59] {
         let at = start.checked_add(later).expect(rt, "a moment");
         for seconds in [0, 1, 60, 3_600, 43_200] {
-            let agreed = agrees(book, at, seconds);
-            assert_eq!(rt; agreed, Some(true), "{at} {seconds}");
+            try_length(rt, book, at, seconds);
         }
+    }
+}
+
+fn try_starts(rt: &impl Abort, book: &TariffBook) {
+    for start in STARTS {
+        try_start(rt, book, start);
     }
 }
 
 fn try_book(rt: &impl Abort, alloc: Global, text: &str) {
     let book = book(rt, alloc, text);
-    for start in STARTS {
-        try_start(rt, &book, start);
-    }
+    try_starts(rt, &book);
 }
 
 #[test]
@@ -129,16 +138,14 @@ impl Teller for Windows<'_> {
     fn tell<R: Abort>(&mut self, rt: &R, alloc: Global, case: &str) -> String {
         let mut words = Words::of(case);
         let zone = words.word();
-        let at = moment(rt, words.number(rt));
-        let seconds = words.number(rt);
-        let text = self
-            .document
-            .replace(alloc, "+00:00", zone)
-            .expect(rt, "memory");
-        let book = book(rt, alloc, text.as_str());
-        let window = book.window_from(at, seconds);
-        format!(in alloc; "{:?} {}", window.switch, window.validity).expect(rt, "memory")
+        let (at, seconds) = (moment(rt, words.number(rt)), words.number(rt));
+        let book = book_in_zone(rt, alloc, self.document, zone);
+        told_of_window(rt, alloc, book.window_from(at, seconds))
     }
+}
+
+fn told_of_window(rt: &impl Abort, alloc: Global, window: Window) -> String {
+    format!(in alloc; "{:?} {}", window.switch, window.validity).expect(rt, "memory")
 }
 
 /// A Friday's evening and its last second before 20:00, a Saturday's noon, a Sunday's last second,
