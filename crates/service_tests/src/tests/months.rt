@@ -105,7 +105,7 @@ impl<'a> Trial for Writing<'a> {
 }
 
 /// As of five past ten, where no bucket is live any more.
-fn writing<'a>(
+fn half_paid_month<'a>(
     rt: &impl Abort,
     alloc: Global,
     book: &'a TariffBook,
@@ -136,13 +136,13 @@ fn a_writer_that_fails_at_each_byte(rt: HostRuntime) {
     try_below(
         &rt,
         alloc,
-        &mut writing(&rt, alloc, &book, false, STATEMENT),
+        &mut half_paid_month(&rt, alloc, &book, false, STATEMENT),
         542,
     );
     try_below(
         &rt,
         alloc,
-        &mut writing(&rt, alloc, &book, true, EXPORT),
+        &mut half_paid_month(&rt, alloc, &book, true, EXPORT),
         97,
     );
 }

@@ -134,7 +134,7 @@ fn expected_of(rt: &impl Abort, alloc: Global, answered: usize, ending: &str) ->
 }
 
 /// How a connection ends on which so many requests were answered.
-fn served(answered: usize) -> &'static str {
+fn ending_of(answered: usize) -> &'static str {
     match answered {
         0 => "served 0",
         1 => "served 1",
@@ -161,7 +161,7 @@ impl<'a> Trial for Ended<'a> {
 
     fn expected<R: Abort>(&mut self, rt: &R, alloc: Global, at: usize) -> String {
         let answered = at / LENGTH;
-        expected_of(rt, alloc, answered, served(answered))
+        expected_of(rt, alloc, answered, ending_of(answered))
     }
 }
 
