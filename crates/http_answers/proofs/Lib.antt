@@ -1,4 +1,5 @@
 pub mod Inserts
 pub mod StatedLemmas
 pub mod Begun
-pub mod StatusLines
+pub mod Phrases
+pub mod Written

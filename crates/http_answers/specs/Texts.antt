@@ -1,15 +1,19 @@
 -- The bytes of an answer (RFC 9112 sections 4 and 6).
 use Rattle.std.specs.Prelude.{◌≡◌, ◌⊎◌, ℕ, Bool, Option, take, List, [], ◌++◌, codes, length}
-use Rattle.std.specs.Prelude.{if◌then◌else◌}
+use Rattle.std.specs.Prelude.{if◌then◌else◌, unwrap_or}
 use Rattle.std.specs.Fmt.{decimal}
 use Rattle.std.specs.Io.KnownBytes.{Appends}
 use Rattle.json_fields.specs.declared.fault.WireFault.{WireFault}
 use Rattle.json_fields.specs.declared.fault.WireFault.TheVariants.{Memory}
 use Rattle.wire_answers.specs.Spelled.{fault_text}
-use Rattle.http.specs.StatusCode.{status_text}
+use Rattle.http.specs.StatusCode.{reason_phrase}
 use Rattle.http_heads.specs.Statuses.{bad_request, service_unavailable}
 use Rattle.http_answers.specs.declared.text.Media.{Media}
 use Rattle.http_answers.specs.declared.text.Media.TheVariants.{Json, Text}
+
+-- the phrase of a status
+unfoldable pub phrase : ℕ → List ℕ
+phrase status = unwrap_or (reason_phrase status) []
 
 -- an answer after which the connection ends says so
 abbrev pub closing_line : Bool → List ℕ
@@ -21,15 +25,16 @@ type_and_length = codes "\r\nContent-Type: application/json\r\nContent-Length: "
 -- the bytes of an answer
 abbrev pub response : ℕ → Bool → List ℕ → List ℕ
 response status closes body =
-    codes "HTTP/1.1 " ++ (status_text status ++ (type_and_length ++ (decimal (length body)
-    ++ (codes "\r\n" ++ (closing_line closes ++ (codes "\r\n" ++ body))))))
+    codes "HTTP/1.1 " ++ (decimal status ++ (codes " " ++ (phrase status ++ (type_and_length
+    ++ (decimal (length body) ++ (codes "\r\n" ++ (closing_line closes
+    ++ (codes "\r\n" ++ body))))))))
 
 -- the head of an answer whose body is so long and no JSON
 abbrev pub text_head : ℕ → Bool → ℕ → List ℕ
 text_head status closes n =
-    codes "HTTP/1.1 "
-    ++ (status_text status ++ (codes "\r\nContent-Type: text/plain\r\nContent-Length: "
-    ++ (decimal n ++ (codes "\r\n" ++ (closing_line closes ++ codes "\r\n")))))
+    codes "HTTP/1.1 " ++ (decimal status ++ (codes " " ++ (phrase status
+    ++ (codes "\r\nContent-Type: text/plain\r\nContent-Length: "
+    ++ (decimal n ++ (codes "\r\n" ++ (closing_line closes ++ codes "\r\n")))))))
 
 -- the bytes of an answer whose body is of this kind
 abbrev pub response_of : Media → ℕ → Bool → List ℕ → List ℕ

@@ -5,7 +5,7 @@ ghost use Rattle.std.specs.Io.KnownBytes.{Appends};
 ghost use Rattle.http_heads.specs.Statuses.{bad_request, service_unavailable};
 ghost use Rattle.wire_answers.specs.Spelled.{fault_text};
 ghost use Rattle.http_answers.specs.declared.text.Media.TheVariants.{Text};
-ghost use Rattle.http_answers.specs.Texts.{closing_line, response};
+ghost use Rattle.http_answers.specs.Texts.{phrase, closing_line, response};
 ghost use Rattle.http_answers.specs.Texts.{text_head, unable, Begins, TellsText, TellsRefusal};
 ghost use Rattle.http_answers.specs.Texts.{TellsFault};
 
@@ -38,6 +38,13 @@ const UNABLE_AT_LAST: &[u8] =
 /// The most bytes of an answer's head.
 const MOST_OF_HEAD: usize = 136;
 
+/// The phrase of a status; empty where it has none.
+fn phrase(status: StatusCode) -> &'static str
+    ensures { result.now ≡ phrase status }
+{
+    status.canonical_reason().unwrap_or("")
+}
+
 /// The line that says that the connection ends.
 fn closing_line(closes: bool) -> &'static str
     ensures { result.now ≡ closing_line closes }
@@ -57,12 +64,14 @@ pub fn response(
 ) -> Result<String, AllocError>
     ensures { IfOk result (λ s. string_bytes s ≡ response status closes body.now) }
 {
+    let code = status.as_u16();
+    let phrase = phrase(status);
     let closing = closing_line(closes);
     let length = body.len();
     let mut text = String::with_capacity(alloc, MOST_OF_HEAD + length)?;
     write!(
         text,
-        "HTTP/1.1 {status}\r\nContent-Type: application/json\r\nContent-Length: {length}\r\n{closing}\r\n{body}"
+        "HTTP/1.1 {code} {phrase}\r\nContent-Type: application/json\r\nContent-Length: {length}\r\n{closing}\r\n{body}"
     )?;
     Ok(text)
 }
@@ -102,11 +111,13 @@ fn text_head(
 ) -> Result<String, AllocError>
     ensures { IfOk result (λ s. string_bytes s ≡ text_head status closes length) }
 {
+    let code = status.as_u16();
+    let phrase = phrase(status);
     let closing = closing_line(closes);
     let mut text = String::with_capacity(alloc, MOST_OF_HEAD)?;
     write!(
         text,
-        "HTTP/1.1 {status}\r\nContent-Type: text/plain\r\nContent-Length: {length}\r\n{closing}\r\n"
+        "HTTP/1.1 {code} {phrase}\r\nContent-Type: text/plain\r\nContent-Length: {length}\r\n{closing}\r\n"
     )?;
     Ok(text)
 }
