@@ -286,7 +286,7 @@ fn bar(rt: &impl Abort, alloc: Global, account: &mut Account, text: &str, at: Mo
     format!(in alloc; "{}", account.is_barred()).expect(rt, "memory")
 }
 
-/// What a call gives that changes money, or a bar.
+/// What a call gives, first of those that change money.
 fn outcome(
     rt: &impl Abort,
     alloc: Global,
@@ -301,12 +301,11 @@ fn outcome(
         "reserve" => reserve(rt, alloc, account, text, at),
         "settle" => settle(rt, alloc, account, text, at),
         "debit" => debit(rt, alloc, account, text, at),
-        "bar" => bar(rt, alloc, account, text, at),
         _ => session_outcome(rt, alloc, account, call, at),
     }
 }
 
-/// What a call gives that changes a session, or nothing but the moment.
+/// What a call gives, first of those that change a session.
 fn session_outcome(
     rt: &impl Abort,
     alloc: Global,
@@ -321,6 +320,21 @@ fn session_outcome(
         "deny" => deny(rt, alloc, account, text, at),
         "touch" => touch(rt, alloc, account, text, at),
         "close" => close(rt, alloc, account, text, at),
+        _ => account_outcome(rt, alloc, account, call, at),
+    }
+}
+
+/// What a call gives, first of those that change the account alone.
+fn account_outcome(
+    rt: &impl Abort,
+    alloc: Global,
+    account: &mut Account,
+    call: &str,
+    at: Moment,
+) -> String {
+    let mut words = Words::of(call);
+    match words.word() {
+        "bar" => bar(rt, alloc, account, words.rest(), at),
         "advance" => advance(rt, alloc, account, at),
         _ => reading(rt, alloc, account, call, at),
     }
@@ -497,20 +511,22 @@ const LIMITS: &str = "\
 1767607200 limit s22 10 4294967293 1 => false
 1767607200 limit s22 10 4294967294 1 => true";
 
-#[test]
-fn sessions_and_their_charges(rt: HostRuntime) {
-    let book = book(&rt, rt.alloc(), BOOK);
-    for lines in [
-        SWITCH, SHORT, STARTED, BUCKETS, MONTH, FORGOTTEN, TWO_GROUPS, BARRED,
-    ] {
-        play(&rt, rt.alloc(), &book, lines);
+fn play_all(rt: &impl Abort, alloc: Global, scenarios: &[&str]) {
+    let book = book(rt, alloc, BOOK);
+    for lines in scenarios {
+        play(rt, alloc, &book, lines);
     }
 }
 
 #[test]
+fn sessions_and_their_charges(rt: HostRuntime) {
+    let scenarios = [
+        SWITCH, SHORT, STARTED, BUCKETS, MONTH, FORGOTTEN, TWO_GROUPS, BARRED,
+    ];
+    play_all(&rt, rt.alloc(), &scenarios);
+}
+
+#[test]
 fn events_and_limits(rt: HostRuntime) {
-    let book = book(&rt, rt.alloc(), BOOK);
-    for lines in [EVENTS, EVENT, BESIDE, LIMITS] {
-        play(&rt, rt.alloc(), &book, lines);
-    }
+    play_all(&rt, rt.alloc(), &[EVENTS, EVENT, BESIDE, LIMITS]);
 }
