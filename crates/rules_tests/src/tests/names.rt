@@ -13,13 +13,14 @@ struct Names;
 impl Teller for Names {
     fn tell<R: Abort>(&mut self, rt: &R, alloc: Global, case: &str) -> String {
         let mut words = Words::of(case);
-        match words.word() {
-            "session" => session(rt, alloc, words.rest()),
-            "account" => account(rt, alloc, words.rest()),
-            "reference" => reference(rt, alloc, words.rest()),
-            "code" => code(rt, alloc, words.rest()),
-            "address" => address(rt, alloc, words.rest()),
-            _ => addresses(rt, alloc, words.word(), words.word()),
+        let (kind, text) = (words.word(), words.rest());
+        match kind {
+            "session" => session(rt, alloc, text),
+            "account" => account(rt, alloc, text),
+            "reference" => reference(rt, alloc, text),
+            "code" => code(rt, alloc, text),
+            "address" => address(rt, alloc, text),
+            _ => addresses(rt, alloc, text),
         }
     }
 }
@@ -60,7 +61,8 @@ fn address(rt: &impl Abort, alloc: Global, text: &str) -> String {
 }
 
 /// Whether two redirect addresses are equal.
-fn addresses(rt: &impl Abort, alloc: Global, first: &str, second: &str) -> String {
+fn addresses(rt: &impl Abort, alloc: Global, text: &str) -> String {
+    let (first, second) = text.split_once(" ").expect(rt, "two addresses");
     let first = RedirectAddress::new(alloc, first).expect(rt, "memory");
     let second = RedirectAddress::new(alloc, second).expect(rt, "memory");
     let is_equal = first.expect(rt, "an address") == second.expect(rt, "an address");

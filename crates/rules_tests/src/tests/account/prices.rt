@@ -6,7 +6,7 @@
 use crate::tests::tables::{Teller, Words, try_table};
 use crate::tests::values::book;
 use calendar::Period;
-use rating::{Part, greatest_grant, rate, rate_report};
+use rating::{Grant, Part, greatest_grant, rate, rate_report};
 use std::alloc::Global;
 use std::process::Abort;
 use tariffs::{Prices, Side, TariffBook, Tier};
@@ -134,7 +134,14 @@ fn grant(rt: &impl Abort, alloc: Global, book: &TariffBook, words: &mut Words<'_
     let (used, place) = (Units(words.number(rt)), words.number(rt));
     let (wanted, funds) = (Units(words.number(rt)), Amount(words.number(rt)));
     let prices = prices_of(rt, book, group, Period(before), PEAK);
-    let grant = greatest_grant(&prices, used, place, wanted, funds);
+    grant_text(
+        rt,
+        alloc,
+        greatest_grant(&prices, used, place, wanted, funds),
+    )
+}
+
+fn grant_text(rt: &impl Abort, alloc: Global, grant: Grant) -> String {
     let (blocks, units, amount) = (grant.blocks.0, grant.units.0, grant.amount.0);
     format!(in alloc; "{blocks} {units} {amount}").expect(rt, "memory")
 }

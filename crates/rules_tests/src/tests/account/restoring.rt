@@ -163,16 +163,23 @@ fn parts(rt: &impl Abort, alloc: Global, account: &StoredAccount) -> GivenRows {
 
 const ROWS: &str = "1767607200 true 3 9; 2 0 30; 1 90 10; 10 3 7; s1 Open; s1 10 60 2:30 1:10; ";
 
+fn account_of(rt: &impl Abort, alloc: Global, rows: GivenRows) -> StoredAccount {
+    StoredAccount::from_rows(alloc, rows).expect(rt, "an account")
+}
+
+fn try_account(rt: &impl Abort, alloc: Global, account: &StoredAccount) {
+    let told = told(rt, alloc, account);
+    try_told(rt, "an account", told.as_str(), ROWS);
+}
+
 /// The account of the rows, and that of its own rows.
 #[test]
 fn an_account_of_rows(rt: HostRuntime) {
     let alloc = rt.alloc();
-    let first = StoredAccount::from_rows(alloc, rows(&rt, alloc)).expect(&rt, "an account");
-    let again = parts(&rt, alloc, &first);
-    let second = StoredAccount::from_rows(alloc, again).expect(&rt, "an account");
-    let (first, second) = (told(&rt, alloc, &first), told(&rt, alloc, &second));
-    try_told(&rt, "the account of the rows", first.as_str(), ROWS);
-    try_told(&rt, "the account of its own rows", second.as_str(), ROWS);
+    let first = account_of(&rt, alloc, rows(&rt, alloc));
+    try_account(&rt, alloc, &first);
+    let second = account_of(&rt, alloc, parts(&rt, alloc, &first));
+    try_account(&rt, alloc, &second);
 }
 
 // ---- what is refused
@@ -235,6 +242,17 @@ fn turn_holds(rt: &impl Abort, alloc: Global, word: &str, rows: &mut GivenRows) 
     rows.groups = only(rt, alloc, group(rt, alloc, holds));
 }
 
+/// One thing of the rows is turned.
+fn turn(rt: &impl Abort, alloc: Global, word: &str, rows: &mut GivenRows) {
+    turn_keys(rt, alloc, word, rows);
+    turn_numbers(word, rows);
+    turn_limits(word, rows);
+    turn_holds(rt, alloc, word, rows);
+    if word == "nobody" {
+        rows.groups.clear();
+    }
+}
+
 /// Tells whether the rows are those of an account once one thing of them is turned.
 #[derive(Clone, Copy)]
 struct Turned;
@@ -242,13 +260,7 @@ struct Turned;
 impl Teller for Turned {
     fn tell<R: Abort>(&mut self, rt: &R, alloc: Global, case: &str) -> String {
         let mut rows = rows(rt, alloc);
-        turn_keys(rt, alloc, case, &mut rows);
-        turn_numbers(case, &mut rows);
-        turn_limits(case, &mut rows);
-        turn_holds(rt, alloc, case, &mut rows);
-        if case == "nobody" {
-            rows.groups.clear();
-        }
+        turn(rt, alloc, case, &mut rows);
         let is_made = StoredAccount::from_rows(alloc, rows).is_some();
         format!(in alloc; "{is_made}").expect(rt, "memory")
     }

@@ -7,8 +7,8 @@
 //! A line is a moment, a call with its words, what it gives, and the buckets, each as its credited
 //! amount and what of it is available, reserved, charged and expired.
 
-ghost use Rattle.std.specs.Prelude.{◌≡◌, true, false, None};
-ghost use Rattle.reserving.specs.Sessions.{session_in};
+ghost use Rattle.std.specs.Prelude.{◌≡◌, ◌≤◌, true, None};
+ghost use Rattle.reserving.specs.Sessions.{session_in, is_live_in};
 ghost use Rattle.reserving.specs.Prepared.{reservation_in};
 
 use crate::tests::account::rows::buckets_text;
@@ -46,6 +46,38 @@ fn is_free(groups: &[SessionGroup], id: &SessionId, group: u32) -> bool
     true
 }
 
+/// Ends the test at a moment before the account's last change.
+fn must_be_later(rt: &impl Abort, account: &Account, at: Moment)
+    ensures { account.now.as_of ≤ at }
+{
+    assert!(rt; account.as_of() <= at);
+}
+
+/// Ends the test also where a request of the session is recorded.
+fn must_be_new(rt: &impl Abort, account: &Account, id: &SessionId, at: Moment)
+    ensures later { account.now.as_of ≤ at }
+    ensures new { session_in id.now account.now.sessions ≡ None }
+{
+    must_be_later(rt, account, at);
+    assert!(rt; is_new(account.sessions(), id));
+}
+
+/// Ends the test also where the session isn't live.
+fn must_be_live(rt: &impl Abort, account: &Account, id: &SessionId, at: Moment)
+    ensures later { account.now.as_of ≤ at }
+    ensures live { is_live_in account.now.book.validity at account.now.sessions id.now ≡ true }
+{
+    must_be_later(rt, account, at);
+    assert!(rt; account.is_live(id, at));
+}
+
+/// Ends the test where the session has a reservation of the group.
+fn must_be_free(rt: &impl Abort, account: &Account, id: &SessionId, group: u32)
+    ensures { reservation_in id.now group account.now.groups ≡ None }
+{
+    assert!(rt; is_free(account.groups(), id, group));
+}
+
 fn tag(word: &str) -> TariffChangeUsage {
     match word {
         "before" => TariffChangeUsage::UnitBeforeTariffChange,
@@ -79,72 +111,45 @@ fn answer(rt: &impl Abort, alloc: Global, text: &str) -> String {
 }
 
 /// `UNTIL AMOUNT`: the bucket's number.
-fn credit(
-    rt: &impl Abort,
-    alloc: Global,
-    account: &mut Account,
-    words: &mut Words<'_>,
-    at: Moment,
-) -> String {
+fn credit(rt: &impl Abort, alloc: Global, account: &mut Account, text: &str, at: Moment) -> String {
+    let mut words = Words::of(text);
     let (until, amount) = (end(rt, words.number(rt)), money(rt, words.number(rt)));
-    assert!(rt; account.as_of() <= at);
-    let number = account
-        .credit(at, until, None, amount, at)
-        .expect(rt, "a bucket");
-    format!(in alloc; "{number}").expect(rt, "memory")
+    must_be_later(rt, account, at);
+    let number = account.credit(at, until, None, amount, at);
+    format!(in alloc; "{}", number.expect(rt, "a bucket")).expect(rt, "memory")
 }
 
-/// Opens a session.
-fn open(
-    rt: &impl Abort,
-    alloc: Global,
-    account: &mut Account,
-    id: &SessionId,
-    at: Moment,
-) -> String {
-    assert!(rt; account.as_of() <= at && is_new(account.sessions(), id));
-    account.open(id, 0, at).expect(rt, "a session");
+/// `SESSION`.
+fn open(rt: &impl Abort, alloc: Global, account: &mut Account, text: &str, at: Moment) -> String {
+    let id = session_id(rt, alloc, text);
+    must_be_new(rt, account, &id, at);
+    account.open(&id, 0, at).expect(rt, "a session");
     answer(rt, alloc, "opened")
 }
 
-/// Records a session that isn't opened.
-fn deny(
-    rt: &impl Abort,
-    alloc: Global,
-    account: &mut Account,
-    id: &SessionId,
-    at: Moment,
-) -> String {
-    assert!(rt; account.as_of() <= at && is_new(account.sessions(), id));
-    account.deny(id, 0, at).expect(rt, "a session");
+/// `SESSION`.
+fn deny(rt: &impl Abort, alloc: Global, account: &mut Account, text: &str, at: Moment) -> String {
+    let id = session_id(rt, alloc, text);
+    must_be_new(rt, account, &id, at);
+    account.deny(&id, 0, at).expect(rt, "a session");
     answer(rt, alloc, "denied")
 }
 
 /// `SESSION NUMBER`.
-fn touch(
-    rt: &impl Abort,
-    alloc: Global,
-    account: &mut Account,
-    words: &mut Words<'_>,
-    at: Moment,
-) -> String {
-    let id = session_id(rt, alloc, words.word());
-    let number = words.number(rt);
-    assert!(rt; account.as_of() <= at && account.is_live(&id, at));
+fn touch(rt: &impl Abort, alloc: Global, account: &mut Account, text: &str, at: Moment) -> String {
+    let mut words = Words::of(text);
+    let (session, number) = (words.word(), words.number(rt));
+    let id = session_id(rt, alloc, session);
+    must_be_live(rt, account, &id, at);
     account.touch(&id, number, at);
     answer(rt, alloc, "touched")
 }
 
-/// Closes a session.
-fn close(
-    rt: &impl Abort,
-    alloc: Global,
-    account: &mut Account,
-    id: &SessionId,
-    at: Moment,
-) -> String {
-    assert!(rt; account.as_of() <= at && account.is_live(id, at));
-    account.close(id, at);
+/// `SESSION`.
+fn close(rt: &impl Abort, alloc: Global, account: &mut Account, text: &str, at: Moment) -> String {
+    let id = session_id(rt, alloc, text);
+    must_be_live(rt, account, &id, at);
+    account.close(&id, at);
     answer(rt, alloc, "closed")
 }
 
@@ -171,17 +176,17 @@ fn reserve(
     rt: &impl Abort,
     alloc: Global,
     account: &mut Account,
-    words: &mut Words<'_>,
+    text: &str,
     at: Moment,
 ) -> String {
-    let id = session_id(rt, alloc, words.word());
-    let (group, units) = (words.number(rt), Units(words.number(rt)));
-    assert!(rt; account.as_of() <= at && account.is_live(&id, at));
-    assert!(rt; is_free(account.groups(), &id, group));
-    let granted = account
-        .reserve(&id, group, Some(units), at)
-        .expect(rt, "a grant");
-    described(rt, alloc, granted)
+    let mut words = Words::of(text);
+    let (session, group) = (words.word(), words.number(rt));
+    let units = Some(Units(words.number(rt)));
+    let id = session_id(rt, alloc, session);
+    must_be_live(rt, account, &id, at);
+    must_be_free(rt, account, &id, group);
+    let granted = account.reserve(&id, group, units, at);
+    described(rt, alloc, granted.expect(rt, "a grant"))
 }
 
 /// The blocks, their price, and what of it is collected and isn't.
@@ -193,50 +198,34 @@ fn charged(rt: &impl Abort, alloc: Global, settled: Settled) -> String {
 }
 
 /// `SESSION GROUP PARTS`: what is charged.
-fn settle(
-    rt: &impl Abort,
-    alloc: Global,
-    account: &mut Account,
-    words: &mut Words<'_>,
-    at: Moment,
-) -> String {
-    let id = session_id(rt, alloc, words.word());
-    let group = words.number(rt);
+fn settle(rt: &impl Abort, alloc: Global, account: &mut Account, text: &str, at: Moment) -> String {
+    let mut words = Words::of(text);
+    let (session, group) = (words.word(), words.number(rt));
+    let id = session_id(rt, alloc, session);
     let parts = report(rt, alloc, words.rest());
-    assert!(rt; account.as_of() <= at && account.is_live(&id, at));
-    let settled = account
-        .settle(&id, group, &parts, at)
-        .expect(rt, "a settlement");
-    charged(rt, alloc, settled)
+    must_be_live(rt, account, &id, at);
+    let settled = account.settle(&id, group, &parts, at);
+    charged(rt, alloc, settled.expect(rt, "a settlement"))
 }
 
 /// `SESSION GROUP CHARGES PARTS`: whether a report would pass a limit after so many charges.
-fn limit(
-    rt: &impl Abort,
-    alloc: Global,
-    account: &Account,
-    words: &mut Words<'_>,
-    at: Moment,
-) -> String {
-    let id = session_id(rt, alloc, words.word());
-    let (group, charges) = (words.number(rt), words.number(rt));
+fn limit(rt: &impl Abort, alloc: Global, account: &Account, text: &str, at: Moment) -> String {
+    let mut words = Words::of(text);
+    let (session, group, charges) = (words.word(), words.number(rt), words.number(rt));
+    let id = session_id(rt, alloc, session);
     let parts = report(rt, alloc, words.rest());
-    assert!(rt; account.as_of() <= at && account.is_live(&id, at));
+    must_be_live(rt, account, &id, at);
     let passes = account.would_pass(&id, group, &parts, charges, at);
     format!(in alloc; "{passes}").expect(rt, "memory")
 }
 
 /// `SESSION GROUP UNITS`: what is charged, if the funds cover it.
-fn debit(
-    rt: &impl Abort,
-    alloc: Global,
-    account: &mut Account,
-    words: &mut Words<'_>,
-    at: Moment,
-) -> String {
-    let id = session_id(rt, alloc, words.word());
-    let (group, units) = (words.number(rt), Units(words.number(rt)));
-    assert!(rt; account.as_of() <= at);
+fn debit(rt: &impl Abort, alloc: Global, account: &mut Account, text: &str, at: Moment) -> String {
+    let mut words = Words::of(text);
+    let (session, group) = (words.word(), words.number(rt));
+    let units = Units(words.number(rt));
+    let id = session_id(rt, alloc, session);
+    must_be_later(rt, account, at);
     match account.debit(&id, group, units, at).expect(rt, "a debit") {
         Some(settled) => charged(rt, alloc, settled),
         None => answer(rt, alloc, "not covered"),
@@ -244,36 +233,33 @@ fn debit(
 }
 
 /// `GROUP UNITS`: what they would cost as an event.
-fn quote(
-    rt: &impl Abort,
-    alloc: Global,
-    account: &Account,
-    words: &mut Words<'_>,
-    at: Moment,
-) -> String {
+fn quote(rt: &impl Abort, alloc: Global, account: &Account, text: &str, at: Moment) -> String {
+    let mut words = Words::of(text);
     let (group, units) = (words.number(rt), Units(words.number(rt)));
     let price = account.quote(group, units, at);
     format!(in alloc; "{}", price.0).expect(rt, "memory")
 }
 
-/// The funds for a group, and whether 600 units of it would be granted.
-fn funds(rt: &impl Abort, alloc: Global, account: &Account, group: u32, at: Moment) -> String {
-    assert!(rt; account.as_of() <= at);
+/// `GROUP`: the funds for it, and whether 600 units of it would be granted.
+fn funds(rt: &impl Abort, alloc: Global, account: &Account, text: &str, at: Moment) -> String {
+    let group = Words::of(text).number(rt);
+    must_be_later(rt, account, at);
     let grants = account.would_grant(group, Some(Units(600)), at);
     let funds = account.funds(group, at);
     format!(in alloc; "{} {grants}", funds.0).expect(rt, "memory")
 }
 
-/// The last number of a session, its state, and whether it is live at the moment.
-fn told(rt: &impl Abort, alloc: Global, account: &Account, id: &SessionId, at: Moment) -> String {
-    let live = account.is_live(id, at);
-    for row in account.sessions() {
-        if row.id == *id {
+/// `SESSION`: its last number, its state, and whether it is live at the moment.
+fn session(rt: &impl Abort, alloc: Global, account: &Account, text: &str, at: Moment) -> String {
+    let id = session_id(rt, alloc, text);
+    let live = account.is_live(&id, at);
+    match account.session(&id) {
+        Some(row) => {
             let text = format!(in alloc; "{} {:?} {live}", row.last_number, row.state);
-            return text.expect(rt, "memory");
+            text.expect(rt, "memory")
         }
+        None => answer(rt, alloc, "unknown"),
     }
-    answer(rt, alloc, "unknown")
 }
 
 /// Each counter's group, cycle and blocks.
@@ -281,66 +267,96 @@ fn counters(rt: &impl Abort, alloc: Global, account: &Account) -> String {
     let mut text = String::new(alloc);
     for counter in account.counters() {
         let line = format!(in alloc; "{} {} {};", counter.group, counter.cycle, counter.blocks);
-        text.push_str(line.expect(rt, "memory").as_str())
-            .expect(rt, "memory");
+        let line = line.expect(rt, "memory");
+        text.push_str(line.as_str()).expect(rt, "memory");
     }
     text
 }
 
 fn advance(rt: &impl Abort, alloc: Global, account: &mut Account, at: Moment) -> String {
-    assert!(rt; account.as_of() <= at);
+    must_be_later(rt, account, at);
     account.advance(at);
     answer(rt, alloc, "advanced")
 }
 
 /// `on` or `off`: whether the account is barred then.
-fn bar(rt: &impl Abort, alloc: Global, account: &mut Account, word: &str, at: Moment) -> String {
-    assert!(rt; account.as_of() <= at);
-    account.set_barred(word == "on", at);
+fn bar(rt: &impl Abort, alloc: Global, account: &mut Account, text: &str, at: Moment) -> String {
+    must_be_later(rt, account, at);
+    account.set_barred(text == "on", at);
     format!(in alloc; "{}", account.is_barred()).expect(rt, "memory")
 }
 
-/// What a call of a session alone gives.
-fn session_call(
-    rt: &impl Abort,
-    alloc: Global,
-    account: &mut Account,
-    call: &str,
-    words: &mut Words<'_>,
-    at: Moment,
-) -> String {
-    let id = session_id(rt, alloc, words.word());
-    match call {
-        "open" => open(rt, alloc, account, &id, at),
-        "deny" => deny(rt, alloc, account, &id, at),
-        "close" => close(rt, alloc, account, &id, at),
-        _ => told(rt, alloc, account, &id, at),
-    }
-}
-
-/// What a call gives.
+/// What a call gives, first of those that change money.
 fn outcome(
     rt: &impl Abort,
     alloc: Global,
     account: &mut Account,
-    words: &mut Words<'_>,
+    call: &str,
     at: Moment,
 ) -> String {
-    let call = words.word();
-    match call {
-        "credit" => credit(rt, alloc, account, words, at),
-        "open" | "deny" | "close" | "session" => session_call(rt, alloc, account, call, words, at),
-        "touch" => touch(rt, alloc, account, words, at),
-        "reserve" => reserve(rt, alloc, account, words, at),
-        "settle" => settle(rt, alloc, account, words, at),
-        "limit" => limit(rt, alloc, account, words, at),
-        "debit" => debit(rt, alloc, account, words, at),
-        "quote" => quote(rt, alloc, account, words, at),
-        "bar" => bar(rt, alloc, account, words.word(), at),
-        "funds" => funds(rt, alloc, account, words.number(rt), at),
-        "counters" => counters(rt, alloc, account),
-        _ => advance(rt, alloc, account, at),
+    let mut words = Words::of(call);
+    let (name, text) = (words.word(), words.rest());
+    match name {
+        "credit" => credit(rt, alloc, account, text, at),
+        "reserve" => reserve(rt, alloc, account, text, at),
+        "settle" => settle(rt, alloc, account, text, at),
+        "debit" => debit(rt, alloc, account, text, at),
+        _ => session_outcome(rt, alloc, account, call, at),
     }
+}
+
+/// What a call gives, first of those that change a session.
+fn session_outcome(
+    rt: &impl Abort,
+    alloc: Global,
+    account: &mut Account,
+    call: &str,
+    at: Moment,
+) -> String {
+    let mut words = Words::of(call);
+    let (name, text) = (words.word(), words.rest());
+    match name {
+        "open" => open(rt, alloc, account, text, at),
+        "deny" => deny(rt, alloc, account, text, at),
+        "touch" => touch(rt, alloc, account, text, at),
+        "close" => close(rt, alloc, account, text, at),
+        _ => account_outcome(rt, alloc, account, call, at),
+    }
+}
+
+/// What a call gives, first of those that change the account alone.
+fn account_outcome(
+    rt: &impl Abort,
+    alloc: Global,
+    account: &mut Account,
+    call: &str,
+    at: Moment,
+) -> String {
+    let mut words = Words::of(call);
+    match words.word() {
+        "bar" => bar(rt, alloc, account, words.rest(), at),
+        "advance" => advance(rt, alloc, account, at),
+        _ => reading(rt, alloc, account, call, at),
+    }
+}
+
+/// What a call gives that changes nothing.
+fn reading(rt: &impl Abort, alloc: Global, account: &Account, call: &str, at: Moment) -> String {
+    let mut words = Words::of(call);
+    let (name, text) = (words.word(), words.rest());
+    match name {
+        "limit" => limit(rt, alloc, account, text, at),
+        "quote" => quote(rt, alloc, account, text, at),
+        "funds" => funds(rt, alloc, account, text, at),
+        "session" => session(rt, alloc, account, text, at),
+        _ => counters(rt, alloc, account),
+    }
+}
+
+/// The buckets of the account's copy.
+fn copied_buckets(rt: &impl Abort, alloc: Global, account: &Account) -> String {
+    let copy = account.copy().expect(rt, "memory");
+    buckets_text(rt, alloc, copy.purse().buckets())
 }
 
 /// Tells what a line's call gives, and the buckets of the account's copy after it.
@@ -353,9 +369,8 @@ impl Teller for Player<'_> {
     fn tell<R: Abort>(&mut self, rt: &R, alloc: Global, case: &str) -> String {
         let mut words = Words::of(case);
         let at = moment(rt, words.number(rt));
-        let outcome = outcome(rt, alloc, &mut self.account, &mut words, at);
-        let copy = self.account.copy().expect(rt, "memory");
-        let buckets = buckets_text(rt, alloc, copy.purse().buckets());
+        let outcome = outcome(rt, alloc, &mut self.account, words.rest(), at);
+        let buckets = copied_buckets(rt, alloc, &self.account);
         format!(in alloc; "{outcome}{buckets}").expect(rt, "memory")
     }
 }
@@ -496,20 +511,22 @@ const LIMITS: &str = "\
 1767607200 limit s22 10 4294967293 1 => false
 1767607200 limit s22 10 4294967294 1 => true";
 
-#[test]
-fn sessions_and_their_charges(rt: HostRuntime) {
-    let book = book(&rt, rt.alloc(), BOOK);
-    for lines in [
-        SWITCH, SHORT, STARTED, BUCKETS, MONTH, FORGOTTEN, TWO_GROUPS, BARRED,
-    ] {
-        play(&rt, rt.alloc(), &book, lines);
+fn play_all(rt: &impl Abort, alloc: Global, scenarios: &[&str]) {
+    let book = book(rt, alloc, BOOK);
+    for lines in scenarios {
+        play(rt, alloc, &book, lines);
     }
 }
 
 #[test]
+fn sessions_and_their_charges(rt: HostRuntime) {
+    let scenarios = [
+        SWITCH, SHORT, STARTED, BUCKETS, MONTH, FORGOTTEN, TWO_GROUPS, BARRED,
+    ];
+    play_all(&rt, rt.alloc(), &scenarios);
+}
+
+#[test]
 fn events_and_limits(rt: HostRuntime) {
-    let book = book(&rt, rt.alloc(), BOOK);
-    for lines in [EVENTS, EVENT, BESIDE, LIMITS] {
-        play(&rt, rt.alloc(), &book, lines);
-    }
+    play_all(&rt, rt.alloc(), &[EVENTS, EVENT, BESIDE, LIMITS]);
 }

@@ -125,10 +125,16 @@ impl Teller for Moments<'_> {
         let zone = words.word();
         let at = moment(rt, words.number(rt));
         let book = book_in_zone(rt, alloc, self.document, zone);
-        let period = told_of_period(rt, alloc, &book, at, 3600);
-        let days = told_of_days(rt, alloc, &book, at);
-        format!(in alloc; "{period} {days}").expect(rt, "memory")
+        told_of_moment(rt, alloc, &book, at)
     }
+}
+
+fn told_of_moment(rt: &impl Abort, alloc: Global, book: &TariffBook, at: Moment) -> String
+    requires { at < 4_102_444_800 }
+{
+    let period = told_of_period(rt, alloc, book, at, 3600);
+    let days = told_of_days(rt, alloc, book, at);
+    format!(in alloc; "{period} {days}").expect(rt, "memory")
 }
 
 /// The edges of minutes, days, months and years in four zones.

@@ -22,10 +22,14 @@ impl Teller for Books {
         let mut words = Words::of(case);
         let (price, block, group) = (words.number(rt), words.number(rt), words.number(rt));
         let book = book_of_price(rt, alloc, price, block);
-        let head = head_of(rt, alloc, &book);
-        let group = told_of_group(rt, alloc, &book, group, 0);
-        format!(in alloc; "{head}, {group}").expect(rt, "memory")
+        told_of_book(rt, alloc, &book, group)
     }
+}
+
+fn told_of_book(rt: &impl Abort, alloc: Global, book: &TariffBook, group: u32) -> String {
+    let head = head_of(rt, alloc, book);
+    let group = told_of_group(rt, alloc, book, group, 0);
+    format!(in alloc; "{head}, {group}").expect(rt, "memory")
 }
 
 const BOOKS: &str = "\
