@@ -30,12 +30,17 @@ fn account_of(rt: &impl Abort, content: &Content) -> AccountNumber {
     account.clone().expect(rt, "memory")
 }
 
+/// Whether the text is read as this content.
+fn is_read_again(rt: &impl Abort, alloc: Global, text: &str, content: &Content) -> bool {
+    let account = account_of(rt, content);
+    let again = read_content(alloc, account, text.as_bytes()).expect(rt, "a content");
+    same_content(content, &again)
+}
+
 /// The text that is kept of the content, which is read again as the same content.
 pub(crate) fn kept(rt: &impl Abort, alloc: Global, content: &Content) -> String {
     let text = write_content(alloc, content).expect(rt, "memory");
-    let account = account_of(rt, content);
-    let again = read_content(alloc, account, text.as_str().as_bytes()).expect(rt, "a content");
-    assert!(rt; same_content(content, &again));
+    assert!(rt; is_read_again(rt, alloc, text.as_str(), content));
     text
 }
 
@@ -56,11 +61,15 @@ pub(crate) fn kept_credit(rt: &impl Abort, alloc: Global, body: &str) -> String 
     kept(rt, alloc, &content)
 }
 
-/// What is kept of the redemption of a voucher by a body.
-pub(crate) fn kept_redemption(rt: &impl Abort, alloc: Global, body: &str) -> String {
+/// The redemption of a voucher by a body.
+fn redemption(rt: &impl Abort, alloc: Global, body: &str) -> Content {
     let code = code(rt, alloc);
-    let redemption = read_redeem(alloc, code, body.as_bytes()).expect(rt, "a redemption");
-    kept(rt, alloc, &Content::Redeem(redemption))
+    Content::Redeem(read_redeem(alloc, code, body.as_bytes()).expect(rt, "a redemption"))
+}
+
+pub(crate) fn kept_redemption(rt: &impl Abort, alloc: Global, body: &str) -> String {
+    let content = redemption(rt, alloc, body);
+    kept(rt, alloc, &content)
 }
 
 /// The body of a credit, and what is kept of it. Each credit that can be kept is read again, also
@@ -113,10 +122,14 @@ fn starts_and_ends(rt: HostRuntime) {
     try_told(&rt, rt.alloc(), Told::Bounds, BOUNDS);
 }
 
+fn content_shown(rt: &impl Abort, alloc: Global, content: &Content) -> String {
+    format!(in alloc; "{content:?}").expect(rt, "memory")
+}
+
 /// What a kept text shows of itself when it is read.
 pub(crate) fn shown(rt: &impl Abort, alloc: Global, text: &str) -> String {
     match read_content(alloc, account(rt, alloc), text.as_bytes()) {
-        Ok(content) => format!(in alloc; "{content:?}").expect(rt, "memory"),
+        Ok(content) => content_shown(rt, alloc, &content),
         Err(fault) => format!(in alloc; "{fault}").expect(rt, "memory"),
     }
 }
@@ -179,12 +192,17 @@ fn values(rt: HostRuntime) {
     try_told(&rt, rt.alloc(), Told::ContentShown, KINDS);
 }
 
+fn is_content(rt: &impl Abort, alloc: Global, body: &str, content: &Content) -> bool {
+    let other = credit(rt, alloc, body);
+    same_content(content, &other)
+}
+
 /// Whether `A = B` are the same content as credits.
 pub(crate) fn compared(rt: &impl Abort, alloc: Global, pair: &str) -> String {
-    let (a, b) = pair.split_once(" = ").expect(rt, "two bodies");
-    let a = credit(rt, alloc, a);
-    let b = credit(rt, alloc, b);
-    same(rt, alloc, same_content(&a, &b))
+    let (one, other) = pair.split_once(" = ").expect(rt, "two bodies");
+    let content = credit(rt, alloc, one);
+    let are_same = is_content(rt, alloc, other, &content);
+    same(rt, alloc, are_same)
 }
 
 /// Whether two credits are the same content: an absent member is other content than its meaning.

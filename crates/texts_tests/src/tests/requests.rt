@@ -32,12 +32,17 @@ fn request(rt: &impl Abort, alloc: Global, text: &str) -> Request {
     read_request(alloc, body_of(text).as_bytes()).expect(rt, "a request")
 }
 
+/// Whether the text is read as this request.
+fn is_read_as(rt: &impl Abort, alloc: Global, text: &str, first: &Request) -> bool {
+    let again = request(rt, alloc, text);
+    same_request(first, &again)
+}
+
 /// The text of the request that the body is, which is read again as an equal request.
 pub(crate) fn written(rt: &impl Abort, alloc: Global, text: &str) -> String {
     let first = request(rt, alloc, text);
     let written = write_request(alloc, &first).expect(rt, "memory");
-    let again = request(rt, alloc, written.as_str());
-    assert!(rt; same_request(&first, &again), "{text}");
+    assert!(rt; is_read_as(rt, alloc, written.as_str(), &first), "{text}");
     written
 }
 
@@ -238,18 +243,23 @@ const BODY: &str =
     r##"{"Session-Id":"s1","CC-Request-Number":1,"Subscription-Id":{"Subscription-Id-Type":0,
   "Subscription-Id-Data":"49151"},HERE}"##;
 
-/// The request of the body in which `HERE` stands for the text.
-fn request_with(rt: &impl Abort, alloc: Global, text: &str) -> Request {
-    let body = BODY.replace(alloc, "HERE", text).expect(rt, "memory");
-    request(rt, alloc, body.as_str())
+/// The body in which `HERE` stands for the text.
+fn body_with(rt: &impl Abort, alloc: Global, text: &str) -> String {
+    BODY.replace(alloc, "HERE", text).expect(rt, "memory")
 }
 
 /// Whether `A = B` are read as equal requests.
 pub(crate) fn compared(rt: &impl Abort, alloc: Global, pair: &str) -> String {
-    let (a, b) = pair.split_once(" = ").expect(rt, "two bodies");
-    let a = request_with(rt, alloc, a);
-    let b = request_with(rt, alloc, b);
-    same(rt, alloc, same_request(&a, &b))
+    let (one, other) = pair.split_once(" = ").expect(rt, "two bodies");
+    let one = body_with(rt, alloc, one);
+    let other = body_with(rt, alloc, other);
+    let are_same = are_same(rt, alloc, one.as_str(), other.as_str());
+    same(rt, alloc, are_same)
+}
+
+fn are_same(rt: &impl Abort, alloc: Global, one: &str, other: &str) -> bool {
+    let first = request(rt, alloc, one);
+    is_read_as(rt, alloc, other, &first)
 }
 
 /// Whether two bodies are the same content. The order of services and of the parts of a report is

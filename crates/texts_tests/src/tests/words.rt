@@ -1,8 +1,10 @@
 //! The words of the program, a line each, and what they say.
 
 use crate::tests::tables::{Told, try_told, word};
+use commands::Credit;
 use operator::{
-    OfficeCommand, ProgramWords, ServeWords, StatementWords, WordsFault, program_words,
+    ImportWords, OfficeCommand, OfficeWords, OnceWords, ProgramWords, ServeWords, StatementWords,
+    WordsFault, program_words,
 };
 use std::alloc::{AllocError, Global};
 use std::process::Abort;
@@ -12,19 +14,23 @@ fn seconds(at: Option<Moment>) -> Option<u64> {
     at.map(|moment| moment.seconds())
 }
 
+fn crediting(alloc: Global, credit: &Credit) -> Result<String, AllocError> {
+    format!(in alloc;
+        "credit {} {} {} {} {:?}",
+        credit.account.as_str(),
+        credit.amount.micros(),
+        credit.reference.as_str(),
+        credit.end().seconds(),
+        credit.scope
+    )
+}
+
 fn office(alloc: Global, command: &OfficeCommand) -> Result<String, AllocError> {
     match command {
         OfficeCommand::Open(account) => format!(in alloc; "open {}", account.as_str()),
         OfficeCommand::Bar(account) => format!(in alloc; "bar {}", account.as_str()),
         OfficeCommand::Unbar(account) => format!(in alloc; "unbar {}", account.as_str()),
-        OfficeCommand::Credit(credit) => format!(in alloc;
-            "credit {} {} {} {} {:?}",
-            credit.account.as_str(),
-            credit.amount.micros(),
-            credit.reference.as_str(),
-            credit.end().seconds(),
-            credit.scope
-        ),
+        OfficeCommand::Credit(credit) => crediting(alloc, credit),
         OfficeCommand::Sweep => format!(in alloc; "sweep"),
     }
 }
@@ -50,33 +56,46 @@ fn stating(alloc: Global, statement: &StatementWords) -> Result<String, AllocErr
     )
 }
 
+fn playing(alloc: Global, once: &OnceWords) -> Result<String, AllocError> {
+    format!(in alloc;
+        "once {} {} {}",
+        once.credit.micros(),
+        once.price,
+        once.block
+    )
+}
+
+fn importing(alloc: Global, import: &ImportWords) -> Result<String, AllocError> {
+    format!(in alloc;
+        "import {} {} {:?}",
+        import.database.as_str(),
+        import.file.as_str(),
+        seconds(import.at)
+    )
+}
+
+fn ordering(rt: &impl Abort, alloc: Global, words: &OfficeWords) -> Result<String, AllocError> {
+    let command = office(alloc, &words.command).expect(rt, "memory");
+    format!(in alloc;
+        "{} in {} {:?}",
+        command.as_str(),
+        words.database.as_str(),
+        seconds(words.at)
+    )
+}
+
 /// What words say, as a text.
 fn said(rt: &impl Abort, alloc: Global, words: &ProgramWords) -> Result<String, AllocError> {
     match words {
-        ProgramWords::Once(once) => format!(in alloc;
-            "once {} {} {}",
-            once.credit.micros(),
-            once.price,
-            once.block
-        ),
+        ProgramWords::Once(once) => playing(alloc, once),
         ProgramWords::Init(init) => format!(in alloc;
             "init {} {}",
             init.database.as_str(),
             init.book.as_str()
         ),
         ProgramWords::Serve(serve) => serving(alloc, serve),
-        ProgramWords::Import(import) => format!(in alloc;
-            "import {} {} {:?}",
-            import.database.as_str(),
-            import.file.as_str(),
-            seconds(import.at)
-        ),
-        ProgramWords::Office(words) => format!(in alloc;
-            "{} in {} {:?}",
-            office(alloc, &words.command).expect(rt, "memory").as_str(),
-            words.database.as_str(),
-            seconds(words.at)
-        ),
+        ProgramWords::Import(import) => importing(alloc, import),
+        ProgramWords::Office(words) => ordering(rt, alloc, words),
         ProgramWords::Statement(statement) => stating(alloc, statement),
         ProgramWords::Replay(replay) => format!(in alloc;
             "replay {} {}",
@@ -86,18 +105,30 @@ fn said(rt: &impl Abort, alloc: Global, words: &ProgramWords) -> Result<String, 
     }
 }
 
-/// What a line of words says, or how it isn't read.
-pub(crate) fn told(rt: &impl Abort, alloc: Global, line: &str) -> String {
-    let words: Vec<&str> = line.split(' ').collect(alloc).expect(rt, "memory");
-    match program_words(alloc, words.as_slice()) {
-        Ok(words) => said(rt, alloc, &words).expect(rt, "memory"),
-        Err(WordsFault::Unread(error)) => {
+/// How words aren't read.
+fn unread(rt: &impl Abort, alloc: Global, fault: &WordsFault) -> String {
+    match fault {
+        WordsFault::Unread(error) => {
             let code = error.exit_code();
             format!(in alloc; "unread {code}").expect(rt, "memory")
         }
-        Err(WordsFault::Invalid) => word(rt, alloc, "invalid"),
-        Err(WordsFault::Memory) => word(rt, alloc, "memory"),
+        WordsFault::Invalid => word(rt, alloc, "invalid"),
+        WordsFault::Memory => word(rt, alloc, "memory"),
     }
+}
+
+/// What words say, or how they aren't read.
+fn words_told(rt: &impl Abort, alloc: Global, words: &[&str]) -> String {
+    match program_words(alloc, words) {
+        Ok(words) => said(rt, alloc, &words).expect(rt, "memory"),
+        Err(fault) => unread(rt, alloc, &fault),
+    }
+}
+
+/// What a line of words says, or how it isn't read.
+pub(crate) fn told(rt: &impl Abort, alloc: Global, line: &str) -> String {
+    let words: Vec<&str> = line.split(' ').collect(alloc).expect(rt, "memory");
+    words_told(rt, alloc, words.as_slice())
 }
 
 /// A line's words and what they say: each command with its options, each of them missing, doubled,
