@@ -20,6 +20,31 @@ fn minutes(rt: &impl Abort, alloc: Global) -> TariffBook {
     once_book(alloc, 100_000, 60).expect(rt, "memory")
 }
 
+/// Fails where answering ended otherwise, or where other bytes are written.
+fn expect_told(
+    rt: &impl Abort,
+    ended: Result<(), LinesFault>,
+    wanted: Result<(), LinesFault>,
+    written: &[u8],
+    text: &[u8],
+) {
+    assert_eq!(rt; ended, wanted);
+    assert_eq!(rt; written, text);
+}
+
+/// Fails where answering ended otherwise, or where no beginning of the text is written.
+fn expect_begun(
+    rt: &impl Abort,
+    ended: Result<(), LinesFault>,
+    wanted: LinesFault,
+    written: &[u8],
+    text: &[u8],
+) {
+    assert_eq!(rt; ended, Err(wanted));
+    assert!(rt; text.starts_with(written));
+    assert!(rt; written.len() < text.len());
+}
+
 // ---- a store that fails
 
 /// Two debits of a minute.
@@ -38,6 +63,9 @@ const DEBITED: &str = r#"{"CC-Request-Number":0,"CC-Request-Type":4,
   "Multiple-Services-Credit-Control":[{"Granted-Service-Unit":{"CC-Time":60},"Rating-Group":10,
   "Result-Code":2001}],"Result-Code":2001,"Session-Id":"d8"}
 "#;
+
+/// Its first 16 bytes, which a writer takes in two calls.
+const DEBIT_BEGUN: &[u8] = b"{\"CC-Request-Num";
 
 /// The calls of a keeper by which an account is opened and credited, and one debit is charged.
 const CALLS_OF_ONE_DEBIT: u64 = 12;
@@ -73,20 +101,18 @@ fn a_store_fault(rt: HostRuntime) {
     let wanted = joined(&rt, alloc, DEBITED);
     let mut written = Vec::new(alloc);
     let ended = debit_to_a_fault(&rt, alloc, &mut written);
-    assert_eq!(rt; ended, Err(LinesFault::Store(StoreFault::Store)));
-    assert_eq!(rt; written.as_slice(), wanted.as_bytes());
+    let fault = LinesFault::Store(StoreFault::Store);
+    expect_told(&rt, ended, Err(fault), &written, wanted.as_bytes());
 }
 
 /// Where writing the answers fails too, the store's fault is told, and that they weren't written.
 #[test]
 fn a_store_fault_and_a_writer_that_fails(rt: HostRuntime) {
     let alloc = rt.alloc();
-    let wanted = joined(&rt, alloc, DEBITED);
     let mut writer = failing_writer(alloc, 2);
     let ended = debit_to_a_fault(&rt, alloc, &mut writer);
-    assert_eq!(rt; ended, Err(LinesFault::Both(StoreFault::Store)));
-    assert_eq!(rt; writer.taken.len(), 16);
-    assert!(rt; wanted.as_bytes().starts_with(&writer.taken));
+    let fault = LinesFault::Both(StoreFault::Store);
+    expect_told(&rt, ended, Err(fault), &writer.taken, DEBIT_BEGUN);
 }
 
 // ---- readers and writers that fail
@@ -175,8 +201,15 @@ fn read_to_a_fault(
 fn fail_to_read(rt: &impl Abort, alloc: Global, book: &TariffBook, left: usize) {
     let mut written = Vec::new(alloc);
     let ended = read_to_a_fault(alloc, book, left, &mut written);
-    assert_eq!(rt; ended, Err(LinesFault::Read(StreamFault::Read)));
-    assert_eq!(rt; written.len(), 0);
+    let fault = LinesFault::Read(StreamFault::Read);
+    expect_told(rt, ended, Err(fault), &written, b"");
+}
+
+/// A reader that fails at no call.
+fn read_to_the_end(rt: &impl Abort, alloc: Global, book: &TariffBook, left: usize) {
+    let mut written = Vec::new(alloc);
+    let ended = read_to_a_fault(alloc, book, left, &mut written);
+    expect_told(rt, ended, Ok(()), &written, FAULTS);
 }
 
 /// A reader that fails at any of its calls, one a byte and one for the end.
@@ -187,10 +220,7 @@ fn a_reader_that_fails(rt: HostRuntime) {
     for left in 0..9 {
         fail_to_read(&rt, alloc, &book, left);
     }
-    let mut written = Vec::new(alloc);
-    let ended = read_to_a_fault(alloc, &book, 9, &mut written);
-    assert_eq!(rt; ended, Ok(()));
-    assert_eq!(rt; written.as_slice(), FAULTS);
+    read_to_the_end(&rt, alloc, &book, 9);
 }
 
 /// A writer that fails at this call is told as such; a beginning of the answers is written.
@@ -198,9 +228,16 @@ fn fail_to_write(rt: &impl Abort, alloc: Global, book: &TariffBook, left: usize)
     let mut reader = UNREAD;
     let mut writer = failing_writer(alloc, left);
     let ended = answer(alloc, book, &mut reader, &mut writer);
-    assert_eq!(rt; ended, Err(LinesFault::Write(StreamFault::Write)));
-    assert!(rt; FAULTS.starts_with(&writer.taken));
-    assert!(rt; writer.taken.len() < FAULTS.len());
+    let fault = LinesFault::Write(StreamFault::Write);
+    expect_begun(rt, ended, fault, &writer.taken, FAULTS);
+}
+
+/// A writer that fails at no call.
+fn write_to_the_end(rt: &impl Abort, alloc: Global, book: &TariffBook, left: usize) {
+    let mut reader = UNREAD;
+    let mut writer = failing_writer(alloc, left);
+    let ended = answer(alloc, book, &mut reader, &mut writer);
+    expect_told(rt, ended, Ok(()), &writer.taken, FAULTS);
 }
 
 /// A writer that fails at any of its calls.
@@ -211,9 +248,5 @@ fn a_writer_that_fails(rt: HostRuntime) {
     for left in 0..9 {
         fail_to_write(&rt, alloc, &book, left);
     }
-    let mut reader = UNREAD;
-    let mut writer = failing_writer(alloc, 9);
-    let ended = answer(alloc, &book, &mut reader, &mut writer);
-    assert_eq!(rt; ended, Ok(()));
-    assert_eq!(rt; writer.taken.as_slice(), FAULTS);
+    write_to_the_end(&rt, alloc, &book, 9);
 }
