@@ -3,13 +3,12 @@
 
 use crate::tests::lines::{dated, first_word};
 use crate::tests::rows::{push, push_buckets, push_charges};
-use crate::tests::scenarios::{book, push_answer, whole_lines};
-use commands::{Answer, Command, Request};
+use crate::tests::scenarios::{assert_told, book, push_answer, whole_lines};
+use commands::{Answer, Ask, Command, Request};
 use decisions::{Decided, begins_session, decide, is_read, read};
 use reserving::Account;
 use std::alloc::Global;
 use std::process::Abort;
-use tariffs::TariffBook;
 use units::{Moment, Money};
 
 /// The request of a line that begins with its moment.
@@ -37,6 +36,38 @@ fn push_decided(rt: &impl Abort, alloc: Global, text: &mut String, decided: Deci
     push_charges(rt, text, decided.charges.as_slice());
 }
 
+/// What a request comes to that isn't read.
+fn push_change(
+    rt: &impl Abort,
+    alloc: Global,
+    text: &mut String,
+    account: &mut Account,
+    request: &Request,
+    (known, at): (bool, Moment),
+) {
+    assert!(rt; account.as_of() <= at);
+    let decided = decide(alloc, account, request, known, at).expect(rt, "memory");
+    push_decided(rt, alloc, text, decided);
+}
+
+/// Whether a request is read; then what it comes to is told.
+fn push_read(
+    rt: &impl Abort,
+    alloc: Global,
+    text: &mut String,
+    account: &Account,
+    request: &Request,
+    at: Moment,
+) -> bool {
+    assert!(rt; account.as_of() <= at);
+    let Some(answer) = read(account, request, at).expect(rt, "memory") else {
+        return false;
+    };
+    push_answer(rt, alloc, text, &Answer::Request(answer));
+    push(rt, text, "read");
+    true
+}
+
 /// What a request comes to that is read, or else decided.
 fn push_told(
     rt: &impl Abort,
@@ -46,14 +77,8 @@ fn push_told(
     request: &Request,
     (known, at): (bool, Moment),
 ) {
-    assert!(rt; account.as_of() <= at);
-    let answer = read(account, request, at).expect(rt, "memory");
-    if let Some(answer) = answer {
-        push_answer(rt, alloc, text, &Answer::Request(answer));
-        push(rt, text, "read");
-    } else {
-        let decided = decide(alloc, account, request, known, at).expect(rt, "memory");
-        push_decided(rt, alloc, text, decided);
+    if !push_read(rt, alloc, text, account, request, at) {
+        push_change(rt, alloc, text, account, request, (known, at));
     }
 }
 
@@ -81,7 +106,7 @@ fn try_case(rt: &impl Abort, alloc: Global, account: &mut Account, case: &str) {
         .split_once("\n")
         .expect(rt, "a line and what it comes to");
     let told = told(rt, alloc, account, line);
-    assert_eq!(rt; told.as_str(), expected, "{line}");
+    assert_told(rt, told.as_str(), expected);
 }
 
 fn try_cases(rt: &impl Abort, alloc: Global, account: &mut Account, cases: &str) {
@@ -90,22 +115,21 @@ fn try_cases(rt: &impl Abort, alloc: Global, account: &mut Account, cases: &str)
     }
 }
 
-/// An account of this book with 1,000,000 micro-units that end with the last moment.
-fn credited<'b>(rt: &impl Abort, alloc: Global, book: &'b TariffBook) -> Account<'b> {
-    let mut account = Account::new(alloc, book);
+/// Gives an account its first bucket, of 1,000,000 micro-units that end with the last moment.
+fn credit(rt: &impl Abort, account: &mut Account) {
     let amount = Money::new(1_000_000).expect(rt, "an amount");
     let (from, until) = (Moment::first(), Moment::no_end());
     assert!(rt; account.as_of() <= from);
     let number = account.credit(from, until, None, amount, from);
     assert_eq!(rt; number.expect(rt, "memory"), 1);
-    account
 }
 
 /// Tries cases with an empty line between them on an account of its own.
 fn try_all(rt: &impl Abort, alloc: Global, cases: &str) {
     let book = book(rt, alloc);
     let cases = whole_lines(rt, alloc, cases);
-    let mut account = credited(rt, alloc, &book);
+    let mut account = Account::new(alloc, &book);
+    credit(rt, &mut account);
     try_cases(rt, alloc, &mut account, cases.as_str());
 }
 
@@ -188,11 +212,20 @@ goes-on 1767607200 {"Session-Id":"s","CC-Request-Type":2,"CC-Request-Number":1,
 goes-on 1767607200 {"Session-Id":"s","CC-Request-Type":3,"CC-Request-Number":2,
   "Subscription-Id":{"Subscription-Id-Type":0,"Subscription-Id-Data":"49151"}}"##;
 
+/// What a request is, as its word.
+fn kind_of(ask: &Ask) -> &'static str {
+    match (begins_session(ask), is_read(ask)) {
+        (true, false) => "begins",
+        (false, true) => "reads",
+        (false, false) => "goes-on",
+        (true, true) => "both",
+    }
+}
+
 fn try_kind(rt: &impl Abort, alloc: Global, line: &str) {
     let (kind, line) = first_word(rt, line);
     let (request, _at) = request_of(rt, alloc, line);
-    assert_eq!(rt; begins_session(&request.ask), kind == "begins", "{line}");
-    assert_eq!(rt; is_read(&request.ask), kind == "reads", "{line}");
+    assert_told(rt, kind_of(&request.ask), kind);
 }
 
 #[test]

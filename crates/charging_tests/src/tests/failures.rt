@@ -3,7 +3,7 @@
 
 use crate::tests::lines::commands_between;
 use crate::tests::rows::push_rows;
-use crate::tests::scenarios::{book, push_answer, try_all, whole_lines};
+use crate::tests::scenarios::{assert_told, book, push_answer, try_all, whole_lines};
 use charging::run;
 use keepers::{Failing, Keeper, MemoryKeeper, StoreFault};
 use std::alloc::Global;
@@ -122,9 +122,41 @@ fn hand_in(
     }
 }
 
-/// How many of these commands a store answers that fails at the call after so many. Then the rows
-/// are those that these commands leave, and the commands from the one on that failed go on as if
+/// Asserts that the fault and the count of failures are those of one failure, which stays counted,
+/// or of none where all twelve commands are answered.
+fn assert_counted(rt: &impl Abort, stopped: &Outcome, later: &Outcome) {
+    let (fault, count) = if stopped.answered < 12 {
+        (2, 1)
+    } else {
+        (0, 0)
+    };
+    assert_eq!(rt; stopped.fault, fault);
+    assert_eq!(rt; stopped.failures, count);
+    assert_eq!(rt; later.failures, count);
+}
+
+/// How many of these commands a store answers that fails once. Then the rows are those that these
+/// commands leave over one that doesn't, and the commands from the one on that failed go on as if
 /// nothing had failed.
+fn try_failing(
+    rt: &impl Abort,
+    alloc: Global,
+    book: &TariffBook,
+    lines: &str,
+    (failing, sound): (&mut Failing<MemoryKeeper>, &mut Failing<MemoryKeeper>),
+) -> usize {
+    let stopped = hand_in(rt, alloc, failing, book, lines, (0, 12));
+    let answered = stopped.answered;
+    let beginning = hand_in(rt, alloc, sound, book, lines, (0, answered));
+    assert_told(rt, stopped.text.as_str(), beginning.text.as_str());
+    let later = hand_in(rt, alloc, failing, book, lines, (answered, 12));
+    let others = hand_in(rt, alloc, sound, book, lines, (answered, 12));
+    assert_told(rt, later.text.as_str(), others.text.as_str());
+    assert_counted(rt, &stopped, &later);
+    answered
+}
+
+/// The same of a store that fails at the call after so many.
 fn try_failing_after(
     rt: &impl Abort,
     alloc: Global,
@@ -134,18 +166,7 @@ fn try_failing_after(
 ) -> usize {
     let mut failing = Failing::new(MemoryKeeper::new(alloc), calls);
     let mut sound = Failing::new(MemoryKeeper::new(alloc), u64::MAX);
-    let stopped = hand_in(rt, alloc, &mut failing, book, lines, (0, 12));
-    let answered = stopped.answered;
-    let beginning = hand_in(rt, alloc, &mut sound, book, lines, (0, answered));
-    assert_eq!(rt; stopped.text.as_str(), beginning.text.as_str(), "{calls}");
-    let (fault, failures) = if answered < 12 { (2, 1) } else { (0, 0) };
-    assert_eq!(rt; stopped.fault, fault, "{calls}");
-    assert_eq!(rt; stopped.failures, failures, "{calls}");
-    let later = hand_in(rt, alloc, &mut failing, book, lines, (answered, 12));
-    let others = hand_in(rt, alloc, &mut sound, book, lines, (answered, 12));
-    assert_eq!(rt; later.text.as_str(), others.text.as_str(), "{calls}");
-    assert_eq!(rt; later.failures, failures, "{calls}");
-    answered
+    try_failing(rt, alloc, book, lines, (&mut failing, &mut sound))
 }
 
 /// The store fails at its first call, then at its second, and so on until a run meets no failure.

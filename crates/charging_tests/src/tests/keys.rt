@@ -26,6 +26,11 @@ fn reference_key(rt: &impl Abort, alloc: Global, word: &str) -> Key {
     Key::Reference(reference.expect(rt, "a reference"))
 }
 
+/// Asserts that two keys are one, or two.
+fn assert_one(rt: &impl Abort, key: &Key, other: &Key, one: bool) {
+    assert_eq!(rt; key == other, one);
+}
+
 #[test]
 fn keys(rt: HostRuntime) {
     let first = request_key(&rt, rt.alloc(), 0);
@@ -33,8 +38,14 @@ fn keys(rt: HostRuntime) {
     let second = request_key(&rt, rt.alloc(), 1);
     let credit = credit_key(&rt, rt.alloc(), r#"{"Amount":150000,"Reference":"v1"}"#);
     let reference = reference_key(&rt, rt.alloc(), "v1");
-    assert!(rt; first == again && first != second);
-    assert!(rt; credit == reference && credit != first);
+    assert_one(&rt, &first, &again, true);
+    assert_one(&rt, &first, &second, false);
+    assert_one(&rt, &credit, &reference, true);
+    assert_one(&rt, &credit, &first, false);
+}
+
+#[test]
+fn numbers_of_store_faults(rt: HostRuntime) {
     assert_eq!(rt; StoreFault::Memory.number(), 1);
     assert_eq!(rt; StoreFault::Store.number(), 2);
 }

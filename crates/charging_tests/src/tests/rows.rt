@@ -2,6 +2,7 @@
 
 use crate::tests::lines::{account, code};
 use buckets::Bucket;
+use identifiers::AccountNumber;
 use keepers::{Keeper, MemoryKeeper, WholeAccount};
 use reserving::{Account, ChargeRow, Counter, Session, SessionGroup};
 use std::alloc::Global;
@@ -65,16 +66,21 @@ fn push_groups(rt: &impl Abort, text: &mut String, rows: &[SessionGroup]) {
     }
 }
 
-/// Each charge's number, moment, session and group, its blocks, and its amounts: rated, collected,
+/// A charge's number, moment, session and group, its blocks, and its amounts: rated, collected,
 /// uncollected.
+fn push_charge(rt: &impl Abort, text: &mut String, row: &ChargeRow) {
+    let (at, id) = (row.moment.seconds(), row.session.as_str());
+    write!(text, " {} at {at} of {id} {}", row.number, row.group).expect(rt, "memory");
+    let (rated, collected) = (row.rated.0, row.collected.0);
+    let (blocks, uncollected) = (row.blocks.0, row.uncollected.0);
+    write!(text, " {blocks} {rated} {collected} {uncollected};").expect(rt, "memory");
+}
+
+/// Each charge.
 pub(crate) fn push_charges(rt: &impl Abort, text: &mut String, rows: &[ChargeRow]) {
     push(rt, text, "charges:");
     for row in rows {
-        let (at, id) = (row.moment.seconds(), row.session.as_str());
-        write!(text, " {} at {at} of {id} {}", row.number, row.group).expect(rt, "memory");
-        let (rated, collected) = (row.rated.0, row.collected.0);
-        let (blocks, uncollected) = (row.blocks.0, row.uncollected.0);
-        write!(text, " {blocks} {rated} {collected} {uncollected};").expect(rt, "memory");
+        push_charge(rt, text, row);
     }
 }
 
@@ -102,25 +108,38 @@ fn push_whole(rt: &impl Abort, text: &mut String, whole: &mut WholeAccount, word
     push(rt, text, word);
 }
 
+/// The line of an account, where there is one.
+fn push_first(
+    rt: &impl Abort,
+    text: &mut String,
+    keeper: &mut MemoryKeeper,
+    book: &TariffBook,
+    number: &AccountNumber,
+) -> bool {
+    let last = keeper.last().expect(rt, "a moment");
+    let Some(account) = keeper.view(book, number, last).expect(rt, "a look") else {
+        return false;
+    };
+    push_account(rt, text, &account);
+    true
+}
+
 /// The rows of an account, each line after this word: a line break and perhaps its number. Where
 /// there is no account, the charges alone.
 fn push_rows_of(
     rt: &impl Abort,
-    alloc: Global,
     text: &mut String,
     keeper: &mut MemoryKeeper,
     book: &TariffBook,
-    (number, word): (&str, &str),
+    number: &AccountNumber,
+    word: &str,
 ) {
-    let number = account(rt, alloc, number);
-    let last = keeper.last().expect(rt, "a moment");
     push(rt, text, word);
-    if let Some(account) = keeper.view(book, &number, last).expect(rt, "a look") {
-        push_account(rt, text, &account);
-        let mut whole = keeper.whole(&number).expect(rt, "memory");
+    if push_first(rt, text, keeper, book, number) {
+        let mut whole = keeper.whole(number).expect(rt, "memory");
         push_whole(rt, text, &mut whole, word);
     }
-    push_charges(rt, text, keeper.charges(&number));
+    push_charges(rt, text, keeper.charges(number));
 }
 
 /// What stands under the code, in a line: the account that redeemed it, `unspent`, or nothing.
@@ -142,6 +161,13 @@ fn push_voucher(
     write!(text, "\nvoucher {word}: {redeemer}").expect(rt, "memory");
 }
 
+/// What stands under the first three codes.
+fn push_vouchers(rt: &impl Abort, alloc: Global, text: &mut String, keeper: &mut MemoryKeeper) {
+    push_voucher(rt, alloc, text, keeper, "000000000001");
+    push_voucher(rt, alloc, text, keeper, "000000000002");
+    push_voucher(rt, alloc, text, keeper, "000000000003");
+}
+
 /// The moment of the last accepted command, the vouchers of the first three codes, the rows of
 /// account 49151, and those of account 49152 after its number.
 pub(crate) fn push_rows(
@@ -151,12 +177,11 @@ pub(crate) fn push_rows(
     keeper: &mut MemoryKeeper,
     book: &TariffBook,
 ) {
+    let (first, second) = (account(rt, alloc, "49151"), account(rt, alloc, "49152"));
     let last = keeper.last().expect(rt, "a moment");
     write!(text, "last: {}", last.seconds()).expect(rt, "memory");
-    push_voucher(rt, alloc, text, keeper, "000000000001");
-    push_voucher(rt, alloc, text, keeper, "000000000002");
-    push_voucher(rt, alloc, text, keeper, "000000000003");
-    push_rows_of(rt, alloc, text, keeper, book, ("49151", "\n"));
-    push_rows_of(rt, alloc, text, keeper, book, ("49152", "\n49152 "));
+    push_vouchers(rt, alloc, text, keeper);
+    push_rows_of(rt, text, keeper, book, &first, "\n");
+    push_rows_of(rt, text, keeper, book, &second, "\n49152 ");
     push(rt, text, "\n");
 }

@@ -102,6 +102,11 @@ fn told(
     text
 }
 
+/// Asserts that what came out is what was expected.
+pub(crate) fn assert_told(rt: &impl Abort, told: &str, expected: &str) {
+    assert_eq!(rt; told, expected);
+}
+
 fn try_part(
     rt: &impl Abort,
     alloc: Global,
@@ -110,7 +115,7 @@ fn try_part(
     part: &str,
 ) {
     let told = told(rt, alloc, keeper, book, part);
-    assert_eq!(rt; told.as_str().trim_end(), part.trim_end());
+    assert_told(rt, told.as_str().trim_end(), part.trim_end());
 }
 
 fn try_parts(

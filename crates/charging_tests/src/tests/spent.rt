@@ -132,24 +132,40 @@ fn change_of(
     loaded.into_change(at, decided.charges, Some(kept), None)
 }
 
-/// After so many credits that were used up and one that wasn't, how many commands were answered,
-/// and what a debit loads and writes.
-fn after_turns(rt: &impl Abort, alloc: Global, count: u64) -> String {
-    let book = book(rt, alloc);
-    let mut keeper = MemoryKeeper::new(alloc);
+/// Plays so many turns. It gives how many commands are answered.
+fn play_turns(
+    rt: &impl Abort,
+    alloc: Global,
+    keeper: &mut MemoryKeeper,
+    book: &TariffBook,
+    count: u64,
+) -> usize {
     let mut lines = String::new(alloc);
     push_turns(rt, &mut lines, count);
     let lines = whole_lines(rt, alloc, lines.as_str());
-    let run = run(
-        alloc,
-        &mut keeper,
-        &book,
-        all_commands(rt, alloc, lines.as_str()),
-    );
-    let mut text = String::new(alloc);
-    write!(text, "answers: {};", run.answers.len()).expect(rt, "memory");
-    push_last_debit(rt, alloc, &mut text, &mut keeper, &book, count);
-    text
+    let run = run(alloc, keeper, book, all_commands(rt, alloc, lines.as_str()));
+    run.answers.len()
+}
+
+/// The debit of a turn, and its moment.
+fn debit_of(rt: &impl Abort, alloc: Global, turn: u64) -> (Request, Moment) {
+    let mut line = String::new(alloc);
+    push_debit(rt, &mut line, turn);
+    let line = whole_lines(rt, alloc, line.as_str());
+    request_of(rt, alloc, line.as_str())
+}
+
+/// What is loaded of the account at this moment.
+fn load<'b>(
+    rt: &impl Abort,
+    alloc: Global,
+    keeper: &mut MemoryKeeper,
+    book: &'b TariffBook,
+    at: Moment,
+) -> Loaded<'b> {
+    let number = account(rt, alloc, "49151");
+    let loaded = keeper.load(book, &number, at).expect(rt, "rows");
+    loaded.expect(rt, "an account")
 }
 
 /// The numbers of the buckets that the debit of a turn loads, and the rows that its change names.
@@ -161,17 +177,24 @@ fn push_last_debit(
     book: &TariffBook,
     turn: u64,
 ) {
-    let mut line = String::new(alloc);
-    push_debit(rt, &mut line, turn);
-    let line = whole_lines(rt, alloc, line.as_str());
-    let number = account(rt, alloc, "49151");
-    let (request, at) = request_of(rt, alloc, line.as_str());
     let last = keeper.last().expect(rt, "a moment");
-    let loaded = keeper.load(book, &number, at).expect(rt, "rows");
-    let loaded = loaded.expect(rt, "an account");
+    let (request, at) = debit_of(rt, alloc, turn);
+    let loaded = load(rt, alloc, keeper, book, at);
     push_numbers(rt, text, &loaded.account);
     let change = change_of(rt, alloc, loaded, request, at);
     push_named(rt, text, &change, last);
+}
+
+/// After so many credits that were used up and one that wasn't, how many commands were answered,
+/// and what a debit loads and writes.
+fn after_turns(rt: &impl Abort, alloc: Global, count: u64) -> String {
+    let book = book(rt, alloc);
+    let mut keeper = MemoryKeeper::new(alloc);
+    let answered = play_turns(rt, alloc, &mut keeper, &book, count);
+    let mut text = String::new(alloc);
+    write!(text, "answers: {answered};").expect(rt, "memory");
+    push_last_debit(rt, alloc, &mut text, &mut keeper, &book, count);
+    text
 }
 
 /// One bucket is loaded, and eight rows are written: the moment, the account, its bucket, counter,
