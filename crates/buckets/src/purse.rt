@@ -245,6 +245,3 @@ impl Purse {
         along::expire_all(&mut self.buckets, at);
     }
 }
-
-#[cfg(test)]
-mod tests;

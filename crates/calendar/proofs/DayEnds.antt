@@ -1,20 +1,14 @@
--- The end of a civil day, from jiff's numbers.
-use Rattle.std.proofs.Common.{◌≡◌, ℕ, zero, suc, ◌+◌, ◌*◌, ◌<◌, ◌≤◌, arith, ℤ, pos, ◌-ℤ◌, ◌*ℤ◌}
-use Rattle.std.proofs.Common.{Bool, Option, Some, None, true, false, nat_lt, refl, ◌∙◌, ap, sym}
-use Rattle.std.proofs.Common.{inl, inr}
+-- The end of a civil day: what a clock shows, read as a moment.
+use Rattle.std.proofs.Common.{◌≡◌, ℕ, zero, suc, ◌+◌, ◌-◌, ◌<◌, ◌≤◌, ◌==◌, arith}
+use Rattle.std.proofs.Common.{Bool, Some, None, true, false, nat_le, nat_lt, refl, ◌∙◌, ap}
+use Rattle.std.proofs.Common.{sym, inl, inr, ◌^◌}
 use Rattle.std.proofs.lemmas.Bool.Decides.{nat_tests}
-use Rattle.std.specs.Prelude.{int_div, IsSome, IfSome, IfNone, ◌↔◌, find}
-use Rattle.std.proofs.lemmas.Bool.{cases_lt, false≢true}
-use Rattle.jiff.specs.Types.{TimeZone, DateTime}
-use Rattle.jiff.specs.Words.{nanos_of_seconds, civil_nanos, offset_at, picked_instant, IsWithin}
-use Rattle.jiff.specs.Words.{IsTimestampNanos}
-use Rattle.calendar.specs.Plain.{rule_of, IsFixed}
-use Rattle.jiff.proofs.SpanFacts.{signed_arith}
-use Rattle.calendar.specs.Clock.{ZoneRule, IsZone, day, clock, offset}
-use Rattle.calendar.specs.Timetable.{numbers_from, is_day_after, day_end, IsDayEnd}
-use Rattle.calendar.specs.Laws.{midnight_after, midnight_before_end, IsMidnight}
-use Rattle.calendar.proofs.Shown.{size_is}
-use Rattle.calendar.proofs.Turns.{clock_is, clock_later}
+use Rattle.std.specs.Prelude.{find, option_and_then}
+use Rattle.std.proofs.lemmas.Bool.{cases_lt}
+use Rattle.calendar.specs.Clock.{ZoneRule, IsZone, clock, next_change}
+use Rattle.calendar.specs.Timetable.{numbers_from, reached, read_clock, in_time, moment_of}
+use Rattle.calendar.proofs.Stretches.{clock_stays, next_apart, next_later, lead_is}
+use Rattle.calendar.proofs.Stretches.{le_yes, le_no}
 
 -- ---- the first of some numbers that passes a test, and where none does
 
@@ -38,164 +32,172 @@ number_none p m zero before = refl
 number_none p m (suc n) before =
     rw (before m (omega arith)) (number_none p (m + 1) n (λ r below. before r (omega arith)))
 
--- ---- with one offset
+-- ---- how near the clock is
 
--- no day ends before 1970
-pub midnight_is : (zone : ZoneRule) (t days : ℕ) → IsZone zone →
-    pos (midnight_after zone t days) ≡ pos ((day zone t + days) * 86400) -ℤ offset zone t
-midnight_is zone t days is =
-    let near : IsWithin 50_400 (offset zone t) = is.near t in
-    size_is _ (omega (arith, signed_arith, clock_is zone t is))
+pub clock_high : (zone : ZoneRule) (t : ℕ) → IsZone zone → clock zone t ≤ t + 136_800
+clock_high zone t is = let most = (lead_is zone t is).most in omega (arith, most)
 
-shown_is : (zone : ZoneRule) (t days : ℕ) → IsZone zone →
-    clock zone (midnight_after zone t days) ≡ (day zone t + days + 1) * 86400
-shown_is zone t days is =
-    omega (
-      arith,
-      signed_arith,
-      midnight_is zone t days is,
-      clock_is zone (midnight_after zone t days) is,
-    )
+pub clock_low : (zone : ZoneRule) (t : ℕ) → IsZone zone → t + 36_000 ≤ clock zone t
+clock_low zone t is = let least = (lead_is zone t is).least in omega (arith, least)
 
--- before it no clock shows that day
-earlier : (zone : ZoneRule) (t days r : ℕ) → IsZone zone → r < midnight_after zone t days →
-    day zone r < day zone t + days + 1
-earlier zone t days r is before =
-    let on = clock_later zone r (midnight_after zone t days) is (omega arith) in
-    omega (arith, on, shown_is zone t days is)
+-- ---- the first moment at which the clock has come so far
 
-end_is : (zone : ZoneRule) (t days : ℕ) → IsZone zone →
-    IsDayEnd zone t days (midnight_after zone t days)
-end_is zone t days is = record {
-  shows = omega (arith, shown_is zone t days is);
-  least = λ r same. elim (cases_lt r (midnight_after zone t days)) [
-    | inl before ↦ absurd (omega (arith, earlier zone t days r is before, same))
-    | inr past ↦ past
-  ];
-}
+pub record IsFirst (zone : ZoneRule) (shown s : ℕ) : Type 0 where
+  pub come : shown ≤ clock zone s
+  pub before : (r : ℕ) → r < s → clock zone r < shown
 
-is_not_after : (zone : ZoneRule) (t days r : ℕ) → IsZone zone → r < midnight_after zone t days →
-    is_day_after zone t days r ≡ false
-is_not_after zone t days r is before =
-    let less = earlier zone t days r is before in
-    grind (arith, nat_tests)
+reached_is : (zone : ZoneRule) (shown s : ℕ) → IsFirst zone shown s → s < 4_102_444_800 →
+    reached zone shown ≡ Some s
+unfolding reached
+reached_is zone shown s is below =
+    number_first (λ r. nat_le shown (clock zone r)) 0 4_102_444_800 s (omega arith)
+    (omega (arith, below)) (le_yes shown (clock zone s) is.come)
+    (λ r early. le_no shown (clock zone r) (is.before r early))
 
-is_after : (zone : ZoneRule) (t days s : ℕ) → day zone s ≡ day zone t + days + 1 →
-    is_day_after zone t days s ≡ true
-is_after zone t days s is = grind (arith, nat_tests)
+reached_none : (zone : ZoneRule) (shown : ℕ) →
+    ((r : ℕ) → r < 4_102_444_800 → clock zone r < shown) → reached zone shown ≡ None
+unfolding reached
+reached_none zone shown before =
+    number_none (λ r. nat_le shown (clock zone r)) 0 4_102_444_800
+    (λ r early. le_no shown (clock zone r) (before r (omega (arith, early))))
 
-pub past_end : (zone : ZoneRule) (t days : ℕ) → IsZone zone →
-    4_102_444_800 ≤ midnight_after zone t days → day_end zone t days ≡ None
-unfolding day_end
-past_end zone t days is h =
-    number_none (is_day_after zone t days) 0 4_102_444_800
-    (λ r below. is_not_after zone t days r is (omega arith))
+late_none : (m : ℕ) → 4_102_444_800 ≤ m → in_time m ≡ None
+late_none m h =
+    let test : nat_lt m 4_102_444_800 ≡ false = grind (arith, nat_tests) in
+    rw test refl
 
-pub before_end : (zone : ZoneRule) (t days : ℕ) → IsZone zone →
-    midnight_after zone t days < 4_102_444_800 →
-    day_end zone t days ≡ Some (midnight_after zone t days)
-unfolding day_end
-before_end zone t days is h =
-    number_first (is_day_after zone t days) 0 4_102_444_800 (midnight_after zone t days)
-    (omega arith) (omega arith)
-    (is_after zone t days (midnight_after zone t days) (end_is zone t days is).shows)
-    (λ r before. is_not_after zone t days r is before)
-
-number_is : (zone : ZoneRule) (t days : ℕ) → IsZone zone →
-    day_end zone t days ≡ midnight_before_end zone t days
-number_is zone t days is =
-    elim (cases_lt (midnight_after zone t days) 4_102_444_800) [
-      | inl before ↦
-          (let test : nat_lt (midnight_after zone t days) 4_102_444_800
-          ≡ true = grind (arith, nat_tests) in rw test (before_end zone t days is before))
-      | inr past ↦
-          (let test : nat_lt (midnight_after zone t days) 4_102_444_800
-          ≡ false = grind (arith, nat_tests) in rw test (past_end zone t days is past))
+-- what the code finds for the first moment at which the clock has come so far
+moment_is : (zone : ZoneRule) (shown s m : ℕ) → IsFirst zone shown s → m ≡ read_clock zone shown s →
+    s ≤ m → in_time m ≡ moment_of zone shown
+moment_is zone shown s m first is order =
+    elim (cases_lt s 4_102_444_800) [
+      | inl below ↦ (
+          let at = reached_is zone shown s first below in
+          ap in_time is
+          ∙ sym (ap (option_and_then (λ r. in_time (read_clock zone shown r))) at))
+      | inr past ↦ (
+          let at =
+          reached_none zone shown (λ r early. first.before r (omega (arith, early, past))) in
+          late_none m (omega (arith, past, order))
+          ∙ sym (ap (option_and_then (λ r. in_time (read_clock zone shown r))) at))
     ]
 
-pub at_midnight : (zone : ZoneRule) (t days : ℕ) → IsZone zone → IsMidnight zone t days
-at_midnight zone t days is =
-    record {
-      end = end_is zone t days is;
-      shown = shown_is zone t days is;
-      number = number_is zone t days is;
-    }
+-- a clock that is ahead of what is asked for already
+read_here : (zone : ZoneRule) (shown s : ℕ) → clock zone s ≡ shown → s ≡ read_clock zone shown s
+read_here zone shown s is =
+    let test : (clock zone s == shown) ≡ true = grind (arith, nat_tests) in
+    rw test refl
 
--- ---- what the code answers
+read_skipped : (zone : ZoneRule) (shown s m : ℕ) → shown < clock zone s →
+    m ≡ s - 1 + (shown - clock zone (s - 1)) → m ≡ read_clock zone shown s
+read_skipped zone shown s m past is =
+    let test : (clock zone s == shown) ≡ false = grind (arith, nat_tests) in
+    rw test is
 
--- what it answers for the number of that midnight
-pub record IsAnswered (zone : ZoneRule) (t days : ℕ) (r : Option ℕ) : Type 0 where
-  pub value : r ≡ day_end zone t days
-  pub end : IfSome r (IsDayEnd zone t days)
-  pub none : IfNone r ((s : ℕ) → IsDayEnd zone t days s → 4_102_444_800 ≤ s)
+-- ---- from 38 hours before what is shown, where no clock has come so far
 
-pub answers_none : (zone : ZoneRule) (t days : ℕ) → IsZone zone →
-    4_102_444_800 ≤ midnight_after zone t days → IsAnswered zone t days None
-answers_none zone t days is past = record {
-  value = sym (past_end zone t days is past);
-  end = tt;
-  none = λ s h. let least = (end_is zone t days is).least s h.shows in omega (arith, past, least);
-}
-
-pub answers_some : (zone : ZoneRule) (t days n : ℕ) → IsZone zone → n ≡ midnight_after zone t days →
-    n < 4_102_444_800 → IsAnswered zone t days (Some n)
-answers_some zone t days n is same before = record {
-  value = ap Some same ∙ sym (before_end zone t days is (omega arith));
-  end = rw same (end_is zone t days is);
-  none = tt;
-}
-
-pub answers : (zone : ZoneRule) (t days n : ℕ) (r : Option ℕ) → IsZone zone →
-    n ≡ midnight_after zone t days → IsSome r ↔ (n < 4_102_444_800) → IfSome r (λ m. m ≡ n) →
-    IsAnswered zone t days r
-answers zone t days n None is same range value =
-    elim (cases_lt n 4_102_444_800) [
-      | inl before ↦ absurd (false≢true (range.1 before))
-      | inr past ↦ answers_none zone t days is (omega arith)
+-- up to the next change the clock goes on, and has not come so far before it should
+not_before : (zone : ZoneRule) (shown start r : ℕ) → IsZone zone → start ≡ shown - 136_800 →
+    shown < 2 ^ 33 → r < next_change zone start → r < start + (shown - clock zone start) →
+    clock zone r < shown
+not_before zone shown start r is at small below early =
+    elim (cases_lt r start) [
+      | inl sooner ↦ omega (arith, at, sooner, clock_high zone r is)
+      | inr later ↦ (
+          let on = clock_stays zone start r (omega (arith, at, small)) later below in
+          omega (arith, on, early, later))
     ]
-answers zone t days n (Some m) is same range value =
-    rw value (answers_some zone t days n is same (range.0 refl))
 
--- a day that jiff doesn't have ends past the last moment
-pub far_end : (zone : ZoneRule) (t days : ℕ) → IsZone zone → 2_932_896 < day zone t + days →
-    4_102_444_800 ≤ midnight_after zone t days
-far_end zone t days is far =
-    let near : IsWithin 50_400 (offset zone t) = is.near t in
-    omega (arith, signed_arith, midnight_is zone t days is)
+-- it comes so far before the next change
+pub read_before : (zone : ZoneRule) (shown start : ℕ) → IsZone zone → start ≡ shown - 136_800 →
+    shown < 2 ^ 33 → start + (shown - clock zone start) < next_change zone start →
+    in_time (start + (shown - clock zone start)) ≡ moment_of zone shown
+read_before zone shown start is at small below =
+    let on =
+    clock_stays zone start (start + (shown - clock zone start)) (omega (arith, at, small))
+    (omega arith) below in
+    let first : IsFirst zone shown (start + (shown - clock zone start)) = record {
+      come = omega (arith, on);
+      before = λ r early. not_before zone shown start r is at small (omega (arith, early, below))
+          early;
+    } in
+    let high = clock_high zone start is in
+    moment_is zone shown (start + (shown - clock zone start)) (start + (shown - clock zone start))
+    first
+    (elim (cases_lt shown (clock zone start)) [
+      | inl past ↦ (
+          let none : start ≡ 0 = omega (arith, high, past, at) in
+          let here : start + (shown - clock zone start) ≡ start = omega (arith, past) in
+          read_skipped zone shown (start + (shown - clock zone start))
+          (start + (shown - clock zone start)) (omega (arith, on, past))
+          (let same : clock zone (start + (shown - clock zone start) - 1) ≡ clock zone start =
+          ap (clock zone) (omega (arith, here, none)) in
+          omega (arith, none, here, same, past)))
+      | inr within ↦ read_here zone shown (start + (shown - clock zone start))
+          (omega (arith, on, within))
+    ])
+    (omega arith)
 
-instant_is : (zone : ZoneRule) (t days : ℕ) (instant civil : ℤ) → IsZone zone
-    → civil ≡ pos (day zone t + days) *ℤ pos 86_400_000_000_000 →
-    instant ≡ civil -ℤ nanos_of_seconds (offset zone t)
-    → instant ≡ pos (midnight_after zone t days) *ℤ pos 1_000_000_000
-instant_is zone t days instant civil known at is =
-    omega (arith, signed_arith, at, is, midnight_is zone t days known)
+-- or after it
+pub read_after : (zone : ZoneRule) (shown start next : ℕ) → IsZone zone →
+    start ≡ shown - 136_800 → shown < 2 ^ 33 → next ≡ next_change zone start →
+    next ≤ start + (shown - clock zone start) → clock zone next ≤ shown →
+    in_time (next + (shown - clock zone next)) ≡ moment_of zone shown
+read_after zone shown start next is at small change past come =
+    let low = clock_low zone next is in
+    let low' = clock_low zone start is in
+    let later : start < next =
+    omega (arith, change, next_later zone start (omega (arith, at, small))) in
+    let near : next < 40_000_000_000 = omega (arith, past, at, small) in
+    let far =
+    next_apart zone start is (omega (arith, at, small)) (omega (arith, near, change)) in
+    let same : next_change zone next ≡ next_change zone (next_change zone start) =
+    ap (next_change zone) change in
+    let apart : next + 604_800 ≤ next_change zone next = omega (arith, far, same, change) in
+    let on =
+    clock_stays zone next (next + (shown - clock zone next)) (omega (arith, near))
+    (omega arith) (omega (arith, apart, low, later, at)) in
+    let first : IsFirst zone shown (next + (shown - clock zone next)) = record {
+      come = omega (arith, on);
+      before = λ r early. elim (cases_lt r next) [
+        | inl sooner ↦ not_before zone shown start r is at small (omega (arith, sooner, change))
+            (omega (arith, sooner, past))
+        | inr after ↦ (
+            let here =
+            clock_stays zone next r (omega (arith, near)) after
+            (omega (arith, apart, low, later, at, early)) in
+            omega (arith, here, early, after))
+      ];
+    } in
+    moment_is zone shown (next + (shown - clock zone next)) (next + (shown - clock zone next)) first
+    (read_here zone shown (next + (shown - clock zone next)) (omega (arith, on, come)))
+    (omega arith)
 
--- what its kind of zone says of a book's zone
-pub zone_is : (tz : TimeZone) (zone : ZoneRule) → IsFixed tz → rule_of tz ≡ zone → IsZone zone
-zone_is tz zone fixed rule =
-    rw (sym rule) (record { near = λ t. fixed.near; whole = λ t. fixed.whole })
+-- or the change skips it
+pub read_gap : (zone : ZoneRule) (shown start next : ℕ) → IsZone zone →
+    start ≡ shown - 136_800 → shown < 2 ^ 33 → next ≡ next_change zone start →
+    next ≤ start + (shown - clock zone start) → shown < clock zone next →
+    in_time (start + (shown - clock zone start)) ≡ moment_of zone shown
+read_gap zone shown start next is at small change past come =
+    let later : start < next =
+    omega (arith, change, next_later zone start (omega (arith, at, small))) in
+    let on =
+    clock_stays zone start (next - 1) (omega (arith, at, small)) (omega (arith, later))
+    (omega (arith, later, change)) in
+    let first : IsFirst zone shown next = record {
+      come = omega (arith, come);
+      before = λ r early. not_before zone shown start r is at small (omega (arith, early, change))
+          (omega (arith, early, past));
+    } in
+    moment_is zone shown next (start + (shown - clock zone start)) first
+    (read_skipped zone shown next (start + (shown - clock zone start)) come
+    (omega (arith, on, past, later)))
+    past
 
--- the instant that a zone of jiff picks for that 00:00
-pub picked_is : (tz : TimeZone) (zone : ZoneRule) (t days : ℕ) (dt : DateTime) (instant : ℤ) →
-    IsFixed tz → rule_of tz ≡ zone
-    → civil_nanos dt ≡ pos (day zone t + days) *ℤ pos 86_400_000_000_000 →
-    instant ≡ picked_instant tz dt
-    → instant ≡ pos (midnight_after zone t days) *ℤ pos 1_000_000_000
-picked_is tz zone t days dt instant fixed rule at is =
-    let ahead : offset_at tz (pos 0) ≡ offset zone t = ap (λ z. z.ahead) rule in
-    let picks : picked_instant tz dt ≡ civil_nanos dt -ℤ nanos_of_seconds (offset zone t) =
-    rw ahead at (fixed.picks dt) in
-    instant_is zone t days instant (civil_nanos dt) (zone_is tz zone fixed rule) at (is ∙ picks)
-
-pub seconds_are : (instant : ℤ) (n : ℕ) → instant ≡ pos n *ℤ pos 1_000_000_000 →
-    int_div instant (pos 1_000_000_000) ≡ pos n
-seconds_are instant n is = rw is (omega (arith, signed_arith))
-
--- an instant that jiff doesn't have lies past the last moment
-pub no_instant : (m : ℕ) (instant : ℤ) → instant ≡ pos m *ℤ pos 1_000_000_000 →
-    (IsTimestampNanos instant → ⊥) → 4_102_444_800 ≤ m
-no_instant m instant is none =
-    elim (cases_lt m 4_102_444_800) [
-      | inl before ↦ absurd (none (omega (arith, signed_arith, is, before)))
-      | inr past ↦ past
-    ]
+-- no moment of a command shows a day so late
+pub read_never : (zone : ZoneRule) (shown : ℕ) → IsZone zone → 4_102_600_000 < shown →
+    moment_of zone shown ≡ None
+read_never zone shown is far =
+    let at =
+    reached_none zone shown (λ r early. omega (arith, early, far, clock_high zone r is)) in
+    ap (option_and_then (λ r. in_time (read_clock zone shown r))) at

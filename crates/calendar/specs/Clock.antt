@@ -1,29 +1,77 @@
 -- Civil time: what the clock of a zone shows, reckoned from 1969-12-31 00:00 on that clock.
--- Source: profile; the Gregorian calendar.
-use Rattle.std.specs.Prelude.{◌≡◌, ℕ, ℤ, ◌+◌, ◌/◌, ◌%◌, pos, ◌+ℤ◌, ◌*ℤ◌, unsigned_abs}
-use Rattle.jiff.specs.Words.{IsWithin}
+-- Source: profile; the Gregorian calendar. A rule's changes are made by specs/Summer.
+use Rattle.std.specs.Prelude.{◌≡◌, ℕ, ℤ, ◌+◌, ◌-◌, ◌/◌, ◌%◌, ◌≤◌, pos, ◌+ℤ◌, ◌*ℤ◌, unsigned_abs}
+use Rattle.std.specs.Prelude.{List, [], ◌∷◌, nat_le, if◌then◌else◌}
+use Rattle.calendar.specs.declared.zone.Change.{Change}
 
--- a zone: how far its clock is ahead of UTC, in seconds
+-- a zone: the lead of its clock before its first change, and its changes in the order of time, each
+-- with its moment and the lead from then on. The lead is 86,400 seconds and those by which the
+-- clock is ahead of UTC: what it shows at 1970-01-01 00:00 UTC, in seconds since 1969-12-31 00:00
 pub record ZoneRule : Type 0 where
-  pub ahead : ℤ
+  pub before : ℕ
+  pub changes : List Change
+
+-- the zone whose clock always has this lead
+abbrev pub always : ℕ → ZoneRule
+always lead = record { before = lead; changes = [] }
+
+-- the lead of a clock that is so many minutes ahead of UTC
+abbrev pub lead_of : ℤ → ℕ
+lead_of minutes = unsigned_abs (pos 86400 +ℤ minutes *ℤ pos 60)
 
 -- the zone whose clock is always this many minutes ahead of UTC
 abbrev pub minutes_ahead : ℤ → ZoneRule
-minutes_ahead minutes = record { ahead = minutes *ℤ pos 60 }
+minutes_ahead minutes = always (lead_of minutes)
 
--- how far the zone's clock is ahead of UTC at a moment, in seconds: all else asks this
-abbrev pub offset : ZoneRule → ℕ → ℤ
-offset zone t = zone.ahead
+-- changes are reckoned in seconds since 1968-12-31 00:00 UTC, 366 days before 1970: none of a year
+-- from 1969 on is earlier
+abbrev pub since_1968 : ℕ → ℕ
+since_1968 t = t + 31_622_400
 
--- at every moment the zone's clock is at most 14 hours from UTC, by whole minutes
+-- the lead after the last change at or before a moment
+abbrev pub lead_after : ℕ → List Change → ℕ → ℕ
+lead_after now [] t = now
+lead_after now (c ∷ cs) t = if nat_le c.at t then lead_after c.lead cs t else now
+
+-- the moment of the first change after a moment; without one a number past all moments
+abbrev pub next_after : List Change → ℕ → ℕ
+next_after [] t = 60_000_000_000
+next_after (c ∷ cs) t = if nat_le c.at t then next_after cs t else c.at
+
+-- the lead of the zone's clock at a moment: all else asks this
+abbrev pub lead : ZoneRule → ℕ → ℕ
+lead zone t = lead_after zone.before zone.changes (since_1968 t)
+
+-- up to which moment this lead holds
+abbrev pub next_change : ZoneRule → ℕ → ℕ
+next_change zone t = next_after zone.changes (since_1968 t) - 31_622_400
+
+-- a clock at most 14 hours from UTC, by whole minutes
+pub record IsLead (lead : ℕ) : Type 0 where
+  pub least : 36_000 ≤ lead
+  pub most : lead ≤ 136_800
+  pub whole : lead % 60 ≡ 0
+
+-- each change is at a whole minute, to such a lead
+abbrev pub AreChanges : List Change → Type 0
+AreChanges [] = Unit {0}
+AreChanges (c ∷ cs) = (c.at % 60 ≡ 0) × IsLead c.lead × AreChanges cs
+
+-- each change is at least a week after the one before
+abbrev pub AreApart : List Change → Type 0
+AreApart [] = Unit {0}
+AreApart (c ∷ []) = Unit {0}
+AreApart (c ∷ next ∷ cs) = (c.at + 604_800 ≤ next.at) × AreApart (next ∷ cs)
+
+-- what the type of a zone keeps
 pub record IsZone (zone : ZoneRule) : Type 0 where
-  pub near : (t : ℕ) → IsWithin 50_400 (offset zone t)
-  pub whole : (t : ℕ) → unsigned_abs (offset zone t) % 60 ≡ 0
+  pub before : IsLead zone.before
+  pub changes : AreChanges zone.changes
+  pub apart : AreApart zone.changes
 
--- the seconds from 1969-12-31 00:00 to what the zone's clock shows at a moment; no clock is 24
--- hours behind UTC
+-- the seconds from 1969-12-31 00:00 to what the zone's clock shows at a moment
 abbrev pub clock : ZoneRule → ℕ → ℕ
-clock zone t = unsigned_abs (pos (t + 86400) +ℤ offset zone t)
+clock zone t = t + lead zone t
 
 -- what a clock shows, in seconds since 1969-12-31 00:00: the day since then, the weekday from 0 for
 -- Monday (1969-12-31 was a Wednesday), and the minute of the day

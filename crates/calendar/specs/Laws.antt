@@ -1,13 +1,15 @@
 -- What the definitions of periods, weekdays and day ends say in other words.
 -- Source: profile; the Gregorian calendar.
-use Rattle.std.specs.Prelude.{◌≡◌, ℕ, ◌+◌, ◌*◌, pos, ◌+ℤ◌, ◌-ℤ◌, unsigned_abs, nat_lt, Option, Some}
-use Rattle.std.specs.Prelude.{None, if◌then◌else◌}
+use Rattle.std.specs.Prelude.{◌≡◌, ◌≢◌, ℕ, ◌+◌, ◌-◌, ◌<◌, ◌≤◌, ◌⊎◌, pos, ◌+ℤ◌, Contains, Some}
 use Rattle.jiff.specs.Types.{Date}
 use Rattle.jiff.specs.Words.{epoch_day, weekday_of}
 use Rattle.calendar.specs.declared.week.Entry.{Entry}
-use Rattle.calendar.specs.Clock.{ZoneRule, IsZone, clock, day, weekday, offset}
-use Rattle.calendar.specs.Timetable.{Timetable, IsTimetable, IsEntryAt, period_at, day_end}
-use Rattle.calendar.specs.Timetable.{IsDayEnd}
+use Rattle.calendar.specs.declared.zone.Change.{Change}
+use Rattle.calendar.specs.declared.summer.SummerTime.{SummerTime}
+use Rattle.calendar.specs.Clock.{ZoneRule, IsZone, since_1968, lead, clock, day, weekday}
+use Rattle.calendar.specs.Summer.{IsSummerTime, zone_of_rule}
+use Rattle.calendar.specs.Timetable.{Timetable, IsTimetable, IsEntryAt, period_at, midnight}
+use Rattle.calendar.specs.Timetable.{day_end}
 
 -- the period at a moment is that of any entry that holds its civil minute, wherever in the list it
 -- stands
@@ -20,23 +22,32 @@ abbrev pub IsWeekdayOfDate : Type 0
 IsWeekdayOfDate = (zone : ZoneRule) (t : ℕ) (d : Date) → epoch_day d +ℤ pos 1 ≡ pos (day zone t) →
     weekday_of d ≡ weekday zone t
 
--- 00:00 of the civil day after the day `days` days after that of t, where the zone has one offset:
--- in seconds since 1970
-abbrev pub midnight_after : ZoneRule → ℕ → ℕ → ℕ
-midnight_after zone t days = unsigned_abs (pos ((day zone t + days) * 86400) -ℤ offset zone t)
+-- the lead at a moment is that after the last change at or before it
+abbrev pub IsLeadOfLast : Type 0
+IsLeadOfLast = (zone : ZoneRule) (t : ℕ) (last : Change) → IsZone zone →
+    Contains zone.changes last → last.at ≤ since_1968 t →
+    ((c : Change) → Contains zone.changes c → c.at ≤ since_1968 t → c.at ≤ last.at) →
+    lead zone t ≡ last.lead
 
--- the end of a day by its number: None past the last moment of commands
-abbrev pub midnight_before_end : ZoneRule → ℕ → ℕ → Option ℕ
-midnight_before_end zone t days =
-    if nat_lt (midnight_after zone t days) 4_102_444_800 then Some (midnight_after zone t days)
-    else None
+-- the changes of a rule make a zone: they are in order, each at least a week after the one before
+abbrev pub IsZoneOfRule : Type 0
+IsZoneOfRule = (rule : SummerTime) → IsSummerTime rule → IsZone (zone_of_rule rule)
 
--- where the zone has one offset, the end of a day is the moment at which its clock shows 00:00 of
--- the day after
-pub record IsMidnight (zone : ZoneRule) (t days : ℕ) : Type 0 where
-  pub end : IsDayEnd zone t days (midnight_after zone t days)
-  pub shown : clock zone (midnight_after zone t days) ≡ (day zone t + days + 1) * 86400
-  pub number : day_end zone t days ≡ midnight_before_end zone t days
+-- where some moment shows the 00:00 after a day, the day ends at the first that does
+pub record IsShownFirst (zone : ZoneRule) (t days s : ℕ) : Type 0 where
+  pub shows : clock zone s ≡ midnight zone t days
+  pub first : (r : ℕ) → clock zone r ≡ midnight zone t days → s ≤ r
 
-abbrev pub IsShownAtMidnight : Type 0
-IsShownAtMidnight = (zone : ZoneRule) (t days : ℕ) → IsZone zone → IsMidnight zone t days
+-- where none does, a change skips it, and it is read with the lead before that change
+pub record IsSkipped (zone : ZoneRule) (t days s : ℕ) : Type 0 where
+  pub never : (r : ℕ) → clock zone r ≢ midnight zone t days
+  pub change : ℕ
+  pub before : (r : ℕ) → r < change → clock zone r < midnight zone t days
+  pub past : midnight zone t days < clock zone change
+  pub read : s + lead zone (change - 1) ≡ midnight zone t days
+
+-- the end of a day that ends after the first moment of all
+abbrev pub IsDayEndRead : Type 0
+IsDayEndRead = (zone : ZoneRule) (t days s : ℕ) → IsZone zone →
+    clock zone 0 < midnight zone t days →
+    day_end zone t days ≡ Some s → IsShownFirst zone t days s ⊎ IsSkipped zone t days s

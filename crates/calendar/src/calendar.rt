@@ -1,3 +1,5 @@
+//! The calendar of a tariff book: its week in its zone.
+
 ghost use Rattle.std.specs.Prelude.{◌≡◌, ◌≢◌, ◌↔◌, ◌≤◌, ◌<◌, ◌^◌, ◌+◌, ◌*◌, ◌-◌, ℕ, Some, IsSome};
 ghost use Rattle.std.specs.Prelude.{IfSome, IfNone, pos, ◌+ℤ◌, ◌*ℤ◌};
 ghost use Rattle.jiff.specs.Types.{Date};
@@ -6,13 +8,13 @@ ghost use Rattle.calendar.specs.Clock.{day};
 ghost use Rattle.calendar.specs.Week.{IsWeek};
 ghost use Rattle.calendar.specs.Timetable.{timetable_of, IsTimetable, period_at, IsEntryAt};
 ghost use Rattle.calendar.specs.Timetable.{IsChange, switch_within, cut_after, validity_from};
-ghost use Rattle.calendar.specs.Timetable.{cycle_of, day_end, IsDayEnd};
+ghost use Rattle.calendar.specs.Timetable.{cycle_of, day_end};
 
-use crate::covered;
 use crate::cycle::Cycle;
 use crate::week::{Entry, Period};
 use crate::window::Window;
 use crate::zone::Zone;
+use crate::{covered, switching};
 use std::marker::Model;
 use units::{Moment, Steps};
 
@@ -41,7 +43,8 @@ impl Calendar {
         ensures value { result ≡ timetable_of zone entries.items }
         ensures timetable { IfSome result IsTimetable }
     {
-        zone.keeps_near();
+        // For the prover alone: looking at the value makes known here what its type keeps.
+        let _first = zone.clock_at(0);
         if covered::is_week(&entries) {
             Some(Calendar { zone, entries })
         } else {
@@ -77,7 +80,8 @@ impl Calendar {
         self.next_switch_steps(moment, seconds, &mut Steps::new())
     }
 
-    /// `next_switch`, going from one entry's end to the next: a step an entry, at most 129.
+    /// `next_switch`, going from one entry's end to the next: a step an entry, and an
+    /// entry in which the zone's offset changes counts twice, at most 260.
     pub fn next_switch_steps(
         &self,
         moment: Moment,
@@ -92,7 +96,7 @@ impl Calendar {
         ensures least { IfSome result
             (λ s. (r : ℕ) → IsChange self.now moment (moment + seconds) r → s ≤ r) }
         ensures none { IfNone result ((r : ℕ) → IsChange self.now moment (moment + seconds) r → ⊥) }
-        ensures steps { steps.new ≤ steps.old + 129 }
+        ensures steps { steps.new ≤ steps.old + 260 }
     {
         match self.change_after(moment.seconds(), seconds, steps) {
             Some(change) => Moment::new(change),
@@ -110,21 +114,19 @@ impl Calendar {
         ensures least { IfSome result (λ s. (r : ℕ) → IsChange self.now start (start + seconds) r →
             s ≤ r) }
         ensures none { IfNone result ((r : ℕ) → IsChange self.now start (start + seconds) r → ⊥) }
-        ensures steps { seconds ≤ 43_200 → steps.new ≤ steps.old + 129 }
+        ensures steps { seconds ≤ 43_200 → steps.new ≤ steps.old + 258 }
     {
         let end = start + u64::from(seconds);
         let mut at = 60 * (start / 60);
-        let mut shown = self.zone.clock_at(at);
-        let here = covered::entry_at(&self.entries, shown).period;
+        let here = covered::entry_at(&self.entries, self.zone.clock_at(at)).period;
         while at < end {
-            steps.tick();
-            let entry = covered::entry_at(&self.entries, shown);
-            if entry.period != here {
-                return Some(at);
+            let stretch = self.zone.stretch_at(at);
+            let stop = stretch.until.min(end);
+            let other = switching::other_within(&self.entries, stretch.lead, at, stop, here, steps);
+            if let Some(change) = other {
+                return Some(change);
             }
-            let left = 60 * u64::from(entry.to) - shown % 86_400;
-            at += left;
-            shown += left;
+            at = stretch.until;
         }
         None
     }
@@ -186,13 +188,11 @@ impl Calendar {
         }
     }
 
-    /// Where the day so many days after that of the moment ends: the least moment of the civil day
-    /// after it (a voucher has 1 to 3,650 days); None past the last moment of commands.
+    /// Where the day so many days after that of the moment ends: 00:00 of the civil day after it (a
+    /// voucher has 1 to 3,650 days), read with the offset before the change where it is skipped or
+    /// comes twice; None past the last moment of commands.
     pub fn day_end(&self, moment: Moment, days: u32) -> Option<Moment>
-        ensures value { result ≡ day_end self.now.zone moment days }
-        ensures end { IfSome result (IsDayEnd self.now.zone moment days) }
-        ensures none { IfNone result ((s : ℕ) → IsDayEnd self.now.zone moment days s →
-            4_102_444_800 ≤ s) }
+        ensures { result ≡ day_end self.now.zone moment days }
     {
         self.zone.day_end(moment.seconds(), days)
     }

@@ -1,161 +1,236 @@
-ghost use Rattle.std.specs.Prelude.{◌≡◌, ◌↔◌, ◌≤◌, ◌<◌, ◌^◌, ◌+◌, ◌*◌, IsSome, IfSome, IfNone, ℕ};
-ghost use Rattle.std.specs.Prelude.{ℤ, pos, ◌+ℤ◌, ◌*ℤ◌};
-ghost use Rattle.jiff.specs.Words.{civil_nanos, nanos_of_seconds, epoch_day, IsWithin};
-ghost use Rattle.jiff.specs.Types.{Date};
-ghost use Rattle.calendar.specs.Clock.{IsZone, minutes_ahead, offset, clock, day};
-ghost use Rattle.calendar.specs.Months.{month};
-ghost use Rattle.calendar.specs.Timetable.{day_end, IsDayEnd};
+//! Zones: what a clock shows at a moment, and which moment a clock means.
 
-use jiff::Timestamp;
-use jiff::civil::{Date, DateTime, Time};
-use jiff::tz::{Offset, TimeZone};
+ghost use Rattle.std.specs.Prelude.{◌≡◌, ◌↔◌, ◌≤◌, ◌<◌, ◌^◌, ◌+◌, ◌*◌, ◌-◌, IsSome, IfSome, IfOk};
+ghost use Rattle.std.specs.Prelude.{ℕ, ℤ, length, nat_le, pos, ◌+ℤ◌, ◌*ℤ◌};
+ghost use Rattle.jiff.specs.Words.{epoch_day, IsWithin};
+ghost use Rattle.jiff.specs.Types.{Date};
+ghost use Rattle.std.specs.List.{prefix_len};
+ghost use Rattle.calendar.specs.Clock.{IsZone, IsLead, AreApart, minutes_ahead, lead};
+ghost use Rattle.calendar.specs.Clock.{lead_after, next_after, next_change, clock, day};
+ghost use Rattle.calendar.specs.Months.{month};
+ghost use Rattle.calendar.specs.Summer.{IsSummerTime, zone_of_rule};
+ghost use Rattle.calendar.specs.Timetable.{day_end, in_time, moment_of};
+
+use crate::summer;
+use crate::summer::SummerTime;
+use jiff::civil::Date;
 use jiff_core::civil::Date as PlainDate;
+use std::alloc::{AllocError, Global};
 use std::marker::Model;
 use units::Moment;
 
-/// The zone of a tariff book: how far its clock is ahead of UTC, at most 14 hours either way.
+/// The seconds from 1968-12-31 00:00 UTC to 1970-01-01 00:00 UTC.
+const BEFORE_1970: u64 = 31_622_400;
+
+/// A change of a zone's offset (a transition, RFC 9636 section 3.2).
+#[derive(Clone, Copy, Debug, PartialEq, Eq)]
+pub struct Change {
+    /// Its moment, in seconds since 1968-12-31 00:00 UTC.
+    pub at: u64,
+    /// The lead of the clock from then on: 86,400 seconds and those by which it is ahead of UTC.
+    pub lead: u64,
+}
+
+/// The zone of a tariff book: the lead of its clock, 10 to 38 hours, since a clock is at most 14
+/// hours from UTC either way, and when that changes.
 #[derive(Drop)]
 pub struct Zone {
-    time_zone: TimeZone<'static>,
+    before: u64,
+    changes: Vec<Change>,
 }
 
 impl Model for Zone {
-    ghost use Rattle.calendar.specs.Clock.{ZoneRule};
+    ghost use Rattle.calendar.specs.Clock.{ZoneRule, IsZone};
 
     ghost Value = { ZoneRule };
 
-    ghost use Rattle.jiff.specs.Words.{plain_zone};
-    ghost use Rattle.calendar.specs.Plain.{rule_of, IsFixed};
+    ghost view = { λ z. record { before = z.before; changes = z.changes.items } };
 
-    ghost view = { λ z. rule_of (plain_zone z.time_zone) };
+    ghost invariant = { λ z. IsZone (record { before = z.before; changes = z.changes.items }) };
+}
 
-    ghost invariant = { λ z. IsFixed (plain_zone z.time_zone) };
+/// The time around a moment in which the lead stays.
+#[derive(Clone, Copy, Debug, PartialEq, Eq)]
+pub(crate) struct Stretch {
+    /// The lead of the clock.
+    pub(crate) lead: u64,
+    /// The moment of the next change; a number past all moments where there is none.
+    pub(crate) until: u64,
+}
+
+/// How many changes are at or before a moment in seconds since 1968-12-31 00:00 UTC, by halves.
+fn come(changes: &[Change], at: u64) -> usize
+    requires { AreApart changes.now }
+    ensures value { result ≡ prefix_len (λ c. nat_le c.at at) changes.now }
+    ensures few { result ≤ length changes.now }
+{
+    changes.partition_point(
+        |change: &Change| -> bool
+            ensures { result ≡ nat_le change.now.at at }
+        { change.at <= at },
+    )
+}
+
+/// The lead after so many changes.
+fn lead_after(before: u64, changes: &[Change], at: u64, place: usize) -> u64
+    requires place { place ≡ prefix_len (λ c. nat_le c.at at) changes.now }
+    requires few { place ≤ length changes.now }
+    ensures { result ≡ lead_after before changes.now at }
+{
+    if place == 0 {
+        before
+    } else {
+        changes[place - 1].lead
+    }
+}
+
+/// The moment of the change after so many; without one a number past all moments.
+fn next_after(changes: &[Change], at: u64, place: usize) -> u64
+    requires place { place ≡ prefix_len (λ c. nat_le c.at at) changes.now }
+    requires few { place ≤ length changes.now }
+    ensures { result ≡ next_after changes.now at }
+{
+    if place < changes.len() {
+        changes[place].at
+    } else {
+        60_000_000_000
+    }
+}
+
+/// The stretch of a moment in seconds since 1968-12-31 00:00 UTC, its end in the same.
+fn stretch_of(before: u64, changes: &[Change], at: u64) -> Stretch
+    requires { AreApart changes.now }
+    ensures lead { result.lead ≡ lead_after before changes.now at }
+    ensures until { result.until ≡ next_after changes.now at }
+{
+    let place = come(changes, at);
+    Stretch {
+        lead: lead_after(before, changes, at, place),
+        until: next_after(changes, at, place),
+    }
 }
 
 impl Zone {
     /// The zone whose clock is always this many minutes ahead of UTC; None beyond 14 hours either
-    /// way.
-    pub fn fixed(minutes: i16) -> Option<Zone>
+    /// way. It takes no memory.
+    pub fn fixed(alloc: Global, minutes: i16) -> Option<Zone>
         ensures in_range { IsSome result ↔ IsWithin 840 minutes }
         ensures value { IfSome result (λ z. z ≡ minutes_ahead minutes) }
     {
         if minutes < -840 || 840 < minutes {
             return None;
         }
-        match Offset::from_seconds(i32::from(minutes) * 60) {
-            Ok(offset) => Some(Zone {
-                time_zone: TimeZone::fixed(offset),
-            }),
-            Err(_) => None,
-        }
+        Some(Zone {
+            before: (86_400 + i32::from(minutes) * 60) as u64,
+            changes: Vec::new(alloc),
+        })
     }
 
-    /// What its clock shows at a moment, in seconds since 1970.
-    fn shown(&self, seconds: u64) -> DateTime
-        requires { seconds ≤ 4_102_488_000 }
-        ensures at { civil_nanos result
-            ≡ pos seconds *ℤ pos 1_000_000_000 +ℤ nanos_of_seconds (offset self.now seconds) }
-        ensures near { IsWithin 50_400 (offset self.now seconds) }
+    /// The zone of a clock that is put ahead each year for some months: its changes of the years
+    /// 1969 to 2100, 16 bytes each, so that each moment of commands has those around it (POSIX,
+    /// Base Definitions 8.3, TZ; RFC 9636 section 3.3.1). Its error is that memory for them is
+    /// refused.
+    pub fn with_summer(alloc: Global, rule: &SummerTime) -> Result<Zone, AllocError>
+        requires { IsSummerTime rule.now }
+        ensures { IfOk result (λ z. z ≡ zone_of_rule rule.now) }
     {
-        match Timestamp::from_second(seconds as i64) {
-            Ok(instant) => self.time_zone.to_datetime(instant),
-            Err(_) => unreachable!(),
-        }
+        let changes = summer::changes(alloc, rule)?;
+        Ok(Zone {
+            before: summer::first_lead(rule),
+            changes,
+        })
     }
 
-    /// The civil date at a moment.
-    fn date_at(&self, seconds: u64) -> Date
-        requires { seconds ≤ 4_102_488_000 }
-        ensures day { epoch_day result +ℤ pos 1 ≡ pos (day self.now seconds) }
-        ensures bound { day self.now seconds ≤ 50_000 }
-    {
-        self.shown(seconds).date()
-    }
-
-    /// How many seconds its clock is ahead of UTC: at every moment the same.
-    fn ahead_at(&self, instant: Timestamp) -> i64
-        ensures ahead { (t : ℕ) → result ≡ offset self.now t }
-        ensures within { IsWithin 50_400 result }
+    /// The stretch of time around a moment in which the lead stays.
+    pub(crate) fn stretch_at(&self, moment: u64) -> Stretch
+        requires { moment < 2 ^ 34 }
+        ensures lead { result.lead ≡ lead self.now moment }
+        ensures until { result.until ≡ next_change self.now moment }
+        ensures kept { IsLead result.lead }
+        ensures later { moment < result.until }
         ensures zone { IsZone self.now }
     {
-        i64::from(self.time_zone.to_offset(instant).seconds())
+        let stretch = stretch_of(self.before, &self.changes, moment + BEFORE_1970);
+        Stretch {
+            lead: stretch.lead,
+            until: stretch.until - BEFORE_1970,
+        }
     }
 
     /// What its clock shows at a moment, in seconds since 1969-12-31 00:00 on that clock.
-    pub(crate) fn clock_at(&self, seconds: u64) -> u64
-        requires { seconds < 2 ^ 33 }
-        ensures value { result ≡ clock self.now seconds }
-        ensures most { result < 2 ^ 34 }
+    pub(crate) fn clock_at(&self, moment: u64) -> u64
+        requires { moment < 2 ^ 34 }
+        ensures value { result ≡ clock self.now moment }
+        ensures most { result < 2 ^ 35 }
+        ensures zone { IsZone self.now }
     {
-        match Timestamp::from_second(seconds as i64) {
-            Ok(instant) => {
-                let ahead = self.ahead_at(instant);
-                (seconds as i64 + 86_400 + ahead) as u64
-            }
+        moment + self.stretch_at(moment).lead
+    }
+
+    /// The civil day at a moment, in days since 1969-12-31.
+    pub(crate) fn day_at(&self, moment: u64) -> u32
+        requires { moment ≤ 4_102_488_000 }
+        ensures value { result ≡ day self.now moment }
+        ensures bound { result ≤ 50_000 }
+        ensures zone { IsZone self.now }
+    {
+        (self.clock_at(moment) / 86_400) as u32
+    }
+
+    /// The civil date at a moment.
+    fn date_at(&self, moment: u64) -> Date
+        requires { moment ≤ 4_102_488_000 }
+        ensures day { epoch_day result +ℤ pos 1 ≡ pos (day self.now moment) }
+        ensures bound { day self.now moment ≤ 50_000 }
+    {
+        match PlainDate::from_unix_epoch_day(i64::from(self.day_at(moment)) - 1) {
+            Ok(date) => Date::from_plain(date),
             Err(_) => unreachable!(),
         }
     }
 
-    /// At every moment its clock is at most 14 hours from UTC, by whole minutes.
-    pub(crate) fn keeps_near(&self)
-        ensures { IsZone self.now }
-    {
-        // For the prover alone: looking at the value makes known here what its type keeps.
-        let _fixed = self.time_zone;
-    }
-
-    /// The civil day at a moment, in days since 1969-12-31.
-    pub(crate) fn day_at(&self, seconds: u64) -> u32
-        requires { seconds ≤ 4_102_488_000 }
-        ensures { result ≡ day self.now seconds }
-    {
-        let date = self.date_at(seconds);
-        (date.to_plain().to_unix_epoch_day() + 1) as u32
-    }
-
     /// The civil month at a moment, in months since January 1969.
-    pub(crate) fn month_at(&self, seconds: u64) -> u32
-        requires { seconds ≤ 4_102_488_000 }
-        ensures value { result ≡ month self.now seconds }
-        ensures date { (d : Date) → epoch_day d +ℤ pos 1 ≡ pos (day self.now seconds) →
+    pub(crate) fn month_at(&self, moment: u64) -> u32
+        requires { moment ≤ 4_102_488_000 }
+        ensures value { result ≡ month self.now moment }
+        ensures date { (d : Date) → epoch_day d +ℤ pos 1 ≡ pos (day self.now moment) →
             pos (result + 1 + 12 * 1969) ≡ pos 12 *ℤ d.year +ℤ pos d.month }
     {
-        let date = self.date_at(seconds);
+        let date = self.date_at(moment);
         let year = date.year();
         let years = (year - 1969) as u32;
         let month = date.month() as u32;
         12 * years + month - 1
     }
 
-    /// What its clock shows at 00:00 of the civil day after the day so many days later.
-    fn midnight_after(&self, seconds: u64, days: u32) -> Option<DateTime>
-        requires { seconds ≤ 4_102_488_000 }
-        ensures some { IfSome result
-            (λ dt. civil_nanos dt ≡ pos (day self.now seconds + days) *ℤ pos 86_400_000_000_000) }
-        ensures none { IfNone result (2_932_896 < day self.now seconds + days) }
+    /// What a clock shows, in seconds since 1969-12-31 00:00, read as a moment.
+    fn read_clock(&self, shown: u64) -> u64
+        requires { shown < 2 ^ 33 }
+        ensures { in_time result ≡ moment_of self.now shown }
     {
-        let today = self.shown(seconds).date().to_plain().to_unix_epoch_day();
-        match PlainDate::from_unix_epoch_day(i64::from(today) + i64::from(days) + 1) {
-            Ok(date) => Some(DateTime::from_parts(Date::from_plain(date), Time::midnight())),
-            Err(_) => None,
+        let start = shown.saturating_sub(136_800);
+        let first = self.stretch_at(start);
+        let before = start + shown.saturating_sub(start + first.lead);
+        if before < first.until {
+            return before;
+        }
+        let after = self.clock_at(first.until);
+        if after <= shown {
+            first.until + (shown - after)
+        } else {
+            before
         }
     }
 
-    /// That 00:00 as a moment of commands.
-    pub(crate) fn day_end(&self, seconds: u64, days: u32) -> Option<Moment>
-        requires { seconds ≤ 4_102_488_000 }
-        ensures value { result ≡ day_end self.now seconds days }
-        ensures end { IfSome result (IsDayEnd self.now seconds days) }
-        ensures none { IfNone result ((s : ℕ) → IsDayEnd self.now seconds days s →
-            4_102_444_800 ≤ s) }
+    /// Where the day so many days after that of a moment ends.
+    pub(crate) fn day_end(&self, moment: u64, days: u32) -> Option<Moment>
+        requires { moment ≤ 4_102_488_000 }
+        ensures { result ≡ day_end self.now moment days }
     {
-        let time_zone = self.time_zone;
-        let Some(midnight) = self.midnight_after(seconds, days) else {
+        let shown = (u64::from(self.day_at(moment)) + u64::from(days) + 1) * 86_400;
+        if shown > 4_102_600_000 {
             return None;
-        };
-        match time_zone.to_timestamp(midnight) {
-            Ok(instant) => Moment::of_command(instant.as_second() as u64),
-            Err(_) => None,
         }
+        Moment::of_command(self.read_clock(shown))
     }
 }

@@ -1,6 +1,6 @@
 -- The table of routes: what a path names, and its method.
 -- Source: profile.
-use Rattle.std.specs.Prelude.{ℕ, Bool, true, false, List, [], ◌∷◌, ◌==◌, ◌||◌, Option, None, Result}
+use Rattle.std.specs.Prelude.{ℕ, Bool, List, [], ◌==◌, ◌||◌, Option, None, Result}
 use Rattle.std.specs.Prelude.{Ok, Err, codes, option_map, if◌then◌else◌}
 use Rattle.std.specs.List.{list_any}
 use Rattle.matchit.specs.Rows.{RowsOf}

@@ -14,6 +14,3 @@ pub use crate::redirect_address::RedirectAddress;
 pub use crate::reference::Reference;
 pub use crate::session_id::SessionId;
 pub use crate::voucher_code::VoucherCode;
-
-#[cfg(test)]
-mod tests;

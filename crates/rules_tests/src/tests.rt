@@ -8,3 +8,5 @@ mod tables;
 mod tariff;
 mod values;
 mod voucher;
+mod zone_rows;
+mod zones;

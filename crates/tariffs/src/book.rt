@@ -1,10 +1,12 @@
+//! The tariff book.
+
 ghost use Rattle.std.specs.Prelude.{◌≡◌, ◌≢◌, ◌==◌, ℕ, ◌+◌, ◌*◌, ◌<◌, ◌≤◌, nat_lt, pos, ◌+ℤ◌, ◌*ℤ◌};
 ghost use Rattle.std.specs.Prelude.{length, find, slice_get, option_copied, IfOk, IfErr, IfSome};
 ghost use Rattle.std.specs.Prelude.{IfNone, Ok, Err};
 ghost use Rattle.toml.specs.Data.{Members};
 ghost use Rattle.toml.specs.View.{table_view};
 ghost use Rattle.calendar.specs.Timetable.{period_at, IsEntryAt, IsChange, switch_within};
-ghost use Rattle.calendar.specs.Timetable.{validity_from, cycle_of, day_end, IsDayEnd};
+ghost use Rattle.calendar.specs.Timetable.{validity_from, cycle_of, day_end};
 ghost use Rattle.calendar.specs.Clock.{day};
 ghost use Rattle.calendar.specs.declared.week.Entry.{Entry};
 ghost use Rattle.jiff.specs.Types.{Date};
@@ -54,7 +56,7 @@ impl Model for TariffBook {
 fn book(alloc: Global, table: &Table) -> Result<TariffBook, BookFault>
     ensures { Gives (λ b. b) result (book_of (table_view table.now)) }
 {
-    let zone = week_fields::zone(table)?;
+    let zone = week_fields::zone(alloc, table)?;
     let zone_text = week_fields::zone_text(alloc, table)?;
     let currency = book_fields::number(table, "currency", 1, 999)? as u16;
     let validity = book_fields::number(table, "validity", 60, 43_200)? as u32;
@@ -207,8 +209,8 @@ impl TariffBook {
         self.calendar.next_switch(moment, seconds)
     }
 
-    /// `next_switch`, going from one entry's end of the week to the next: a step an entry, at most
-    /// 129.
+    /// `next_switch`, going from one entry's end of the week to the next: a step an entry, and an
+    /// entry in which the zone's offset changes counts twice, at most 260.
     pub fn next_switch_steps(
         &self,
         moment: Moment,
@@ -224,7 +226,7 @@ impl TariffBook {
             (λ s. (r : ℕ) → IsChange self.now.calendar moment (moment + seconds) r → s ≤ r) }
         ensures none { IfNone result
             ((r : ℕ) → IsChange self.now.calendar moment (moment + seconds) r → ⊥) }
-        ensures steps { steps.new ≤ steps.old + 129 }
+        ensures steps { steps.new ≤ steps.old + 260 }
     {
         self.calendar.next_switch_steps(moment, seconds, steps)
     }
@@ -260,13 +262,11 @@ impl TariffBook {
         self.calendar.cycle_of(cycle, moment)
     }
 
-    /// Where the civil day so many days after that of the moment ends, in the book's zone: the
-    /// least moment of the day after it; None past the last moment of commands.
+    /// Where the civil day so many days after that of the moment ends, in the book's zone:
+    /// 00:00 of the day after it, read with the offset before the change where it is skipped or
+    /// comes twice; None past the last moment of commands.
     pub fn day_end(&self, moment: Moment, days: u32) -> Option<Moment>
-        ensures value { result ≡ day_end self.now.calendar.zone moment days }
-        ensures end { IfSome result (IsDayEnd self.now.calendar.zone moment days) }
-        ensures none { IfNone result ((s : ℕ) → IsDayEnd self.now.calendar.zone moment days s →
-            4_102_444_800 ≤ s) }
+        ensures { result ≡ day_end self.now.calendar.zone moment days }
     {
         self.calendar.day_end(moment, days)
     }

@@ -1,17 +1,19 @@
+//! The zone and the week of a book, read from its keys.
+
 ghost use Rattle.std.specs.Prelude.{◌≡◌, ◌<◌, ◌≤◌, [], IfOk, IfSome, All, false, replicate, length};
 ghost use Rattle.std.specs.Prelude.{string_bytes, codes};
 ghost use Rattle.jiff.specs.Words.{IsWithin};
 ghost use Rattle.toml.specs.View.{view, table_view, items_view};
 ghost use Rattle.book_fields.specs.Faults.{Gives};
 ghost use Rattle.book_fields.specs.Fields.{text_of, each, collected};
-ghost use Rattle.tariffs.specs.WeekFields.{minutes_of, signed_minutes, zone_minutes, zone_of};
-ghost use Rattle.tariffs.specs.WeekFields.{day_of, with_day, days_of, minute_of, entry_of};
+ghost use Rattle.tariffs.specs.WeekFields.{minutes_of, signed_minutes, zone_minutes, zone_in};
+ghost use Rattle.tariffs.specs.WeekFields.{zone_of, day_of, with_day, days_of, minute_of, entry_of};
 ghost use Rattle.tariffs.specs.WeekFields.{entries_of};
 
 use crate::names::PeriodNames;
 use book_fields::BookFault;
 use calendar::{Entry, Zone};
-use std::alloc::Global;
+use std::alloc::{AllocError, Global};
 use toml::{Table, Value};
 
 #[tactic(auto, unfolding(crate::specs::WeekFields::minutes_of))]
@@ -53,17 +55,27 @@ fn zone_minutes(text: &[u8]) -> Option<i16>
     }
 }
 
-/// Reads `zone`.
+/// The zone of a text: an offset from UTC, or the text of a zone with summer time.
+fn zone_in(alloc: Global, text: &str) -> Result<Option<Zone>, AllocError>
+    ensures { IfOk result (λ z. z ≡ zone_in text.now) }
+{
+    match zone_minutes(text.as_bytes()) {
+        Some(minutes) => Ok(Zone::fixed(alloc, minutes)),
+        None => match zone_texts::summer_time(text) {
+            Some(rule) => Ok(Some(Zone::with_summer(alloc, &rule)?)),
+            None => Ok(None),
+        },
+    }
+}
+
+/// Reads `zone`: an offset, or the text of a zone with summer time.
 #[tactic(auto, unfolding(crate::specs::WeekFields::zone_of))]
-pub(crate) fn zone(table: &Table) -> Result<Zone, BookFault>
+pub(crate) fn zone(alloc: Global, table: &Table) -> Result<Zone, BookFault>
     ensures { Gives (λ z. z) result (zone_of (table_view table.now)) }
 {
     let text = book_fields::text(table, "zone")?;
-    match zone_minutes(text.as_bytes()) {
-        Some(minutes) => match Zone::fixed(minutes) {
-            Some(zone) => Ok(zone),
-            None => unreachable!(),
-        },
+    match zone_in(alloc, text)? {
+        Some(zone) => Ok(zone),
         None => Err(BookFault::OutOfRange),
     }
 }

@@ -57,7 +57,7 @@ impl Teller for Days {
 
 fn try_days(rt: &impl Abort, alloc: Global, minutes: i16, cases: &str) {
     let week = office_hours(alloc).expect(rt, "memory");
-    let calendar = calendar(rt, minutes, week).expect(rt, "a week");
+    let calendar = calendar(rt, alloc, minutes, week).expect(rt, "a week");
     try_table(rt, alloc, &mut Days { calendar }, cases);
 }
 
@@ -155,17 +155,17 @@ const SWITCHES: &str = "\
 #[test]
 fn switches_of_a_day(rt: HostRuntime) {
     let week = half_hour(rt.alloc()).expect(&rt, "memory");
-    let calendar = calendar(&rt, 0, week).expect(&rt, "a week");
+    let calendar = calendar(&rt, rt.alloc(), 0, week).expect(&rt, "a week");
     try_table(&rt, rt.alloc(), &mut Switches { calendar }, SWITCHES);
 }
 
 #[test]
 fn weeks_and_zones(rt: HostRuntime) {
-    assert!(rt; zone(841).is_none());
-    assert!(rt; zone(-841).is_none());
+    assert!(rt; zone(rt.alloc(), 841).is_none());
+    assert!(rt; zone(rt.alloc(), -841).is_none());
     let mut gap = office_hours(rt.alloc()).expect(&rt, "memory");
     gap.pop();
-    assert!(rt; calendar(&rt, -840, gap).is_none());
+    assert!(rt; calendar(&rt, rt.alloc(), -840, gap).is_none());
 }
 
 /// Each minute of the week stands in one entry, and each day's minutes in so many, of equal length
@@ -188,7 +188,7 @@ impl Teller for Limits {
         let mut words = Words::of(case);
         let (count, to) = (words.number(rt), words.number(rt));
         let week = minutes(alloc, count, to).expect(rt, "memory");
-        let is_week = calendar(rt, 0, week).is_some();
+        let is_week = calendar(rt, alloc, 0, week).is_some();
         format!(in alloc; "{is_week}").expect(rt, "memory")
     }
 }

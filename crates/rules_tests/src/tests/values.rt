@@ -35,13 +35,18 @@ pub(crate) fn session_id(rt: &impl Abort, alloc: Global, text: &str) -> SessionI
 }
 
 /// The zone that is so many minutes ahead of UTC; None where there is no such zone.
-pub(crate) fn zone(minutes: i16) -> Option<Zone> {
-    Zone::fixed(minutes)
+pub(crate) fn zone(alloc: Global, minutes: i16) -> Option<Zone> {
+    Zone::fixed(alloc, minutes)
 }
 
 /// The calendar of a zone that is so many minutes ahead of UTC; None where the entries are no week.
-pub(crate) fn calendar(rt: &impl Abort, minutes: i16, entries: Vec<Entry>) -> Option<Calendar> {
-    let zone = zone(minutes).expect(rt, "a zone");
+pub(crate) fn calendar(
+    rt: &impl Abort,
+    alloc: Global,
+    minutes: i16,
+    entries: Vec<Entry>,
+) -> Option<Calendar> {
+    let zone = zone(alloc, minutes).expect(rt, "a zone");
     Calendar::new(zone, entries)
 }
 

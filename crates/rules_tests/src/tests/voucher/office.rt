@@ -40,7 +40,7 @@ fn whole_week(alloc: Global) -> Result<Vec<Entry>, AllocError> {
 /// The days of the zone that is so many minutes ahead of UTC.
 pub(crate) fn days_of(rt: &impl Abort, alloc: Global, minutes: i16) -> Days {
     let week = whole_week(alloc).expect(rt, "memory");
-    let calendar = calendar(rt, minutes, week).expect(rt, "a week");
+    let calendar = calendar(rt, alloc, minutes, week).expect(rt, "a week");
     Days { calendar }
 }
 

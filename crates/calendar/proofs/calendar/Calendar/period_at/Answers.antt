@@ -18,8 +18,8 @@ found c =
     let entries = c.deref.ensures.value ∙ ap (λ (x : Timetable). x.entries) c.self.view_is in
     let minute = ap (λ n. clock c.self.inside.zone (60 * (n / 60))) c.seconds.ensures.value in
     let zone = ap (λ (x : Timetable). clock x.zone (minute_start c.args.moment)) c.self.view_is in
-    found_period _ _ _ _ _ book entries (c.clock_at.ensures.value ∙ minute ∙ zone)
-    c.entry_at.ensures
+    found_period c.args.self.now c.args.moment _ _ _ book.week entries
+    (c.clock_at.ensures.value ∙ minute ∙ zone) c.entry_at.ensures
 
 pub returns-clause-value : goal.returns-clause-value
 returns-clause-value c = found c
@@ -27,4 +27,4 @@ returns-clause-value c = found c
 pub returns-clause-entry : goal.returns-clause-entry
 returns-clause-entry c = λ e at.
     let book : IsTimetable c.args.self.now = rw (← c.self.view_is) c.self.invariant in
-    found c ∙ period_here c.args.self.now c.args.moment e book at
+    found c ∙ period_here c.args.self.now c.args.moment e book.week at
