@@ -52,7 +52,7 @@ impl Model for TariffBook {
     ghost invariant = { λ b. IsBook (book_in b) };
 }
 
-#[tactic(auto, unfolding(crate::specs::Books::book_of))]
+#[tactic(auto, using(crate::proofs::ZoneFacts::zone_is), unfolding(crate::specs::Books::book_of))]
 fn book(alloc: Global, table: &Table) -> Result<TariffBook, BookFault>
     ensures { Gives (λ b. b) result (book_of (table_view table.now)) }
 {
