@@ -1,6 +1,5 @@
 -- An account is served by its own history, the vouchers of its codes and the moments of commands
 -- alone: lists of accepted commands that differ in those of others and in sweeps leave it alike.
-use Rattle.reserving.specs.Pricing.{validity_of}
 use Rattle.std.proofs.Common.{◌≡◌, ℕ, ◌≤◌, List, [], ◌∷◌, Option, Some, None, Bool, true, false}
 use Rattle.std.proofs.Common.{true≢false, refl, sym, ap, subst, ◌∙◌, arith}
 use Rattle.std.specs.Prelude.{if◌then◌else◌, ◌||◌, filter, is_some, option_map}
@@ -20,6 +19,7 @@ use Rattle.reserving.specs.Stored.{priced, advanced_stored}
 use Rattle.reserving.proofs.Advancing.{IsRowsOf-advanced}
 use Rattle.reserving.proofs.StoredRows.{IsAccount-priced, IsStored-advanced}
 use Rattle.reserving.proofs.Keys.{is_same-refl}
+use Rattle.reserving.specs.Pricing.{validity_of}
 use Rattle.charging.specs.Histories.{History, no_history, kept_under}
 use Rattle.keepers.specs.Tables.{Head, Rows, Tables, head_of, group_row, held_of, charge_in}
 use Rattle.keepers.specs.Change.{AreRowsAt}

@@ -1,5 +1,4 @@
 -- What is collected of an account is what is charged to its buckets.
-use Rattle.reserving.specs.Pricing.{validity_of}
 use Rattle.std.proofs.Common.{◌≡◌, ℕ, ◌+◌, ◌≤◌, List, [], ◌∷◌, ◌++◌, true, map, refl, sym, ap, ◌∙◌}
 use Rattle.std.proofs.Common.{arith, Option, append-nil}
 use Rattle.std.specs.Prelude.{sum_by}
@@ -28,6 +27,7 @@ use Rattle.reserving.proofs.ChargeRows.{charge_rows-touched, charge_rows-credite
 use Rattle.reserving.proofs.ChargeRows.{charge_rows-reserved, charge_rows-settled}
 use Rattle.reserving.proofs.ChargeRows.{charge_rows-charged_use}
 use Rattle.reserving.proofs.SettledFacts.{charged-charge_facts, charged-hold_facts}
+use Rattle.reserving.specs.Pricing.{validity_of}
 use Rattle.charging.specs.Collected.{collected_to_date, charged_to_date}
 use Rattle.charging.specs.SessionReports.{Report}
 use Rattle.charging.proofs.BucketSums.{sum_by-inserted, sum_by-moved}

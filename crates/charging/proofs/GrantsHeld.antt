@@ -1,5 +1,4 @@
 -- For each open grant of a ledger as much is held as its units can cost.
-use Rattle.reserving.specs.Pricing.{validity_of}
 use Rattle.std.proofs.Common.{◌≡◌, ℕ, ◌+◌, ◌≤◌, Bool, true, false, List, [], ◌∷◌, ◌++◌, refl, sym}
 use Rattle.std.proofs.Common.{ap, subst, ◌∙◌, arith, Option, Some, None}
 use Rattle.std.proofs.Common.{zero, suc}
@@ -25,6 +24,7 @@ use Rattle.reserving.specs.Ledger.{Fact, Ledger, or_else, inner, newest, last_re
 use Rattle.reserving.specs.Ledger.{counter, held, only, open_grant, grant_in, next_bucket}
 use Rattle.reserving.specs.Ledger.Fact.{Grant, End, Use, Touch, Close, Recorded, Barred}
 use Rattle.reserving.specs.Pricing.{tariff_of, tariff_at, cycle_at, periods_at, terms_at}
+use Rattle.reserving.specs.Pricing.{validity_of}
 use Rattle.reserving.specs.Balance.{credits, buckets_at}
 use Rattle.reserving.specs.Requests.{credited}
 use Rattle.reserving.specs.Settlement.{charge_facts, settled_by}

@@ -1,5 +1,4 @@
 -- A report within its grant is collected whole.
-use Rattle.reserving.specs.Pricing.{validity_of}
 use Rattle.std.proofs.Common.{◌≡◌, ℕ, ◌≤◌, true, List, [], ◌∷◌, ◌++◌, refl, sym, ap, subst, ◌∙◌}
 use Rattle.std.proofs.Common.{arith, Option, Some}
 use Rattle.std.specs.Prelude.{unwrap_or}
@@ -11,7 +10,7 @@ use Rattle.buckets.specs.declared.holds.Hold.{Hold}
 use Rattle.buckets.specs.Holding.{held_sum, holds_of, uncollected}
 use Rattle.reserving.specs.Ledger.{Fact, Ledger, used, counter, held, only, next_bucket}
 use Rattle.reserving.specs.Ledger.Fact.{Touch, Close, Recorded, Barred}
-use Rattle.reserving.specs.Pricing.{cycle_at, terms_now, rated_with}
+use Rattle.reserving.specs.Pricing.{cycle_at, terms_now, rated_with, validity_of}
 use Rattle.reserving.specs.Balance.{credits, buckets_at}
 use Rattle.reserving.specs.Sessions.{holds_at}
 use Rattle.reserving.specs.Settlement.{price_by}

@@ -1,5 +1,4 @@
 -- What each step of a ledger keeps, each decision keeps.
-use Rattle.reserving.specs.Pricing.{validity_of}
 use Rattle.std.proofs.Common.{◌≡◌, ℕ, Bool, true, false, List, [], ◌∷◌, ◌++◌, refl, sym, ap, subst}
 use Rattle.std.proofs.Common.{◌∙◌, Option, Some, None}
 use Rattle.std.specs.Prelude.{if◌then◌else◌, not, is_some, nat_lt, option_map}
@@ -30,7 +29,7 @@ use Rattle.reserving.specs.Ledger.{next_bucket}
 use Rattle.reserving.specs.Ledger.Fact.{Close, Recorded}
 use Rattle.reserving.specs.Balance.{buckets_at}
 use Rattle.reserving.specs.Sessions.{holds_at}
-use Rattle.reserving.specs.Pricing.{tariff_at}
+use Rattle.reserving.specs.Pricing.{tariff_at, validity_of}
 use Rattle.reserving.specs.Requests.{recorded, touched, credited}
 use Rattle.reserving.specs.Settlement.{charge_facts, report_price, settled_by}
 use Rattle.reserving.specs.Reservation.{hold_facts, reserved, grant_for}

@@ -1,5 +1,4 @@
 -- Each use in a ledger is paid, or nothing is left that could pay it.
-use Rattle.reserving.specs.Pricing.{validity_of}
 use Rattle.std.proofs.Common.{◌≡◌, ℕ, ◌+◌, ◌≤◌, List, [], ◌∷◌, ◌++◌, Bool, true, false, true≢false}
 use Rattle.std.proofs.Common.{refl, sym, ap, subst, ◌∙◌, arith, Option, Some, None}
 use Rattle.std.specs.Prelude.{if◌then◌else◌, is_some}
@@ -26,6 +25,7 @@ use Rattle.charging.specs.SessionReports.{Report, with_report}
 use Rattle.charging.specs.Paid.{before_charges, collected, is_touched, IsReport, IsEvent}
 use Rattle.charging.specs.Paid.{without_last, ArePaid}
 use Rattle.buckets.proofs.Paid.{amounts, amounts-parts, sum_by-paid}
+use Rattle.reserving.specs.Pricing.{validity_of}
 use Rattle.charging.proofs.Steps.{is_quiet, is_touch, with_grant, Keeps}
 use Rattle.charging.proofs.Credited.{AreCredited, no_credits, more_credits, SameCredits}
 use Rattle.charging.proofs.Credited.{same_credits, quiet_credits, charge_credits, hold_credits}

@@ -1,5 +1,4 @@
 -- Each group and each touch of an account's ledger is of a recorded session.
-use Rattle.reserving.specs.Pricing.{validity_of}
 use Rattle.std.proofs.Common.{◌≡◌, ℕ, Bool, true, false, true≢false, List, [], ◌∷◌, ◌++◌, refl, sym}
 use Rattle.std.proofs.Common.{ap, ◌∙◌, Option, Some, None}
 use Rattle.std.specs.Prelude.{if◌then◌else◌, ◌&&◌, ◌||◌, ◌==◌, is_some}
@@ -21,6 +20,7 @@ use Rattle.reserving.specs.Sessions.{holds_at}
 use Rattle.reserving.proofs.Lists.{no_some}
 use Rattle.reserving.proofs.Holds.{same_from}
 use Rattle.reserving.proofs.Keys.{first_true}
+use Rattle.reserving.specs.Pricing.{validity_of}
 use Rattle.charging.specs.Accepted.{Accepted}
 use Rattle.charging.specs.Served.{history}
 use Rattle.charging.specs.Paid.{is_touched}

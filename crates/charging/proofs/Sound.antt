@@ -1,5 +1,4 @@
 -- The ledger of each history is sound.
-use Rattle.reserving.specs.Pricing.{validity_of}
 use Rattle.std.proofs.Common.{◌≡◌, ℕ, true, false, true≢false, List, [], ◌∷◌, ◌∙◌, None}
 use Rattle.shelves.specs.Shelves.{Shelf}
 use Rattle.buckets.specs.declared.holds.Hold.{Hold}
@@ -19,6 +18,7 @@ use Rattle.reserving.proofs.rows.Barring.{IsSoundLedger-barred}
 use Rattle.reserving.proofs.rows.Empty.{IsSoundLedger-none}
 use Rattle.reserving.proofs.rows.Reserved.{IsSoundLedger-reserved}
 use Rattle.reserving.proofs.rows.Debited.{IsSoundLedger-debited}
+use Rattle.reserving.specs.Pricing.{validity_of}
 use Rattle.charging.specs.SessionReports.{Report}
 use Rattle.charging.proofs.Steps.{is_quiet, is_touch, IsInPlace, Keeps}
 use Rattle.charging.proofs.Credited.{all_made}

@@ -1,5 +1,4 @@
 -- What a balance comes to: the state that is found of an account is its ledger's.
-use Rattle.reserving.specs.Pricing.{validity_of}
 use Rattle.std.proofs.Common.{◌≡◌, ℕ, ◌≤◌, false, List, ◌++◌, map, refl, sym, ap, subst, ◌∙◌, Some}
 use Rattle.std.proofs.Common.{None}
 use Rattle.std.proofs.Math.Nat.{le-max_right}
@@ -17,6 +16,7 @@ use Rattle.reserving.specs.Left.{LeftRows, IsWith, is_dead, bucket_in, left_of, 
 use Rattle.reserving.specs.Rows.{AccountRows}
 use Rattle.reserving.specs.Stored.{priced}
 use Rattle.reserving.proofs.LeftMore.{with_advanced}
+use Rattle.reserving.specs.Pricing.{validity_of}
 use Rattle.keepers.specs.Change.{IsLoadedFrom, AreDeadOf}
 use Rattle.keepers.specs.Tables.{Tables}
 use Rattle.keepers.proofs.Found.{bucket_filter}

@@ -1,6 +1,5 @@
 -- An account's balance: its buckets at a moment, by number.
 -- Source: TS 32.296, account balance management function; the order by number: profile.
-use Rattle.reserving.specs.Pricing.{validity_of}
 use Rattle.std.specs.Prelude.{ℕ, List, [], ◌∷◌, map, nat_lt, if◌then◌else◌}
 use Rattle.std.specs.List.Sorted.{IsNonDecreasingBy, IsPermutation}
 use Rattle.buckets.specs.Row.{Row}
@@ -9,6 +8,7 @@ use Rattle.commands.specs.declared.balance.BucketBalance.{BucketBalance}
 use Rattle.shelves.specs.Shelves.{Shelf}
 use Rattle.reserving.specs.Ledger.{Ledger, is_barred}
 use Rattle.reserving.specs.Balance.{buckets_at}
+use Rattle.reserving.specs.Pricing.{validity_of}
 
 -- a bucket stands before the first of a greater number
 abbrev pub numbered : Row → List Row → List Row

@@ -1,7 +1,6 @@
 -- The promise of a run, account by account: its buckets and its charges are sums of its ledger, and
 -- each use was paid as the rules say (TS 32.296, account balance management function; RFC 8506
 -- section 5.3).
-use Rattle.reserving.specs.Pricing.{validity_of}
 use Rattle.std.specs.Prelude.{◌≡◌, ℕ, List, Option, Some, take, length}
 use Rattle.commands.specs.declared.answer.Answer.{Answer}
 use Rattle.buckets.specs.Row.{IsBalanced}
@@ -12,6 +11,7 @@ use Rattle.reserving.specs.Ledger.{Ledger}
 use Rattle.reserving.specs.Balance.{buckets_at}
 use Rattle.reserving.specs.Charges.{charge_rows}
 use Rattle.reserving.specs.Left.{bucket_in}
+use Rattle.reserving.specs.Pricing.{validity_of}
 use Rattle.keepers.specs.Tables.{Head, Rows, Tables, charge_in}
 use Rattle.charging.specs.Accepted.{Accepted, IsInTime}
 use Rattle.charging.specs.declared.running.DatedCommand.{DatedCommand}

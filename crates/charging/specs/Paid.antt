@@ -1,6 +1,5 @@
 -- What each use in an account's ledger came from, and what paid for it (RFC 8506 section 5.3: used
 -- units are debited; TS 32.296, account balance management function).
-use Rattle.reserving.specs.Pricing.{validity_of}
 use Rattle.std.specs.Prelude.{◌≡◌, ℕ, ◌+◌, ◌<◌, Bool, true, false, List, [], ◌∷◌, is_some}
 use Rattle.std.specs.Prelude.{if◌then◌else◌}
 use Rattle.shelves.specs.Shelves.{Shelf}
@@ -13,6 +12,7 @@ use Rattle.reserving.specs.Balance.{buckets_at}
 use Rattle.reserving.specs.Sessions.{holds_at}
 use Rattle.reserving.specs.Settlement.{reported, report_price, missing}
 use Rattle.reserving.specs.Debiting.{event_price, is_covered}
+use Rattle.reserving.specs.Pricing.{validity_of}
 use Rattle.charging.specs.SessionReports.{Report}
 
 -- ---- the charges of a use stand right before it

@@ -1,6 +1,5 @@
 -- What of an account is found for its balance.
 -- Source: profile.
-use Rattle.reserving.specs.Pricing.{validity_of}
 use Rattle.std.specs.Prelude.{◌≡◌, ◌++◌, ℕ, ◌≤◌, List, true, false, Option, Some, None, max}
 use Rattle.buckets.specs.Row.{Row}
 use Rattle.shelves.specs.Shelves.{Shelf}
@@ -8,6 +7,7 @@ use Rattle.reserving.specs.Ledger.{Ledger, is_barred}
 use Rattle.reserving.specs.Balance.{buckets_at}
 use Rattle.reserving.specs.Rows.{AccountRows, IsAccount}
 use Rattle.reserving.specs.Changes.{advanced}
+use Rattle.reserving.specs.Pricing.{validity_of}
 use Rattle.keepers.specs.Tables.{Tables}
 use Rattle.charging.specs.Accepted.{Accepted, last_moment, IsInTime}
 use Rattle.charging.specs.Balances.{by_number, AreByNumber}

@@ -1,8 +1,8 @@
 //! Laws of the definitions by which commands are answered: functions that do nothing.
 
-ghost use Rattle.reserving.specs.Pricing.{validity_of};
 ghost use Rattle.std.specs.Prelude.{◌≡◌, ℕ, List, []};
 ghost use Rattle.shelves.specs.Shelves.{Shelf, IsShelf};
+ghost use Rattle.reserving.specs.Pricing.{validity_of};
 ghost use Rattle.reserving.specs.SoundLedger.{IsSoundLedger};
 ghost use Rattle.keepers.specs.Tables.{no_tables};
 ghost use Rattle.charging.specs.Accepted.{Accepted, IsInTime};

@@ -1,5 +1,4 @@
 -- The answer of a service that units are reserved for.
-use Rattle.shelves.specs.Shelves.{Shelf, book_at}
 use Rattle.std.proofs.Common.{◌≡◌, ℕ, ◌<◌, Bool, true, false, List, refl, sym, ap, ◌∙◌, subst}
 use Rattle.std.proofs.Common.{Option, Some, Result, Ok, Err, arith}
 use Rattle.std.specs.Prelude.{if◌then◌else◌, nat_lt, OnOk}
@@ -9,6 +8,7 @@ use Rattle.commands.specs.declared.answer.ServiceOutcome.{ServiceOutcome}
 use Rattle.commands.specs.declared.answer.ServiceOutcome.TheVariants as service
 use Rattle.tariffs.specs.Tariffs.{GroupTariff}
 use Rattle.rating.specs.declared.grant.Grant.{Grant}
+use Rattle.shelves.specs.Shelves.{Shelf, book_at}
 use Rattle.commands.specs.declared.service.Service.{Service}
 use Rattle.commands.specs.declared.service.Requested.{Requested}
 use Rattle.reserving.specs.Ledger.{Ledger, is_barred, used}

@@ -1,6 +1,4 @@
 -- The price of an event fits 64 bits.
-use Rattle.shelves.specs.Shelves.{Shelf, IsShelf, book_at, number_at, tariff_in}
-use Rattle.shelves.proofs.Begun.{last_begun_holds}
 use Rattle.std.specs.Prelude.{option_and_then}
 use Rattle.tariffs.specs.Books.{Book}
 use Rattle.std.proofs.Common.{◌≡◌, ℕ, zero, suc, ◌+◌, ◌*◌, ◌≤◌, ◌<◌, ◌^◌, List, [], ◌∷◌, ap, ◌∙◌}
@@ -18,6 +16,8 @@ use Rattle.rating.specs.declared.report.Part.{Part}
 use Rattle.rating.specs.Rated.{rated_amount, report_blocks, report_amount}
 use Rattle.rating.proofs.RunFacts.{rated_bound}
 use Rattle.rating.specs.declared.grant.Periods.{Periods}
+use Rattle.shelves.proofs.Begun.{last_begun_holds}
+use Rattle.shelves.specs.Shelves.{Shelf, IsShelf, book_at, number_at, tariff_in}
 use Rattle.reserving.specs.Pricing.{tariff_of, prices_by, rated_with, rated_parts}
 use Rattle.reserving.specs.Debiting.{untagged}
 use Rattle.reserving.specs.Changes.{event_price_in}

@@ -1,5 +1,4 @@
 -- What rulings come to on each ledger.
-use Rattle.shelves.specs.Shelves.{Shelf, book_at}
 use Rattle.std.proofs.Common.{◌≡◌, ℕ, Bool, true, false, List, [], ◌∷◌, ◌++◌, refl, sym, ap, ◌∙◌}
 use Rattle.std.proofs.Common.{subst, Option, Some, None}
 use Rattle.std.specs.Prelude.{if◌then◌else◌, nat_lt, Result, Ok, Err, IfOk}
@@ -16,6 +15,7 @@ use Rattle.commands.specs.declared.answer.ServiceFailure.TheVariants.{CreditLimi
 use Rattle.commands.specs.declared.answer.ServiceOutcome.TheVariants as service
 use Rattle.tariffs.specs.Tariffs.{GroupTariff}
 use Rattle.rating.specs.declared.grant.Grant.{Grant}
+use Rattle.shelves.specs.Shelves.{Shelf, book_at}
 use Rattle.reserving.specs.declared.charge.ChargeRow.{ChargeRow}
 use Rattle.reserving.specs.Ledger.{Ledger, is_barred, used}
 use Rattle.reserving.specs.Pricing.{tariff_of}

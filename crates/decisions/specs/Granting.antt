@@ -1,7 +1,5 @@
 -- The grants of a request, service by service (RFC 8506 sections 5.2 and 5.3; TS 32.299, session
 -- charging with unit reservation).
-use Rattle.shelves.specs.Shelves.{Shelf}
-use Rattle.reserving.specs.Pricing.{tariff_at}
 use Rattle.std.specs.Prelude.{ℕ, Bool, nat_lt, if◌then◌else◌, List, [], ◌∷◌, Option, Some, None}
 use Rattle.std.specs.List.{list_any}
 use Rattle.commands.specs.declared.service.Service.{Service}
@@ -21,7 +19,8 @@ use Rattle.tariffs.specs.declared.final_action.FinalAction.TheVariants as action
 use Rattle.tariffs.specs.Tariffs.{GroupTariff}
 use Rattle.tariffs.specs.Books.{Book}
 use Rattle.rating.specs.declared.grant.Grant.{Grant}
-use Rattle.reserving.specs.Pricing.{switch_at, validity_at, wanted_units}
+use Rattle.shelves.specs.Shelves.{Shelf}
+use Rattle.reserving.specs.Pricing.{switch_at, validity_at, wanted_units, tariff_at}
 use Rattle.reserving.specs.Reservation.{reserved, grant_for}
 use Rattle.decisions.specs.Known.{is_known}
 use Rattle.decisions.specs.Reports.{units_of, asked_units}

@@ -1,5 +1,4 @@
 -- Whether a session has a record, and that nothing of a new one was left.
-use Rattle.reserving.specs.Pricing.{validity_of}
 use Rattle.std.proofs.Common.{◌≡◌, ℕ, List, ap, ◌∙◌}
 use Rattle.std.proofs.Common.{None}
 use Rattle.std.specs.Prelude.{is_some, not}
@@ -16,6 +15,7 @@ use Rattle.reserving.proofs.StoredRows.{IsAccount-priced}
 use Rattle.reserving.proofs.LeftTests.{find_filter}
 use Rattle.reserving.proofs.LeftParted.{one_group}
 use Rattle.reserving.proofs.rows.Touching.{recorded_row}
+use Rattle.reserving.specs.Pricing.{validity_of}
 use Rattle.keepers.specs.Tables.{Rows}
 use Rattle.keepers.specs.Change.{AreRowsAt}
 use Rattle.keepers.specs.Steps.{HasNoGroups}

@@ -1,5 +1,4 @@
 -- What the keeper in memory has of an account stays apart: what is live, and what was left.
-use Rattle.reserving.specs.Pricing.{validity_of}
 use Rattle.std.proofs.Common.{◌≡◌, ℕ, ◌≤◌, Bool, true, false, List, [], ◌∷◌, ◌++◌, map}
 use Rattle.std.proofs.Common.{get_or, refl, sym, ap, ◌∙◌, Option, Some, None}
 use Rattle.std.specs.Prelude.{if◌then◌else◌, ◌==◌, not, filter, is_some, position}
@@ -26,6 +25,7 @@ use Rattle.reserving.proofs.kept.Ordered.{lapsed_name}
 use Rattle.reserving.proofs.Advancing.{session_in-advanced}
 use Rattle.reserving.proofs.LeftTests.{each_filter, each_passes, each_append, apart_filter}
 use Rattle.reserving.proofs.LeftTests.{apart_append, none_each}
+use Rattle.reserving.specs.Pricing.{validity_of}
 use Rattle.keepers.specs.Parts.{Parts, AreParts, leaves_bucket, leaves_counter, leaves_session}
 use Rattle.keepers.specs.Parts.{leaves_group, left_after, with_live, advanced_parts}
 use Rattle.keepers.specs.Keyed.{same_bucket, same_session, same_group, same_counter}

@@ -1,6 +1,5 @@
 -- As time goes on, what the keeper in memory has of an account stays the rows of each ledger whose
 -- rows it was.
-use Rattle.reserving.specs.Pricing.{validity_of}
 use Rattle.std.proofs.Common.{◌≡◌, ◌≢◌, ℕ, ◌≤◌, Bool, true, false, List, [], ◌∷◌}
 use Rattle.std.proofs.Common.{◌++◌, refl, sym, ap, subst, ◌∙◌, arith, Option, Some, None}
 use Rattle.std.specs.Prelude.{if◌then◌else◌, ◌==◌}
@@ -35,6 +34,7 @@ use Rattle.reserving.proofs.LeftMore.{are_told, apart_none}
 use Rattle.reserving.proofs.LeftFrames.{advanced_joined}
 use Rattle.reserving.proofs.InOrder.{order_joined}
 use Rattle.reserving.proofs.KeysFound.{is_none_is}
+use Rattle.reserving.specs.Pricing.{validity_of}
 use Rattle.keepers.specs.Tables.{head_of, held_of, AreListed}
 use Rattle.keepers.specs.Change.{AreRowsAt}
 use Rattle.keepers.specs.Parts.{Parts, AreParts, rows_of, advanced_parts}

@@ -1,5 +1,4 @@
 -- What the rows of an account tell, whatever list they are written in.
-use Rattle.reserving.specs.Pricing.{validity_of}
 use Rattle.std.proofs.Common.{◌≡◌, ℕ, sym, ap, subst, ◌∙◌}
 use Rattle.buckets.specs.Row.{IsBalanced}
 use Rattle.buckets.specs.Spend.{Each}
@@ -12,6 +11,7 @@ use Rattle.reserving.specs.Stored.{StoredRows, IsStored, priced}
 use Rattle.reserving.specs.Left.{bucket_in}
 use Rattle.reserving.proofs.Lists.{some_of}
 use Rattle.reserving.proofs.LeftMore.{are_told}
+use Rattle.reserving.specs.Pricing.{validity_of}
 use Rattle.keepers.specs.Tables.{Rows, head_of, AreListed}
 use Rattle.keepers.specs.Change.{AreRowsAt}
 use Rattle.keepers.specs.Steps.{IsBucketsTold}

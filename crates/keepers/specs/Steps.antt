@@ -1,5 +1,4 @@
 -- What a step concludes from what it loaded and what the call gave.
-use Rattle.reserving.specs.Pricing.{validity_of}
 use Rattle.std.specs.Prelude.{◌≡◌, ℕ, ◌++◌, List, None}
 use Rattle.std.specs.Prelude.{false, is_some}
 use Rattle.shelves.specs.Shelves.{Shelf, IsShelf}
@@ -12,6 +11,7 @@ use Rattle.keepers.specs.Tables.{Rows, AreListed}
 use Rattle.reserving.specs.Balance.{buckets_at}
 use Rattle.buckets.specs.Spend.{Each}
 use Rattle.buckets.specs.Row.{IsBalanced}
+use Rattle.reserving.specs.Pricing.{validity_of}
 use Rattle.keepers.specs.Change.{IsLoadedFrom, AreRowsAt, IsMadeFrom, over}
 
 -- a ledger only grows

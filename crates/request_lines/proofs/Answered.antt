@@ -20,7 +20,8 @@ use Rattle.charging.specs.Runs.{after_command, answers_to, after_commands, IsRun
 use Rattle.charging.proofs.RunLemmas.{commands_after}
 use Rattle.request_lines.specs.declared.input.Input.{Input}
 use Rattle.request_lines.specs.Lines.{line_request}
-use Rattle.request_lines.specs.Served.{requests_in, opening_for, opening_in, commands_of, faults_in, texts_of}
+use Rattle.request_lines.specs.Served.{requests_in, opening_for, opening_in, commands_of, faults_in}
+use Rattle.request_lines.specs.Served.{texts_of}
 use Rattle.request_lines.specs.Served.{text_of, text_to, IsAnswered}
 use Rattle.request_lines.specs.Served.{IsShort, IsBegun, IsRunOpened, IsUntold}
 use Rattle.request_lines.specs.Input.{told_fault, IsInput}

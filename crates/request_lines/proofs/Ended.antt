@@ -20,9 +20,11 @@ use Rattle.request_lines.specs.declared.input.Input.{Input}
 use Rattle.request_lines.specs.Faults.{ended_as}
 use Rattle.request_lines.specs.Input.{told_fault, IsInput}
 use Rattle.request_lines.specs.Lines.{line_request}
-use Rattle.request_lines.specs.Served.{opening_for, texts_of, AnswersLines, IsAnswered, IsBegun, IsCut}
+use Rattle.request_lines.specs.Served.{opening_for, texts_of, AnswersLines, IsAnswered, IsBegun}
+use Rattle.request_lines.specs.Served.{IsCut}
 use Rattle.request_lines.specs.Served.{IsRunOpened, IsStopped, IsUntold}
-use Rattle.request_lines.proofs.Answered.{answered-run, begun-none, begun-run, continued-same, short-run}
+use Rattle.request_lines.proofs.Answered.{answered-run, begun-none, begun-run, continued-same}
+use Rattle.request_lines.proofs.Answered.{short-run}
 use Rattle.request_lines.proofs.Answered.{untold-run}
 
 -- ---- which fault it is

@@ -1,6 +1,5 @@
 -- The charge rows of a ledger with more facts: a report and a debit add one each, and nothing else
 -- adds any.
-use Rattle.reserving.specs.Pricing.{validity_of}
 use Rattle.std.proofs.Common.{◌≡◌, ℕ, ◌+◌, ◌-◌, ◌≤◌, Bool, false, List, [], ◌∷◌, ◌++◌, refl, sym}
 use Rattle.std.proofs.Common.{ap, ◌∙◌, arith, Option}
 use Rattle.std.proofs.lemmas.Bool.Decides.{nat_tests}
@@ -17,7 +16,7 @@ use Rattle.reserving.specs.Ledger.{Ledger, uses_in, counter, next_charge}
 use Rattle.reserving.specs.Ledger.Fact.{Grant, End, Use}
 use Rattle.reserving.specs.Charges.{charge_of, charge_rows}
 use Rattle.reserving.specs.Requests.{recorded, touched, closed, credited, with_bar}
-use Rattle.reserving.specs.Pricing.{cycle_at, terms_at}
+use Rattle.reserving.specs.Pricing.{cycle_at, terms_at, validity_of}
 use Rattle.reserving.specs.Balance.{buckets_at}
 use Rattle.reserving.specs.Sessions.{holds_at}
 use Rattle.reserving.specs.Settlement.{reported, report_price, charge_facts, settled, settled_by}

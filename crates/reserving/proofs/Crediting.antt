@@ -1,5 +1,4 @@
 -- A bucket is made: what that adds to the rows.
-use Rattle.reserving.specs.Pricing.{validity_of}
 use Rattle.std.proofs.Common.{◌≡◌, ℕ, ◌+◌, ◌-◌, ◌<◌, ◌≤◌, Bool, true, false, List, [], ◌∷◌, map}
 use Rattle.std.proofs.Common.{refl, sym, ap, ◌∙◌, arith, Option, Some, None}
 use Rattle.std.specs.Prelude.{if◌then◌else◌, ◌==◌, nat_lt}
@@ -11,7 +10,7 @@ use Rattle.reserving.specs.Ledger.{Ledger, is_live, charged, held, only, used, c
 use Rattle.reserving.specs.Ledger.{has_counter, open_grant, next_bucket}
 use Rattle.reserving.specs.Balance.{credits, bucket_at, balance_of}
 use Rattle.reserving.specs.Sessions.{held_by, holds_at, group_at, reservation_of, counter_at}
-use Rattle.reserving.specs.Pricing.{cycle_at}
+use Rattle.reserving.specs.Pricing.{cycle_at, validity_of}
 use Rattle.reserving.specs.SoundLedger.{IsUnknown, IsSoundLedger}
 use Rattle.reserving.specs.Rows.{AccountRows, IsAccount, IsRowsOf}
 use Rattle.reserving.specs.Requests.{credited}

@@ -1,6 +1,4 @@
 -- What is read of an account beside the rows that were left: funds, prices, quotas and limits.
-use Rattle.reserving.specs.Pricing.{validity_of}
-use Rattle.shelves.specs.Shelves.{book_at}
 use Rattle.std.proofs.Common.{◌≡◌, ℕ, ◌+◌, ◌-◌, arith, ◌≤◌, true, false, List, [], refl, sym, ap}
 use Rattle.std.proofs.Common.{subst, ◌∙◌, Option, None}
 use Rattle.std.specs.Prelude.{option_map}
@@ -11,11 +9,12 @@ use Rattle.buckets.specs.Spend.{Each, funds}
 use Rattle.buckets.specs.Holding.{held_in, uncollected}
 use Rattle.rating.specs.declared.grant.Grant.{Grant}
 use Rattle.rating.specs.declared.grant.Periods.{Periods}
+use Rattle.shelves.specs.Shelves.{book_at}
 use Rattle.reserving.specs.declared.session.SessionGroup.{SessionGroup}
 use Rattle.reserving.specs.declared.session.Reservation.{Reservation}
 use Rattle.reserving.specs.Ledger.{Ledger, is_live}
 use Rattle.reserving.specs.Balance.{buckets_at}
-use Rattle.reserving.specs.Pricing.{cycle_at, periods_at}
+use Rattle.reserving.specs.Pricing.{cycle_at, periods_at, validity_of}
 use Rattle.reserving.specs.Quotas.{IsQuota}
 use Rattle.reserving.specs.Reservation.{grant_for}
 use Rattle.reserving.specs.Sessions.{is_of, is_live_in}

@@ -1,6 +1,5 @@
 -- The limits of a report's stored numbers, before and after the settlement of another group of its
 -- session.
-use Rattle.reserving.specs.Pricing.{validity_of}
 use Rattle.std.proofs.Common.{◌≡◌, ℕ, ◌+◌, Bool, true, false, List, [], ◌∷◌, refl, ap, ◌∙◌, arith}
 use Rattle.std.proofs.Common.{Some, None}
 use Rattle.std.specs.Prelude.{if◌then◌else◌, ◌==◌, ◌&&◌, nat_lt}
@@ -11,7 +10,7 @@ use Rattle.shelves.specs.Shelves.{Shelf}
 use Rattle.rating.specs.declared.report.Rated.{Rated}
 use Rattle.reserving.specs.Ledger.{Ledger, is_same, used, counter, open_grant, next_charge, uses_in}
 use Rattle.reserving.specs.Ledger.{inner, or_else, newest, grant_in}
-use Rattle.reserving.specs.Pricing.{cycle_at}
+use Rattle.reserving.specs.Pricing.{cycle_at, validity_of}
 use Rattle.reserving.specs.Settlement.{charge_facts, settled, settled_by, reported, price_of}
 use Rattle.reserving.specs.Settlement.{report_price, passes, passes_limit, passes_after}
 use Rattle.reserving.specs.Settlement.{charge_count}

@@ -1,5 +1,4 @@
 -- A grant's call, from any ledger whose rows the account is before it.
-use Rattle.reserving.specs.Pricing.{validity_of}
 use Rattle.std.proofs.Common.{◌≡◌, ℕ, ◌<◌, ◌≤◌, Bool, true, false, List, map, refl, sym, ap, subst}
 use Rattle.std.proofs.Common.{◌∙◌, arith, Option, Some, None}
 use Rattle.std.specs.Prelude.{if◌then◌else◌, is_some, unwrap_or, option_map, not, nat_lt}
@@ -18,10 +17,11 @@ use Rattle.tariffs.specs.BookPrices.{ArePricesOf}
 use Rattle.rating.specs.declared.grant.Grant.{Grant}
 use Rattle.rating.specs.declared.grant.Periods.{Periods}
 use Rattle.rating.specs.Granted.{IsGreatest, dearer, grant_of}
-use Rattle.reserving.specs.Pricing.{tariff_of, tariff_at, cycle_at, switch_at, validity_at, periods_at}
+use Rattle.reserving.specs.Pricing.{tariff_of, tariff_at, cycle_at, switch_at, validity_at}
+use Rattle.reserving.specs.Pricing.{periods_at}
 use Rattle.reserving.specs.Pricing.{terms_at}
 use Rattle.reserving.specs.declared.session.Terms.{Terms}
-use Rattle.reserving.specs.Pricing.{prices_by, wanted_units, wanted_with, grant_with}
+use Rattle.reserving.specs.Pricing.{prices_by, wanted_units, wanted_with, grant_with, validity_of}
 use Rattle.reserving.specs.Quotas.{IsQuota, IsGreatestFor}
 use Rattle.reserving.specs.Keyed.{put}
 use Rattle.reserving.specs.Balance.{buckets_at}

@@ -1,5 +1,4 @@
 -- What a settlement makes of an account's rows: those of the ledger with the settlement.
-use Rattle.reserving.specs.Pricing.{validity_of}
 use Rattle.std.proofs.Common.{◌≡◌, ℕ, ◌+◌, ◌<◌, ◌≤◌, Bool, true, false, List, [], ◌∷◌, ◌++◌}
 use Rattle.std.proofs.Common.{map, refl, sym, ap, subst, ◌∙◌, arith, Option, Some, None}
 use Rattle.std.specs.Prelude.{if◌then◌else◌, ◌==◌, ◌&&◌, ◌||◌, not, unwrap_or, option_map}
@@ -24,7 +23,7 @@ use Rattle.reserving.specs.Ledger.{units_in, names_group, grant_in, counts_group
 use Rattle.reserving.specs.Ledger.{uses_in, credits_in, newest, total, next_bucket, next_charge}
 use Rattle.reserving.specs.Ledger.Fact.{End, Use, Charge, Credit, Grant, Hold as HoldFact, Touch}
 use Rattle.reserving.specs.Ledger.Fact.{Close, Recorded, Barred}
-use Rattle.reserving.specs.Pricing.{cycle_at}
+use Rattle.reserving.specs.Pricing.{cycle_at, validity_of}
 use Rattle.reserving.specs.Keyed.{put}
 use Rattle.reserving.specs.Balance.{buckets_at}
 use Rattle.reserving.specs.Sessions.{is_of, group_in, group_at, is_counter, counter_in, counter_at}

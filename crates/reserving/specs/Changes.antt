@@ -1,6 +1,5 @@
 -- What each call makes of an account's rows.
 -- Source: profile; they follow the ledger's definitions.
-use Rattle.reserving.specs.Pricing.{validity_of}
 use Rattle.std.specs.Prelude.{ℕ, ◌+◌, ◌*◌, ◌≤◌, Bool, not, ◌&&◌, nat_lt, if◌then◌else◌, List, []}
 use Rattle.std.specs.Prelude.{◌∷◌, Option, Some, None, map, sum_by, unwrap_or, option_map}
 use Rattle.units.specs.declared.blocks.UsedPart.{UsedPart}
@@ -17,7 +16,7 @@ use Rattle.reserving.specs.declared.session.Counter.{Counter}
 use Rattle.reserving.specs.Ledger.{is_same}
 use Rattle.reserving.specs.declared.session.Terms.{Terms}
 use Rattle.rating.specs.declared.report.Rated.{Rated}
-use Rattle.reserving.specs.Pricing.{cycle_at, terms_at}
+use Rattle.reserving.specs.Pricing.{cycle_at, terms_at, validity_of}
 use Rattle.reserving.specs.Keyed.{put}
 use Rattle.reserving.specs.Sessions.{is_session, is_of, group_in, is_counter, counter_in, is_open}
 use Rattle.reserving.specs.Sessions.{is_live_in, held_by, holds_in}

@@ -1,6 +1,5 @@
 -- A debit: an event's units are priced and charged at once, with no reservation (TS 32.299,
 -- immediate event charging; RFC 8506 section 6.3).
-use Rattle.reserving.specs.Pricing.{validity_of}
 use Rattle.std.specs.Prelude.{ℕ, Bool, nat_le, List, [], ◌∷◌, ◌++◌, None}
 use Rattle.units.specs.declared.blocks.UsedPart.{UsedPart}
 use Rattle.shelves.specs.Shelves.{Shelf}
@@ -11,7 +10,7 @@ use Rattle.buckets.specs.Spend.{funds}
 use Rattle.buckets.specs.Holding.{paid}
 use Rattle.reserving.specs.Ledger.{Ledger, used, counter, next_charge}
 use Rattle.reserving.specs.Ledger.Fact.{Use}
-use Rattle.reserving.specs.Pricing.{cycle_at}
+use Rattle.reserving.specs.Pricing.{cycle_at, validity_of}
 use Rattle.reserving.specs.Balance.{buckets_at}
 use Rattle.reserving.specs.Settlement.{price_of, charge_facts, passes}
 

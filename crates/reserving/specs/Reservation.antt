@@ -1,7 +1,6 @@
 -- Reservation: units are granted as far as the funds cover their blocks, and their price is held in
 -- what is eligible (RFC 8506 sections 5.2 and 5.3; TS 32.299, session charging with unit
 -- reservation).
-use Rattle.reserving.specs.Pricing.{validity_of}
 use Rattle.std.specs.Prelude.{ℕ, List, [], ◌∷◌, ◌++◌, Option}
 use Rattle.buckets.specs.declared.holds.Hold.{Hold}
 use Rattle.buckets.specs.Spend.{funds}
@@ -11,6 +10,7 @@ use Rattle.reserving.specs.Ledger.Fact.{Grant, Hold as HoldFact}
 use Rattle.shelves.specs.Shelves.{Shelf}
 use Rattle.rating.specs.declared.grant.Grant.{Grant as RatedGrant}
 use Rattle.reserving.specs.Pricing.{tariff_at, cycle_at, periods_at, terms_at, grant_with}
+use Rattle.reserving.specs.Pricing.{validity_of}
 use Rattle.reserving.specs.Balance.{buckets_at}
 
 abbrev pub hold_facts : ℕ → List ℕ → ℕ → List Hold → Ledger

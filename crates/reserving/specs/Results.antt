@@ -1,6 +1,5 @@
 -- What settlements and grants answer, as a ledger tells it.
 -- Source: RFC 8506 sections 5.2 to 5.4; TS 32.299, session charging with unit reservation.
-use Rattle.reserving.specs.Pricing.{validity_of}
 use Rattle.std.specs.Prelude.{◌≡◌, ℕ, ◌+◌, ◌<◌, ◌≤◌, Bool, true, false, nat_lt, List, Option, None}
 use Rattle.std.specs.Prelude.{Some}
 use Rattle.units.specs.declared.blocks.UsedPart.{UsedPart}
@@ -14,7 +13,7 @@ use Rattle.reserving.specs.declared.reserve.Granted.TheVariants.{Nothing, Units}
 use Rattle.reserving.specs.declared.settle.Settled.{Settled}
 use Rattle.reserving.specs.Ledger.{Ledger, used, counter}
 use Rattle.reserving.specs.Pricing.{tariff_at, cycle_at, switch_at, validity_at, periods_at}
-use Rattle.reserving.specs.Pricing.{wanted_units, wanted_with}
+use Rattle.reserving.specs.Pricing.{wanted_units, wanted_with, validity_of}
 use Rattle.reserving.specs.Balance.{buckets_at}
 use Rattle.reserving.specs.Settlement.{report_price, missing}
 use Rattle.reserving.specs.Reservation.{reserved, grant_for}

@@ -1,7 +1,6 @@
 -- Settlement: a report's rated amount is charged to its reservation's holds and then to what is
 -- eligible; then the reservation ends (RFC 8506 section 5.3; TS 32.299, session charging with unit
 -- reservation).
-use Rattle.reserving.specs.Pricing.{validity_of}
 use Rattle.std.specs.Prelude.{ℕ, ◌+◌, Bool, false, ◌||◌, nat_lt, List, [], ◌∷◌, ◌++◌, Option}
 use Rattle.std.specs.Prelude.{sum_by, unwrap_or}
 use Rattle.units.specs.declared.blocks.UsedPart.{UsedPart}
@@ -14,7 +13,7 @@ use Rattle.buckets.specs.Share.{parts}
 use Rattle.buckets.specs.Holding.{paid, uncollected}
 use Rattle.reserving.specs.Ledger.{Ledger, used, counter, open_grant, next_charge}
 use Rattle.reserving.specs.Ledger.Fact.{Use, Charge, End}
-use Rattle.reserving.specs.Pricing.{cycle_at, terms_now, rated_with}
+use Rattle.reserving.specs.Pricing.{cycle_at, terms_now, rated_with, validity_of}
 use Rattle.reserving.specs.Balance.{buckets_at}
 use Rattle.reserving.specs.Sessions.{holds_at}
 

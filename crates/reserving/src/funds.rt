@@ -1,4 +1,3 @@
-ghost use Rattle.reserving.specs.Pricing.{validity_of};
 ghost use Rattle.std.specs.Prelude.{◌≡◌, ◌≤◌, ◌<◌, ◌^◌, true, if◌then◌else◌};
 ghost use Rattle.buckets.specs.Spend.{Each, IsSound, funds};
 ghost use Rattle.buckets.specs.Row.{eligible_amount, is_eligible};
@@ -10,6 +9,7 @@ ghost use Rattle.reserving.specs.Rows.{AreAscending, IsRowsOf};
 ghost use Rattle.reserving.specs.Left.{LeftRows, IsWith};
 ghost use Rattle.reserving.specs.Changes.{advanced};
 ghost use Rattle.reserving.specs.Lapsed.{held_for, lapsed_for, lapsed_funds};
+ghost use Rattle.reserving.specs.Pricing.{validity_of};
 
 use crate::account::Account;
 use crate::advance::is_live;

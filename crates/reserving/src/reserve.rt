@@ -1,11 +1,12 @@
-ghost use Rattle.shelves.specs.Shelves.{book_at};
-ghost use Rattle.reserving.specs.Pricing.{validity_of};
 ghost use Rattle.std.specs.Prelude.{◌≡◌, ℕ, ◌+◌, ◌*◌, ◌≤◌, ◌<◌, ◌==◌, None, true, false, is_some};
 ghost use Rattle.std.specs.Prelude.{nat_lt, length, option_map, OnOk, OnErr, IfOk};
 ghost use Rattle.buckets.specs.Spend.{funds};
+ghost use Rattle.shelves.specs.Shelves.{book_at};
 ghost use Rattle.reserving.specs.Ledger.{Ledger};
 ghost use Rattle.reserving.specs.Sessions.{group_in, is_live_in};
-ghost use Rattle.reserving.specs.Pricing.{tariff_at, cycle_at, periods_at, terms_at, wanted_with, grant_with};
+ghost use Rattle.reserving.specs.Pricing.{tariff_at, cycle_at, periods_at, terms_at, wanted_with};
+ghost use Rattle.reserving.specs.Pricing.{grant_with};
+ghost use Rattle.reserving.specs.Pricing.{validity_of};
 ghost use Rattle.reserving.specs.Reservation.{grant_for};
 ghost use Rattle.reserving.specs.Quotas.{IsQuota};
 ghost use Rattle.reserving.specs.Changes.{advanced, used_in, count_in, reserved_account};

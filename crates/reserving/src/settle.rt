@@ -1,5 +1,5 @@
-ghost use Rattle.reserving.specs.Pricing.{validity_of};
 ghost use Rattle.std.specs.Prelude.{◌≡◌, ◌+◌};
+ghost use Rattle.reserving.specs.Pricing.{validity_of};
 
 use crate::account::Account;
 use crate::fault::AccountFault;

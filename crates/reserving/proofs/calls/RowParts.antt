@@ -1,5 +1,4 @@
 -- The rows as a call leaves them, part by part; and time going on in rows without facts.
-use Rattle.reserving.specs.Pricing.{validity_of}
 use Rattle.std.proofs.Common.{◌≡◌, ℕ, ◌+◌, Bool, true, false, List, ◌∷◌, map, refl, sym}
 use Rattle.std.proofs.Common.{ap, ◌∙◌, arith, Option, Some, None}
 use Rattle.std.specs.Prelude.{if◌then◌else◌, unwrap_or, option_map, not}
@@ -9,7 +8,7 @@ use Rattle.buckets.specs.Holding.{held_in, settled_rows, released_rows}
 use Rattle.reserving.specs.declared.session.SessionGroup.{SessionGroup}
 use Rattle.reserving.specs.declared.session.Reservation.{Reservation}
 use Rattle.reserving.specs.declared.session.Counter.{Counter}
-use Rattle.reserving.specs.Pricing.{cycle_at}
+use Rattle.reserving.specs.Pricing.{cycle_at, validity_of}
 use Rattle.reserving.specs.Keyed.{put}
 use Rattle.reserving.specs.Sessions.{is_of, group_in, is_counter, counter_in, holds_in, held_by}
 use Rattle.reserving.specs.Sessions.{is_live_in}

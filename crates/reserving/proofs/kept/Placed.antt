@@ -1,5 +1,4 @@
 -- The periods of each reservation stay the book's, whatever a call makes of the rows.
-use Rattle.reserving.specs.Pricing.{validity_of}
 use Rattle.std.proofs.Common.{◌≡◌, ℕ, ◌+◌, ◌≤◌, ◌<◌, Bool, true, false, cond, List, [], ◌∷◌, ◌++◌}
 use Rattle.std.proofs.Common.{map, refl, sym, ap, subst, ◌∙◌, arith, Option, Some, None}
 use Rattle.std.specs.Prelude.{if◌then◌else◌, ◌&&◌, is_some, length, nat_lt, option_map, unwrap_or}
@@ -21,6 +20,7 @@ use Rattle.reserving.specs.declared.session.SessionGroup.{SessionGroup}
 use Rattle.reserving.specs.declared.session.Reservation.{Reservation}
 use Rattle.reserving.specs.declared.session.Counter.{Counter}
 use Rattle.reserving.specs.Pricing.{tariff_of, tariff_at, cycle_at, periods_at, terms_at, prices_by}
+use Rattle.reserving.specs.Pricing.{validity_of}
 use Rattle.reserving.specs.Sessions.{session_in, is_of, group_in, is_counter, is_live_in}
 use Rattle.buckets.specs.Holding.{holds_of}
 use Rattle.reserving.specs.Keyed.{put}

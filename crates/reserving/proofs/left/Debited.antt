@@ -1,5 +1,4 @@
 -- A debit's call, from a ledger whose rows the account's are together with those left.
-use Rattle.reserving.specs.Pricing.{validity_of}
 use Rattle.std.proofs.Common.{◌≡◌, ℕ, ◌+◌, ◌≤◌, Bool, false, List, [], ◌++◌, refl, sym, ap, subst}
 use Rattle.std.proofs.Common.{◌∙◌, arith, None}
 use Rattle.std.specs.Prelude.{not}
@@ -16,7 +15,7 @@ use Rattle.reserving.specs.declared.settle.Settled.{Settled}
 use Rattle.reserving.specs.Ledger.{Ledger}
 use Rattle.reserving.specs.Balance.{buckets_at}
 use Rattle.reserving.specs.Keyed.{put}
-use Rattle.reserving.specs.Pricing.{cycle_at}
+use Rattle.reserving.specs.Pricing.{cycle_at, validity_of}
 use Rattle.reserving.specs.Sessions.{is_of, group_in, is_live_in}
 use Rattle.reserving.specs.Settlement.{passes}
 use Rattle.reserving.specs.Debiting.{is_covered}

@@ -1,5 +1,4 @@
 -- A grant's call, from a ledger whose rows the account's are together with those left.
-use Rattle.reserving.specs.Pricing.{validity_of}
 use Rattle.std.proofs.Common.{◌≡◌, ℕ, ◌<◌, ◌≤◌, Bool, true, false, List, refl, sym, ap, subst, ◌∙◌}
 use Rattle.std.proofs.Common.{Option, None}
 use Rattle.std.specs.Prelude.{nat_lt}
@@ -7,7 +6,7 @@ use Rattle.rating.specs.declared.grant.Grant.{Grant}
 use Rattle.reserving.specs.declared.session.SessionGroup.{SessionGroup}
 use Rattle.shelves.specs.Shelves.{Shelf}
 use Rattle.reserving.specs.Ledger.{Ledger, used}
-use Rattle.reserving.specs.Pricing.{switch_at, validity_at}
+use Rattle.reserving.specs.Pricing.{switch_at, validity_at, validity_of}
 use Rattle.reserving.specs.Reservation.{grant_for}
 use Rattle.reserving.specs.Sessions.{is_of, is_live_in}
 use Rattle.reserving.specs.Changes.{advanced, reserved_account}

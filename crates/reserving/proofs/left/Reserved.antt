@@ -1,5 +1,4 @@
 -- A grant, and a debit, leave the rows that were left as they are.
-use Rattle.reserving.specs.Pricing.{validity_of}
 use Rattle.std.proofs.Common.{◌≡◌, ℕ, ◌+◌, true, false, List, [], ◌∷◌, ◌++◌, map, refl}
 use Rattle.std.proofs.Common.{sym, subst, ◌∙◌, arith, Some}
 use Rattle.std.specs.List.Sorted.{IsPermutation}
@@ -14,7 +13,7 @@ use Rattle.buckets.specs.Holding.{holds_of}
 use Rattle.buckets.proofs.SharesAlong.{KeepsPlace}
 use Rattle.reserving.specs.declared.session.SessionGroup.{SessionGroup}
 use Rattle.reserving.specs.Keyed.{put}
-use Rattle.reserving.specs.Pricing.{terms_at}
+use Rattle.reserving.specs.Pricing.{terms_at, validity_of}
 use Rattle.reserving.specs.Sessions.{is_of, is_live_in}
 use Rattle.reserving.specs.Changes.{used_in, with_reservation, reserved_account}
 use Rattle.reserving.specs.Rows.{AccountRows, EachIn}

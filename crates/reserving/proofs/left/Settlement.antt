@@ -1,5 +1,4 @@
 -- What a settlement answers, from a ledger whose rows the account's are together with those left.
-use Rattle.reserving.specs.Pricing.{validity_of}
 use Rattle.std.proofs.Common.{◌≡◌, ℕ, ◌≤◌, true, false, List, refl, sym, ap, ◌∙◌}
 use Rattle.units.specs.declared.blocks.UsedPart.{UsedPart}
 use Rattle.buckets.specs.declared.holds.Hold.{Hold}
@@ -20,6 +19,7 @@ use Rattle.reserving.proofs.calls.Debited.{buckets_later}
 use Rattle.reserving.proofs.LeftFrames.{live, not_of_live, holds_same, holds_none, advanced_joined}
 use Rattle.reserving.proofs.LeftMore.{with_advanced}
 use Rattle.reserving.proofs.LeftReadings.{price_joined, uncollected_merged}
+use Rattle.reserving.specs.Pricing.{validity_of}
 
 -- rows without facts hold nothing
 held_later : (a : AccountRows) (s : List ℕ) (g c t : ℕ) →

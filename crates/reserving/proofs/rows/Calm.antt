@@ -1,6 +1,5 @@
 -- Calls that leave an account calm, and that such an account is as if it were brought to its
 -- moment.
-use Rattle.reserving.specs.Pricing.{validity_of}
 use Rattle.std.proofs.Common.{◌≡◌, ℕ, ◌+◌, ◌*◌, ◌-◌, ◌≤◌, Bool, true, false, List, [], ◌∷◌}
 use Rattle.std.proofs.Common.{map, refl, sym, ap, ◌∙◌, subst, arith, Option, Some, None}
 use Rattle.std.specs.Prelude.{if◌then◌else◌, not, nat_lt, unwrap_or, option_map}
@@ -28,6 +27,7 @@ use Rattle.reserving.proofs.Lists.{EachIn-found, EachIn-weaker}
 use Rattle.reserving.proofs.ledger.Columns.{with_columns}
 use Rattle.reserving.proofs.rows.Lapsing.{released_none}
 use Rattle.reserving.proofs.rows.TwoAdvances.{lapse_twice, live_alike}
+use Rattle.reserving.specs.Pricing.{validity_of}
 
 -- ---- lists
 

@@ -1,5 +1,4 @@
 -- Events and recorded requests leave an account calm.
-use Rattle.reserving.specs.Pricing.{validity_of}
 use Rattle.std.proofs.Common.{◌≡◌, ℕ, ◌+◌, ◌*◌, ◌-◌, ◌≤◌, Bool, true, false, List, refl, sym, ap}
 use Rattle.std.proofs.Common.{◌∙◌, arith, Option, Some, None, []}
 use Rattle.std.specs.Prelude.{not, nat_lt, unwrap_or, if◌then◌else◌}
@@ -22,6 +21,7 @@ use Rattle.reserving.specs.Sessions.{group_before, session_before}
 use Rattle.reserving.proofs.Lists.{EachIn-put, find-put_other, EachIn-found, EachIn-weaker}
 use Rattle.reserving.proofs.KeysFound.{found_session}
 use Rattle.reserving.proofs.rows.Calm.{rows_map, settled_calm}
+use Rattle.reserving.specs.Pricing.{validity_of}
 
 -- ---- an event keeps the group's reservation
 

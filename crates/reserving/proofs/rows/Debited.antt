@@ -1,5 +1,4 @@
 -- What a debit makes of an account's rows: those of the ledger with its use and its charges.
-use Rattle.reserving.specs.Pricing.{validity_of}
 use Rattle.std.proofs.Common.{◌≡◌, ℕ, ◌+◌, ◌-◌, ◌≤◌, Bool, true, false, List, [], ◌∷◌, ◌++◌, map}
 use Rattle.std.proofs.Common.{refl, sym, ap, subst, ◌∙◌, arith, Option, Some, None}
 use Rattle.std.specs.Prelude.{if◌then◌else◌, ◌==◌, ◌&&◌, ◌||◌, nat_lt, unwrap_or}
@@ -15,7 +14,7 @@ use Rattle.reserving.specs.declared.session.Terms.{Terms}
 use Rattle.reserving.specs.Ledger.{Ledger, charged, open_grant, held, only, used, counter}
 use Rattle.reserving.specs.Ledger.{has_group, has_counter, inner, is_live, is_same, grant_in}
 use Rattle.reserving.specs.Ledger.{counts_group, blocks_in, next_bucket}
-use Rattle.reserving.specs.Pricing.{cycle_at}
+use Rattle.reserving.specs.Pricing.{cycle_at, validity_of}
 use Rattle.reserving.specs.Keyed.{put}
 use Rattle.reserving.specs.Balance.{credits, balance_of, bucket_at, buckets_at}
 use Rattle.reserving.specs.Sessions.{is_of, group_in, group_at, holds_at, reservation_of}

@@ -1,5 +1,4 @@
 -- What a grant makes of a ledger's buckets, groups and counters, and of an account's rows.
-use Rattle.reserving.specs.Pricing.{validity_of}
 use Rattle.std.proofs.Common.{◌≡◌, ℕ, ◌+◌, ◌-◌, ◌≤◌, Bool, true, false, List, [], ◌∷◌, ◌++◌, map}
 use Rattle.std.proofs.Common.{refl, sym, ap, subst, ◌∙◌, arith, Option, Some, None}
 use Rattle.std.specs.Prelude.{if◌then◌else◌, ◌==◌, ◌&&◌, ◌||◌, not, nat_lt, is_some}
@@ -23,7 +22,7 @@ use Rattle.reserving.specs.Ledger.{last_recording, next_bucket}
 use Rattle.reserving.specs.Ledger.Fact.{Grant}
 use Rattle.shelves.specs.Shelves.{Shelf}
 use Rattle.reserving.specs.declared.session.Terms.{Terms}
-use Rattle.reserving.specs.Pricing.{terms_at, cycle_at}
+use Rattle.reserving.specs.Pricing.{terms_at, cycle_at, validity_of}
 use Rattle.reserving.specs.Keyed.{put}
 use Rattle.reserving.specs.Balance.{credits, balance_of, bucket_at, buckets_at}
 use Rattle.reserving.specs.Sessions.{is_of, group_in, group_at, counter_at, holds_at, holds_in}

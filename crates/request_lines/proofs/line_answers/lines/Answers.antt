@@ -8,8 +8,10 @@ use Rattle.request_lines.specs.Input.{told_fault}
 use Rattle.request_lines.specs.Served.{opening_for, texts_of}
 use Rattle.office.proofs.Beginnings.{on_err}
 use Rattle.request_lines.proofs.Answered.{continued-run}
-use Rattle.request_lines.proofs.Ended.{IsWritten, ended-answered, ended-begun, ended-both, ended-cut}
-use Rattle.request_lines.proofs.Ended.{ended-read, ended-stopped, ended-store, ended-untold, none_answered}
+use Rattle.request_lines.proofs.Ended.{IsWritten, ended-answered, ended-begun, ended-both}
+use Rattle.request_lines.proofs.Ended.{ended-cut}
+use Rattle.request_lines.proofs.Ended.{ended-read, ended-stopped, ended-store, ended-untold}
+use Rattle.request_lines.proofs.Ended.{none_answered}
 use Rattle.request_lines.proofs.line_answers.lines.Goals as goal
 
 pub returns-in-Err-clause-answers : goal.returns-in-Err-clause-answers

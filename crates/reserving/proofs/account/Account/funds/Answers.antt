@@ -1,4 +1,3 @@
-use Rattle.reserving.specs.Pricing.{validity_of}
 use Rattle.std.proofs.Common.{◌+◌, map, ap, ◌∙◌, subst}
 use Rattle.buckets.specs.Row.{with_end, with_release}
 use Rattle.buckets.specs.Spend.{funds}
@@ -9,6 +8,7 @@ use Rattle.reserving.proofs.rows.LapsedFunds.{lapsed_funds-is}
 use Rattle.reserving.proofs.Advancing.{IsRowsOf-advanced}
 use Rattle.reserving.proofs.LeftReadings.{funds_told}
 use Rattle.reserving.specs.Placed.{IsPriced}
+use Rattle.reserving.specs.Pricing.{validity_of}
 use Rattle.reserving.proofs.account.Account.funds.Goals as goal
 
 pub returns-clause-rows : goal.returns-clause-rows

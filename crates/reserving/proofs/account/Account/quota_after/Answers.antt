@@ -1,14 +1,14 @@
-use Rattle.tariffs.specs.Books.{Book}
-use Rattle.shelves.specs.Shelves.{book_at}
 use Rattle.std.proofs.Common.{◌≤◌, ℕ, ap, subst, ◌∙◌}
 use Rattle.std.specs.Prelude.{option_map, IfSome, IfNone}
 use Rattle.units.specs.declared.blocks.Units.{Units}
 use Rattle.units.specs.Blocks.{started}
 use Rattle.tariffs.specs.GroupPrices.{GroupPrices}
 use Rattle.tariffs.specs.BookPrices.{ArePricesOf}
+use Rattle.tariffs.specs.Books.{Book}
 use Rattle.rating.specs.declared.grant.Grant.{Grant}
 use Rattle.rating.specs.Granted.{IsGreatest, grant_of}
 use Rattle.buckets.specs.Spend.{funds}
+use Rattle.shelves.specs.Shelves.{book_at}
 use Rattle.reserving.specs.Pricing.{cycle_at, wanted_units}
 use Rattle.reserving.specs.Changes.{advanced, count_in}
 use Rattle.reserving.specs.Rows.{AccountRows}

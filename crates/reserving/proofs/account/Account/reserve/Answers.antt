@@ -1,10 +1,11 @@
-use Rattle.tariffs.specs.Books.{Book}
-use Rattle.shelves.specs.Shelves.{book_at}
 use Rattle.std.proofs.Common.{◌≡◌, ℕ, ◌<◌, Option, sym, ap, ◌∙◌, arith, refl}
 use Rattle.std.specs.Prelude.{option_map, nat_lt}
 use Rattle.units.specs.declared.blocks.Units.{Units}
+use Rattle.tariffs.specs.Books.{Book}
 use Rattle.rating.specs.declared.grant.Grant.{Grant}
-use Rattle.reserving.specs.Pricing.{periods_at, switch_at, validity_at, periods_by, switch_by, validity_by}
+use Rattle.shelves.specs.Shelves.{book_at}
+use Rattle.reserving.specs.Pricing.{periods_at, switch_at, validity_at, periods_by, switch_by}
+use Rattle.reserving.specs.Pricing.{validity_by}
 use Rattle.reserving.specs.Changes.{advanced, used_in, reserved_account}
 use Rattle.reserving.specs.Prepared.{with_group_row}
 use Rattle.reserving.specs.Rows.{AccountRows}
