@@ -21,7 +21,8 @@ use Rattle.charging.proofs.Guaranteed.{IsGuaranteed, guaranteed_none, keeps_guar
 use Rattle.charging.proofs.KeptHistories.{kept_history}
 use Rattle.charging.proofs.Repeated.{answers-once}
 
-pub accounted : (b : Shelf) (commands : List DatedCommand) (old new : Tables) (given : List Answer) →
+pub accounted : (b : Shelf) (commands : List DatedCommand) (old new : Tables)
+    (given : List Answer) →
     IsShelf b → Runs b commands old new given → AreAccounted b commands old new given
 accounted b commands old new given ranges runs list time tables a head found =
     let after : List Accepted = after_commands b list (take (length given) commands) in

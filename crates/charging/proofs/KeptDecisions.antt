@@ -195,7 +195,8 @@ module _ (b : Shelf) (P : List Report → Ledger → Type 0) (k : Keeps b P)
       (opened_unless_barred b t s n services ledger) h
       (λ free.
       let new : last_recording s ledger ≡ None =
-      new_name s (last_recording s ledger) (option_map invalid (units_fault (book_at b t) s ledger services))
+      new_name s (last_recording s ledger)
+      (option_map invalid (units_fault (book_at b t) s ledger services))
       free in
       either_decision (is_barred ledger) _ (opened b t s n services ledger)
       (λ e. kept_recorded t s n ledger new h)
@@ -220,10 +221,12 @@ module _ (b : Shelf) (P : List Report → Ledger → Type 0) (k : Keeps b P)
   kept_debit : (t : ℕ) (s : List ℕ) (n : ℕ) (e : Event) (ledger : Ledger) → IsKept ledger →
       IsKept (debit_decision b t s n e ledger).after
   kept_debit t s n e ledger h =
-      unless_refused (debit_refusal (book_at b t) s e ledger) ledger (charged_unless_barred b t s n e ledger) h
+      unless_refused (debit_refusal (book_at b t) s e ledger) ledger
+      (charged_unless_barred b t s n e ledger) h
       (λ free.
       let new : last_recording s ledger ≡ None =
-      new_name s (last_recording s ledger) (option_map invalid (event_fault (book_at b t) e)) free in
+      new_name s (last_recording s ledger) (option_map invalid (event_fault (book_at b t) e))
+      free in
       either_decision (is_barred ledger) _
       (charged_by (tariff_at b t e.group) b t s n e ledger) (λ p. kept_recorded t s n ledger new h)
       (λ p. kept_charged (tariff_at b t e.group) t s n e ledger new h))
@@ -231,8 +234,10 @@ module _ (b : Shelf) (P : List Report → Ledger → Type 0) (k : Keeps b P)
   kept_event : (action : EventAction) (t : ℕ) (s : List ℕ) (n : ℕ) (e : Event) (ledger : Ledger) →
       IsKept ledger → IsKept (decided_action action b t s n e ledger).after
   kept_event DirectDebiting t s n e ledger h = kept_debit t s n e ledger h
-  kept_event CheckBalance t s n e ledger h = unless_refused (read_refusal (book_at b t) e) ledger _ h (λ p. h)
-  kept_event PriceEnquiry t s n e ledger h = unless_refused (read_refusal (book_at b t) e) ledger _ h (λ p. h)
+  kept_event CheckBalance t s n e ledger h = unless_refused (read_refusal (book_at b t) e)
+      ledger _ h (λ p. h)
+  kept_event PriceEnquiry t s n e ledger h = unless_refused (read_refusal (book_at b t) e)
+      ledger _ h (λ p. h)
 
   kept_refund : (t : ℕ) (s : List ℕ) (n : ℕ) (r : Refunded) (ledger : Ledger) → IsKept ledger →
       IsKept (refund_decision b t s n r ledger).after
@@ -263,7 +268,8 @@ module _ (b : Shelf) (P : List Report → Ledger → Type 0) (k : Keeps b P) whe
   kept_services t s [] reports ledger touches h = h
   kept_services t s (x ∷ xs) reports ledger touches h =
       kept_services t s xs _ (settled_service b t s x ledger)
-      (either-touched s (is_known (book_at b t) x.group) (settled_by b t s x.group (parts_of x.used) ledger)
+      (either-touched s (is_known (book_at b t) x.group)
+      (settled_by b t s x.group (parts_of x.used) ledger)
       ledger (ap is_some (touched-settled b t s s x.group (parts_of x.used) ledger) ∙ touches)
       touches)
       (either_settled (is_known (book_at b t) x.group) _ reports
@@ -279,7 +285,8 @@ module _ (b : Shelf) (P : List Report → Ledger → Type 0) (k : Keeps b P) whe
       (refused_or (session_refusal b t s n services ledger) ledger d).after
   kept_session t s n services reports ledger d done h f =
       at (session_refusal b t s n services ledger)
-      (λ e. touched-live (validity_of b) t s ledger (allowed-live (is_live (validity_of b) t ledger s) _ _ e))
+      (λ e. touched-live (validity_of b) t s ledger
+      (allowed-live (is_live (validity_of b) t ledger s) _ _ e))
     where
       more : List Report
       more = with_services b t s services reports

@@ -383,7 +383,8 @@ module _ (b : Shelf) (list : List Accepted) (c : Credit) (t : ℕ) (old new : Ta
       (credited t (from_of c t) (until_of c) c.scope c.amount h.ledger) h) refused)
       refl refl same tables
 
-  pub credit-done : (number : ℕ) (change : Change) → o ≡ Some number → x.shelf ≡ found.account.shelf →
+  pub credit-done : (number : ℕ) (change : Change) → o ≡ Some number →
+      x.shelf ≡ found.account.shelf →
       IfSome o (λ n. x.as_of ≡ m) →
       Tells change found x (Some
       (record { content = content.Credit c; answer = answer.Bucket number })) None →

@@ -175,7 +175,8 @@ granted_kept b t s g asked ledger has h =
 abbrev with_charges : Shelf → ℕ → ℕ → ℕ → Ledger → Ledger
 with_charges b t g units ledger =
     charge_facts t
-    (parts (paid [] g t (event_price b t g units ledger).amount.0 (buckets_at (validity_of b) t ledger))
+    (parts (paid [] g t (event_price b t g units ledger).amount.0
+    (buckets_at (validity_of b) t ledger))
     (buckets_at (validity_of b) t ledger)) ++ ledger
 
 event_kept : (b : Shelf) (t : ℕ) (s : List ℕ) (g units n : ℕ) (ledger : Ledger) →

@@ -211,7 +211,8 @@ request-known b list r t old new given time le tables fresh known answers same =
 
 -- ---- a request that is decided
 
-module _ (b : Shelf) (list : List Accepted) (r : Request) (t : ℕ) (old new : Tables) (found : Loaded)
+module _ (b : Shelf) (list : List Accepted) (r : Request) (t : ℕ) (old new : Tables)
+    (found : Loaded)
     (time : IsInTime list) (le : last_moment list ≤ t) (tables : AreTables b list old)
     (loads : IsTaken b t r.account old found)
     (fresh : kept_of_request r old ≡ None) (new_name : is_known r old ≡ false) (m : ℕ)

@@ -69,7 +69,8 @@ so-far-more b list ds d mid new given all x so served grown = record {
 }
 
 -- the commands that were answered are a beginning of all
-pub run-of : (b : Shelf) (list : List Accepted) (commands ds rest : List DatedCommand) (new : Tables)
+pub run-of : (b : Shelf) (list : List Accepted) (commands ds rest : List DatedCommand)
+    (new : Tables)
     (given : List Answer) → ds ++ rest ≡ commands → length given ≡ length ds →
     IsSoFar b list ds new given → IsRun b list commands new given
 run-of b list commands ds rest new given all count so =

@@ -42,7 +42,8 @@ collected (d ∷ older) = if is_charge d.fact then charge_amount d.fact + collec
 abbrev pub IsSpent : Shelf → ℕ → List ℕ → ℕ → ℕ → Ledger → Type 0
 IsSpent b t s g rated before =
     (x : Row) → IsAmong x (buckets_at (validity_of b) t before) →
-    (paid_of_hold (holds_at (validity_of b) t s g before) rated (buckets_at (validity_of b) t before) x ≡
+    (paid_of_hold (holds_at (validity_of b) t s g before) rated
+    (buckets_at (validity_of b) t before) x ≡
     held_in (holds_at (validity_of b) t s g before) x)
     × (eligible_amount g t (settled_row (holds_at (validity_of b) t s g before) g t rated
     (buckets_at (validity_of b) t before) x) ≡ 0)

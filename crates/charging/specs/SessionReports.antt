@@ -34,7 +34,8 @@ abbrev pub with_services : Shelf → ℕ → List ℕ → List Service → List 
 with_services b t s [] reports = reports
 with_services b t s (x ∷ xs) reports =
     with_services b t s xs
-    (if is_known (book_at b t) x.group then with_report t s x.group (parts_of x.used) reports else reports)
+    (if is_known (book_at b t) x.group then with_report t s x.group (parts_of x.used)
+    reports else reports)
 
 -- updates and terminations report
 abbrev pub with_ask : Shelf → ℕ → List ℕ → Ask → List Report → List Report

@@ -43,7 +43,8 @@ abbrev pub bar_command : List ℕ → Bool → Command
 bar_command n barred = if barred then Bar n else Unbar n
 
 -- an account was loaded at a moment from the tables; it keeps what each account keeps
-pub record IsTaken (b : Shelf) (t : ℕ) (a : List ℕ) (tables : Tables) (found : Loaded) : Type 0 where
+pub record IsTaken (b : Shelf) (t : ℕ) (a : List ℕ) (tables : Tables)
+    (found : Loaded) : Type 0 where
   pub load : IsLoad b t a (tables.rows a) (Some found)
   pub account : IsAccount found.account
 

@@ -59,7 +59,8 @@ grants_some b tariff t s g asked grant ledger left a some rows =
     at false e = absurd (let no : false ≡ true = e in cc)
 
 -- units that are reserved are the service's grant
-pub grants_units : (b : Shelf) (tariff : GroupTariff) (t : ℕ) (s : List ℕ) (g : ℕ) (asked : Option ℕ)
+pub grants_units : (b : Shelf) (tariff : GroupTariff) (t : ℕ) (s : List ℕ) (g : ℕ)
+    (asked : Option ℕ)
     (ledger : Ledger) (left : LeftRows) (a : AccountRows) (given : ℕ) (switch : Option ℕ)
     (validity : ℕ) (fewer : Bool) (outcome : ServiceOutcome) →
     Some tariff ≡ tariff_of (book_at b t) g → IsBeside left t a →
@@ -116,7 +117,8 @@ grants_nothing b tariff t s g asked ledger left a beside both =
 -- a known group, of which something is asked while the account isn't barred
 pub granted_is : (b : Shelf) (tariff : GroupTariff) (t : ℕ) (s : List ℕ) (x : Service)
     (requested : Requested) (asked : Option ℕ) (ledger : Ledger) →
-    Some tariff ≡ tariff_of (book_at b t) x.group → x.requested ≡ Some requested → asked ≡ units_of requested →
+    Some tariff ≡ tariff_of (book_at b t) x.group → x.requested ≡ Some requested →
+    asked ≡ units_of requested →
     is_barred ledger ≡ false →
     granted_units b tariff t s x.group asked ledger ≡ granted b t s x ledger
 granted_is b tariff t s x requested asked ledger known asks units free =

@@ -282,7 +282,8 @@ follows_updated old middle new t s n services answers charges e settles grants =
 -- a termination whose services are settled
 pub follows_ended : (old middle new : AccountRows) (t : ℕ) (s : List ℕ) (n : ℕ)
     (services : List Service) (answers : List ServiceAnswer) (charges : List ChargeRow) →
-    answers ≡ settled_answers (book_at old.shelf t) services → Settles charges old middle t s services →
+    answers ≡ settled_answers (book_at old.shelf t) services →
+    Settles charges old middle t s services →
     ((ledger : Ledger) (left : LeftRows) → IsWith ledger left t middle →
     IsWith (closed t s (touched t s n ledger)) left t new) →
     Follows Always (ended old.shelf t s n services) t old new (Services answers) true charges

@@ -85,7 +85,8 @@ charged_unless_barred b t s n e ledger =
 
 abbrev pub debit_decision : Shelf → ℕ → List ℕ → ℕ → Event → Ledger → Decision
 debit_decision b t s n e ledger =
-    refused_or (debit_refusal (book_at b t) s e ledger) ledger (charged_unless_barred b t s n e ledger)
+    refused_or (debit_refusal (book_at b t) s e ledger) ledger
+    (charged_unless_barred b t s n e ledger)
 
 -- ---- reads
 

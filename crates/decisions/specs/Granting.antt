@@ -49,7 +49,8 @@ grant_answer b tariff t units asked = service.Granted (record {
 })
 
 -- what a session is granted of a group with this tariff; no unit is 4012
-abbrev pub granted_with : Shelf → GroupTariff → ℕ → List ℕ → ℕ → Option ℕ → Grant → Ledger → Answered
+abbrev pub granted_with : Shelf → GroupTariff → ℕ → List ℕ → ℕ → Option ℕ → Grant →
+    Ledger → Answered
 granted_with b tariff t s g asked grant ledger =
     if nat_lt 0 grant.units.0
     then record {

@@ -79,7 +79,8 @@ module _ {C : Type 0} (gives : C → Option ℕ → C → Type 0) (b : Shelf) (c
       response status.ok closes (answer_text (Refused AccountUnknown))
       ≡ reply_text closes (statement_reply b list q t h)
   unknown_text t list h closed =
-      sym (ap (λ v. response_of (statement_media v) status.ok closes (if v then statement_text b.first
+      sym (ap (λ v. response_of (statement_media v) status.ok closes
+      (if v then statement_text b.first
       q.account q.month t (charge_rows h.ledger) (by_number (buckets_at (validity_of b) t h.ledger))
       else answer_text (Refused AccountUnknown))) closed)
 
@@ -122,8 +123,10 @@ module _ {C : Type 0} (gives : C → Option ℕ → C → Type 0) (b : Shelf) (c
       ≡ reply_text closes (statement_reply b list q t h)
   stated_text t list h s opened is =
       (λ i. response_of Text status.ok closes
-      (statement_text b.first q.account q.month (is.moment i) (charge_rows h.ledger) (is.buckets i)))
-      ∙ sym (ap (λ v. response_of (statement_media v) status.ok closes (if v then statement_text b.first
+      (statement_text b.first q.account q.month (is.moment i) (charge_rows h.ledger)
+      (is.buckets i)))
+      ∙ sym (ap (λ v. response_of (statement_media v) status.ok closes
+      (if v then statement_text b.first
       q.account q.month t (charge_rows h.ledger) (by_number (buckets_at (validity_of b) t h.ledger))
       else answer_text (Refused AccountUnknown))) opened)
 
@@ -132,7 +135,8 @@ module _ {C : Type 0} (gives : C → Option ℕ → C → Type 0) (b : Shelf) (c
       (text : List ℕ) → h ≡ history b q.account list → AreTables b list new → IsInTime list →
       h.opened ≡ true → IsStateAt b (moment_of list t) h.ledger s →
       IsTold closes
-      (statement_text b.first q.account q.month s.moment (charge_rows h.ledger) s.buckets.items) text →
+      (statement_text b.first q.account q.month s.moment (charge_rows h.ledger) s.buckets.items)
+      text →
       IsReplied b (states q) closes (Some t ∷ []) text new list
   told_reply t list new h s text same are time opened is (inl e) = record {
     reply = statement_reply b list q (moment_of list t) h;
@@ -153,7 +157,8 @@ module _ {C : Type 0} (gives : C → Option ℕ → C → Type 0) (b : Shelf) (c
       (s : AccountState) → gives c0 (Some t) c1 → TellsState b q.account t old found →
       found ≡ Some s → mid ≡ old → new ≡ mid →
       TellsCharges (mid.charges q.account)
-      (λ rows. statement_text b.first q.account q.month s.moment rows s.buckets.items) closes Writes →
+      (λ rows. statement_text b.first q.account q.month s.moment rows s.buckets.items)
+      closes Writes →
       Replies gives b (states q) closes c0 c1 Writes old new
   stated_reply t c0 c1 old mid new found s given states_ is first second tells = record {
     moments = Some t ∷ [];

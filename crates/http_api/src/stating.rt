@@ -78,11 +78,13 @@ fn tell_statement<W: Write, K: ChargeSource>(
     ensures ok { K.clean keeper.new → OnOk result
         (TellsCharges ((K.content keeper.old).charges asked.now.account)
         (λ rows. statement_text shelf.now.first asked.now.account asked.now.month state.now.moment
-        rows state.now.buckets.items) closes (Appends (W.contents writer.old) (W.contents writer.new))) }
+        rows state.now.buckets.items) closes
+        (Appends (W.contents writer.old) (W.contents writer.new))) }
     ensures err { K.clean keeper.new → OnErr result
         (TellsCharges ((K.content keeper.old).charges asked.now.account)
         (λ rows. statement_text shelf.now.first asked.now.account asked.now.month state.now.moment
-        rows state.now.buckets.items) closes (Begins (W.contents writer.old) (W.contents writer.new))) }
+        rows state.now.buckets.items) closes
+        (Begins (W.contents writer.old) (W.contents writer.new))) }
     ensures fault { OnErr result (result ≡ Err StreamFault.Write) }
     ensures same { K.clean keeper.new → K.content keeper.new ≡ K.content keeper.old }
     ensures cleanness { K.clean keeper.new → K.clean keeper.old }
@@ -104,7 +106,8 @@ fn statement_of<K: ChargeSource>(
 ) -> Result<Vec<u8>, StatementFault>
     ensures text { K.clean keeper.new → IfOk result (λ text. (rows : List ChargeColumns) →
         AreCharges ((K.content keeper.old).charges asked.now.account) rows →
-        text.items ≡ statement_text shelf.now.first asked.now.account asked.now.month state.now.moment
+        text.items ≡ statement_text shelf.now.first asked.now.account asked.now.month
+        state.now.moment
         rows state.now.buckets.items) }
     ensures asks { Asks K.content K.failed K.clean keeper.old keeper.new result }
 {

@@ -25,7 +25,8 @@ pub known_is : (shelf : Shelf) (ledger : Ledger) (u : ℕ) (r : Rows) (s : List 
     AreRowsAt shelf ledger u r → is_some (r.sessions s) ≡ is_some (last_recording s ledger)
 known_is shelf ledger u r s h =
     ap is_some (h.are.sessions s ∙ h.rows.sessions s)
-    ∙ recorded_row s (state_at (validity_of shelf) h.listed.as_of ledger s) (last_recording s ledger)
+    ∙ recorded_row s (state_at (validity_of shelf) h.listed.as_of ledger s)
+    (last_recording s ledger)
 
 -- a session without a record has no group among those left
 pub new_unleft : (shelf : Shelf) (ledger : Ledger) (u t : ℕ) (r : Rows) (s : List ℕ) (g : ℕ)

@@ -94,7 +94,8 @@ bucket_found n v t ledger =
     find-map (λ b. b.number == n) (bucket_at v t ledger) (credits ledger) (λ b. refl)
 
 module _ (old new : Ledger) (more : Extends old new) where
-  pub session_stays : (v : ℕ → ℕ) (t : ℕ) (w : ℕ → ℕ) (u : ℕ) (s : List ℕ) → session_at w u new s ≡ None →
+  pub session_stays : (v : ℕ → ℕ) (t : ℕ) (w : ℕ → ℕ) (u : ℕ) (s : List ℕ) →
+      session_at w u new s ≡ None →
       session_at v t old s ≡ None
   session_stays v t w u s e =
       let none : last_recording s new ≡ None =
@@ -103,7 +104,8 @@ module _ (old new : Ledger) (more : Extends old new) where
       (newest_front (recording_in s) more.front old
       (subst (λ (l : Ledger). last_recording s l ≡ None) more.is none))
 
-  pub group_stays : (v : ℕ → ℕ) (t : ℕ) (w : ℕ → ℕ) (u : ℕ) (s : List ℕ) (g : ℕ) → group_at w u new s g ≡ None →
+  pub group_stays : (v : ℕ → ℕ) (t : ℕ) (w : ℕ → ℕ) (u : ℕ) (s : List ℕ) (g : ℕ) →
+      group_at w u new s g ≡ None →
       group_at v t old s g ≡ None
   group_stays v t w u s g e =
       let none : has_group s g new ≡ false = none_of (has_group s g new) _ e in
@@ -120,7 +122,8 @@ module _ (old new : Ledger) (more : Extends old new) where
       (dated_front (counts_group cycle_of g c) more.front old
       (subst (λ (l : Ledger). has_counter cycle_of g c l ≡ false) more.is none))
 
-  pub bucket_stays : (v : ℕ → ℕ) (t : ℕ) (w : ℕ → ℕ) (u n : ℕ) → bucket_in n (buckets_at w u new) ≡ None →
+  pub bucket_stays : (v : ℕ → ℕ) (t : ℕ) (w : ℕ → ℕ) (u n : ℕ) →
+      bucket_in n (buckets_at w u new) ≡ None →
       bucket_in n (buckets_at v t old) ≡ None
   bucket_stays v t w u n e =
       let none : bucket_in n (credits new) ≡ None =

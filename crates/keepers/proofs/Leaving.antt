@@ -95,7 +95,8 @@ module _ (shelf : Shelf) (before after : Ledger) (u t : ℕ) (r : Rows) (a x : A
           ∙ none_both (bucket_in n x.buckets) (bucket_in n left.buckets) k none in
           absurd
           (no_some y
-          (sym (bucket_stays before after more (validity_of w.shelf) w.as_of (validity_of x.shelf) x.as_of n
+          (sym (bucket_stays before after more (validity_of w.shelf) w.as_of
+          (validity_of x.shelf) x.as_of n
           gone) ∙ ap (bucket_in n) (sym h.rows.buckets) ∙ e))
 
   session_left : (s : List ℕ) →
@@ -118,7 +119,8 @@ module _ (shelf : Shelf) (before after : Ledger) (u t : ℕ) (r : Rows) (a x : A
           ∙ none_both (session_in s left.sessions) (session_in s x.sessions) none k in
           absurd
           (no_some y
-          (sym (session_stays before after more (validity_of w.shelf) w.as_of (validity_of x.shelf) x.as_of
+          (sym (session_stays before after more (validity_of w.shelf) w.as_of
+          (validity_of x.shelf) x.as_of
           s gone) ∙ sym (h.rows.sessions s) ∙ e))
 
   abbrev of_open : SessionGroup → Bool
@@ -148,7 +150,8 @@ module _ (shelf : Shelf) (before after : Ledger) (u t : ℕ) (r : Rows) (a x : A
           ∙ none_both (group_in s g left.groups) (group_in s g x.groups) none k in
           absurd
           (no_some y
-          (sym (group_stays before after more (validity_of w.shelf) w.as_of (validity_of x.shelf) x.as_of s
+          (sym (group_stays before after more (validity_of w.shelf) w.as_of
+          (validity_of x.shelf) x.as_of s
           g gone) ∙ sym (h.rows.groups s g) ∙ e))
 
   group_is_left : (s : List ℕ) (g : ℕ) (y : SessionGroup) → group_in s g w.groups ≡ Some y →

@@ -78,12 +78,14 @@ module _ (shelf : Shelf) (t : ℕ) (p : Parts) (h : AreParts p) (live : IsStored
   by_cycle g c (Some r) e =
       let k : is_counter g c r ≡ true =
       find-passes (is_counter g c) (p.left.counters ++ p.live.counters) r e in
-      λ i. if same_number r.cycle c (second_true (r.group == g) (r.cycle == c) k) i == cycle_at shelf
+      λ i. if same_number r.cycle c (second_true (r.group == g) (r.cycle == c) k) i ==
+      cycle_at shelf
       (same_number r.group g (first_true (r.group == g) (r.cycle == c) k) i) t then Some r
       else None
 
   counter_found : (g c : ℕ) → counter_in g c a.counters ≡
-      (if c == cycle_at shelf g t then counter_in g c (p.left.counters ++ p.live.counters) else None)
+      (if c == cycle_at shelf g t then counter_in g c (p.left.counters ++ p.live.counters)
+      else None)
   counter_found g c =
       sym (find_reordered same_counter (is_counter g c) (one_counter g c)
       (filter (λ r. r.cycle == cycle_at shelf r.group t) (p.left.counters ++ p.live.counters)) _

@@ -292,7 +292,8 @@ module _ (shelf : Shelf) (ledger : Ledger) (u t : ℕ) (p : Parts) (ranges : IsS
   rows : IsRowsOf ledger (joined left a)
   rows = record {
     barred = (λ i. (head_is i).barred) ∙ are.rows.barred;
-    buckets = merged_is ∙ are.rows.buckets ∙ (λ i. buckets_at (validity_of shelf) (sym as_of i) ledger);
+    buckets = merged_is ∙ are.rows.buckets
+        ∙ (λ i. buckets_at (validity_of shelf) (sym as_of i) ledger);
     sessions = λ s. are.are.sessions s ∙ are.rows.sessions s
         ∙ (λ i. session_at (validity_of shelf) (sym as_of i) ledger s);
     groups = λ s g. group_same s g (merged left.buckets a.buckets)

@@ -126,7 +126,8 @@ swept_from shelf t a k (x ∷ xs) (y ∷ ys) h = λ i.
     cond (same_name (h.0.number i) a) (Some k) (swept_from shelf t a (k + 1) xs ys h.1 i)
 
 -- each account stands where it stood
-pub swept_place : (shelf : Shelf) (t : ℕ) (a : List ℕ) (xs ys : List Entry) → AreSwept shelf t xs ys →
+pub swept_place : (shelf : Shelf) (t : ℕ) (a : List ℕ) (xs ys : List Entry) →
+    AreSwept shelf t xs ys →
     position (is_entry a) xs ≡ position (is_entry a) ys
 swept_place shelf t a xs ys h = position_from-zero (is_entry a) xs
     ∙ sym (swept_from shelf t a 0 xs ys h) ∙ sym (position_from-zero (is_entry a) ys)

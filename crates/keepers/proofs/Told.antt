@@ -22,7 +22,8 @@ pub buckets_told : IsBucketsTold
 buckets_told shelf ledger t r h = (
   λ n. h.are.buckets n ∙ ap (bucket_in n)
       (h.rows.buckets ∙ (λ i. buckets_at (validity_of shelf) (h.moment i) ledger)),
-  subst (Each IsBalanced) (h.rows.buckets ∙ (λ i. buckets_at (validity_of shelf) (h.moment i) ledger))
+  subst (Each IsBalanced) (h.rows.buckets
+      ∙ (λ i. buckets_at (validity_of shelf) (h.moment i) ledger))
       h.kept.sound.balanced,
 )
 
@@ -48,7 +49,8 @@ rows_told shelf ledger t r v h are kept = (rows, as_of ∙ h.moment)
     rows : IsRowsOf ledger (priced shelf v)
     rows = record {
       barred = (λ i. (head_is i).barred) ∙ h.rows.barred;
-      buckets = buckets_are ∙ h.rows.buckets ∙ (λ i. buckets_at (validity_of shelf) (sym as_of i) ledger);
+      buckets = buckets_are ∙ h.rows.buckets
+          ∙ (λ i. buckets_at (validity_of shelf) (sym as_of i) ledger);
       sessions = λ s. sym (are.sessions s) ∙ h.are.sessions s ∙ h.rows.sessions s
           ∙ (λ i. session_at (validity_of shelf) (sym as_of i) ledger s);
       groups = λ s g. group_same s g w.buckets v.groups w.groups

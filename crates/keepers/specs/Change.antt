@@ -152,7 +152,8 @@ pub record AreRowsAt (shelf : Shelf) (ledger : Ledger) (t : ℕ) (r : Rows) : Ty
 pub record IsSwept (shelf : Shelf) (t : ℕ) (old new : Tables) : Type 0 where
   pub last : new.last ≡ t
   pub none : (a : List ℕ) → (old.rows a).head ≡ None → new.rows a ≡ old.rows a
-  pub rows : (a : List ℕ) (ledger : Ledger) (u : ℕ) → u ≤ t → AreRowsAt shelf ledger u (old.rows a) →
+  pub rows : (a : List ℕ) (ledger : Ledger) (u : ℕ) → u ≤ t →
+      AreRowsAt shelf ledger u (old.rows a) →
       AreRowsAt shelf ledger t (new.rows a)
   pub answers : (a : List ℕ) (k : Key) → new.answers a k ≡ old.answers a k
   pub charges : (a : List ℕ) (n : ℕ) → new.charges a n ≡ old.charges a n

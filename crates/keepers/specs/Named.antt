@@ -49,7 +49,8 @@ AreLeftCounters cycles rows = EachIn (λ c. is_numbered cycles c.cycle ≡ true)
 
 -- one that was left may be of a cycle at the moment: of none, of the day, or of the month
 abbrev pub is_left_now : Shelf → ℕ → Numbers → Cycle → Bool
-is_left_now shelf t cycles cycle = is_numbered cycles (cycle_of (book_at shelf t).calendar.zone cycle t)
+is_left_now shelf t cycles cycle = is_numbered cycles
+    (cycle_of (book_at shelf t).calendar.zone cycle t)
 
 abbrev pub may_go_on : Shelf → ℕ → Numbers → Bool
 may_go_on shelf t cycles =

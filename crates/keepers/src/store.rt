@@ -108,7 +108,8 @@ impl Store {
         shelf: &'b TariffShelf,
         moment: Moment,
     ) -> Result<Account<'b>, LoadFault>
-        ensures { IfOk result (λ account. IsLoadedFrom shelf.now moment (rows_of self.now) account) }
+        ensures { IfOk result (λ account. IsLoadedFrom shelf.now moment
+            (rows_of self.now) account) }
     {
         let _kept = self.live.as_of();
         let others = going_on(&self.known.cycles, &self.left.counters, shelf, moment);

@@ -7,8 +7,8 @@ use Rattle.shelves.specs.Shelves.{one_book}
 use Rattle.office.specs.Written.{WritesBeginning}
 use Rattle.request_lines.specs.Served.{text_of}
 
--- the text of a stream, before any command, by a book alone on its shelf: the first request's account
--- is opened with this amount
+-- the text of a stream, before any command, by a book alone on its shelf: the first request's
+-- account is opened with this amount
 abbrev pub once_text : Book → ℕ → List ℕ → List ℕ
 once_text b credit stream = text_of (one_book b) [] (Some credit) stream
 

@@ -104,7 +104,8 @@ used_row t hs s g units blocks rated left ledger =
     (each_charge _ t hs (λ k n. refl))) in
     λ i. rows i ++ charge_row (number i) t s g blocks rated left ∷ []
 
-pub charge_rows-settled : (v : ℕ → ℕ) (t : ℕ) (s : List ℕ) (g units blocks rated : ℕ) (ledger : Ledger) →
+pub charge_rows-settled : (v : ℕ → ℕ) (t : ℕ) (s : List ℕ) (g units blocks rated : ℕ)
+    (ledger : Ledger) →
     charge_rows (settled v t s g units blocks rated ledger)
     ≡ charge_rows ledger
     ++ charge_row (next_charge ledger) t s g blocks rated
@@ -119,7 +120,8 @@ charge_rows-settled v t s g units blocks rated ledger =
     ∷ charge_facts t hs ++ ledger))
     ∙ used_row t hs s g units blocks rated (uncollected holds g t rated rows) ledger
 
-pub charge_rows-charged_use : (v : ℕ → ℕ) (t : ℕ) (s : List ℕ) (g units blocks rated : ℕ) (ledger : Ledger) →
+pub charge_rows-charged_use : (v : ℕ → ℕ) (t : ℕ) (s : List ℕ) (g units blocks rated : ℕ)
+    (ledger : Ledger) →
     charge_rows (charged_use v t s g units blocks rated ledger)
     ≡ charge_rows ledger ++ charge_row (next_charge ledger) t s g blocks rated 0 ∷ []
 charge_rows-charged_use v t s g units blocks rated ledger =
@@ -199,7 +201,8 @@ pub charge_rows-debit : (b : Shelf) (t n : ℕ) (s : List ℕ) (g units : ℕ) (
 charge_rows-debit b t n s g units ledger after x number is =
     let rated : ℕ = (event_price b t g units ledger).amount.0 in
     let collected : x.collected.0 ≡ rated - 0 = omega (arith, is.collected, is.rated) in
-    charge_rows-charged_use (validity_of b) t s g units (event_price b t g units ledger).blocks rated
+    charge_rows-charged_use (validity_of b) t s g units
+    (event_price b t g units ledger).blocks rated
     ledger
     ∙ (λ i. charge_rows ledger
     ++ charge_row (sym number i) t s g (event_price b t g units ledger).blocks rated 0 ∷ [])

@@ -92,7 +92,8 @@ IsAccount-credited a from until scope amount le most is =
 
 abbrev later_row : AccountRows → ℕ → Row → Row
 later_row a t b =
-    with_end t (with_release t b (lapsed_in (is_live_in (validity_of a.shelf) t a.sessions) a.groups b))
+    with_end t (with_release t b (lapsed_in (is_live_in (validity_of a.shelf) t a.sessions) a.groups
+    b))
 
 -- a new bucket at a moment
 new_later : (t n from until : ℕ) (scope : Option ℕ) (amount lapsed ch h : ℕ) → lapsed ≡ 0 → ch ≡ 0 →
@@ -227,7 +228,8 @@ IsRowsOf-credited ledger a t from until scope amount is rows le = record {
     counted : (g c : ℕ) →
         counter_at (cycle_at a.shelf g) ledger g c ≡ counter_at (cycle_at a.shelf g) more g c
     counted g c =
-        let number : counter (cycle_at a.shelf g) g c ledger ≡ counter (cycle_at a.shelf g) g c more =
+        let number : counter (cycle_at a.shelf g) g c ledger ≡ counter
+        (cycle_at a.shelf g) g c more =
         plain (cycle_at a.shelf g t == c) (counter (cycle_at a.shelf g) g c ledger) in
         λ i. if has_counter (cycle_at a.shelf g) g c ledger
         then Some (record { group = g; cycle = c; blocks = number i }) else None

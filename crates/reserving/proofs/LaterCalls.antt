@@ -1,5 +1,5 @@
--- What a book that is added later leaves of each step that a command takes on a ledger: the price of
--- a report, a settlement, a grant, a debit.
+-- What a book that is added later leaves of each step that a command takes on a ledger: the price
+-- of a report, a settlement, a grant, a debit.
 use Rattle.std.proofs.Common.{◌≡◌, ℕ, ◌<◌, ◌≤◌, Bool, true, false, List, [], ◌∷◌, ◌++◌, refl}
 use Rattle.std.proofs.Common.{sym, ap, subst, ◌∙◌, arith, Option, Some, None}
 use Rattle.std.specs.Prelude.{◌==◌, ◌&&◌, if◌then◌else◌, unwrap_or, option_and_then, nat_le}
@@ -162,7 +162,8 @@ module _ (from : ℕ) (b u : Shelf) (on : GoesOnFrom from b u) (t : ℕ) (early 
         settled_by b t session g used_parts ledger ≡ settled_by u t session g used_parts ledger
     settled_same session g [] = refl
     settled_same session g (p ∷ ps) =
-        λ i. settled_with session g (reported (p ∷ ps)) (rows_same i) (price_same session g (p ∷ ps) i)
+        λ i. settled_with session g (reported (p ∷ ps)) (rows_same i)
+        (price_same session g (p ∷ ps) i)
 
     pub limit_same : (session : List ℕ) (g : ℕ) (used_parts : List UsedPart) →
         passes_limit b t session g used_parts ledger ≡ passes_limit u t session g used_parts ledger

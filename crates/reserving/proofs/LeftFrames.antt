@@ -52,7 +52,8 @@ lapse_free keeps r e = at (keeps r.session)
     at false = λ i. record r { reservation = sym e i }
 
 -- nothing of a live session was left
-pub differs_from : (v : ℕ → ℕ) (t : ℕ) (rows : List Session) (s x : List ℕ) → is_live_in v t rows s ≡ true →
+pub differs_from : (v : ℕ → ℕ) (t : ℕ) (rows : List Session) (s x : List ℕ) →
+    is_live_in v t rows s ≡ true →
     session_in x rows ≡ None → is_same x s ≡ false
 differs_from v t rows s x alive none = at (is_same x s) refl
   where
@@ -64,7 +65,8 @@ differs_from v t rows s x alive none = at (is_same x s) refl
     at false e = refl
 
 pub not_of_live : (left : LeftRows) (a : AccountRows) (t : ℕ) (s : List ℕ) (g : ℕ) → IsLeft left a →
-    is_live_in (validity_of a.shelf) t a.sessions s ≡ true → EachIn (λ r. is_of s g r ≡ false) left.groups
+    is_live_in (validity_of a.shelf) t a.sessions s ≡ true →
+    EachIn (λ r. is_of s g r ≡ false) left.groups
 not_of_live left a t s g h alive =
     EachIn-weaker _ _ left.groups
     (λ r e. ap (λ b. b && r.group == g)

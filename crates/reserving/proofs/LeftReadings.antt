@@ -154,12 +154,14 @@ quota_joined left a used used' g t requested units grant h cycles e q =
     (subst (λ n. IsQuota (book_at a.shelf t) used g requested p n
     (funds g t (advanced t (joined left a)).buckets) units grant)
     (sym (count_beside a.shelf t g left.counters a.counters cycles))
-    (subst (λ n. IsQuota (book_at a.shelf t) used g requested p (count_in g c a.counters) n units grant)
+    (subst (λ n. IsQuota (book_at a.shelf t) used g requested p (count_in g c a.counters)
+    n units grant)
     (sym (funds_joined left a g t h)) q))
 
 pub new_told_beside : (ledger : Ledger) (left : LeftRows) (t : ℕ) (a : AccountRows) (g : ℕ)
     (requested : Option ℕ) (units : ℕ) (grant : Grant) → a.as_of ≤ t → IsWith ledger left t a →
-    IsQuota (book_at a.shelf t) 0 g requested (periods_at a.shelf t) (count_in g (cycle_at a.shelf g t) a.counters)
+    IsQuota (book_at a.shelf t) 0 g requested (periods_at a.shelf t)
+    (count_in g (cycle_at a.shelf g t) a.counters)
     (funds g t (advanced t a).buckets) units grant →
     grant ≡ grant_for a.shelf t g 0 requested ledger
 new_told_beside ledger left t a g requested units grant le h q =

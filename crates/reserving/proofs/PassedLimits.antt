@@ -44,7 +44,8 @@ record IsBefore (b : Shelf) (t : ℕ) (s : List ℕ) (g charges : ℕ) (ledger a
     pub grant : open_grant s g after ≡ open_grant s g ledger
     pub next : next_charge after ≡ next_charge ledger + charges
 
-before_other : (b : Shelf) (t : ℕ) (s : List ℕ) (g h : ℕ) (parts : List UsedPart) (ledger : Ledger) →
+before_other : (b : Shelf) (t : ℕ) (s : List ℕ) (g h : ℕ) (parts : List UsedPart)
+    (ledger : Ledger) →
     (h == g) ≡ false →
     IsBefore b t s g (charge_count parts) ledger (settled_by b t s h parts ledger)
 before_other b t s g h [] ledger e =
@@ -72,7 +73,8 @@ before_other b t s g h (p ∷ ps) ledger e =
         none_counted (cycle == cycle) (h == g) price.blocks e,
       );
       grant = same.grant;
-      next = next_settled (validity_of b) t s h (reported (p ∷ ps)) price.blocks price.amount.0 ledger;
+      next = next_settled (validity_of b) t s h (reported (p ∷ ps)) price.blocks
+          price.amount.0 ledger;
     }
 
 -- so it passes a limit after the settlement where it did before, behind the settlement's charge

@@ -249,12 +249,14 @@ QuotaOf a s g t requested units grant =
 -- a quota that was reckoned with periods that are those of the moment
 pub quota_with : (a : AccountRows) (used g t : ℕ) (requested : Option ℕ) (units : ℕ) (grant : Grant)
     (periods : Periods) → periods ≡ periods_at a.shelf t →
-    IsQuota (book_at a.shelf t) used g requested periods (count_in g (cycle_at a.shelf g t) a.counters)
+    IsQuota (book_at a.shelf t) used g requested periods
+    (count_in g (cycle_at a.shelf g t) a.counters)
     (funds g t (advanced t a).buckets) units grant →
     IsQuota (book_at a.shelf t) used g requested (periods_at a.shelf t)
     (count_in g (cycle_at a.shelf g t) a.counters) (funds g t (advanced t a).buckets) units grant
 quota_with a used g t requested units grant periods is q =
-    subst (λ p. IsQuota (book_at a.shelf t) used g requested p (count_in g (cycle_at a.shelf g t) a.counters)
+    subst (λ p. IsQuota (book_at a.shelf t) used g requested p
+    (count_in g (cycle_at a.shelf g t) a.counters)
     (funds g t (advanced t a).buckets) units grant) is q
 
 pub quota_of : (a : AccountRows) (s : List ℕ) (g t : ℕ) (requested : Option ℕ) (units : ℕ)
@@ -277,7 +279,8 @@ grant_told ledger a s g t requested units grant account rows le q =
 -- a session that used nothing yet
 pub new_told : (ledger : Ledger) (a : AccountRows) (g t : ℕ) (requested : Option ℕ) (units : ℕ)
     (grant : Grant) → IsAccount a → IsRowsOf ledger a → a.as_of ≤ t →
-    IsQuota (book_at a.shelf t) 0 g requested (periods_at a.shelf t) (count_in g (cycle_at a.shelf g t) a.counters)
+    IsQuota (book_at a.shelf t) 0 g requested (periods_at a.shelf t)
+    (count_in g (cycle_at a.shelf g t) a.counters)
     (funds g t (advanced t a).buckets) units grant →
     grant ≡ grant_for a.shelf t g 0 requested ledger
 new_told ledger a g t requested units grant account rows le q =

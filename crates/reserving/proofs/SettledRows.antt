@@ -142,7 +142,8 @@ periods_in_is ledger a s g rows live =
     ap (λ o. option_map (λ (r : Reservation). r.terms) (unwrap_or o (new_group s g)).reservation)
     (rows.groups s g)
     ∙ either_periods (has_group s g ledger) (is_live (validity_of a.shelf) a.as_of ledger s)
-    (holds_at (validity_of a.shelf) a.as_of s g ledger) (open_grant s g ledger) (used s g ledger) s g
+    (holds_at (validity_of a.shelf) a.as_of s g ledger) (open_grant s g ledger)
+    (used s g ledger) s g
     live (open_none s g ledger)
 
 pub if_none : (t : Bool) → (let z : ℕ = 0 in (if t then z else z) ≡ z)
@@ -277,7 +278,8 @@ parts_paid v t session group rated ledger =
     parts (paid (holds_at v t session group ledger) group t rated (buckets_at v t ledger))
     (buckets_at v t ledger)
 
-pub other_settled : (v : ℕ → ℕ) (t : ℕ) (session : List ℕ) (group units blocks rated : ℕ) (ledger : Ledger)
+pub other_settled : (v : ℕ → ℕ) (t : ℕ) (session : List ℕ) (group units blocks rated : ℕ)
+    (ledger : Ledger)
     (s : List ℕ) (g : ℕ) → is_key session group s g ≡ false →
     SameGroup s g ledger (settled v t session group units blocks rated ledger)
 other_settled v t session group units blocks rated ledger s g h =
@@ -309,7 +311,8 @@ pub own_row : (s : List ℕ) (g : ℕ) (h : Bool) (u w : ℕ) (o p : Option Rese
 own_row s g h u w o p named used kept =
     λ i. if named i then Some (row_with s g (used i) (kept i)) else None
 
-own_settled : (v : ℕ → ℕ) (t : ℕ) (session : List ℕ) (group units blocks rated : ℕ) (ledger : Ledger) →
+own_settled : (v : ℕ → ℕ) (t : ℕ) (session : List ℕ) (group units blocks rated : ℕ)
+    (ledger : Ledger) →
     group_at v t (settled v t session group units blocks rated ledger) session group
     ≡ Some (record {
       session = session;
@@ -331,7 +334,8 @@ own_settled v t session group units blocks rated ledger =
     (newest (grant_in session group) (charge_facts t hs ++ ledger))) in
     own_row session group _ _ _ _ _ named so_far none
 
-groups-settled : (v : ℕ → ℕ) (t : ℕ) (session : List ℕ) (group units blocks rated : ℕ) (ledger : Ledger)
+groups-settled : (v : ℕ → ℕ) (t : ℕ) (session : List ℕ) (group units blocks rated : ℕ)
+    (ledger : Ledger)
     (does : Row → Row) (rows : List SessionGroup) →
     IsMoved does v t ledger (settled v t session group units blocks rated ledger) →
     used_in session group rows ≡ used session group ledger →
@@ -405,7 +409,8 @@ counted_once true false n e = cc
 counted_once false true n e = cc
 counted_once false false n e = cc
 
-pub counter-settled : (f : ℕ → ℕ) (g c : ℕ) (v : ℕ → ℕ) (t : ℕ) (session : List ℕ) (group units blocks rated : ℕ)
+pub counter-settled : (f : ℕ → ℕ) (g c : ℕ) (v : ℕ → ℕ) (t : ℕ) (session : List ℕ)
+    (group units blocks rated : ℕ)
     (ledger : Ledger) →
     counter f g c (settled v t session group units blocks rated ledger)
     ≡ counter f g c ledger + (if f t == c then (if group == g then blocks else 0) else 0)
@@ -418,7 +423,8 @@ counter-settled f g c v t session group units blocks rated ledger =
           (each_charge _ t (parts_paid v t session group rated ledger) (λ b n. if_none (f t == c))),
     )
 
-has_counter-settled : (f : ℕ → ℕ) (g c : ℕ) (v : ℕ → ℕ) (t : ℕ) (session : List ℕ) (group units blocks rated : ℕ)
+has_counter-settled : (f : ℕ → ℕ) (g c : ℕ) (v : ℕ → ℕ) (t : ℕ) (session : List ℕ)
+    (group units blocks rated : ℕ)
     (ledger : Ledger) →
     has_counter f g c (settled v t session group units blocks rated ledger)
     ≡ ((group == g && f t == c) || has_counter f g c ledger)
@@ -547,7 +553,8 @@ held_part p k n ledger h =
           (λ s g. split_by (p s g) (k s g)),
     )
 
-unknown-settled : (v : ℕ → ℕ) (t : ℕ) (session : List ℕ) (group units blocks rated : ℕ) (ledger : Ledger)
+unknown-settled : (v : ℕ → ℕ) (t : ℕ) (session : List ℕ) (group units blocks rated : ℕ)
+    (ledger : Ledger)
     (s : List ℕ) → IsUnknown s ledger →
     IsUnknown s (settled v t session group units blocks rated ledger)
 unknown-settled v t session group units blocks rated ledger s h =
@@ -688,7 +695,8 @@ ended_key : (t : Bool) (r : SessionGroup) (s : List ℕ) (g : ℕ) →
 ended_key true r s g = refl
 ended_key false r s g = refl
 
-groups-ended : (v : ℕ → ℕ) (t : ℕ) (session : List ℕ) (group : ℕ) (ledger : Ledger) (does : Row → Row)
+groups-ended : (v : ℕ → ℕ) (t : ℕ) (session : List ℕ) (group : ℕ) (ledger : Ledger)
+    (does : Row → Row)
     (rows : List SessionGroup) →
     IsMoved does v t ledger (with_end t session group ledger) →
     ((s : List ℕ) (g : ℕ) → group_in s g rows ≡ group_at v t ledger s g) →

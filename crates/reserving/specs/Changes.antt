@@ -30,7 +30,8 @@ use Rattle.reserving.specs.Sessions.{group_before, session_before, counter_befor
 
 abbrev pub lapse : (ℕ → ℕ) → ℕ → Session → Session
 lapse v t r =
-    if is_open r.state && not (nat_lt t (r.touched + 2 * v r.touched)) then record r { state = Ended } else r
+    if is_open r.state && not (nat_lt t (r.touched + 2 * v r.touched))
+    then record r { state = Ended } else r
 
 -- a group of a session that doesn't keep its reservations
 abbrev pub lapse_group : (List ℕ → Bool) → SessionGroup → SessionGroup

@@ -49,7 +49,8 @@ AreDeadKept (x ∷ xs) (y ∷ ys) = (IsDead x → y ≡ x) × AreDeadKept xs ys
 
 -- as time goes on
 abbrev pub IsDeadLater : Type 0
-IsDeadLater = (v : ℕ → ℕ) (t u : ℕ) (ledger : Ledger) → t ≤ u → Each IsBalanced (buckets_at v t ledger) →
+IsDeadLater = (v : ℕ → ℕ) (t u : ℕ) (ledger : Ledger) → t ≤ u →
+    Each IsBalanced (buckets_at v t ledger) →
     AreDeadKept (buckets_at v t ledger) (buckets_at v u ledger)
 
 -- and by a settlement

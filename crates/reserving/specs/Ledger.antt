@@ -6,11 +6,11 @@ use Rattle.std.specs.Cmp.Lexicographic.{pointwise}
 use Rattle.reserving.specs.declared.session.Terms.{Terms}
 
 -- Credit: a bucket is made. Grant, Hold and End: a session gets units of a rating group, priced by
--- its book in the tariff periods at the grant and at the switch within its validity, from this place of the
--- group's counter on; what is held for it of each bucket; it is over. Use and Charge: units are
--- reported, start blocks, and are rated; what each bucket pays. Touch and Close: a request of the
--- session is accepted; the session ends. Recorded: a request of the session is kept under its
--- number. Barred: the account is barred, or no longer.
+-- the book at the grant in the tariff periods at the grant and at the switch within its validity,
+-- from this place of the group's counter on; what is held for it of each bucket; it is over. Use
+-- and Charge: units are reported, start blocks, and are rated; what each bucket pays. Touch and
+-- Close: a request of the session is accepted; the session ends. Recorded: a request of the session
+-- is kept under its number. Barred: the account is barred, or no longer.
 pub data Fact : Type 0 where
   Credit : (number from until : ℕ) (scope : Option ℕ) (amount : ℕ) → Fact
   Grant : (session : List ℕ) (group : ℕ) (terms : Terms) (units counter : ℕ) → Fact

@@ -70,7 +70,8 @@ settled_by b t session group (p ∷ ps) ledger =
 abbrev pub missing : Shelf → ℕ → List ℕ → ℕ → List UsedPart → Ledger → ℕ
 missing b t session group used_parts ledger =
     uncollected (holds_at (validity_of b) t session group ledger) group t
-    (report_price b t session group used_parts ledger).amount.0 (buckets_at (validity_of b) t ledger)
+    (report_price b t session group used_parts ledger).amount.0
+    (buckets_at (validity_of b) t ledger)
 
 -- a stored number would pass its limit: the session's use, the group's counter, or the charge row's
 -- number

@@ -81,7 +81,8 @@ fn lapsed_funds(
     requires held { Each (λ b. held_by (λ s. true) groups.now b ≡ b.reserved) buckets.now }
     requires order { AreAscending session_before sessions.now }
     ensures value { result
-        ≡ lapsed_funds (is_live_in (validity_of shelf.now) at sessions.now) group at groups.now buckets.now }
+        ≡ lapsed_funds (is_live_in (validity_of shelf.now) at sessions.now) group at
+        groups.now buckets.now }
     ensures most { result < 2 ^ 126 }
 {
     // For the prover alone: looking at the value makes known here what its type keeps.
@@ -103,10 +104,12 @@ fn lapsed_of(
     shelf: &TariffShelf,
     at: Moment,
 ) -> u128
-    requires within { lapsed_for (is_live_in (validity_of shelf.now) at sessions.now) group at row.now buckets.now
+    requires within { lapsed_for (is_live_in (validity_of shelf.now) at sessions.now) group at
+        row.now buckets.now
         < 2 ^ 126 }
     requires order { AreAscending session_before sessions.now }
-    ensures { result ≡ lapsed_for (is_live_in (validity_of shelf.now) at sessions.now) group at row.now
+    ensures { result ≡ lapsed_for (is_live_in (validity_of shelf.now) at sessions.now)
+        group at row.now
         buckets.now }
 {
     let Some(reservation) = &row.reservation else {

@@ -149,7 +149,8 @@ impl<'b> Account<'b> {
         requires moment { self.now.as_of ≤ moment }
         requires of_book { AreOfBook (book_at self.now.shelf moment) periods }
         ensures account { IsAccount self.now }
-        ensures quota { IsQuota (book_at self.now.shelf moment) (used_in session.now group self.now.groups) group
+        ensures quota { IsQuota (book_at self.now.shelf moment)
+            (used_in session.now group self.now.groups) group
             (option_map (λ u. u.0) requested) periods
             (count_in group (cycle_at self.now.shelf group moment) self.now.counters)
             (funds group moment (advanced moment self.now).buckets) result.wanted result.grant }
@@ -169,7 +170,8 @@ impl<'b> Account<'b> {
     ) -> Quota
         requires moment { self.now.as_of ≤ moment }
         requires of_book { AreOfBook (book_at self.now.shelf moment) periods }
-        ensures { IsQuota (book_at self.now.shelf moment) used group (option_map (λ u. u.0) requested) periods
+        ensures { IsQuota (book_at self.now.shelf moment) used group
+            (option_map (λ u. u.0) requested) periods
             (count_in group (cycle_at self.now.shelf group moment) self.now.counters)
             (funds group moment (advanced moment self.now).buckets) result.wanted result.grant }
     {

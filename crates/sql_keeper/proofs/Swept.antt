@@ -38,7 +38,8 @@ use Rattle.sql_keeper.proofs.Overlays.{name_from, opened}
 
 -- ---- one account
 
-module _ (names : List (List ℕ)) (shelf : Shelf) (t : ℕ) (rows : Stored) (ranges : IsShelf shelf) where
+module _ (names : List (List ℕ)) (shelf : Shelf) (t : ℕ) (rows : Stored)
+    (ranges : IsShelf shelf) where
   module _ (before : StoredRows) (live : IsLiveAccount names shelf t rows (Some before))
       (kept : IsStored before) (ledger : Ledger) (u : ℕ) (early : u ≤ t)
       (h : AreRowsAt shelf ledger u (rows_of names rows)) where
@@ -71,7 +72,8 @@ module _ (names : List (List ℕ)) (shelf : Shelf) (t : ℕ) (rows : Stored) (ra
         no_test n m le = grind (arith, nat_tests)
 
         at : (b : Bool) → b ≡ true
-            → (if b then advanced_stored shelf t before else before) ≡ advanced_stored shelf t before
+            → (if b then advanced_stored shelf t before else before) ≡ advanced_stored
+            shelf t before
         at true e = refl
         at false e = absurd (true≢false (sym e))
 

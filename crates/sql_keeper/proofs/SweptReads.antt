@@ -98,7 +98,8 @@ module _ (names : List (List ℕ)) (shelf : Shelf) (t : ℕ) where
   next_swept {E} numbers i a xs ys old mid new x less is more before here = record {
     found = λ clean on.
         let after = here.only.still clean on in
-        subst (AreSweptOf names shelf t (content_of old.now.trees) (take (i + 1) numbers)) (sym more)
+        subst (AreSweptOf names shelf t (content_of old.now.trees) (take (i + 1) numbers))
+        (sym more)
         (subst (λ ns. AreSweptOf names shelf t (content_of old.now.trees) ns (xs ++ x ∷ []))
         (ap (λ b. take i numbers ++ b ∷ []) is ∙ sym (take_more numbers i a less))
         (more_swept (content_of old.now.trees) (take i numbers) a xs x
@@ -152,7 +153,8 @@ become : (names : List (List ℕ)) (text : List ℕ) (shelf : Shelf) (t : ℕ) (
     → BecomesSwept names text shelf t old new
 become names text shelf t xs ranges last old new all turns = record {
   tables =
-      subst (λ (c : Content). IsSwept shelf t (tables_of names (content_of old)) (tables_of names c))
+      subst (λ (c : Content). IsSwept shelf t (tables_of names (content_of old))
+      (tables_of names c))
       (sym turns.content) (sweeps_read names text shelf t (content_of old) xs ranges all);
   meta = ap (λ (c : Content). c.meta) turns.content
       ∙ swept_meta names text shelf t (content_of old) xs ranges all;

@@ -130,7 +130,8 @@ prices_by_terms s g x of =
     option_map (λ t. prices_by t x.periods) (option_and_then (λ b. tariff_of b g) o)) of.there)
 
 -- the terms of a grant at a moment
-abbrev pub terms_at-of : (s : Shelf) (t : ℕ) → IsShelf s → AreOfBook (book_at s t) (periods_at s t) →
+abbrev pub terms_at-of : (s : Shelf) (t : ℕ) → IsShelf s →
+    AreOfBook (book_at s t) (periods_at s t) →
     AreOfShelf s (terms_at s t)
 terms_at-of s t shelf of =
     record { book = book_at s t; there = (last_begun_holds s t shelf).book; periods = of }
@@ -394,7 +395,8 @@ pub IsPriced-priced : (shelf : Shelf) (r : StoredRows) → IsShelf shelf → IsS
 IsPriced-priced shelf r ranges is placed =
     record { account = IsAccount-priced shelf r ranges is.stored; placed = placed; order = is.keys }
 
-pub IsPriced-live : (shelf : Shelf) (t : ℕ) (others : List Counter) (w : StoredRows) → IsShelf shelf →
+pub IsPriced-live : (shelf : Shelf) (t : ℕ) (others : List Counter) (w : StoredRows) →
+    IsShelf shelf →
     IsStoredInOrder w → ArePlaced shelf w.groups →
     AreApart (λ x y. is_counter x.group x.cycle y) (others ++ w.counters) →
     EachIn (λ c. c.blocks ≤ 4000000000000000000) others → IsPriced (live_part shelf t others w)

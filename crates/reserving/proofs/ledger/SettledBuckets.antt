@@ -94,7 +94,8 @@ split_at v t session group ledger c live holding =
       holding,
     )
 
-bucket_at-settled : (v : ℕ → ℕ) (t : ℕ) (session : List ℕ) (group units blocks rated : ℕ) (ledger : Ledger)
+bucket_at-settled : (v : ℕ → ℕ) (t : ℕ) (session : List ℕ) (group units blocks rated : ℕ)
+    (ledger : Ledger)
     (c : Row) →
     (let holds : List Hold = holds_at v t session group ledger in
     let rows : List Row = buckets_at v t ledger in
@@ -139,7 +140,8 @@ bucket_at-settled v t session group units blocks rated ledger c live balanced ho
     ∙ ap (λ x. with_release t (with_charge (with_charge_of_hold (balance_of t c ch x) s1) s2)
     (h - s1)) (sym split)
 
-each_settled : (v : ℕ → ℕ) (t : ℕ) (session : List ℕ) (group units blocks rated : ℕ) (ledger : Ledger)
+each_settled : (v : ℕ → ℕ) (t : ℕ) (session : List ℕ) (group units blocks rated : ℕ)
+    (ledger : Ledger)
     (cs : List Row) →
     (let holds : List Hold = holds_at v t session group ledger in
     let rows : List Row = buckets_at v t ledger in

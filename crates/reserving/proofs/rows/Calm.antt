@@ -109,7 +109,8 @@ rows_same t keeps groups (b ∷ bs) h e =
 pub calm_same : (a : AccountRows) → IsCalm a → advanced a.as_of a ≡ a
 calm_same a h = λ i. record a {
   buckets =
-      rows_same a.as_of (is_live_in (validity_of a.shelf) a.as_of a.sessions) a.groups a.buckets h.groups
+      rows_same a.as_of (is_live_in (validity_of a.shelf) a.as_of a.sessions) a.groups
+      a.buckets h.groups
       h.buckets i;
   sessions = map_same (lapse (validity_of a.shelf) a.as_of) a.sessions h.sessions i;
   groups = groups_same (is_live_in (validity_of a.shelf) a.as_of a.sessions) a.groups h.groups i;
@@ -143,10 +144,12 @@ ended_bucket t b = at (nat_lt t b.until) refl
 
 pub calm_advanced : (t : ℕ) (a : AccountRows) → IsCalm (advanced t a)
 calm_advanced t a = record {
-  sessions = each_made (λ r. lapse (validity_of a.shelf) t r ≡ r) (lapse (validity_of a.shelf) t) a.sessions
+  sessions = each_made (λ r. lapse (validity_of a.shelf) t r ≡ r)
+      (lapse (validity_of a.shelf) t) a.sessions
       (λ r. lapse_twice (validity_of a.shelf) t t (omega arith) r);
   groups = each_made
-      (λ r. is_live_in (validity_of a.shelf) t (map (lapse (validity_of a.shelf) t) a.sessions) r.session
+      (λ r. is_live_in (validity_of a.shelf) t (map (lapse (validity_of a.shelf) t) a.sessions)
+      r.session
       ≡ false → r.reservation ≡ None)
       (lapse_group (is_live_in (validity_of a.shelf) t a.sessions)) a.groups
       (λ r. lapsed_group (is_live_in (validity_of a.shelf) t a.sessions)
@@ -215,7 +218,8 @@ pub calm_settled : (a : AccountRows) (s : List ℕ) (g units blocks rated : ℕ)
 calm_settled a s g units blocks rated h = record {
   sessions = h.sessions;
   groups = EachIn-put
-      (λ r. is_live_in (validity_of a.shelf) a.as_of a.sessions r.session ≡ false → r.reservation ≡ None)
+      (λ r. is_live_in (validity_of a.shelf) a.as_of a.sessions r.session ≡ false →
+      r.reservation ≡ None)
       group_before (is_of s g) _ a.groups (λ k. refl) h.groups;
   buckets = rows_map (λ b. nat_lt a.as_of b.until ≡ false → b.available ≡ 0)
       (λ b. nat_lt a.as_of b.until ≡ false → b.available ≡ 0)
@@ -249,8 +253,10 @@ pub calm_ended : (a : AccountRows) (s : List ℕ) (g : ℕ) → IsCalm a → IsC
 calm_ended a s g h = record {
   sessions = h.sessions;
   groups = EachIn-map
-      (λ r. is_live_in (validity_of a.shelf) a.as_of a.sessions r.session ≡ false → r.reservation ≡ None)
-      (λ r. is_live_in (validity_of a.shelf) a.as_of a.sessions r.session ≡ false → r.reservation ≡ None)
+      (λ r. is_live_in (validity_of a.shelf) a.as_of a.sessions r.session ≡ false →
+      r.reservation ≡ None)
+      (λ r. is_live_in (validity_of a.shelf) a.as_of a.sessions r.session ≡ false →
+      r.reservation ≡ None)
       (ended_group s g) a.groups
       (λ r e. ended_calm (is_live_in (validity_of a.shelf) a.as_of a.sessions) s g r e) h.groups;
   buckets = rows_map (λ b. nat_lt a.as_of b.until ≡ false → b.available ≡ 0)
@@ -267,7 +273,8 @@ pub calm_reserved : (a : AccountRows) (s : List ℕ) (g amount : ℕ) →
 calm_reserved a s g amount live h = record {
   sessions = h.sessions;
   groups = EachIn-put
-      (λ r. is_live_in (validity_of a.shelf) a.as_of a.sessions r.session ≡ false → r.reservation ≡ None)
+      (λ r. is_live_in (validity_of a.shelf) a.as_of a.sessions r.session ≡ false →
+      r.reservation ≡ None)
       group_before (is_of s g) _ a.groups (λ k. absurd (not_both (sym k ∙ live))) h.groups;
   buckets = rows_map (λ b. nat_lt a.as_of b.until ≡ false → b.available ≡ 0)
       (λ b. nat_lt a.as_of b.until ≡ false → b.available ≡ 0)
@@ -314,24 +321,28 @@ row_before v t s n some (Some r) k = at (is_session s r) k
     at true k = absurd (not_both (sym k ∙ open_still))
     at false k = k
 
-live_before : (v : ℕ → ℕ) (t : ℕ) (s : List ℕ) (n : ℕ) (rows : List Session) → 60 ≤ v t → (x : List ℕ) →
+live_before : (v : ℕ → ℕ) (t : ℕ) (s : List ℕ) (n : ℕ) (rows : List Session) → 60 ≤ v t →
+    (x : List ℕ) →
     is_live_in v t (map (touched_session s n t) rows) x ≡ false → is_live_in v t rows x ≡ false
 live_before v t s n rows some x k =
     row_before v t s n some (session_in x rows)
     (ap (is_live_row v t)
     (sym (find-map (is_session x) (touched_session s n t) rows (touched_name s x n t))) ∙ k)
 
-pub calm_touched : (a : AccountRows) (s : List ℕ) (n : ℕ) → 60 ≤ validity_of a.shelf a.as_of → IsCalm a →
+pub calm_touched : (a : AccountRows) (s : List ℕ) (n : ℕ) →
+    60 ≤ validity_of a.shelf a.as_of → IsCalm a →
     IsCalm (touched_account s n a)
 calm_touched a s n some h = record {
   sessions = EachIn-map (λ r. lapse (validity_of a.shelf) a.as_of r ≡ r)
       (λ r. lapse (validity_of a.shelf) a.as_of r ≡ r) (touched_session s n a.as_of) a.sessions
       (λ r e. touched_same (validity_of a.shelf) a.as_of s n r some e) h.sessions;
   groups = EachIn-weaker
-      (λ r. is_live_in (validity_of a.shelf) a.as_of a.sessions r.session ≡ false → r.reservation ≡ None)
+      (λ r. is_live_in (validity_of a.shelf) a.as_of a.sessions r.session ≡ false →
+      r.reservation ≡ None)
       (λ r. is_live_in (validity_of a.shelf) a.as_of (map (touched_session s n a.as_of) a.sessions)
       r.session ≡ false → r.reservation ≡ None) a.groups
-      (λ r e k. e (live_before (validity_of a.shelf) a.as_of s n a.sessions some r.session k)) h.groups;
+      (λ r e k. e (live_before (validity_of a.shelf) a.as_of s n a.sessions some r.session k))
+      h.groups;
   buckets = h.buckets;
 }
 
@@ -341,5 +352,6 @@ pub live_middle : (a x : AccountRows) (s : List ℕ) (g t : ℕ) →
     is_live_in (validity_of a.shelf) t a.sessions s ≡ true → x ≡ advanced t (with_group_row s g a) →
     is_live_in (validity_of x.shelf) x.as_of x.sessions s ≡ true
 live_middle a x s g t live is =
-    subst (λ (y : AccountRows). is_live_in (validity_of y.shelf) y.as_of y.sessions s ≡ true) (sym is)
+    subst (λ (y : AccountRows). is_live_in (validity_of y.shelf) y.as_of y.sessions s ≡ true)
+    (sym is)
     (live_alike (validity_of a.shelf) t t a.sessions (omega arith) s ∙ live)

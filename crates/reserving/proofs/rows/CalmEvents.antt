@@ -42,7 +42,8 @@ pub calm_debited : (a : AccountRows) (s : List ℕ) (g units blocks rated : ℕ)
 calm_debited a s g units blocks rated h = record {
   sessions = h.sessions;
   groups = EachIn-put
-      (λ r. is_live_in (validity_of a.shelf) a.as_of a.sessions r.session ≡ false → r.reservation ≡ None)
+      (λ r. is_live_in (validity_of a.shelf) a.as_of a.sessions r.session ≡ false →
+      r.reservation ≡ None)
       group_before (is_of s g) _ a.groups
       (kept_reservation (is_live_in (validity_of a.shelf) a.as_of a.sessions) s g a.groups h.groups)
       h.groups;
@@ -88,11 +89,13 @@ pub calm_recorded : (a : AccountRows) (s : List ℕ) (n u : ℕ) (state : Sessio
     60 ≤ validity_of a.shelf u → a.as_of ≤ u → session_in s a.sessions ≡ None → IsCalm a →
     IsCalm (with_session s n u state a)
 calm_recorded a s n u state some le none h = record {
-  sessions = EachIn-put (λ r. lapse (validity_of a.shelf) a.as_of r ≡ r) session_before (is_session s) _
+  sessions = EachIn-put (λ r. lapse (validity_of a.shelf) a.as_of r ≡ r) session_before
+      (is_session s) _
       a.sessions
       (new_same (validity_of a.shelf) a.as_of s n u state some le) h.sessions;
   groups = EachIn-weaker
-      (λ r. is_live_in (validity_of a.shelf) a.as_of a.sessions r.session ≡ false → r.reservation ≡ None)
+      (λ r. is_live_in (validity_of a.shelf) a.as_of a.sessions r.session ≡ false →
+      r.reservation ≡ None)
       (λ r. is_live_in (validity_of a.shelf) a.as_of (session_put s n u state a.sessions) r.session
       ≡ false → r.reservation ≡ None) a.groups
       (λ r e k. e (live_unput (validity_of a.shelf) a.as_of s r.session _ a.sessions refl none k))

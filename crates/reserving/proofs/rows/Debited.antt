@@ -60,7 +60,8 @@ same_sessions-debited v t session group units blocks rated ledger =
 
 -- ---- its buckets
 
-bucket_at-debited : (v : ℕ → ℕ) (t : ℕ) (session : List ℕ) (group units blocks rated : ℕ) (ledger : Ledger)
+bucket_at-debited : (v : ℕ → ℕ) (t : ℕ) (session : List ℕ) (group units blocks rated : ℕ)
+    (ledger : Ledger)
     (c : Row) →
     (let rows : List Row = buckets_at v t ledger in
     IsBalanced (bucket_at v t ledger c) →
@@ -99,7 +100,8 @@ bucket_at-debited v t session group units blocks rated ledger c balanced sum =
     ∙ ap (λ x. with_release t (with_charge (with_charge_of_hold (balance_of t c ch x) s1) s2)
     (h - s1)) (sym none)
 
-each_debited : (v : ℕ → ℕ) (t : ℕ) (session : List ℕ) (group units blocks rated : ℕ) (ledger : Ledger)
+each_debited : (v : ℕ → ℕ) (t : ℕ) (session : List ℕ) (group units blocks rated : ℕ)
+    (ledger : Ledger)
     (cs : List Row) →
     (let rows : List Row = buckets_at v t ledger in
     Each IsBalanced (map (bucket_at v t ledger) cs) →
@@ -117,7 +119,8 @@ each_debited v t session group units blocks rated ledger (c ∷ cs) balanced sum
     = each_debited v t session group units blocks rated ledger cs balanced.1 sums.1 in
     λ i. one i ∷ rest i
 
-buckets_at-debited : (v : ℕ → ℕ) (t : ℕ) (session : List ℕ) (group units blocks rated : ℕ) (ledger : Ledger) →
+buckets_at-debited : (v : ℕ → ℕ) (t : ℕ) (session : List ℕ) (group units blocks rated : ℕ)
+    (ledger : Ledger) →
     Each IsBalanced (buckets_at v t ledger) →
     AreDistinct (buckets_at v t ledger) →
     buckets_at v t (charged_use v t session group units blocks rated ledger)
@@ -144,7 +147,8 @@ same_held : (v : ℕ → ℕ) (t : ℕ) (session : List ℕ) (group units blocks
 same_held v t session group units blocks rated ledger p n =
     omega (arith, held-charge_facts p n t (shares v t group rated ledger) ledger)
 
-other_debited : (v : ℕ → ℕ) (t : ℕ) (session : List ℕ) (group units blocks rated : ℕ) (ledger : Ledger)
+other_debited : (v : ℕ → ℕ) (t : ℕ) (session : List ℕ) (group units blocks rated : ℕ)
+    (ledger : Ledger)
     (s : List ℕ) (g : ℕ) → is_key session group s g ≡ false →
     SameGroup s g ledger (charged_use v t session group units blocks rated ledger)
 other_debited v t session group units blocks rated ledger s g h =
@@ -167,14 +171,17 @@ either_reservation false false hs p used s g k = refl
 
 -- a group's reservation, if it has a row or not
 reservation_is : (ledger : Ledger) (a : AccountRows) (s : List ℕ) (g : ℕ) → IsRowsOf ledger a →
-    (group_or_new s g a.groups).reservation ≡ reservation_at (validity_of a.shelf) a.as_of ledger s g
+    (group_or_new s g a.groups).reservation ≡ reservation_at (validity_of a.shelf)
+    a.as_of ledger s g
 reservation_is ledger a s g rows =
     ap (λ o. (unwrap_or o (new_group s g)).reservation) (rows.groups s g)
     ∙ either_reservation (has_group s g ledger) (is_live (validity_of a.shelf) a.as_of ledger s)
-    (holds_at (validity_of a.shelf) a.as_of s g ledger) (open_grant s g ledger) (used s g ledger) s g
+    (holds_at (validity_of a.shelf) a.as_of s g ledger) (open_grant s g ledger)
+    (used s g ledger) s g
     (open_none s g ledger)
 
-own_debited : (v : ℕ → ℕ) (t : ℕ) (session : List ℕ) (group units blocks rated : ℕ) (ledger : Ledger)
+own_debited : (v : ℕ → ℕ) (t : ℕ) (session : List ℕ) (group units blocks rated : ℕ)
+    (ledger : Ledger)
     (does : Row → Row) →
     IsMoved does v t ledger (charged_use v t session group units blocks rated ledger) →
     group_at v t (charged_use v t session group units blocks rated ledger) session group
@@ -198,7 +205,8 @@ own_debited v t session group units blocks rated ledger does moved =
     (same_held v t session group units blocks rated ledger (only session group)) in
     own_row session group _ _ _ _ _ named so_far kept
 
-groups-debited : (v : ℕ → ℕ) (t : ℕ) (session : List ℕ) (group units blocks rated : ℕ) (ledger : Ledger)
+groups-debited : (v : ℕ → ℕ) (t : ℕ) (session : List ℕ) (group units blocks rated : ℕ)
+    (ledger : Ledger)
     (does : Row → Row) (rows : List SessionGroup) →
     IsMoved does v t ledger (charged_use v t session group units blocks rated ledger) →
     used_in session group rows ≡ used session group ledger →
@@ -255,7 +263,8 @@ groups-debited v t session group units blocks rated ledger does rows moved so_fa
 
 -- ---- its counters
 
-counter-debited : (v : ℕ → ℕ) (t : ℕ) (session : List ℕ) (group units blocks rated : ℕ) (ledger : Ledger)
+counter-debited : (v : ℕ → ℕ) (t : ℕ) (session : List ℕ) (group units blocks rated : ℕ)
+    (ledger : Ledger)
     (f : ℕ → ℕ) (g c : ℕ) →
     counter f g c (charged_use v t session group units blocks rated ledger)
     ≡ counter f g c ledger + (if f t == c then (if group == g then blocks else 0) else 0)
@@ -267,7 +276,8 @@ counter-debited v t session group units blocks rated ledger f g c =
           (each_charge _ t hs (λ b n. if_none (f t == c))),
     )
 
-has_counter-debited : (v : ℕ → ℕ) (t : ℕ) (session : List ℕ) (group units blocks rated : ℕ) (ledger : Ledger)
+has_counter-debited : (v : ℕ → ℕ) (t : ℕ) (session : List ℕ) (group units blocks rated : ℕ)
+    (ledger : Ledger)
     (f : ℕ → ℕ) (g c : ℕ) →
     has_counter f g c (charged_use v t session group units blocks rated ledger)
     ≡ ((group == g && f t == c) || has_counter f g c ledger)
@@ -279,7 +289,8 @@ has_counter-debited v t session group units blocks rated ledger f g c =
 
 -- ---- the rows of the ledger with the debit
 
-unknown-debited : (v : ℕ → ℕ) (t : ℕ) (session : List ℕ) (group units blocks rated : ℕ) (ledger : Ledger)
+unknown-debited : (v : ℕ → ℕ) (t : ℕ) (session : List ℕ) (group units blocks rated : ℕ)
+    (ledger : Ledger)
     (s : List ℕ) → IsUnknown s ledger →
     IsUnknown s (charged_use v t session group units blocks rated ledger)
 unknown-debited v t session group units blocks rated ledger s h = record {

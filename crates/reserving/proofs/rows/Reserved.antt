@@ -60,7 +60,8 @@ balance_by-held false c ch h s q =
     with_columns c _ _ _ _ _ _ _ _ (omega arith) (omega arith) refl (omega arith)
 
 abbrev holds_for : Shelf → ℕ → ℕ → ℕ → Ledger → List Hold
-holds_for shelf t group amount ledger = holds_of group t amount (buckets_at (validity_of shelf) t ledger)
+holds_for shelf t group amount ledger = holds_of group t amount
+    (buckets_at (validity_of shelf) t ledger)
 
 abbrev granted : Shelf → ℕ → List ℕ → ℕ → ℕ → Ledger → Ledger
 granted shelf t session group units ledger =
@@ -119,12 +120,14 @@ bucket_at-reserved shelf t session group units amount ledger c live sum =
     ∙ ap (λ x. balance_of t c x (s + held all n ledger)) charged'
     ∙ balance_by-held (nat_lt t c.until) c (charged n ledger) (held all n ledger) s within
 
-each_reserved : (shelf : Shelf) (t : ℕ) (session : List ℕ) (group units amount : ℕ) (ledger : Ledger)
+each_reserved : (shelf : Shelf) (t : ℕ) (session : List ℕ) (group units amount : ℕ)
+    (ledger : Ledger)
     (cs : List Row) →
     (let rows : List Row = buckets_at (validity_of shelf) t ledger in
     is_live (validity_of shelf) t ledger session ≡ true →
     Each (λ b. sum_at b.number (holds_of group t amount rows)
-    ≡ share (eligible_amount group t) rows amount b) (map (bucket_at (validity_of shelf) t ledger) cs)
+    ≡ share (eligible_amount group t) rows amount b)
+    (map (bucket_at (validity_of shelf) t ledger) cs)
     →
     map (bucket_at (validity_of shelf) t (reserved shelf t session group units amount ledger)) cs
     ≡ map (λ b. with_hold b (share (eligible_amount group t) rows amount b))
@@ -151,7 +154,8 @@ buckets_at-reserved shelf t session group units amount ledger live distinct =
 
 -- ---- the groups
 
-other_reserved : (shelf : Shelf) (t : ℕ) (session : List ℕ) (group units amount : ℕ) (ledger : Ledger)
+other_reserved : (shelf : Shelf) (t : ℕ) (session : List ℕ) (group units amount : ℕ)
+    (ledger : Ledger)
     (s : List ℕ) (g : ℕ) → is_key session group s g ≡ false →
     SameGroup s g ledger (reserved shelf t session group units amount ledger)
 other_reserved shelf t session group units amount ledger s g h =
@@ -209,11 +213,14 @@ each_own shelf t session group units amount ledger G (b ∷ bs) none h = (
 abbrev reservation_for : Shelf → ℕ → List Hold → Reservation
 reservation_for shelf t holds = record { terms = terms_at shelf t; holds = holds }
 
-own_reserved : (shelf : Shelf) (t : ℕ) (session : List ℕ) (group units amount : ℕ) (ledger : Ledger) →
+own_reserved : (shelf : Shelf) (t : ℕ) (session : List ℕ) (group units amount : ℕ)
+    (ledger : Ledger) →
     is_live (validity_of shelf) t ledger session ≡ true →
     AreDistinct (buckets_at (validity_of shelf) t ledger) →
-    Each (λ b. held (only session group) b.number ledger ≡ 0) (buckets_at (validity_of shelf) t ledger) →
-    group_at (validity_of shelf) t (reserved shelf t session group units amount ledger) session group
+    Each (λ b. held (only session group) b.number ledger ≡ 0)
+    (buckets_at (validity_of shelf) t ledger) →
+    group_at (validity_of shelf) t (reserved shelf t session group units amount ledger) session
+    group
     ≡ Some (record {
       session = session;
       group = group;
@@ -263,15 +270,16 @@ groups-reserved : (shelf : Shelf) (t : ℕ) (session : List ℕ) (group units am
     (ledger : Ledger) (rows : List SessionGroup) (holds : List Hold) →
     is_live (validity_of shelf) t ledger session ≡ true →
     AreDistinct (buckets_at (validity_of shelf) t ledger) →
-    Each (λ b. held (only session group) b.number ledger ≡ 0) (buckets_at (validity_of shelf) t ledger) →
+    Each (λ b. held (only session group) b.number ledger ≡ 0)
+    (buckets_at (validity_of shelf) t ledger) →
     holds ≡ holds_for shelf t group amount ledger →
     used_in session group rows ≡ used session group ledger →
     ((s : List ℕ) (g : ℕ) → group_in s g rows ≡ group_at (validity_of shelf) t ledger s g) →
     (s : List ℕ) (g : ℕ) →
     group_in s g (with_reservation session group (terms_at shelf t) holds rows)
     ≡ group_at (validity_of shelf) t (reserved shelf t session group units amount ledger) s g
-groups-reserved shelf t session group units amount ledger rows holds live distinct free eh so_far h s
-    g = by_test (is_key session group s g) refl
+groups-reserved shelf t session group units amount ledger rows holds live distinct free eh so_far
+    h s g = by_test (is_key session group s g) refl
   where
     after : Ledger
     after = reserved shelf t session group units amount ledger

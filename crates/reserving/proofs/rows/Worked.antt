@@ -141,7 +141,8 @@ unfolding switch_within minutes_from
 switched_validity = refl
 
 -- each of ten blocks is held at the dearer price
-dearer_held : buckets_at (validity_of shelf) 1767598200 (granted 1767598200 10 600 (opened 1767598200 1000000))
+dearer_held : buckets_at (validity_of shelf) 1767598200
+    (granted 1767598200 10 600 (opened 1767598200 1000000))
     ≡ bucket 1 1767571200 4102444800 1000000 0 1000000 0 0 ∷ []
 unfolding switch_within minutes_from dearer greatest_covered
 dearer_held = refl
@@ -166,7 +167,8 @@ few_units : units_granted 1767607200 10 600 (opened 1767607200 250000) ≡ 120
 unfolding switch_within minutes_from dearer greatest_covered
 few_units = refl
 
-few_held : buckets_at (validity_of shelf) 1767607200 (granted 1767607200 10 600 (opened 1767607200 250000))
+few_held : buckets_at (validity_of shelf) 1767607200
+    (granted 1767607200 10 600 (opened 1767607200 250000))
     ≡ bucket 1 1767571200 4102444800 250000 50000 200000 0 0 ∷ []
 unfolding switch_within minutes_from dearer greatest_covered
 few_held = refl
@@ -225,7 +227,8 @@ two_held : buckets_at (validity_of shelf) 1767607200 two_granted
 unfolding switch_within minutes_from dearer greatest_covered
 two_held = refl
 
-two_settled : buckets_at (validity_of shelf) 1767608100 (settled_by shelf 1767608100 s 10 (report 60) two_granted)
+two_settled : buckets_at (validity_of shelf) 1767608100
+    (settled_by shelf 1767608100 s 10 (report 60) two_granted)
     ≡ bucket 1 1767571200 1767607800 150000 0 0 100000 50000
     ∷ bucket 2 1767571200 4102444800 300000 300000 0 0 0 ∷ []
 unfolding switch_within minutes_from dearer greatest_covered rated_amount report_blocks

@@ -13,11 +13,14 @@ use Rattle.decisions.proofs.reads.priced.Goals as goal
 pub overflow_cast-result : goal.overflow_cast-result
 overflow_cast-result c =
     let known : Some c.in-Some-tariff_of.tariff.now ≡
-    tariff_of (book_at c.args.account.now.shelf c.args.moment) c.args.event.now.group = search rules in
+    tariff_of (book_at c.args.account.now.shelf c.args.moment)
+    c.args.event.now.group = search rules in
     let is : IsTariff c.in-Some-tariff_of.tariff.now = search rules in
-    let fault : event_fault (book_at c.args.account.now.shelf c.args.moment) c.args.event.now ≡ None = search rules in
+    let fault : event_fault (book_at c.args.account.now.shelf c.args.moment) c.args.event.now ≡
+    None = search rules in
     let right : AreRight c.in-Some-tariff_of.tariff.now c.args.event.now.requested =
-    units_right (book_at c.args.account.now.shelf c.args.moment) c.args.event.now c.in-Some-tariff_of.tariff.now
+    units_right (book_at c.args.account.now.shelf c.args.moment) c.args.event.now
+    c.in-Some-tariff_of.tariff.now
     known fault in
     let units : event_units c.in-Some-tariff_of.tariff.now c.args.event.now.requested ≡
     c.units.result = sym c.event_quantity-quantity.ensures.units

@@ -7,7 +7,8 @@ abbrev pub invariant-loop-served : goal.invariant-loop-served
 invariant-loop-served g l = record {
   turns : l.left + l.served ≡ 1000;
   so_far : g.K.Keeper.clean l.keeper → IfSome (g.R.Read.remaining l.fn.reader) (λ stream.
-      IsSoFar g.C.Clock.gives l.shelf stream l.served l.left (g.R.Read.remaining l.reader) l.fn.clock
+      IsSoFar g.C.Clock.gives l.shelf stream l.served l.left
+      (g.R.Read.remaining l.reader) l.fn.clock
       l.clock (g.W.Write.contents l.fn.writer) (g.W.Write.contents l.writer)
       (g.K.Keeper.content l.fn.keeper) (g.K.Keeper.content l.keeper));
   continued : g.K.Keeper.clean l.keeper → ForEachList l.shelf (g.K.Keeper.content l.fn.keeper)

@@ -10,6 +10,7 @@ loop-row-init c =
     record {
       total = omega arith;
       most =
-          lapsed_funds-most (is_live_in (validity_of c.args.shelf.now) c.args.at c.args.sessions.now) c.args.group
+          lapsed_funds-most (is_live_in (validity_of c.args.shelf.now) c.args.at
+          c.args.sessions.now) c.args.group
           c.args.at c.args.groups.now c.args.buckets.now short c.requires.sound c.requires.held;
     }

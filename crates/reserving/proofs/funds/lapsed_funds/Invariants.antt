@@ -9,7 +9,9 @@ invariant-loop-row l = record {
   total : l.total
       + lapsed_funds (is_live_in (validity_of l.shelf) l.at l.sessions) l.group l.at
       (drop l.row-index l.groups) l.buckets
-      ≡ lapsed_funds (is_live_in (validity_of l.shelf) l.at l.sessions) l.group l.at l.groups l.buckets;
-  most : lapsed_funds (is_live_in (validity_of l.shelf) l.at l.sessions) l.group l.at l.groups l.buckets
+      ≡ lapsed_funds (is_live_in (validity_of l.shelf) l.at l.sessions) l.group l.at
+      l.groups l.buckets;
+  most : lapsed_funds (is_live_in (validity_of l.shelf) l.at l.sessions) l.group l.at
+      l.groups l.buckets
       < 2 ^ 126;
 }

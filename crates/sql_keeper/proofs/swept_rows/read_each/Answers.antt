@@ -44,7 +44,8 @@ accounts-preserved g c =
     (gathers_made _ _ (state g.S.Store c.accounts.conn)
     (state g.S.Store c.read_live_account.new.conn) c.in_ok-rows.rows (Ok c.in_ok-next.next)
     c.in_ok-rows.ensures
-    (λ trees live. swept_made {E = ReadFault} c.args.names.now.periods c.args.shelf.now c.args.moment
+    (λ trees live. swept_made {E = ReadFault} c.args.names.now.periods
+    c.args.shelf.now c.args.moment
     (content_of trees) c.account-item.result c.in_ok-rows.rows (Ok c.in_ok-next.next)
     c.in_ok-next.ensures live))
 

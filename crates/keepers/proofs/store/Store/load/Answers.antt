@@ -50,7 +50,8 @@ returns c =
     c.self.view_is
     (subst (IsLoadedFrom c.args.shelf.now c.args.moment (rows_of p))
     (sym (is ∙ (λ i. live_part c.args.shelf.now c.args.moment (others i) p.live)
-    ∙ loaded_without c.args.shelf.now c.args.moment c.self.inside.known.cycles p.left.counters p.live
+    ∙ loaded_without c.args.shelf.now c.args.moment c.self.inside.known.cycles
+    p.left.counters p.live
     c.self.invariant.counters))
     (parts_loaded c.args.shelf.now c.args.moment p c.self.invariant.parts
     c.as_of-kept.ensures.kept)))

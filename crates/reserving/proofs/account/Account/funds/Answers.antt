@@ -14,7 +14,8 @@ use Rattle.reserving.proofs.account.Account.funds.Goals as goal
 pub returns-clause-rows : goal.returns-clause-rows
 returns-clause-rows c =
     (λ i. c.free_funds.ensures.value i + c.lapsed_funds-given_up.ensures.value i)
-    ∙ lapsed_funds-is c.args.group (validity_of c.self.inside.shelf.now) c.args.moment c.deref-2.result.now
+    ∙ lapsed_funds-is c.args.group (validity_of c.self.inside.shelf.now) c.args.moment
+    c.deref-2.result.now
     c.deref.result.now c.buckets-buckets.result.now
     ∙ (λ i. funds c.args.group c.args.moment
     (map (λ b. with_end c.args.moment

@@ -25,7 +25,8 @@ invariant_of-self c =
     subst (λ (x : AccountRows). c.args.terms ≡ terms_at x.shelf x.as_of) (sym c.self.view_is)
     c.requires.terms in
     let same : AreOfBook (book_at a.shelf a.as_of) c.args.terms.periods =
-    subst (λ (x : AccountRows). AreOfBook (book_at x.shelf x.as_of) c.args.terms.periods) (sym c.self.view_is)
+    subst (λ (x : AccountRows). AreOfBook (book_at x.shelf x.as_of) c.args.terms.periods)
+    (sym c.self.view_is)
     c.requires.of_book in
     let some : is_some (tariff_at a.shelf a.as_of c.args.group) ≡ true =
     subst (λ (x : AccountRows). is_some (tariff_at x.shelf x.as_of c.args.group) ≡ true)
@@ -37,7 +38,8 @@ invariant_of-self c =
     record {
       priced = subst IsPriced (sym is)
           (IsPriced-reserved a c.args.session.now c.args.group c.args.amount.0 none
-          (subst (λ (x : Terms). AreOfBook (book_at a.shelf a.as_of) x.periods) terms same) some c.self.invariant.priced);
+          (subst (λ (x : Terms). AreOfBook (book_at a.shelf a.as_of) x.periods) terms same) some
+          c.self.invariant.priced);
       calm = λ e. subst IsCalm (sym is)
           (calm_reserved a c.args.session.now c.args.group c.args.amount.0
           (subst (λ (x : AccountRows). is_live_in (validity_of x.shelf) x.as_of x.sessions

@@ -17,7 +17,8 @@ use Rattle.reserving.proofs.account.Account.quota_after.Goals as goal
 
 pub returns-in_default : goal.returns-in_default
 returns-in_default c =
-    let none : (q : GroupPrices) → ArePricesOf (book_at c.args.self.now.shelf c.args.moment) c.args.group
+    let none : (q : GroupPrices) → ArePricesOf (book_at c.args.self.now.shelf c.args.moment)
+    c.args.group
     c.args.periods.before.0 c.args.periods.after.0 q → ⊥ =
     subst (λ (b : Book). (q : GroupPrices) → ArePricesOf b c.args.group
     c.args.periods.before.0 c.args.periods.after.0 q → ⊥) (c.book_at.ensures.value
@@ -31,13 +32,15 @@ returns-in_default c =
     c.args.self.now.counters)
     (funds c.args.group c.args.moment (advanced c.args.moment c.args.self.now).buckets)
     c.none.result.wanted c.none.result.grant
-    (no_tariff (book_at c.args.self.now.shelf c.args.moment) c.args.group c.args.periods c.requires.of_book none)
+    (no_tariff (book_at c.args.self.now.shelf c.args.moment) c.args.group c.args.periods
+    c.requires.of_book none)
     c.none.ensures.wanted c.none.ensures.grant
 
 pub returns : goal.returns
 returns c =
     let q : GroupPrices = c.in-Some.prices in
-    let found : ArePricesOf (book_at c.args.self.now.shelf c.args.moment) c.args.group c.args.periods.before.0
+    let found : ArePricesOf (book_at c.args.self.now.shelf c.args.moment) c.args.group
+    c.args.periods.before.0
     c.args.periods.after.0 q =
     subst (λ (b : Book). ArePricesOf b c.args.group c.args.periods.before.0
     c.args.periods.after.0 q) (c.book_at.ensures.value

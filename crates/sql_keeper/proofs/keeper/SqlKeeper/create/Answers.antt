@@ -8,7 +8,8 @@ returns-in-Ok-make_tables-clause-created g c =
     created g.S.Store c.keeper_of.result.0 c.make_tables.new.conn c.keeper_of.result.1
     c.in-Ok.read.given c.in-Ok.read.own c.args.text.now
     (string_bytes c.in-Ok.read.text) c.keeper_of.ensures.connection
-    c.keeper_of.ensures.shelf c.in-Ok.ensures.given c.keeper_of.ensures.names c.keeper_of.ensures.text
+    c.keeper_of.ensures.shelf c.in-Ok.ensures.given c.keeper_of.ensures.names
+    c.keeper_of.ensures.text
     c.keeper_of.ensures.uncounted c.in-Ok.ensures.read c.in-Ok.ensures.text c.keeper_of.ensures.live
     (IsUtf8-string_bytes c.in-Ok.read.text) c.args.connection
     c.in-Ok-make_tables.field-0 c.in-Ok-make_tables.ensures.blank c.in-Ok-make_tables.ensures.plain
