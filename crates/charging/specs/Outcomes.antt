@@ -132,7 +132,7 @@ addition_outcome (New voucher) h = done answer.Done h
 addition_outcome Present h = told answer.Done h
 addition_outcome Conflicting h = told (answer.Refused ContentDiffers) h
 
--- where days end by the book's calendar
+-- where days end by the calendar of the book at the moment
 abbrev pub book_days : Shelf → DayEnds
 book_days b t days = day_end (book_at b t).calendar.zone t days
 

@@ -22,7 +22,7 @@ use shelves::TariffShelf;
 use std::alloc::{AllocError, Global};
 use units::Moment;
 
-/// The civil days of a tariff book's calendar.
+/// The civil days by the calendar of the book at a moment.
 #[derive(Drop)]
 struct BookDays<'b> {
     shelf: &'b TariffShelf,
@@ -118,7 +118,8 @@ fn find_redemption<K: Keeper>(
     keeper.find_answer(&asked.account, &key)
 }
 
-/// What a redemption comes to by a book's days, over what stands under its code.
+/// What a redemption comes to by the days of the book at its moment, over what stands under its
+/// code.
 fn redeem_by(
     shelf: &TariffShelf,
     found: Option<Voucher>,

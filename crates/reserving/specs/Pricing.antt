@@ -1,4 +1,4 @@
--- What a tariff book says of a rating group at a moment: its tariff, the cycle of its counter, the
+-- What tariff books say of a rating group at a moment: its tariff, the cycle of its counter, the
 -- tariff switch within the validity, the periods of a grant, and what a report costs.
 -- Source: RFC 8506 sections 8.19, 8.20, 8.27 and 8.33; TS 32.296, rating function.
 use Rattle.std.specs.Prelude.{ℕ, ◌-◌, ◌==◌, Bool, if◌then◌else◌, List, [], ◌∷◌, Option, Some, None}

@@ -21,11 +21,13 @@ use Rattle.reserving.specs.Sessions.{holds_at}
 abbrev pub reported : List UsedPart → ℕ
 reported used_parts = sum_by (λ p. p.units.0) used_parts
 
--- what a report costs: by the periods of its grant, or without one all by the period at its moment
+-- what a report costs by the terms of a grant: by the book of their number, in their periods
 abbrev pub price_by : Shelf → ℕ → Terms → ℕ → ℕ → List UsedPart → Rated
 price_by b group x used place used_parts =
     rated_with (tariff_in b x.book group) x.periods used place used_parts
 
+-- what a report costs: by the terms of its grant, or without one all by the book and the period at
+-- its moment
 abbrev pub price_of : Shelf → ℕ → ℕ → Option Terms → ℕ → ℕ → List UsedPart → Rated
 price_of b t group granted used place used_parts =
     price_by b group (unwrap_or granted (terms_now b t)) used place used_parts

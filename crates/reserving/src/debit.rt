@@ -35,8 +35,8 @@ impl<'b> Account<'b> {
         self.event_price(group, units, moment).amount
     }
 
-    /// The blocks that an event's units start, and what these cost. A group that the book doesn't
-    /// have costs nothing.
+    /// The blocks that an event's units start, and what these cost. A group that the book at the
+    /// moment doesn't have costs nothing.
     fn event_price(&self, group: u32, units: Units, moment: Moment) -> Rated
         ensures { result ≡ event_price_in group units.0 moment self.now }
     {

@@ -1,4 +1,4 @@
-//! What the tariff book says of a grant's validity and of a report's parts.
+//! What tariff books say of a grant's validity and of a report's parts.
 
 ghost use Rattle.std.specs.Prelude.{◌≡◌, ◌+◌, ◌≤◌, ◌<◌, ◌^◌, Some, None, IfSome, IfNone};
 ghost use Rattle.std.specs.Prelude.{option_map, if◌then◌else◌};

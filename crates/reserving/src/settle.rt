@@ -279,8 +279,8 @@ impl<'b> Account<'b> {
         })
     }
 
-    /// What a report costs: by the periods of its grant, without one by the period at the moment. A
-    /// group that the book doesn't have costs nothing.
+    /// What a report costs: by the terms of its grant, without one by the book and the period at the
+    /// moment. A group that this book doesn't have costs nothing.
     fn price(
         &self,
         session: &SessionId,
