@@ -74,11 +74,11 @@ fn is_writable(
 {
     // For the prover alone: looking at the value makes known here what its type keeps.
     let _holds = reservation.holds.as_slice();
-    let terms = reservation.terms;
-    terms.book == 1
-        && is_open(sessions, session)
-        && is_named(book, terms.periods.before)
-        && is_named(book, terms.periods.after)
+    if reservation.terms.book != 1 {
+        return false;
+    }
+    let periods = reservation.terms.periods;
+    is_open(sessions, session) && is_named(book, periods.before) && is_named(book, periods.after)
 }
 
 fn may_stand(book: &TariffBook, sessions: &[Session], row: &SessionGroup) -> bool
