@@ -2,7 +2,7 @@
 -- 100,000 on weekdays from 08:00 to 20:00, and octets in blocks of 1,048,576, of which the first
 -- 100 of a month are free.
 use Rattle.std.proofs.Common.{◌≡◌, ℕ, Bool, true, false, List, [], ◌∷◌, refl, Option, None, Some}
-use Rattle.std.specs.Prelude.{pos}
+use Rattle.calendar.specs.Clock.{always}
 use Rattle.calendar.specs.Timetable.{minutes_from, switch_within}
 use Rattle.calendar.specs.declared.week.Entry.{Entry}
 use Rattle.calendar.specs.declared.cycle.Cycle.TheVariants as cycle
@@ -74,7 +74,7 @@ book = record {
   zone_text = 43 ∷ 48 ∷ 48 ∷ 58 ∷ 48 ∷ 48 ∷ [];
   calendar =
       record {
-        zone = record { ahead = pos 0 };
+        zone = always 86400;
         entries =
             entry 1 week 480 1200 ∷ entry 0 week 0 480 ∷ entry 0 week 1200 1440
             ∷ entry 0 weekend 0 1440

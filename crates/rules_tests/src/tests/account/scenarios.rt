@@ -513,8 +513,39 @@ const LIMITS: &str = "\
 1767607200 limit s22 10 4294967293 1 => false
 1767607200 limit s22 10 4294967294 1 => true";
 
-fn play_all(rt: &impl Abort, alloc: Global, scenarios: &[&str]) {
-    let shelf = shelf(rt, alloc, BOOK);
+/// Nights in Berlin that are halved at 02:30: 50000 micro-units a minute before it, and 100000 after
+/// it.
+const NIGHTS: &str = r#"zone = "CET-1CEST,M3.5.0,M10.5.0/3"
+currency = 978
+validity = 3600
+periods = ["off", "peak"]
+week = [{period = "off", days = [1, 2, 3, 4, 5, 6, 7], from = "00:00", to = "02:30"},
+   {period = "peak", days = [1, 2, 3, 4, 5, 6, 7], from = "02:30", to = "24:00"}]
+group = [{id = 10, unit = "time", block = 60, slice = 600, max_grant = 3600, cycle = "none",
+   final = "terminate", price = [{period = "off", tiers = [{price = 50000}]},
+   {period = "peak", tiers = [{price = 100000}]}]}]
+"#;
+
+/// At 01:30 a grant is held at the price from 03:00 on, since 02:00 to 03:00 are skipped.
+const CLOCK_PUT_AHEAD: &str = "\
+1774742400 credit 4102444800 1000000 => 1 (1000000; 1000000, 0, 0, 0)
+1774744200 open s1 => opened (1000000; 1000000, 0, 0, 0)
+1774744200 reserve s1 10 600 => 600 Some(1774746000) 3600 all (1000000; 0, 1000000, 0, 0)
+1774746060 settle s1 10 120:before 60:after => 3 200000 200000 0 (1000000; 800000, 0, 200000, 0)";
+
+/// At 02:15 a grant is valid until 03:00, where 02:00 comes again with the cheaper price; then
+/// another is made, and its switch is the second 02:30.
+const CLOCK_PUT_BACK: &str = "\
+1792886400 credit 4102444800 1000000 => 1 (1000000; 1000000, 0, 0, 0)
+1792887300 open s1 => opened (1000000; 1000000, 0, 0, 0)
+1792887300 reserve s1 10 600 => 600 Some(1792888200) 2700 all (1000000; 0, 1000000, 0, 0)
+1792888500 settle s1 10 120:before 120:after => 4 300000 300000 0 (1000000; 700000, 0, 300000, 0)
+1792890000 open s2 => opened (1000000; 700000, 0, 300000, 0)
+1792890000 reserve s2 10 60 => 60 Some(1792891800) 3600 all (1000000; 600000, 100000, 300000, 0)
+1792891860 settle s2 10 30:before 30:after => 1 50000 50000 0 (1000000; 650000, 0, 350000, 0)";
+
+fn play_all(rt: &impl Abort, alloc: Global, document: &str, scenarios: &[&str]) {
+    let shelf = shelf(rt, alloc, document);
     for lines in scenarios {
         play(rt, alloc, &shelf, lines);
     }
@@ -525,12 +556,13 @@ fn sessions_and_their_charges(rt: HostRuntime) {
     let scenarios = [
         SWITCH, SHORT, STARTED, BUCKETS, MONTH, FORGOTTEN, TWO_GROUPS, BARRED,
     ];
-    play_all(&rt, rt.alloc(), &scenarios);
+    play_all(&rt, rt.alloc(), BOOK, &scenarios);
+    play_all(&rt, rt.alloc(), NIGHTS, &[CLOCK_PUT_AHEAD, CLOCK_PUT_BACK]);
 }
 
 #[test]
 fn events_and_limits(rt: HostRuntime) {
-    play_all(&rt, rt.alloc(), &[EVENTS, EVENT, BESIDE, LIMITS]);
+    play_all(&rt, rt.alloc(), BOOK, &[EVENTS, EVENT, BESIDE, LIMITS]);
 }
 
 /// From Tuesday 00:00 on a minute by night costs 60,000. What was granted before is settled by the
